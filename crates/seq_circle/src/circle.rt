@@ -1,0 +1,107 @@
+//! 48-bit sequence numbers.
+ghost use Rattle.std.specs.Prelude.{◌≡◌, ℕ, ◌+◌, ◌-◌, ◌*◌, ◌%◌, ◌^◌, ◌<◌, ◌≤◌, IsSome, IfSome, IsTrue, ◌↔◌};
+ghost use Rattle.seq_circle.specs.Circle.{residue, distance, IsBefore, is_before, later_of, IsWithin, is_within};
+
+use std::marker::Model;
+
+const SIZE: u64 = 1 << 48;
+
+const HALF: u64 = 1 << 47;
+
+/// A 48-bit sequence number, from 0 to 2^48 - 1. Arithmetic goes round the circle, and the order is the circular one
+/// (RFC 4340, section 3.1). Contracts see the number itself.
+#[derive(Clone, Copy, Debug, PartialEq, Eq)]
+pub struct Seq48 {
+    number: u64,
+}
+
+impl Model for Seq48 {
+    ghost use Rattle.std.specs.Prelude.{ℕ, ◌^◌, ◌<◌};
+
+    ghost Value = { ℕ };
+
+    ghost view = { λ s. s.number };
+
+    ghost invariant = { λ s. s.number < 2 ^ 48 };
+
+    ghost inverse = { λ n. record { number = n } };
+}
+
+impl Seq48 {
+    /// The sequence number `n`, or None exactly where it is 2^48 or more.
+    pub fn new(n: u64) -> Option<Seq48>
+        ensures made { IsSome result ↔ (n < 2 ^ 48) }
+        ensures value { IfSome result (λ s. s ≡ n) }
+    {
+        if n < SIZE {
+            Some(Seq48 { number: n })
+        } else {
+            None
+        }
+    }
+
+    /// The number, below 2^48.
+    pub fn get(self) -> u64
+        ensures value { result ≡ self }
+        ensures fits { result < 2 ^ 48 }
+    {
+        self.number
+    }
+
+    /// The number after this one: 0 follows 2^48 - 1 (RFC 4340, section 7.1).
+    pub fn next(self) -> Seq48
+        ensures { result ≡ residue (self + 1) }
+    {
+        self.add(1)
+    }
+
+    /// `n` steps up the circle.
+    pub fn add(self, n: u64) -> Seq48
+        ensures { result ≡ residue (self + n) }
+    {
+        Seq48 {
+            number: (self.number + n % SIZE) % SIZE,
+        }
+    }
+
+    /// `n` steps down the circle.
+    pub fn sub(self, n: u64) -> Seq48
+        ensures { result ≡ residue (self + (2 ^ 48 - residue n)) }
+    {
+        Seq48 {
+            number: (self.number + (SIZE - n % SIZE)) % SIZE,
+        }
+    }
+
+    /// How many steps lead from this number up to `to`: `(to - self) mod 2^48`.
+    pub fn distance(self, to: Seq48) -> u64
+        ensures value { result ≡ distance self to }
+        ensures fits { result < 2 ^ 48 }
+    {
+        (to.number + SIZE - self.number) % SIZE
+    }
+
+    /// Tells whether `other` lies ahead by 1 to 2^47 - 1 steps (RFC 4340, section 3.1).
+    pub fn before(self, other: Seq48) -> bool
+        ensures value { result ≡ is_before self other }
+        ensures meaning { IsTrue result ↔ IsBefore self other }
+    {
+        let ahead = self.distance(other);
+        0 < ahead && ahead < HALF
+    }
+
+    /// The later of the two: `other` where this number is before it, else this one.
+    pub fn max_of(self, other: Seq48) -> Seq48
+        ensures { result ≡ later_of self other }
+    {
+        if self.before(other) { other } else { self }
+    }
+
+    /// Tells whether this number lies in the interval that begins at `lo` and goes up to `hi`, both included.
+    pub fn within(self, lo: Seq48, hi: Seq48) -> bool
+        ensures value { result ≡ is_within self lo hi }
+        ensures meaning { IsTrue result ↔ IsWithin self lo hi }
+    {
+        lo.distance(self) <= lo.distance(hi)
+    }
+}

@@ -1,0 +1,17 @@
+//! Sequence numbers of DCCP as points of a circle: 48-bit numbers, their 24-bit short forms, and the order between
+//! numbers less than half the circle apart (RFC 4340, sections 3.1, 7.1 and 7.6).
+//!
+//! Nothing here takes memory or refuses a number once it is made.
+#![tactic(auto)]
+
+mod circle;
+mod laws;
+mod memory;
+mod short;
+#[cfg(test)]
+mod tests;
+
+pub use crate::circle::Seq48;
+pub use crate::laws::{before_is_the_order_of_counts, extension_finds_the_number};
+pub use crate::memory::NoMemory;
+pub use crate::short::{Seq24, extend};

@@ -1,0 +1,46 @@
+use crate::{Seq24, Seq48, extend};
+use std::test::Fail;
+
+#[test]
+fn extended_numbers(rt: HostRuntime) -> Result<(), Fail> {
+    let cases = [
+        (0x00_0005, 0x0000_01ff_fff0, 0x0000_0200_0005),
+        (0xff_fff0, 0x0000_0200_0005, 0x0000_01ff_fff0),
+        (7, 0, 7),
+        (0xff_ffff, 0, 0xffff_ffff_ffff),
+    ];
+    for (short, reference, wanted) in cases {
+        let short = Seq24::new(short).ok_or("below 2^24")?;
+        let reference = Seq48::new(reference).ok_or("below 2^48")?;
+        assert_eq!(rt;
+            extend(short, reference).get(),
+            wanted,
+            "{short:?} at {reference:?}"
+        );
+    }
+    Ok(())
+}
+
+#[test]
+fn round_the_circle(rt: HostRuntime) -> Result<(), Fail> {
+    let last = Seq48::new(281_474_976_710_655).ok_or("below 2^48")?;
+    let first = Seq48::new(0).ok_or("below 2^48")?;
+    let half = Seq48::new(140_737_488_355_328).ok_or("below 2^48")?;
+    assert_eq!(rt; last.next(), first);
+    assert_eq!(rt; last.add(2).get(), 1);
+    assert_eq!(rt; first.sub(1), last);
+    assert_eq!(rt; last.distance(first), 1);
+    assert!(rt; last.before(first));
+    assert!(rt; !first.before(last));
+    assert!(rt; !first.before(half), "half a circle ahead is not before");
+    assert_eq!(rt; last.max_of(first), first);
+    assert!(rt; last.within(last.sub(3), first));
+    assert!(rt; !first.next().within(last.sub(3), first));
+    assert_eq!(rt; Seq48::new(281_474_976_710_656), None);
+    assert_eq!(rt; Seq24::new(16_777_216), None);
+    assert_eq!(rt;
+        Seq24::new(16_777_215).ok_or("below 2^24")?.get(),
+        16_777_215
+    );
+    Ok(())
+}
