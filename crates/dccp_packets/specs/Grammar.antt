@@ -8,8 +8,8 @@ use Rattle.dccp_packets.specs.declared.header.Number.TheVariants.{Long, Short}
 use Rattle.dccp_packets.specs.declared.header.Kind.{Kind}
 use Rattle.dccp_packets.specs.declared.header.Kind.TheVariants.{Request, Response, Data, Ack, DataAck, CloseReq, Close, Reset, Sync, SyncAck}
 use Rattle.dccp_packets.specs.declared.header.Header.{Header}
-use Rattle.dccp_packets.specs.declared.decode.Malformed.{Malformed}
-use Rattle.dccp_packets.specs.declared.decode.Malformed.TheVariants as faults
+use Rattle.dccp_packets.specs.declared.reading.Malformed.{Malformed}
+use Rattle.dccp_packets.specs.declared.reading.Malformed.TheVariants as faults
 
 -- the type of a code; 10 to 15 are reserved (RFC 4340, section 5.1)
 abbrev pub type_of : ℕ → Option PacketType
