@@ -4,10 +4,12 @@
 #![tactic(auto)]
 
 mod fields;
+mod frame;
 mod header;
 mod reading;
 mod writing;
 
+pub use crate::frame::{Frame, Outbox};
 pub use crate::header::{Header, Kind, Number, PacketType};
 pub use crate::reading::{Malformed, Packet, decode};
 pub use crate::writing::OptionsTooLong;
