@@ -1,4 +1,7 @@
 //! The fields that a packet's header carries, without their places on the wire.
+ghost use Rattle.std.specs.Prelude.{◌≡◌};
+ghost use Rattle.dccp_packets.specs.Grammar.{type_of, code_of, fixed_length, has_form, packet_type, is_long, has_forms, is_valid, header_length};
+
 use seq_circle::{Seq24, Seq48};
 
 /// The ten packet types (RFC 4340, section 5.1), in the order of their codes 0 to 9.
@@ -94,4 +97,124 @@ pub struct Header {
     pub number: Number,
     /// Type, with the fields that it alone carries.
     pub kind: Kind,
+}
+
+impl PacketType {
+    // The type of a code, unless it is reserved.
+    pub(crate) fn of(code: u8) -> Option<PacketType>
+        ensures { result ≡ type_of code }
+    {
+        match code {
+            0 => Some(PacketType::Request),
+            1 => Some(PacketType::Response),
+            2 => Some(PacketType::Data),
+            3 => Some(PacketType::Ack),
+            4 => Some(PacketType::DataAck),
+            5 => Some(PacketType::CloseReq),
+            6 => Some(PacketType::Close),
+            7 => Some(PacketType::Reset),
+            8 => Some(PacketType::Sync),
+            9 => Some(PacketType::SyncAck),
+            _ => None,
+        }
+    }
+
+    pub(crate) fn code(self) -> u8
+        ensures { result ≡ code_of self }
+    {
+        match self {
+            PacketType::Request => 0,
+            PacketType::Response => 1,
+            PacketType::Data => 2,
+            PacketType::Ack => 3,
+            PacketType::DataAck => 4,
+            PacketType::CloseReq => 5,
+            PacketType::Close => 6,
+            PacketType::Reset => 7,
+            PacketType::Sync => 8,
+            PacketType::SyncAck => 9,
+        }
+    }
+
+    // The bytes before the options, which a type without a short form has in its long one alone.
+    pub(crate) fn fixed_length(self, long: bool) -> usize
+        ensures { result ≡ fixed_length long self }
+    {
+        match self {
+            PacketType::Request => 20,
+            PacketType::Response | PacketType::Reset => 28,
+            PacketType::Data => if long { 16 } else { 12 },
+            PacketType::Ack | PacketType::DataAck => if long { 24 } else { 16 },
+            PacketType::CloseReq | PacketType::Close | PacketType::Sync | PacketType::SyncAck => 24,
+        }
+    }
+
+    // Tells whether the type may carry numbers of this form.
+    pub(crate) fn has_form(self, long: bool) -> bool
+        ensures { result ≡ has_form long self }
+    {
+        match self {
+            PacketType::Data | PacketType::Ack | PacketType::DataAck => true,
+            _ => long,
+        }
+    }
+}
+
+impl Number {
+    pub(crate) fn is_long(&self) -> bool
+        ensures { result ≡ is_long self.now }
+    {
+        match self {
+            Number::Long(_) => true,
+            Number::Short(_) => false,
+        }
+    }
+}
+
+impl Kind {
+    /// The type of the packet (own: the way from a header to its type).
+    pub fn packet_type(&self) -> PacketType
+        ensures { result ≡ packet_type self.now }
+    {
+        match self {
+            Kind::Request { .. } => PacketType::Request,
+            Kind::Response { .. } => PacketType::Response,
+            Kind::Data => PacketType::Data,
+            Kind::Ack { .. } => PacketType::Ack,
+            Kind::DataAck { .. } => PacketType::DataAck,
+            Kind::CloseReq { .. } => PacketType::CloseReq,
+            Kind::Close { .. } => PacketType::Close,
+            Kind::Reset { .. } => PacketType::Reset,
+            Kind::Sync { .. } => PacketType::Sync,
+            Kind::SyncAck { .. } => PacketType::SyncAck,
+        }
+    }
+
+    // Tells whether all numbers of the packet have a form that its type may carry, beside a sequence number of this one.
+    fn has_forms(&self, long: bool) -> bool
+        ensures { result ≡ has_forms long self.now }
+    {
+        match self {
+            Kind::Ack { ack } | Kind::DataAck { ack } => ack.is_long() == long,
+            _ => self.packet_type().has_form(long),
+        }
+    }
+}
+
+impl Header {
+    /// Tells whether the header has a spelling: CCVal and CsCov are below 16, and the numbers have the one form that
+    /// the type may carry, which for the acknowledgement of Ack and DataAck is that of the sequence number (RFC 4340,
+    /// section 5.1).
+    pub fn valid(&self) -> bool
+        ensures { result ≡ is_valid self.now }
+    {
+        self.ccval < 16 && self.cscov < 16 && self.kind.has_forms(self.number.is_long())
+    }
+
+    // The length of the fixed part, in bytes.
+    pub(crate) fn length(&self) -> usize
+        ensures { result ≡ header_length self.now }
+    {
+        self.kind.packet_type().fixed_length(self.number.is_long())
+    }
 }

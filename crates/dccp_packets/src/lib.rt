@@ -3,10 +3,13 @@
 //! Nothing here takes memory, and the checksum and the options are carried without being judged.
 #![tactic(auto)]
 
-mod decode;
-mod encode;
+mod fields;
+mod frame;
 mod header;
+mod reading;
+mod writing;
 
-pub use crate::decode::{Malformed, Packet};
-pub use crate::encode::OptionsTooLong;
+pub use crate::frame::{Frame, Outbox};
 pub use crate::header::{Header, Kind, Number, PacketType};
+pub use crate::reading::{Malformed, Packet, decode};
+pub use crate::writing::OptionsTooLong;
