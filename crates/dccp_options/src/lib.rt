@@ -4,8 +4,15 @@
 //! Nothing here takes memory, and nothing judges an option beyond its length.
 #![tactic(auto)]
 
+mod cursor;
+mod joined;
+mod kinds;
+mod list;
 mod option;
 mod report;
+mod writer;
 
+pub use crate::list::{OptList, options};
 pub use crate::option::{Opt, OptFault};
-pub use crate::report::Run;
+pub use crate::report::{AckReport, ReportRuns, Run};
+pub use crate::writer::{OptFull, OptWriter};
