@@ -6,10 +6,12 @@
 mod fields;
 mod frame;
 mod header;
+mod laws;
 mod reading;
 mod writing;
 
 pub use crate::frame::{Frame, Outbox};
 pub use crate::header::{Header, Kind, Number, PacketType};
+pub use crate::laws::what_is_spelled_is_read;
 pub use crate::reading::{Malformed, Packet, decode};
-pub use crate::writing::OptionsTooLong;
+pub use crate::writing::{OptionsTooLong, encode};
