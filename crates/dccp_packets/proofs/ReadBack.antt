@@ -1,7 +1,7 @@
 -- What is spelled is read again.
 use Rattle.std.proofs.Common.{◌≡◌, ℕ, ◌+◌, ◌-◌, ◌*◌, ◌/◌, ◌%◌, ◌≤◌, Bool, true, false, IsTrue, nat_lt, if◌then◌else◌, List, ◌∷◌, ◌++◌, length, drop, take, slice_range, ◌&&◌, Some, Ok, refl, sym, ap, ◌∙◌, arith, ◌==◌}
 use Rattle.std.proofs.lemmas.List.{length-append, drop-drop, take_at, drop_at}
-use Rattle.std.proofs.lemmas.Bool.{false≢true, and_parts, le-ltb, ltb-true}
+use Rattle.std.proofs.lemmas.Bool.{false≢true, and_parts, ltb-true}
 use Rattle.byteorder.specs.Endian.{big_bytes}
 use Rattle.byteorder.specs.Numbers.{big_number-reads_back}
 use Rattle.dccp_packets.specs.declared.header.PacketType.{PacketType}
@@ -11,7 +11,8 @@ use Rattle.dccp_packets.specs.declared.header.Number.TheVariants.{Long, Short}
 use Rattle.dccp_packets.specs.declared.header.Kind.{Kind}
 use Rattle.dccp_packets.specs.declared.header.Kind.TheVariants.{Request, Response, Data, Ack, DataAck, CloseReq, Close, Reset, Sync, SyncAck}
 use Rattle.dccp_packets.specs.declared.header.Header.{Header}
-use Rattle.dccp_packets.specs.Grammar.{NumberFits, KindFits, Fits, Parts, type_of, code_of, is_long, has_form, has_forms, is_valid, packet_type, fixed_length, header_length, number_at, data_offset, type_code, has_long_numbers, number_of, kind_of, header_of, parts_of, decoded, number_bytes, kind_bytes, common_bytes, header_bytes, padded, spelling}
+use Rattle.dccp_packets.specs.Grammar.{NumberFits, KindFits, Fits, type_of, code_of, is_long, has_form, has_forms, is_valid, packet_type, header_length, number_at, data_offset, number_of, kind_of, header_of, decoded, number_bytes, kind_bytes, common_bytes, header_bytes, padded, spelling}
+use Rattle.dccp_packets.proofs.Pieces.{same_response, same_reset, same_header, same_parts, decoded_ok}
 use Rattle.dccp_packets.proofs.Lengths.{forms_of_valid, length-header_bytes, shortest, offset_in_words}
 
 -- the sequence number, behind the common bytes
@@ -19,12 +20,6 @@ number_again : (number : Number) (kind_part : List ℕ) → NumberFits number �
     → number_of (is_long number) (common_bytes h words ++ ((number_bytes number ++ kind_part) ++ rest)) ≡ number
 number_again (Long n) kind_part fits h words rest = ap Long (big_number-reads_back 6 n (kind_part ++ rest) fits)
 number_again (Short n) kind_part fits h words rest = ap Short (big_number-reads_back 3 n (kind_part ++ rest) fits)
-
-same_response : {a b s t : ℕ} → a ≡ b → s ≡ t → Response a s ≡ Response b t
-same_response {a} {b} {s} {t} ack service = ap (λ x. Response x s) ack ∙ ap (Response b) service
-
-same_reset : {a b code : ℕ} {d e : List ℕ} → a ≡ b → d ≡ e → Reset a code d ≡ Reset b code e
-same_reset {a} {b} {code} {d} {e} ack detail = ap (λ x. Reset x code d) ack ∙ ap (Reset b code) detail
 
 -- what the type alone carries, behind the common bytes and the sequence number
 kind_again : (number : Number) (kind : Kind) → KindFits kind → has_forms (is_long number) kind ≡ true → (h : Header) (words : ℕ) (rest : List ℕ)
@@ -40,7 +35,7 @@ kind_again (Long n) (DataAck (Short ack)) fits form h words rest = absurd (false
 kind_again (Long n) (CloseReq ack) fits form h words rest = ap CloseReq (big_number-reads_back 6 ack rest fits)
 kind_again (Long n) (Close ack) fits form h words rest = ap Close (big_number-reads_back 6 ack rest fits)
 kind_again (Long n) (Reset ack code detail) fits form h words rest =
-    same_reset (big_number-reads_back 6 ack (code ∷ (detail ++ rest)) fits.0) (take_at detail rest 3 fits.2)
+    same_reset (big_number-reads_back 6 ack (code ∷ (detail ++ rest)) fits.0) refl (take_at detail rest 3 fits.2)
 kind_again (Long n) (Sync ack) fits form h words rest = ap Sync (big_number-reads_back 6 ack rest fits)
 kind_again (Long n) (SyncAck ack) fits form h words rest = ap SyncAck (big_number-reads_back 6 ack rest fits)
 kind_again (Short n) (Request service) fits form h words rest = absurd (false≢true form)
@@ -96,28 +91,6 @@ form_again long (Close ack) form = form
 form_again long (Reset ack code detail) form = form
 form_again long (Sync ack) form = form
 form_again long (SyncAck ack) form = form
-
--- where none of the five faults holds, the parts are read
-decoded_ok : (kind : PacketType) (long : Bool) (bytes : List ℕ) → 12 ≤ length bytes → type_of (type_code bytes) ≡ Some kind → has_long_numbers bytes ≡ long
-    → fixed_length long kind ≤ data_offset bytes → data_offset bytes ≤ length bytes → has_form long kind ≡ true → decoded bytes ≡ Ok (parts_of kind long bytes)
-decoded_ok kind long bytes enough typed x above within form =
-    let e1 = le-ltb (length bytes) 12 enough in
-    let e2 = le-ltb (data_offset bytes) (fixed_length long kind) above in
-    let e3 = le-ltb (length bytes) (data_offset bytes) within in
-    rw (e1, typed, x, e2, e3, form) refl
-
-abbrev parts : Header → List ℕ → List ℕ → Parts
-parts header options payload = record { header = header; options = options; payload = payload }
-
-abbrev header : ℕ → ℕ → ℕ → ℕ → ℕ → Number → Kind → Header
-header from to ccval cscov checksum number kind = record { from = from; to = to; ccval = ccval; cscov = cscov; checksum = checksum; number = number; kind = kind }
-
-same_header : {a a' b b' c c' d d' e e' : ℕ} {n n' : Number} {k k' : Kind} → a ≡ a' → b ≡ b' → c ≡ c' → d ≡ d' → e ≡ e' → n ≡ n' → k ≡ k'
-    → header a b c d e n k ≡ header a' b' c' d' e' n' k'
-same_header from to ccval cscov checksum number kind = cc
-
-same_parts : {h k : Header} {o p d e : List ℕ} → h ≡ k → o ≡ p → d ≡ e → parts h o d ≡ parts k p e
-same_parts header options payload = cc
 
 -- the fields of a header, from the front of its spelling
 header_again : (h : Header) (words : ℕ) (rest : List ℕ) → Fits h → IsTrue (is_valid h) → header_of (packet_type h.kind) (is_long h.number) (header_bytes h words ++ rest) ≡ h
