@@ -79,10 +79,14 @@ entry_then Mandatory true _ _ = Err MandatoryTwice ∷ []
 entry_then Listed marked raw behind =
     Ok (record { place = raw.place; mandatory = marked; kind = raw.kind; body = raw.body }) ∷ behind false
 
--- the list of these options, after a Mandatory or not; a Mandatory with nothing after it is a fault (RFC 4340, section 5.8.2)
+-- a Mandatory with nothing after it is a fault (RFC 4340, section 5.8.2)
+abbrev pub at_end : Bool → List (Result Entry OptFault)
+at_end false = []
+at_end true = Err MandatoryAtEnd ∷ []
+
+-- the list of these options, after a Mandatory or not
 abbrev pub entries : Bool → List RawOption → List (Result Entry OptFault)
-entries false [] = []
-entries true [] = Err MandatoryAtEnd ∷ []
+entries marked [] = at_end marked
 entries marked (raw ∷ rest) = entry_then (part_of raw.kind) marked raw (λ next. entries next rest)
 
 -- the list of an area, on a Data packet or on another

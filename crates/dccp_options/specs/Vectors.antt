@@ -1,5 +1,5 @@
 -- What the Ack Vectors of a packet report (RFC 4340, section 11.4).
-use Rattle.std.specs.Prelude.{ℕ, ◌+◌, ◌-◌, ◌/◌, ◌%◌, ◌^◌, Bool, true, false, ◌||◌, ◌==◌, List, [], ◌∷◌, ◌++◌, replicate, Option, Some, None, Result, Ok, Err, slice_get, if◌then◌else◌}
+use Rattle.std.specs.Prelude.{ℕ, ◌+◌, ◌-◌, ◌/◌, ◌%◌, ◌^◌, Bool, true, false, ◌||◌, ◌==◌, nat_lt, List, [], ◌∷◌, ◌++◌, replicate, Option, Some, None, Result, Ok, Err, slice_get, if◌then◌else◌}
 use Rattle.std.specs.List.{concat}
 use Rattle.seq_circle.specs.Circle.{residue, distance}
 use Rattle.dccp_options.specs.declared.option.OptFault.{OptFault}
@@ -64,3 +64,12 @@ runs_of hi [] = []
 runs_of hi (byte ∷ rest) =
     record { hi = hi; count = run_length byte; state = state_of byte }
     ∷ runs_of (residue (hi + (2 ^ 48 - run_length byte))) rest
+
+-- the number is one of the run's
+abbrev pub is_in_run : Run → ℕ → Bool
+is_in_run run n = nat_lt (distance n run.hi) run.count
+
+-- the state that the first run with the number gives it
+abbrev pub state_in : List Run → ℕ → Option ℕ
+state_in [] n = None
+state_in (run ∷ rest) n = if is_in_run run n then Some run.state else state_in rest n
