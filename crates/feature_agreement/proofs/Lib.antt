@@ -5,3 +5,5 @@ pub mod Values
 pub mod Reaching
 pub mod Located
 pub mod Reachable
+pub mod Order
+pub mod Running

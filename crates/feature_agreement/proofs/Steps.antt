@@ -10,7 +10,7 @@ use Rattle.feature_agreement.specs.Moves.Reached.{Starts, Server_moves, Client_m
 use Rattle.feature_agreement.proofs.Facts.{Own, Towards, Settled, Kept}
 use Rattle.feature_agreement.proofs.Frames.{frame_in, frame_cases, frame_new, wish_seen, change_seen, last_wish-with_frame, has_change-with_frame}
 
-unwrap_or_twice : (found : Option ℕ) (held : ℕ) → unwrap_or found (unwrap_or found held) ≡ unwrap_or found held
+pub unwrap_or_twice : (found : Option ℕ) (held : ℕ) → unwrap_or found (unwrap_or found held) ≡ unwrap_or found held
 unwrap_or_twice None held = refl
 unwrap_or_twice (Some value) held = refl
 

@@ -1,7 +1,8 @@
 //! The laws on a feature's two sides.
-ghost use Rattle.std.specs.Prelude.{ℕ, List};
+ghost use Rattle.std.specs.Prelude.{ℕ, List, IsTrue};
 ghost use Rattle.feature_agreement.specs.View.{Side};
 ghost use Rattle.feature_agreement.specs.Moves.{Pair, Moves, swapped, fresh, IsReachable, at_server, at_client};
+ghost use Rattle.feature_agreement.specs.Exchanges.{server_asked, client_asking, server_crossing, client_crossing};
 ghost use Rattle.feature_agreement.specs.Agreement.{Agree, Given, AgreeOn, GivenBy};
 
 /// Two sides are reachable at the start, whatever was configured, and after each step of either that is a list of moves.
@@ -36,4 +37,14 @@ pub fn location_decides()
         → IsReachable (at_server initial) server client → ∥ GivenBy initial server client ∥₁ }
     ensures given_at_client { (initial : ℕ) (server client : Side)
         → IsReachable (at_client initial) server client → ∥ GivenBy initial client server ∥₁ }
+{}
+
+/// Rows do settle: by a Change and its Confirm, and by two Changes that cross, each confirmed. Both rows then are STABLE,
+/// at the value that the rule gives, whatever the two wishes are. This shows that the laws above speak of something.
+pub fn exchanges_settle()
+    ensures asked { (pair : Pair) (servers clients : List ℕ) → IsTrue (pair.client_opens clients)
+        → IsReachable pair (server_asked pair servers clients) (client_asking pair servers clients) }
+    ensures crossing { (pair : Pair) (servers clients : List ℕ)
+        → IsTrue (pair.server_opens servers) → IsTrue (pair.client_opens clients)
+        → IsReachable pair (server_crossing pair servers clients) (client_crossing pair servers clients) }
 {}

@@ -4,6 +4,10 @@
 //! The crate has no code that runs. Its functions have empty bodies, and their contracts are the laws.
 #![tactic(auto)]
 
+mod counts;
 mod laws;
 
-pub use crate::laws::{location_decides, reachable_sides_agree, steps_stay_reachable};
+pub use crate::counts::numbers_count_frames;
+pub use crate::laws::{
+    exchanges_settle, location_decides, reachable_sides_agree, steps_stay_reachable,
+};
