@@ -1,3 +1,4 @@
+pub mod FaultLemmas
 pub mod Lengths
 pub mod Pieces
 pub mod ReadBack

@@ -12,6 +12,8 @@ mod writing;
 
 pub use crate::frame::{Frame, Outbox};
 pub use crate::header::{Header, Kind, Number, PacketType};
-pub use crate::laws::{what_is_read_is_the_table, what_is_spelled_is_read};
+pub use crate::laws::{
+    the_first_fault_is_answered, what_is_read_is_the_table, what_is_spelled_is_read,
+};
 pub use crate::reading::{Malformed, Packet, decode};
 pub use crate::writing::{OptionsTooLong, encode};
