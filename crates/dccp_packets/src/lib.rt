@@ -8,6 +8,8 @@ mod frame;
 mod header;
 mod laws;
 mod reading;
+#[cfg(test)]
+mod tests;
 mod writing;
 
 pub use crate::frame::{Frame, Outbox};
