@@ -3,7 +3,7 @@ ghost use Rattle.std.specs.Prelude.{◌≡◌, ℕ, ◌+◌, ◌<◌, ◌≤◌,
 ghost use Rattle.dccp_packets.specs.declared.header.Header.{Header};
 ghost use Rattle.dccp_packets.specs.declared.header.PacketType.{PacketType};
 ghost use Rattle.dccp_packets.specs.Grammar.{type_code, type_of, data_offset, fixed_length, has_long_numbers, has_form, decoded, spelling, padded, header_length, is_valid, Fits};
-ghost use Rattle.dccp_packets.specs.Table.{IsPacket};
+ghost use Rattle.dccp_packets.specs.Table.{IsPacket, AreBytes, HasZeros};
 
 use crate::Malformed;
 
@@ -35,4 +35,11 @@ pub fn the_first_fault_is_answered()
     ensures short_numbers { (bytes : List ℕ) (kind : PacketType) → 12 ≤ length bytes → type_of (type_code bytes) ≡ Some kind
         → fixed_length (has_long_numbers bytes) kind ≤ data_offset bytes → data_offset bytes ≤ length bytes
         → (decoded bytes ≡ Err Malformed.ShortNumbers) ↔ (has_form (has_long_numbers bytes) kind ≡ false) }
+{}
+
+/// Of the spellings of a packet just one has all reserved bits zero, and that is the one that `encode` writes (RFC 4340,
+/// section 5).
+pub fn one_spelling_has_no_reserved_bit()
+    ensures { (h : Header) (options payload bytes : List ℕ) → IsPacket h options payload bytes → AreBytes bytes → HasZeros h bytes
+        → bytes ≡ spelling h options payload }
 {}
