@@ -1,4 +1,5 @@
 mod Examples
 pub mod RawOptions
 pub mod ReadBack
+pub mod Sizes
 pub mod States

@@ -7,11 +7,17 @@
 mod cursor;
 mod joined;
 mod kinds;
+mod laws;
 mod list;
 mod option;
 mod report;
+#[cfg(test)]
+mod tests;
 mod writer;
 
+pub use crate::laws::{
+    runs_give_the_states, vectors_continue_each_other, written_options_are_listed,
+};
 pub use crate::list::{OptList, options};
 pub use crate::option::{Opt, OptFault};
 pub use crate::report::{AckReport, ReportRuns, Run};
