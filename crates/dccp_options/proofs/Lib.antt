@@ -1,4 +1,5 @@
 mod Examples
+pub mod Listings
 pub mod RawOptions
 pub mod ReadBack
 pub mod Sizes

@@ -1,10 +1,20 @@
 //! What ties the list of options to what was written, and the runs of a report to its states.
-ghost use Rattle.std.specs.Prelude.{◌≡◌, ℕ, ◌+◌, ◌^◌, ◌<◌, ◌≤◌, List, [], ◌∷◌, ◌++◌, length, replicate, map, false, Some, Ok, IsTrue};
+ghost use Rattle.std.specs.Prelude.{◌≡◌, ℕ, ◌+◌, ◌^◌, ◌<◌, ◌≤◌, List, [], ◌∷◌, ◌++◌, length, replicate, map, Bool, false, Some, Result, Ok, IsTrue};
 ghost use Rattle.std.specs.List.{All, Contains};
 ghost use Rattle.dccp_options.specs.declared.report.Run.{Run};
-ghost use Rattle.dccp_options.specs.Grammar.{options_of};
+ghost use Rattle.dccp_options.specs.declared.option.OptFault.{OptFault};
+ghost use Rattle.dccp_options.specs.Grammar.{Entry, options_of};
+ghost use Rattle.dccp_options.specs.Listing.{IsListed};
 ghost use Rattle.dccp_options.specs.Vectors.{states, state_at, runs_of, is_in_run, state_in};
 ghost use Rattle.dccp_options.specs.Written.{Item, IsWritable, spelled, written, entries_at};
+
+/// The list of an area is the one that goes by the first byte of what is left: Padding, Mandatory, another option of one
+/// byte, an option with a length, or one whose length is wrong; and an area has no other list (RFC 4340, section 5.8).
+pub fn an_area_has_one_list()
+    ensures is_listed { (area : List ℕ) (on_data : Bool) → IsListed on_data false 0 area (options_of area on_data) }
+    ensures only { (area : List ℕ) (on_data : Bool) (items : List (Result Entry OptFault))
+        → IsListed on_data false 0 area items → items ≡ options_of area on_data }
+{}
 
 /// What a writer wrote, with any zeros behind it, is listed option by option, each at its place and with its mark, and
 /// nothing else is, on each packet but Data (RFC 4340, section 5.8). One more `put` writes one more option.

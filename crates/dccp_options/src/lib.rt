@@ -16,7 +16,8 @@ mod tests;
 mod writer;
 
 pub use crate::laws::{
-    runs_give_the_states, vectors_continue_each_other, written_options_are_listed,
+    an_area_has_one_list, runs_give_the_states, vectors_continue_each_other,
+    written_options_are_listed,
 };
 pub use crate::list::{OptList, options};
 pub use crate::option::{Opt, OptFault};
