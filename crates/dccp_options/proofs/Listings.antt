@@ -1,13 +1,12 @@
 -- The list that is computed is the one list of its area.
-use Rattle.std.proofs.Common.{◌≡◌, ℕ, zero, suc, ◌+◌, ◌-◌, ◌≤◌, ◌<◌, ◌⊎◌, inl, inr, Bool, true, false, not, List, [], ◌∷◌, ◌++◌, length, take, drop, filter, Option, Some, None, Result, Ok, Err, if◌then◌else◌, refl, ap, sym, ◌∙◌, subst, arith, length-append, nat_le, nat_lt}
+use Rattle.std.proofs.Common.{◌≡◌, ℕ, zero, suc, ◌+◌, ◌-◌, ◌≤◌, ◌<◌, ◌⊎◌, inl, inr, Bool, true, false, List, [], ◌∷◌, ◌++◌, length, take, drop, None, Result, Ok, refl, ap, sym, ◌∙◌, subst, arith, length-append, nat_le}
 use Rattle.std.proofs.lemmas.List.{length-take-le, take-append-drop}
 use Rattle.std.proofs.lemmas.Grind.{common_steps}
 use Rattle.dccp_options.specs.declared.option.OptFault.{OptFault}
-use Rattle.dccp_options.specs.Grammar.{Entry, RawOption, raw_options, raw_then, option_body, counted_body, bytes_after, is_one_byte, counted_options, is_ignored_on_data, entries, entry_then, part_of, Part, options_of, at_end}
-use Rattle.dccp_options.specs.Grammar.Part.{Padding, Mandatory, Listed}
+use Rattle.dccp_options.specs.Grammar.{Entry, RawOption, raw_options, option_body, is_one_byte, counted_options, is_ignored_on_data, entries, part_of, options_of, at_end}
+use Rattle.dccp_options.specs.Grammar.Part.{Listed}
 use Rattle.dccp_options.specs.Listing.{IsCut, IsListed}
 use Rattle.dccp_options.specs.Listing.IsListed.{at_the_end, cut, padding, mandatory, twice, mandatory_on_data, one_byte, with_length, ignored}
-use Rattle.dccp_options.proofs.RawOptions.{raw_options-first}
 use Rattle.dccp_options.proofs.ReadBack.{raw_options-long, part-listed, has_length}
 
 -- the list that Grammar computes

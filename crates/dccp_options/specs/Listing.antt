@@ -1,6 +1,6 @@
 -- The list of an option area, case by case of its first byte (RFC 4340, section 5.8). That it is the list which Grammar
 -- computes, and the only one, is a law.
-use Rattle.std.specs.Prelude.{◌≡◌, ◌≢◌, ℕ, ◌+◌, ◌<◌, ◌≤◌, ◌⊎◌, Bool, true, false, List, [], ◌∷◌, ◌++◌, length, Result, Ok, Err}
+use Rattle.std.specs.Prelude.{◌≡◌, ℕ, ◌+◌, ◌<◌, ◌≤◌, ◌⊎◌, Bool, true, false, List, [], ◌∷◌, ◌++◌, length, Result, Ok, Err}
 use Rattle.dccp_options.specs.declared.option.OptFault.{OptFault}
 use Rattle.dccp_options.specs.declared.option.OptFault.TheVariants.{MandatoryTwice}
 use Rattle.dccp_options.specs.Grammar.{Entry, at_end, is_ignored_on_data}

@@ -34,7 +34,7 @@ fn vector_states(rt: HostRuntime) -> Result<(), Fail> {
 }
 
 #[test]
-fn two_vectors(rt: HostRuntime) -> Result<(), Fail> {
+fn joined_vectors(rt: HostRuntime) -> Result<(), Fail> {
     // Around the circle's end, with an empty vector, another option between them, and a reserved state.
     let area = [38, 3, 0x01, 38, 2, 2, 39, 4, 0x80, 0x41, 0, 0];
     let ack = Seq48::new(2).ok_or("below 2^48")?;
