@@ -2,5 +2,6 @@ mod Examples
 pub mod Listings
 pub mod RawOptions
 pub mod ReadBack
+pub mod ReadVectors
 pub mod Sizes
 pub mod States

@@ -55,9 +55,9 @@ entries-listed marked place kind body rest h =
     (part-listed kind h)
 
 -- zeros behind the options list nothing
-pub entries-zeros : (place zeros : ℕ) → entries false (raw_options place 0 (replicate zeros 0)) ≡ []
-entries-zeros place zero = refl
-entries-zeros place (suc zeros) = entries-zeros (place + 1) zeros
+pub entries-padding : (place pads : ℕ) → entries false (raw_options place 0 (replicate pads 0)) ≡ []
+entries-padding place zero = refl
+entries-padding place (suc pads) = entries-padding (place + 1) pads
 
 -- one option, in front of what is listed behind it
 pub entries-spelled : (place kind : ℕ) (mandatory : Bool) (body more : List ℕ) → 32 ≤ kind
@@ -81,23 +81,23 @@ entries-spelled place kind true body more h =
     ∷ entries false (raw_options at 0 more)) n
 
 -- the options that were written, and zeros behind them, are listed place by place
-pub entries-written : (place zeros : ℕ) (items : List Item) → All (λ item. IsWritable item) items
-    → entries false (raw_options place 0 (written items ++ replicate zeros 0)) ≡ map Ok (entries_at place items)
-entries-written place zeros [] _ = entries-zeros place zeros
-entries-written place zeros (item ∷ rest) all =
-    let behind = written rest ++ replicate zeros 0 in
+pub entries-written : (place pads : ℕ) (items : List Item) → All (λ item. IsWritable item) items
+    → entries false (raw_options place 0 (written items ++ replicate pads 0)) ≡ map Ok (entries_at place items)
+entries-written place pads [] _ = entries-padding place pads
+entries-written place pads (item ∷ rest) all =
+    let behind = written rest ++ replicate pads 0 in
     let first : IsWritable item = all 0 item (omega arith) in
     let others = All-tail (λ i. IsWritable i) item rest all in
-    let joined = append_assoc (spelled item.mandatory item.kind item.body) (written rest) (replicate zeros 0) in
+    let joined = append_assoc (spelled item.mandatory item.kind item.body) (written rest) (replicate pads 0) in
     let here = entries-spelled place item.kind item.mandatory item.body behind first.has_length in
-    let later = entries-written (place + length (spelled item.mandatory item.kind item.body)) zeros rest others in
+    let later = entries-written (place + length (spelled item.mandatory item.kind item.body)) pads rest others in
     ap (λ b. entries false (raw_options place 0 b)) joined
     ∙ here
     ∙ ap (λ xs. Ok (record { place = place + length (mark item.mandatory); mandatory = item.mandatory; kind = item.kind; body = item.body }) ∷ xs) later
 
-pub options_of-written : (items : List Item) (zeros : ℕ) → All IsWritable items
-    → options_of (written items ++ replicate zeros 0) false ≡ map Ok (entries_at 0 items)
-options_of-written items zeros all = entries-written 0 zeros items all
+pub options_of-written : (items : List Item) (pads : ℕ) → All IsWritable items
+    → options_of (written items ++ replicate pads 0) false ≡ map Ok (entries_at 0 items)
+options_of-written items pads all = entries-written 0 pads items all
 
 -- one more option stands behind the others
 pub written-more : (items : List Item) (item : Item)

@@ -1,11 +1,11 @@
 //! What ties the list of options to what was written, and the runs of a report to its states.
-ghost use Rattle.std.specs.Prelude.{◌≡◌, ℕ, ◌+◌, ◌^◌, ◌<◌, ◌≤◌, List, [], ◌∷◌, ◌++◌, length, replicate, map, Bool, false, Some, Result, Ok, IsTrue};
+ghost use Rattle.std.specs.Prelude.{◌≡◌, ℕ, ◌+◌, ◌^◌, ◌<◌, ◌≤◌, List, [], ◌∷◌, ◌++◌, length, replicate, map, Bool, false, Some, Result, Ok, IsTrue, IsFalse};
 ghost use Rattle.std.specs.List.{All, Contains};
 ghost use Rattle.dccp_options.specs.declared.report.Run.{Run};
 ghost use Rattle.dccp_options.specs.declared.option.OptFault.{OptFault};
 ghost use Rattle.dccp_options.specs.Grammar.{Entry, options_of};
 ghost use Rattle.dccp_options.specs.Listing.{IsListed};
-ghost use Rattle.dccp_options.specs.Vectors.{states, state_at, runs_of, is_in_run, state_in};
+ghost use Rattle.dccp_options.specs.Vectors.{is_ack_vector, states, reported, state_at, runs_of, is_in_run, state_in};
 ghost use Rattle.dccp_options.specs.Written.{Item, IsWritable, spelled, written, entries_at};
 
 /// The list of an area is the one that goes by the first byte of what is left: Padding, Mandatory, another option of one
@@ -23,6 +23,15 @@ pub fn written_options_are_listed()
         → options_of (written items ++ replicate zeros 0) false ≡ map Ok (entries_at 0 items) }
     ensures one_more { (items : List Item) (item : Item)
         → written (items ++ item ∷ []) ≡ written items ++ spelled item.mandatory item.kind item.body }
+{}
+
+/// Where one Ack Vector was written first, and options of other types behind it, a packet with these options reports of
+/// each number what the vector's bytes give it.
+pub fn a_written_vector_is_reported()
+    ensures { (ack n zeros : ℕ) (vector : Item) (others : List Item) → All IsWritable (vector ∷ others)
+        → IsTrue (is_ack_vector vector.kind) → All (λ item. IsFalse (is_ack_vector item.kind)) others
+        → reported ack (options_of (written (vector ∷ others) ++ replicate zeros 0) false) n
+        ≡ state_at ack vector.body n }
 {}
 
 /// The runs of a report give each number the state that its bytes give it: the first run that has the number, and so

@@ -16,8 +16,8 @@ mod tests;
 mod writer;
 
 pub use crate::laws::{
-    an_area_has_one_list, runs_give_the_states, vectors_continue_each_other,
-    written_options_are_listed,
+    a_written_vector_is_reported, an_area_has_one_list, runs_give_the_states,
+    vectors_continue_each_other, written_options_are_listed,
 };
 pub use crate::list::{OptList, options};
 pub use crate::option::{Opt, OptFault};
