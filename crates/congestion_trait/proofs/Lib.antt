@@ -1,2 +1,3 @@
 pub mod Runs
 pub mod Settling
+pub mod Standings

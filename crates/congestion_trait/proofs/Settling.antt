@@ -15,7 +15,7 @@ lost_where true x = refl
 lost_where false x = refl
 
 -- an entry after a report, in one step
-settled-is : (received passed : Bool) (x : Entry)
+pub settled-is : (received passed : Bool) (x : Entry)
     → lost_if passed (cond received (record x { standing = Reported }) x)
     ≡ record x { standing = cond received Reported (cond (is_out x.standing && passed) Lost x.standing) }
 settled-is true passed x = refl
