@@ -1,3 +1,4 @@
 pub mod Runs
+pub mod Settled
 pub mod Settling
 pub mod Standings
