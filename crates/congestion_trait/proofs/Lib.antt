@@ -2,3 +2,4 @@ pub mod Runs
 pub mod Settled
 pub mod Settling
 pub mod Standings
+pub mod Calls

@@ -1,5 +1,5 @@
 -- What a report makes of a list, entry by entry.
-use Rattle.std.proofs.Common.{◌≡◌, ℕ, suc, ◌+◌, ◌-◌, ◌<◌, ◌≤◌, Bool, true, false, not, ◌&&◌, ◌||◌, leb, cond, List, [], ◌∷◌, ◌++◌, map, Option, Some, None, length, take, drop, get_or, slice_get, slice_set, refl, sym, ap, ◌∙◌, append_assoc, length-drop, subst, arith}
+use Rattle.std.proofs.Common.{◌≡◌, ℕ, suc, ◌+◌, ◌<◌, ◌≤◌, Bool, true, false, not, ◌&&◌, ◌||◌, leb, cond, List, [], ◌∷◌, ◌++◌, map, Option, Some, length, take, drop, get_or, slice_get, slice_set, refl, sym, ap, ◌∙◌, append_assoc, length-drop, subst, arith}
 use Rattle.std.proofs.lemmas.List.Sums.{sum_by-cons, count_by-le-length}
 use Rattle.std.proofs.lemmas.List.{take_more, drop_more, get_or_append_left, get_or-take, length-take-le, set_at, length-map}
 use Rattle.std.proofs.lemmas.Option.{get_or_from_slice_get}

@@ -1,11 +1,10 @@
 -- Which numbers stand how in a flight list after a report, and how the pipe falls.
-use Rattle.std.proofs.Common.{◌≡◌, ℕ, zero, suc, ◌+◌, ◌<◌, ◌≤◌, Bool, true, false, ◌&&◌, ◌||◌, cond, List, [], ◌∷◌, map, length, get_or, refl, sym, ap, ◌∙◌, subst, inl, inr, ◌⊎◌, ⊎_elim, IsTrue, arith}
+use Rattle.std.proofs.Common.{◌≡◌, ℕ, zero, suc, ◌+◌, ◌<◌, Bool, true, false, ◌&&◌, ◌||◌, cond, List, [], ◌∷◌, map, length, get_or, refl, sym, ap, subst, inl, inr, ◌⊎◌, ⊎_elim, IsTrue, arith}
 use Rattle.std.proofs.lemmas.List.Sums.{sum_by-cons}
 use Rattle.congestion_trait.specs.declared.flight.Entry.{Entry}
 use Rattle.congestion_trait.specs.declared.flight.Standing.{Standing}
 use Rattle.congestion_trait.specs.declared.flight.Standing.TheVariants.{Out, Reported, Lost}
-use Rattle.congestion_trait.specs.Flight.{States, pipe_of, after_report, is_out, is_received, reported, lost_if, is_passed, Has, leaving_count, leaves_pipe}
-use Rattle.congestion_trait.specs.Control.{Control, IsLawful}
+use Rattle.congestion_trait.specs.Flight.{States, pipe_of, after_report, is_out, is_received, reported, lost_if, is_passed, Has, leaving_count}
 use Rattle.congestion_trait.proofs.Settling.{settled-is}
 
 -- an entry that is not Lost in the end was not changed into Lost

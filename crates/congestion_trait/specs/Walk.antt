@@ -1,10 +1,10 @@
 -- How a report is read along with a flight list, from the newest entry to the oldest.
-use Rattle.std.specs.Prelude.{◌≡◌, ℕ, ◌+◌, ◌-◌, ◌<◌, ◌≤◌, Bool, false, ◌&&◌, nat_lt, List, [], ◌∷◌, ◌++◌, map, take, drop, length, Option, Some, None, slice_get, IsTrue, if◌then◌else◌}
+use Rattle.std.specs.Prelude.{◌≡◌, ℕ, ◌-◌, ◌<◌, ◌≤◌, Bool, false, ◌&&◌, nat_lt, List, [], ◌∷◌, ◌++◌, map, take, drop, length, Option, Some, None, slice_get, IsTrue, if◌then◌else◌}
 use Rattle.std.specs.List.{list_all}
 use Rattle.dccp_options.specs.declared.report.Run.{Run}
 use Rattle.dccp_options.specs.Vectors.{Report}
 use Rattle.congestion_trait.specs.declared.flight.Standing.{Standing}
-use Rattle.congestion_trait.specs.declared.flight.Standing.TheVariants.{Out, Reported, Lost}
+use Rattle.congestion_trait.specs.declared.flight.Standing.TheVariants.{Reported, Lost}
 use Rattle.congestion_trait.specs.declared.flight.Entry.{Entry}
 use Rattle.congestion_trait.specs.declared.walk.Walk.{Walk}
 use Rattle.congestion_trait.specs.Flight.{States, is_out, is_reported, is_received, after_report, acked_count, is_congested, reported_count, reported, pipe_of}

@@ -2,6 +2,8 @@
 ghost use Rattle.std.specs.Prelude.{◌≡◌, ℕ, ◌+◌, ◌⊎◌, IsTrue, map, List};
 ghost use Rattle.congestion_trait.specs.declared.flight.Entry.{Entry};
 ghost use Rattle.congestion_trait.specs.declared.flight.Standing.TheVariants.{Out, Reported};
+ghost use Rattle.std.specs.List.{list_any};
+ghost use Rattle.congestion_trait.specs.Calls.{Call, run, sends, tells};
 ghost use Rattle.congestion_trait.specs.Flight.{States, Has, is_received, after_report, leaving_count, pipe_of};
 
 use crate::congestion::Congestion;
@@ -34,4 +36,15 @@ pub fn in_flight_falls_once<C: Congestion>()
     ensures { (state : C) (states : States) (ratio : ℕ)
         → pipe_of (C.control.flight (C.control.with_report state states ratio)) + leaving_count states (C.control.flight state)
         ≡ pipe_of (C.control.flight state) }
+{}
+
+/// After any calls a number is Out only where it was before them or one of them sends it: what was reported or taken for
+/// lost is never Out again. And it is Reported only where it was before them or one of them gives it state 0 or 1.
+pub fn standings_after_calls<C: Congestion>()
+    ensures out { (state : C) (calls : List Call) (number : ℕ)
+        → Has (C.control.flight (run C.control state calls)) number Out
+        → Has (C.control.flight state) number Out ⊎ IsTrue (list_any (sends number) calls) }
+    ensures reported { (state : C) (calls : List Call) (number : ℕ)
+        → Has (C.control.flight (run C.control state calls)) number Reported
+        → Has (C.control.flight state) number Reported ⊎ IsTrue (list_any (tells number) calls) }
 {}

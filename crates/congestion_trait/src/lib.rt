@@ -16,4 +16,6 @@ mod walk;
 pub use crate::congestion::Congestion;
 pub use crate::fixed::FixedWindow;
 pub use crate::flight::{Entry, Flight, FlightNews, Standing};
-pub use crate::laws::{in_flight_falls_once, only_reports_report, only_sending_puts_out};
+pub use crate::laws::{
+    in_flight_falls_once, only_reports_report, only_sending_puts_out, standings_after_calls,
+};

@@ -1,5 +1,3 @@
-use Rattle.std.proofs.Common.{◌≡◌, ◌+◌}
-use Rattle.congestion_trait.specs.Flight.{leaving_count, pipe_of}
 use Rattle.congestion_trait.proofs.Standings.{pipe_of-after_report}
 use Rattle.congestion_trait.proofs.laws.in_flight_falls_once.Goals as goal
 

@@ -1,4 +1,4 @@
-use Rattle.std.proofs.Common.{◌≡◌, ◌≤◌, length}
+use Rattle.std.proofs.Common.{◌≡◌, ◌≤◌}
 use Rattle.dccp_options.specs.Vectors.{state_at, states}
 use Rattle.congestion_trait.specs.Walk.{IsAt, IsTop, IsAlong}
 use Rattle.congestion_trait.proofs.walk.settle.Given as goal

@@ -1,4 +1,4 @@
-use Rattle.std.proofs.Common.{sym, ap, subst, ◌∙◌, arith, length, take}
+use Rattle.std.proofs.Common.{sym, subst, arith}
 use Rattle.dccp_options.specs.Vectors.{state_at}
 use Rattle.congestion_trait.specs.Walk.{AllReported}
 use Rattle.congestion_trait.proofs.Settled.{front_stays}
