@@ -1,0 +1,38 @@
+-- The runs of a report and its list of states say the same.
+use Rattle.std.proofs.Common.{◌≡◌, ℕ, zero, suc, ◌+◌, ◌-◌, ◌<◌, ◌≤◌, ◌^◌, List, [], ◌∷◌, ◌++◌, Option, Some, None, cond, ltb, replicate, slice_get, refl, sym, ◌∙◌, ap, arith}
+use Rattle.std.proofs.Math.Nat.{sub-zero}
+use Rattle.std.proofs.lemmas.Bool.Decides.{nat_tests}
+use Rattle.seq_circle.specs.Circle.{residue}
+use Rattle.dccp_options.specs.declared.report.Run.{Run}
+use Rattle.dccp_options.specs.Vectors.{states, runs_of, state_of, run_length}
+use Rattle.congestion_trait.specs.Walk.{run_state, IsAt}
+
+-- a front of equal elements is passed, or holds the place
+slice_get-replicate : {X : Type 0} (n : ℕ) (x : X) (ys : List X) (place : ℕ)
+    → slice_get (replicate n x ++ ys) place ≡ cond (ltb place n) (Some x) (slice_get ys (place - n))
+slice_get-replicate zero x ys place = grind (arith, nat_tests)
+slice_get-replicate (suc n) x ys zero = grind (arith, nat_tests)
+slice_get-replicate (suc n) x ys (suc place) = let before = slice_get-replicate n x ys place in grind (arith, nat_tests)
+
+pub run_state-runs_of : (bytes : List ℕ) (hi place : ℕ) → run_state (runs_of hi bytes) place ≡ slice_get (states bytes) place
+run_state-runs_of [] hi place = refl
+run_state-runs_of (byte ∷ rest) hi place =
+    let next = residue (hi + (2 ^ 48 - run_length byte)) in
+    ap (λ other. cond (ltb place (run_length byte)) (Some (state_of byte)) other) (run_state-runs_of rest next (place - run_length byte))
+    ∙ sym (slice_get-replicate (run_length byte) (state_of byte) (states rest) place)
+
+-- before the first run
+pub at_the_top : (bytes : List ℕ) (hi state : ℕ) → IsAt (states bytes) 0 0 state (runs_of hi bytes)
+at_the_top bytes hi state = record {
+  inside = λ place from to. grind arith;
+  behind = λ place from. rw sub-zero (sym (run_state-runs_of bytes hi place));
+}
+
+-- the first run stands at the top
+pub first_at_the_top : (bytes : List ℕ) (hi : ℕ) (run : Run) (rest : List Run) → runs_of hi bytes ≡ run ∷ rest → run.hi ≡ hi
+first_at_the_top [] hi run rest is = cc
+first_at_the_top (byte ∷ others) hi run rest is = let first : record { hi = hi; count = run_length byte; state = state_of byte } ≡ run = cc in sym (ap (λ (r : Run). r.hi) first)
+
+pub no_byte : (bytes : List ℕ) (hi : ℕ) → runs_of hi bytes ≡ [] → bytes ≡ []
+no_byte [] hi is = refl
+no_byte (byte ∷ others) hi is = cc

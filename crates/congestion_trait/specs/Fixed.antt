@@ -1,0 +1,17 @@
+-- The fixed window: nothing but a flight list (own).
+use Rattle.std.specs.Prelude.{ℕ, ◌==◌, List, []}
+use Rattle.congestion_trait.specs.declared.flight.Entry.{Entry}
+use Rattle.congestion_trait.specs.Flight.{sent, after_report}
+use Rattle.congestion_trait.specs.Control.{Control}
+
+-- CCID 248: always 8 packets
+abbrev pub fixed_control : Control (List Entry)
+fixed_control = record {
+  flight = λ entries. entries;
+  window = λ _. 8;
+  is_known = λ ccid. ccid == 248;
+  started = λ _ _. [];
+  with_sent = sent;
+  with_report = λ entries states _. after_report states entries;
+  timed_out = λ _. [];
+}

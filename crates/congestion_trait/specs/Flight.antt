@@ -1,0 +1,97 @@
+-- The flight list of a sender, and what a report makes of it (RFC 4341, section 5; the three standings are own).
+use Rattle.std.specs.Prelude.{ℕ, Bool, true, false, not, ◌&&◌, ◌||◌, ◌==◌, nat_le, List, [], ◌∷◌, ◌++◌, map, count_by, Option, Some, None, if◌then◌else◌}
+use Rattle.circular_buffer.specs.Buffer.{keep_last}
+use Rattle.seq_circle.specs.Circle.{is_before}
+use Rattle.congestion_trait.specs.declared.flight.Entry.{Entry}
+use Rattle.congestion_trait.specs.declared.flight.Standing.{Standing}
+use Rattle.congestion_trait.specs.declared.flight.Standing.TheVariants.{Out, Reported, Lost}
+
+-- what a report says: the state that it gives a number, where it gives one (RFC 4340, section 11.4)
+abbrev pub States : Type 0
+States = ℕ → Option ℕ
+
+abbrev pub is_out : Standing → Bool
+is_out Out = true
+is_out Reported = false
+is_out Lost = false
+
+abbrev pub is_reported : Standing → Bool
+is_reported Out = false
+is_reported Reported = true
+is_reported Lost = false
+
+-- how many entries are Out: the pipe (RFC 4341, section 5)
+abbrev pub pipe_of : List Entry → ℕ
+pipe_of entries = count_by (λ entry. is_out entry.standing) entries
+
+-- how many entries are Reported
+abbrev pub reported_count : List Entry → ℕ
+reported_count entries = count_by (λ entry. is_reported entry.standing) entries
+
+-- a number that is sent stands at the end, Out; at most the last 2,048 entries are kept (own)
+abbrev pub sent : List Entry → ℕ → List Entry
+sent entries number = keep_last 2048 (entries ++ record { number = number; standing = Out } ∷ [])
+
+-- state 0: received, without a mark (RFC 4340, section 11.4)
+abbrev pub is_unmarked : Option ℕ → Bool
+is_unmarked None = false
+is_unmarked (Some state) = state == 0
+
+-- state 1: received, ECN marked
+abbrev pub is_marked : Option ℕ → Bool
+is_marked None = false
+is_marked (Some state) = state == 1
+
+-- received, marked or not
+abbrev pub is_received : Option ℕ → Bool
+is_received state = is_unmarked state || is_marked state
+
+-- an entry whose number was received is Reported
+abbrev pub reported : States → Entry → Entry
+reported states entry = if is_received (states entry.number) then record entry { standing = Reported } else entry
+
+-- so many later packets were received that one that is Out is lost: three (RFC 4341, section 5)
+abbrev pub is_passed : List Entry → Bool
+is_passed later = nat_le 3 (reported_count later)
+
+-- an entry that is Out and was passed is Lost
+abbrev pub lost_if : Bool → Entry → Entry
+lost_if passed entry = if is_out entry.standing && passed then record entry { standing = Lost } else entry
+
+-- the losses in a list, in the order of sending
+abbrev pub with_losses : List Entry → List Entry
+with_losses [] = []
+with_losses (entry ∷ later) = lost_if (is_passed later) entry ∷ with_losses later
+
+-- what a report makes of the list: first what was received is Reported, and then what was passed is Lost
+abbrev pub after_report : States → List Entry → List Entry
+after_report states entries = with_losses (map (reported states) entries)
+
+-- this report makes the entry Reported, by state 0
+abbrev pub is_newly_acked : States → Entry → Bool
+is_newly_acked states entry = not (is_reported entry.standing) && is_unmarked (states entry.number)
+
+-- this report makes the entry Reported, by state 1
+abbrev pub is_newly_marked : States → Entry → Bool
+is_newly_marked states entry = not (is_reported entry.standing) && is_marked (states entry.number)
+
+-- this report makes the entry Lost
+abbrev pub is_newly_lost : States → Entry → List Entry → Bool
+is_newly_lost states entry later =
+    is_out (reported states entry).standing && is_passed (map (reported states) later)
+
+-- how many entries this report makes Reported by state 0
+abbrev pub acked_count : States → List Entry → ℕ
+acked_count states entries = count_by (λ entry. is_newly_acked states entry) entries
+
+-- the number is after the recovery mark, or there is no mark
+abbrev pub is_past : Option ℕ → ℕ → Bool
+is_past None number = true
+is_past (Some mark) number = is_before mark number
+
+-- this report shows new congestion: some entry past the mark became Lost, or Reported by state 1 (RFC 4341, section 5)
+abbrev pub is_congested : States → Option ℕ → List Entry → Bool
+is_congested states mark [] = false
+is_congested states mark (entry ∷ later) =
+    is_past mark entry.number && (is_newly_marked states entry || is_newly_lost states entry later)
+    || is_congested states mark later

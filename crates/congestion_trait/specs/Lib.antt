@@ -1,0 +1,4 @@
+pub mod Flight
+pub mod Control
+pub mod Fixed
+pub mod Walk

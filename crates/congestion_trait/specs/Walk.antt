@@ -1,0 +1,46 @@
+-- How a report is read along with a flight list, from the newest entry to the oldest.
+use Rattle.std.specs.Prelude.{◌≡◌, ℕ, ◌+◌, ◌-◌, ◌<◌, ◌≤◌, Bool, false, ◌&&◌, nat_lt, List, [], ◌∷◌, ◌++◌, map, take, drop, Option, Some, None, slice_get, if◌then◌else◌}
+use Rattle.dccp_options.specs.declared.report.Run.{Run}
+use Rattle.dccp_options.specs.Vectors.{Report}
+use Rattle.congestion_trait.specs.declared.flight.Standing.{Standing}
+use Rattle.congestion_trait.specs.declared.flight.Standing.TheVariants.{Out, Reported, Lost}
+use Rattle.congestion_trait.specs.declared.flight.Entry.{Entry}
+use Rattle.congestion_trait.specs.declared.walk.Walk.{Walk}
+use Rattle.congestion_trait.specs.Flight.{States, is_out, is_reported, is_received, after_report, acked_count, is_congested, reported_count, reported, pipe_of}
+
+-- the state that runs give a place, counted from the first run's highest number down
+abbrev pub run_state : List Run → ℕ → Option ℕ
+run_state [] place = None
+run_state (run ∷ rest) place = if nat_lt place run.count then Some run.state else run_state rest (place - run.count)
+
+-- a report begins at its acknowledgement number, unless it has no byte
+abbrev pub IsTop : Report → Option ℕ → Type 0
+IsTop report None = report.bytes ≡ []
+IsTop report (Some top) = top ≡ report.ack
+
+-- one run covers the places from its start to its end, and these are left behind it, of a list of states
+pub record IsAt (states : List ℕ) (start end state : ℕ) (left : List Run) : Type 0 where
+  pub inside : (place : ℕ) → start ≤ place → place < end → slice_get states place ≡ Some state
+  pub behind : (place : ℕ) → end ≤ place → slice_get states place ≡ run_state left (place - end)
+
+-- how an entry stands after a report
+abbrev pub standing_after : Option ℕ → Bool → Standing → Standing
+standing_after state passed standing =
+    if is_received state then Reported else if is_out standing && passed then Lost else standing
+
+-- a test as a number
+abbrev pub one_if : Bool → ℕ
+one_if test = if test then 1 else 0
+
+-- an entry that left the list was Out
+abbrev pub was_out : Option Entry → Bool
+was_out None = false
+was_out (Some entry) = is_out entry.standing
+
+-- what the entries from a place on came to, and what stands in the list by then
+pub record IsAlong (told : States) (mark : Option ℕ) (old : List Entry) (index : ℕ) (now : List Entry) (walk : Walk) : Type 0 where
+  pub entries : now ≡ take index old ++ after_report told (drop index old)
+  pub acked : walk.acked ≡ acked_count told (drop index old)
+  pub congested : walk.congested ≡ is_congested told mark (drop index old)
+  pub reported : walk.reported ≡ reported_count (map (reported told) (drop index old))
+  pub out : walk.out ≡ pipe_of (after_report told (drop index old))

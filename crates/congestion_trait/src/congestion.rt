@@ -1,0 +1,54 @@
+//! What every congestion control does.
+ghost use Rattle.std.specs.Prelude.{◌≡◌, ℕ, ◌<◌, ◌≤◌, ◌↔◌, IsTrue};
+ghost use Rattle.dccp_options.specs.Vectors.{state_at};
+ghost use Rattle.congestion_trait.specs.Flight.{pipe_of};
+ghost use Rattle.congestion_trait.specs.Control.{Control, IsLawful, may_send};
+
+use dccp_options::AckReport;
+use seq_circle::Seq48;
+
+/// The congestion control of one sender (RFC 4340, section 10). Every kind keeps a flight list; each call changes it by the
+/// list's own rules, and changes the rest of the state by the kind's. No call takes memory.
+pub trait Congestion {
+    // The kind's functions on its state, which contracts alone see.
+    ghost control: { Control Self };
+
+    /// Tells whether this kind can be started with a CCID.
+    fn knows(&self, ccid: u8) -> bool
+        ensures { result ≡ control.is_known ccid };
+
+    /// Starts afresh, with a CCID that it knows: nothing is in flight.
+    fn start(&mut self, ccid: u8)
+        requires { IsTrue (control.is_known ccid) }
+        ensures { self.new ≡ control.started self.old ccid };
+
+    /// How many packets may be in flight: 1 to 1,024.
+    fn window(&self) -> u32
+        ensures value { result ≡ control.window self.now }
+        ensures low { 1 ≤ result }
+        ensures high { result ≤ 1024 };
+
+    /// How many packets are in flight: sent, and neither reported nor taken for lost.
+    fn in_flight(&self) -> u32
+        ensures { result ≡ pipe_of (control.flight self.now) };
+
+    /// Tells whether a further data packet may be sent: fewer are in flight than the window.
+    fn may_send(&self) -> bool
+        ensures value { result ≡ may_send control self.now }
+        ensures meaning { IsTrue result ↔ (pipe_of (control.flight self.now) < control.window self.now) };
+
+    /// A data packet with this number was sent. It has to be allowed.
+    fn on_sent(&mut self, number: Seq48)
+        requires { pipe_of (control.flight self.old) < control.window self.old }
+        ensures { self.new ≡ control.with_sent self.old number };
+
+    /// The Ack Vectors of a packet came, while the peer acknowledges every `ratio` data packets (RFC 4340, section 11.3).
+    fn on_report(&mut self, report: &AckReport<'_>, ratio: u16)
+        ensures { self.new ≡ control.with_report self.old (state_at report.now.ack report.now.bytes) ratio };
+
+    /// The retransmission timer ran out: nothing is taken to be in flight any more.
+    fn on_timeout(&mut self)
+        ensures { self.new ≡ control.timed_out self.old };
+
+    ghost lawful: { IsLawful control };
+}

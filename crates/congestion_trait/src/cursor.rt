@@ -1,0 +1,85 @@
+//! Reads a report at falling numbers, without beginning anew at each.
+ghost use Rattle.std.specs.Prelude.{◌≡◌, ℕ, ◌+◌, ◌<◌, ◌≤◌};
+ghost use Rattle.seq_circle.specs.Circle.{distance};
+ghost use Rattle.dccp_options.specs.Vectors.{state_at, states};
+ghost use Rattle.congestion_trait.specs.Walk.{IsAt, IsTop};
+
+use dccp_options::{AckReport, ReportRuns};
+use seq_circle::Seq48;
+
+// The highest number that a report gives a state.
+fn top_of(report: &AckReport<'_>) -> Option<Seq48>
+    ensures { IsTop report.now result }
+{
+    match report.runs().next() {
+        Some(run) => Some(run.hi),
+        None => None,
+    }
+}
+
+// One run of a report, and those behind it. Places count from the report's highest number down, which is absent where the
+// report has no run.
+#[derive(Drop)]
+pub struct Cursor<'a> {
+    top: Option<Seq48>,
+    start: u64,
+    end: u64,
+    state: u8,
+    left: ReportRuns<'a>,
+}
+
+impl<'a> Cursor<'a> {
+    // Stands before a report's first run.
+    pub fn new(report: &AckReport<'a>) -> Cursor<'a>
+        ensures begins { result.start ≡ 0 }
+        ensures top { IsTop report.now result.top }
+        ensures stands { IsAt (states report.now.bytes) result.start result.end result.state result.left }
+    {
+        Cursor {
+            top: top_of(report),
+            start: 0,
+            end: 0,
+            state: 0,
+            left: report.runs(),
+        }
+    }
+
+    // Begins anew where the place was passed.
+    fn stand_at_or_before(&mut self, report: &AckReport<'a>, place: u64)
+        requires stands { IsAt (states report.now.bytes) self.old.start self.old.end self.old.state self.old.left }
+        requires top { IsTop report.now self.old.top }
+        ensures before { self.new.start ≤ place }
+        ensures top { IsTop report.now self.new.top }
+        ensures stands { IsAt (states report.now.bytes) self.new.start self.new.end self.new.state self.new.left }
+    {
+        if place < self.start {
+            *self = Cursor::new(report);
+        }
+    }
+
+    // The state that the report gives a number. Runs are passed once while numbers fall.
+    pub fn state(&mut self, report: &AckReport<'a>, number: Seq48) -> Option<u8>
+        requires stands { IsAt (states report.now.bytes) self.old.start self.old.end self.old.state self.old.left }
+        requires top { IsTop report.now self.old.top }
+        ensures value { result ≡ state_at report.now.ack report.now.bytes number }
+        ensures top { IsTop report.now self.new.top }
+        ensures stands { IsAt (states report.now.bytes) self.new.start self.new.end self.new.state self.new.left }
+    {
+        let Some(top) = self.top else {
+            return None;
+        };
+        let place = number.distance(top);
+        self.stand_at_or_before(report, place);
+        while self.end <= place {
+            match self.left.next() {
+                Some(run) => {
+                    self.start = self.end;
+                    self.end += u64::from(run.count);
+                    self.state = run.state;
+                }
+                None => return None,
+            }
+        }
+        Some(self.state)
+    }
+}

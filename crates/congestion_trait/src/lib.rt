@@ -1,0 +1,15 @@
+//! Congestion control of a DCCP sender: what every kind has in common, the flight list that it counts in, and the fixed
+//! window of CCID 248 (RFC 4340, section 10; RFC 4341, section 5).
+//!
+//! It has no clock and no socket: timeouts are handed in. Only the constructors take memory.
+#![tactic(auto)]
+
+mod congestion;
+mod cursor;
+mod fixed;
+mod flight;
+mod walk;
+
+pub use crate::congestion::Congestion;
+pub use crate::fixed::FixedWindow;
+pub use crate::flight::{Entry, Flight, FlightNews, Standing};

@@ -1,0 +1,128 @@
+//! What a report makes of the entries, from the newest to the oldest.
+ghost use Rattle.std.specs.Prelude.{◌≡◌, ℕ, ◌+◌, ◌<◌, ◌≤◌, ◌&&◌, ◌||◌, not, nat_le, length, slice_get, slice_set, Some, Option};
+ghost use Rattle.circular_buffer.specs.Buffer.{buffer};
+ghost use Rattle.dccp_options.specs.Vectors.{state_at};
+ghost use Rattle.congestion_trait.specs.Flight.{pipe_of, reported_count, after_report, acked_count, is_congested, is_out, is_reported, is_received, is_unmarked, is_marked, is_past};
+ghost use Rattle.congestion_trait.specs.Walk.{standing_after, one_if};
+
+use crate::cursor::Cursor;
+use crate::flight::{Entry, Standing};
+use circular_buffer::HeapCircularBuffer;
+use dccp_options::AckReport;
+use seq_circle::Seq48;
+
+// So many later ones reported make an entry Lost (RFC 4341, section 5).
+const PASSING: u32 = 3;
+
+const RECEIVED: u8 = 0;
+
+const MARKED: u8 = 1;
+
+// What the entries so far came to.
+#[derive(Clone, Copy)]
+pub struct Walk {
+    pub acked: u32,
+    pub congested: bool,
+    pub reported: u32,
+    pub out: u32,
+}
+
+fn is_past(mark: &Option<Seq48>, number: Seq48) -> bool
+    ensures { result ≡ is_past mark.now number }
+{
+    match mark {
+        Some(mark) => mark.before(number),
+        None => true,
+    }
+}
+
+// How an entry stands after a report that gives its number this state.
+fn standing_after(state: Option<u8>, passed: bool, standing: Standing) -> Standing
+    ensures { result ≡ standing_after state passed standing }
+{
+    match (state, standing) {
+        (Some(RECEIVED | MARKED), _) => Standing::Reported,
+        (_, Standing::Out) if passed => Standing::Lost,
+        _ => standing,
+    }
+}
+
+fn entry_at(entries: &HeapCircularBuffer<Entry>, index: usize) -> Entry
+    requires { index < length entries.now.items }
+    ensures { slice_get entries.now.items index ≡ Some result }
+{
+    match entries.get(index) {
+        Some(entry) => *entry,
+        None => unreachable!(),
+    }
+}
+
+fn set_standing(entries: &mut HeapCircularBuffer<Entry>, index: usize, standing: Standing)
+    requires { index < length entries.old.items }
+    ensures { (entry : _) → slice_get entries.old.items index ≡ Some entry
+        → entries.new ≡ buffer (slice_set entries.old.items index (record entry { standing = standing })) entries.old.capacity }
+{
+    if let Some(entry) = entries.get_mut(index) {
+        entry.standing = standing;
+    }
+}
+
+impl Walk {
+    // Counts one entry, and tells how it stands after the report.
+    fn step(&mut self, entry: &Entry, state: Option<u8>, mark: &Option<Seq48>) -> Standing
+        requires { (self.old.acked < 2048) × (self.old.reported < 2048) × (self.old.out < 2048) }
+        ensures standing { result ≡ standing_after state (nat_le 3 self.old.reported) entry.now.standing }
+        ensures acked { self.new.acked ≡ self.old.acked + one_if (not (is_reported entry.now.standing) && is_unmarked state) }
+        ensures congested { self.new.congested ≡ (is_past mark.now entry.now.number
+            && (not (is_reported entry.now.standing) && is_marked state
+            || is_out entry.now.standing && not (is_received state) && nat_le 3 self.old.reported)
+            || self.old.congested) }
+        ensures reported { self.new.reported ≡ self.old.reported + one_if (is_reported result) }
+        ensures out { self.new.out ≡ self.old.out + one_if (is_out result) }
+    {
+        let passed = self.reported >= PASSING;
+        let after = standing_after(state, passed, entry.standing);
+        let news = after != entry.standing;
+        if news && state == Some(RECEIVED) {
+            self.acked += 1;
+        }
+        let congests = after == Standing::Lost || state == Some(MARKED);
+        if news && congests && is_past(mark, entry.number) {
+            self.congested = true;
+        }
+        match after {
+            Standing::Out => self.out += 1,
+            Standing::Reported => self.reported += 1,
+            Standing::Lost => {}
+        }
+        after
+    }
+}
+
+// Settles every entry by a report, from the newest to the oldest.
+pub fn settle(
+    entries: &mut HeapCircularBuffer<Entry>,
+    report: &AckReport<'_>,
+    mark: &Option<Seq48>,
+) -> Walk
+    requires { length entries.old.items ≤ 2048 }
+    ensures entries { entries.new ≡ buffer (after_report (state_at report.now.ack report.now.bytes) entries.old.items) entries.old.capacity }
+    ensures acked { result.acked ≡ acked_count (state_at report.now.ack report.now.bytes) entries.old.items }
+    ensures congested { result.congested ≡ is_congested (state_at report.now.ack report.now.bytes) mark.now entries.old.items }
+    ensures out { result.out ≡ pipe_of (after_report (state_at report.now.ack report.now.bytes) entries.old.items) }
+{
+    let mut cursor = Cursor::new(report);
+    let mut walk = Walk {
+        acked: 0,
+        congested: false,
+        reported: 0,
+        out: 0,
+    };
+    for index in (0..entries.len()).rev() {
+        let entry = entry_at(entries, index);
+        let state = cursor.state(report, entry.number);
+        let standing = walk.step(&entry, state, mark);
+        set_standing(entries, index, standing);
+    }
+    walk
+}

@@ -1,0 +1,4 @@
+mod Examples
+pub mod RawOptions
+pub mod ReadBack
+pub mod States

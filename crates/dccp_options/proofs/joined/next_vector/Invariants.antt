@@ -1,0 +1,10 @@
+use Rattle.std.proofs.Common.{◌≡◌, length, false}
+use Rattle.dccp_options.specs.Vectors.{ack_vectors}
+use Rattle.dccp_options.specs.Left.{entries_left}
+use Rattle.dccp_options.proofs.joined.next_vector.Given as goal
+
+abbrev pub invariant-loop-item : goal.invariant-loop-item
+invariant-loop-item l = ack_vectors (entries_left false l.options) ≡ ack_vectors (entries_left false l.fn.options)
+
+abbrev pub decreases-loop-item : goal.decreases-loop-item
+decreases-loop-item l = length (entries_left false l.options)

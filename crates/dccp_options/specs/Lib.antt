@@ -1,0 +1,4 @@
+pub mod Grammar
+pub mod Left
+pub mod Vectors
+pub mod Written

@@ -1,0 +1,75 @@
+-- What the Ack Vectors of a packet report (RFC 4340, section 11.4).
+use Rattle.std.specs.Prelude.{ℕ, ◌+◌, ◌-◌, ◌/◌, ◌%◌, ◌^◌, Bool, true, false, ◌||◌, ◌==◌, nat_lt, List, [], ◌∷◌, ◌++◌, replicate, Option, Some, None, Result, Ok, Err, slice_get, if◌then◌else◌}
+use Rattle.std.specs.List.{concat}
+use Rattle.seq_circle.specs.Circle.{residue, distance}
+use Rattle.dccp_options.specs.declared.option.OptFault.{OptFault}
+use Rattle.dccp_options.specs.declared.report.Run.{Run}
+use Rattle.dccp_options.specs.Grammar.{Entry}
+
+-- an acknowledgement number and the bytes of the vectors that go down from it
+pub record Report : Type 0 where
+  pub ack : ℕ
+  pub bytes : List ℕ
+
+-- the types of Ack Vectors, with nonce 0 and 1 (RFC 4340, section 11.4)
+abbrev pub is_ack_vector : ℕ → Bool
+is_ack_vector kind = kind == 38 || kind == 39
+
+-- the vector that an item of the list is, if it is one
+abbrev pub vector_of : Result Entry OptFault → List (List ℕ)
+vector_of (Err _) = []
+vector_of (Ok entry) = if is_ack_vector entry.kind then entry.body ∷ [] else []
+
+-- the Ack Vectors of a packet, in their order
+abbrev pub ack_vectors : List (Result Entry OptFault) → List (List ℕ)
+ack_vectors [] = []
+ack_vectors (item ∷ rest) = vector_of item ++ ack_vectors rest
+
+-- several vectors of a packet continue each other (RFC 4340, section 11.4)
+abbrev pub vector_bytes : List (Result Entry OptFault) → List ℕ
+vector_bytes items = concat (ack_vectors items)
+
+-- what the options of a packet with this acknowledgement number report, or none where no Ack Vector stands there
+abbrev pub joined_report : ℕ → List (List ℕ) → Option Report
+joined_report ack [] = None
+joined_report ack (vector ∷ others) = Some (record { ack = ack; bytes = concat (vector ∷ others) })
+
+abbrev pub report_of : ℕ → List (Result Entry OptFault) → Option Report
+report_of ack items = joined_report ack (ack_vectors items)
+
+-- the state in a byte's upper two bits: 0 received, 1 received ECN marked, 3 not yet received; the reserved 2 is read as 3 (RFC 4340, section 11.4; the reading is own)
+abbrev pub state_of : ℕ → ℕ
+state_of byte = if byte / 64 == 2 then 3 else byte / 64
+
+-- how many numbers a byte covers: one more than the run length in its lower six bits (RFC 4340, section 11.4)
+abbrev pub run_length : ℕ → ℕ
+run_length byte = byte % 64 + 1
+
+-- the states that the bytes give, from the acknowledgement number downwards
+abbrev pub states : List ℕ → List ℕ
+states [] = []
+states (byte ∷ rest) = replicate (run_length byte) (state_of byte) ++ states rest
+
+-- the state that the bytes give a number, or none where they do not reach it
+abbrev pub state_at : ℕ → List ℕ → ℕ → Option ℕ
+state_at ack bytes n = slice_get (states bytes) (distance n ack)
+
+-- the state that a packet with this acknowledgement number and these options reports of a number
+abbrev pub reported : ℕ → List (Result Entry OptFault) → ℕ → Option ℕ
+reported ack items n = state_at ack (vector_bytes items) n
+
+-- the runs of the bytes, one a byte, each with its highest number, from this number downwards
+abbrev pub runs_of : ℕ → List ℕ → List Run
+runs_of hi [] = []
+runs_of hi (byte ∷ rest) =
+    record { hi = hi; count = run_length byte; state = state_of byte }
+    ∷ runs_of (residue (hi + (2 ^ 48 - run_length byte))) rest
+
+-- the number is one of the run's
+abbrev pub is_in_run : Run → ℕ → Bool
+is_in_run run n = nat_lt (distance n run.hi) run.count
+
+-- the state that the first run with the number gives it
+abbrev pub state_in : List Run → ℕ → Option ℕ
+state_in [] n = None
+state_in (run ∷ rest) n = if is_in_run run n then Some run.state else state_in rest n

@@ -1,0 +1,36 @@
+-- What a writer of options writes (RFC 4340, section 5.8).
+use Rattle.std.specs.Prelude.{ℕ, ◌+◌, ◌≤◌, ◌<◌, Bool, true, false, List, [], ◌∷◌, ◌++◌, length}
+use Rattle.dccp_options.specs.Grammar.{Entry}
+
+-- an option to be written
+pub record Item : Type 0 where
+  pub mandatory : Bool
+  pub kind : ℕ
+  pub body : List ℕ
+
+-- the Mandatory before an option that it marks
+abbrev pub mark : Bool → List ℕ
+mark false = []
+mark true = 1 ∷ []
+
+-- an option's bytes: its mark, its type, its length and its data
+abbrev pub spelled : Bool → ℕ → List ℕ → List ℕ
+spelled mandatory kind body = mark mandatory ++ kind ∷ (length body + 2) ∷ body
+
+-- the bytes of several options, one behind the other
+abbrev pub written : List Item → List ℕ
+written [] = []
+written (item ∷ rest) = spelled item.mandatory item.kind item.body ++ written rest
+
+-- the option can be written: its type has a length, and its data fits one
+pub record IsWritable (item : Item) : Type 0 where
+  pub has_length : 32 ≤ item.kind
+  pub is_byte : item.kind < 256
+  pub fits : length item.body ≤ 253
+
+-- the entries of these options, where the first byte of all stands at this place
+abbrev pub entries_at : ℕ → List Item → List Entry
+entries_at place [] = []
+entries_at place (item ∷ rest) =
+    record { place = place + length (mark item.mandatory); mandatory = item.mandatory; kind = item.kind; body = item.body }
+    ∷ entries_at (place + length (spelled item.mandatory item.kind item.body)) rest

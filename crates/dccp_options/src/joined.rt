@@ -1,0 +1,62 @@
+//! The bytes of a packet's Ack Vectors, one vector behind the other.
+ghost use Rattle.std.specs.Prelude.{◌≡◌, ◌≢◌, [], ◌∷◌, MatchOption, false};
+ghost use Rattle.dccp_options.specs.Vectors.{ack_vectors, vector_bytes};
+ghost use Rattle.dccp_options.specs.Left.{entries_left, bytes_left};
+
+use crate::cursor::Cursor;
+use crate::kinds::is_ack_vector;
+
+/// The bytes that are left: those of a vector, and of the vectors among the options behind it.
+#[derive(Clone, Copy, Debug)]
+pub(crate) struct JoinedBytes<'a> {
+    vector: &'a [u8],
+    options: Cursor<'a>,
+}
+
+// The first Ack Vector among the options, which go on behind it.
+fn next_vector<'a>(options: &mut Cursor<'a>) -> Option<&'a [u8]>
+    ensures { MatchOption result
+        ((ack_vectors (entries_left false options.old) ≡ []) × (ack_vectors (entries_left false options.new) ≡ []))
+        (λ vector. ack_vectors (entries_left false options.old)
+        ≡ vector.now ∷ ack_vectors (entries_left false options.new)) }
+{
+    while let Some(item) = options.next_item() {
+        match item {
+            Ok(option) if is_ack_vector(option.kind) => return Some(option.body),
+            _ => {}
+        }
+    }
+    None
+}
+
+impl<'a> JoinedBytes<'a> {
+    /// The bytes of the Ack Vectors among the options, or None where there is none.
+    pub(crate) fn of(mut options: Cursor<'a>) -> Option<JoinedBytes<'a>>
+        ensures { MatchOption result (ack_vectors (entries_left false options.entry) ≡ [])
+            (λ joined. (ack_vectors (entries_left false options.entry) ≢ [])
+            × (bytes_left joined ≡ vector_bytes (entries_left false options.entry))) }
+    {
+        let vector = next_vector(&mut options)?;
+        Some(JoinedBytes { vector, options })
+    }
+}
+
+impl<'a> Iterator for JoinedBytes<'a> {
+    ghost use Rattle.std.specs.Iterator.{YieldsFirst, item_count};
+
+    type Item = u8;
+
+    ghost next_gives = { YieldsFirst bytes_left };
+
+    ghost remaining = { item_count bytes_left };
+
+    fn next(&mut self) -> Option<u8> {
+        loop {
+            if let [byte, rest @ ..] = self.vector {
+                self.vector = rest;
+                return Some(*byte);
+            }
+            self.vector = next_vector(&mut self.options)?;
+        }
+    }
+}

@@ -1,0 +1,18 @@
+//! The options of DCCP packets: reading and writing an option area, and the states that its Ack Vectors report (RFC
+//! 4340, sections 5.8 and 11.4).
+//!
+//! Nothing here takes memory, and nothing judges an option beyond its length.
+#![tactic(auto)]
+
+mod cursor;
+mod joined;
+mod kinds;
+mod list;
+mod option;
+mod report;
+mod writer;
+
+pub use crate::list::{OptList, options};
+pub use crate::option::{Opt, OptFault};
+pub use crate::report::{AckReport, ReportRuns, Run};
+pub use crate::writer::{OptFull, OptWriter};

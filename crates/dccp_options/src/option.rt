@@ -1,0 +1,23 @@
+//! An option of a packet, and what can be wrong with a list of them.
+
+/// An option of a packet's option area (RFC 4340, section 5.8).
+#[derive(Clone, Copy, Debug, PartialEq, Eq)]
+pub struct Opt<'a> {
+    /// Where the option's type byte stands in the area, counted from 0. A Mandatory that marks it stands before that.
+    pub place: u16,
+    /// Whether Mandatory marks the option (RFC 4340, section 5.8.2).
+    pub mandatory: bool,
+    /// The option's type.
+    pub kind: u8,
+    /// The option's data, without its type and length.
+    pub body: &'a [u8],
+}
+
+/// What makes a list of options wrong; both are about Mandatory (RFC 4340, section 5.8.2).
+#[derive(Clone, Copy, Debug, PartialEq, Eq)]
+pub enum OptFault {
+    /// Mandatory with no option after it, or only with one whose length is wrong.
+    MandatoryAtEnd,
+    /// Mandatory directly after Mandatory.
+    MandatoryTwice,
+}

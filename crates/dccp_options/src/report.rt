@@ -1,0 +1,130 @@
+//! What the Ack Vectors of a packet report.
+ghost use Rattle.std.specs.Prelude.{◌≡◌, ◌≤◌, ◌↔◌, ◌<◌, ◌∷◌, [], length, IsNone, IfSome};
+ghost use Rattle.dccp_options.specs.Vectors.{ack_vectors, report_of, state_of, run_length, state_at, runs_of};
+
+use crate::joined::JoinedBytes;
+use crate::list::OptList;
+use seq_circle::Seq48;
+use std::marker::Model;
+
+/// A run of numbers that have one state: one byte of an Ack Vector (RFC 4340, section 11.4).
+#[derive(Clone, Copy, Debug, PartialEq, Eq)]
+pub struct Run {
+    /// The run's highest number.
+    pub hi: Seq48,
+    /// How many numbers the run covers, from `hi` downwards: 1 to 64.
+    pub count: u8,
+    /// Their state: 0 received, 1 received ECN marked, 3 not yet received. The reserved 2 is read as 3.
+    pub state: u8,
+}
+
+/// What a packet's Ack Vectors say of the numbers from its acknowledgement number downwards; several vectors continue
+/// each other (RFC 4340, section 11.4). Contracts see the acknowledgement number and the vectors' bytes.
+#[derive(Clone, Debug, Drop)]
+pub struct AckReport<'a> {
+    ack: Seq48,
+    bytes: JoinedBytes<'a>,
+}
+
+impl<'a> Model for AckReport<'a> {
+    ghost use Rattle.dccp_options.specs.Vectors.{Report};
+    ghost use Rattle.dccp_options.specs.Left.{bytes_left};
+
+    ghost Value = { Report };
+
+    ghost view = { λ report. record { ack = report.ack; bytes = bytes_left report.bytes } };
+}
+
+/// The runs of a report that are still to come, from the highest down: an iterator. Contracts see the list of them.
+#[derive(Clone, Debug, Drop)]
+pub struct ReportRuns<'a> {
+    hi: Seq48,
+    bytes: JoinedBytes<'a>,
+}
+
+impl<'a> Model for ReportRuns<'a> {
+    ghost use Rattle.std.specs.Prelude.{List};
+    ghost use Rattle.dccp_options.specs.declared.report.Run.{Run};
+    ghost use Rattle.dccp_options.specs.Vectors.{runs_of};
+    ghost use Rattle.dccp_options.specs.Left.{bytes_left};
+
+    ghost Value = { List Run };
+
+    ghost view = { λ runs. runs_of runs.hi (bytes_left runs.bytes) };
+}
+
+// The state in a byte's upper two bits.
+fn state_of(byte: u8) -> u8
+    ensures { result ≡ state_of byte }
+{
+    match byte / 64 {
+        2 => 3,
+        state => state,
+    }
+}
+
+// How many numbers a byte covers.
+fn run_length(byte: u8) -> u8
+    ensures { result ≡ run_length byte }
+{
+    byte % 64 + 1
+}
+
+impl<'a> AckReport<'a> {
+    /// What the Ack Vectors among the options of a packet report, whose acknowledgement number this is. None exactly
+    /// where no Ack Vector stands there; one without a byte is a report that gives no number a state.
+    pub fn of(ack: Seq48, options: OptList<'a>) -> Option<AckReport<'a>>
+        ensures none { IsNone result ↔ (ack_vectors options.entry ≡ []) }
+        ensures value { result ≡ report_of ack options.entry }
+    {
+        let bytes = JoinedBytes::of(options.cursor())?;
+        Some(AckReport { ack, bytes })
+    }
+
+    /// The state of the number, or None where the vectors do not reach it: 0 received, 1 received ECN marked, 3 not yet
+    /// received.
+    pub fn state(&self, n: Seq48) -> Option<u8>
+        ensures { result ≡ state_at self.now.ack self.now.bytes n }
+    {
+        let mut below = n.distance(self.ack);
+        for byte in self.bytes {
+            let count = u64::from(run_length(byte));
+            if below < count {
+                return Some(state_of(byte));
+            }
+            below -= count;
+        }
+        None
+    }
+
+    /// The runs of the vectors, one a byte, from the acknowledgement number downwards.
+    pub fn runs(&self) -> ReportRuns<'a>
+        ensures { result ≡ runs_of self.now.ack self.now.bytes }
+    {
+        ReportRuns {
+            hi: self.ack,
+            bytes: self.bytes,
+        }
+    }
+}
+
+impl<'a> Iterator for ReportRuns<'a> {
+    ghost use Rattle.std.specs.Iterator.{YieldsFirst, item_count};
+
+    type Item = Run;
+
+    ghost next_gives = { YieldsFirst (λ runs. runs) };
+
+    ghost remaining = { item_count (λ runs. runs) };
+
+    fn next(&mut self) -> Option<Run> {
+        let byte = self.bytes.next()?;
+        let run = Run {
+            hi: self.hi,
+            count: run_length(byte),
+            state: state_of(byte),
+        };
+        self.hi = self.hi.sub(u64::from(run.count));
+        Some(run)
+    }
+}

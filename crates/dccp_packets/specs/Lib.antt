@@ -1,0 +1,3 @@
+pub mod Grammar
+pub mod Lending
+pub mod Table

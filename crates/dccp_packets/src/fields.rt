@@ -1,0 +1,170 @@
+//! The places of the fields, and their readers (RFC 4340, section 5).
+ghost use Rattle.std.specs.Prelude.{◌≡◌, ◌+◌, ◌*◌, ◌/◌, ◌%◌, ◌^◌, ◌<◌, ◌≤◌, IsTrue, length, slice_index};
+ghost use Rattle.dccp_packets.specs.declared.header.PacketType.TheVariants as types;
+ghost use Rattle.dccp_packets.specs.Grammar.{data_offset, type_code, has_long_numbers, long_ack, number_of, ack_of, kind_of, header_of, fixed_length, number_at};
+
+use crate::{Header, Kind, Number, PacketType};
+use byteorder::{BigEndian, ByteOrder};
+use seq_circle::{Seq24, Seq48};
+
+const SOURCE_PORT: usize = 0;
+
+const DESTINATION_PORT: usize = 2;
+
+const DATA_OFFSET: usize = 4;
+
+const COVERAGE: usize = 5;
+
+const CHECKSUM: usize = 6;
+
+const TYPE: usize = 8;
+
+// Long numbers stand behind reserved bytes, and so does a short acknowledgement.
+const SHORT_NUMBER: usize = 9;
+
+const LONG_NUMBER: usize = 10;
+
+const SHORT_ACK: usize = 13;
+
+const LONG_ACK: usize = 18;
+
+const REQUEST_SERVICE: usize = 16;
+
+const RESPONSE_SERVICE: usize = 24;
+
+const RESET_CODE: usize = 24;
+
+const RESET_DETAIL: usize = 25;
+
+// CCVal and CsCov, and the code of the type, are numbers of four bits.
+const NIBBLE: u8 = 16;
+
+// X is the lowest bit of its byte, below the type.
+const X: u8 = 2;
+
+const WORD: usize = 4;
+
+// The place where the options end and the data begin.
+pub(crate) fn data_offset(bytes: &[u8]) -> usize
+    requires { 12 ≤ length bytes.now }
+    ensures value { result ≡ data_offset bytes.now }
+{
+    usize::from(bytes[DATA_OFFSET]) * WORD
+}
+
+// The code of the type, 0 to 15.
+pub(crate) fn type_code(bytes: &[u8]) -> u8
+    requires { 12 ≤ length bytes.now }
+    ensures { result ≡ type_code bytes.now }
+{
+    bytes[TYPE] / X % NIBBLE
+}
+
+// Tells whether X is 1.
+pub(crate) fn has_long_numbers(bytes: &[u8]) -> bool
+    requires { 12 ≤ length bytes.now }
+    ensures { result ≡ has_long_numbers bytes.now }
+{
+    bytes[TYPE] % X == 1
+}
+
+fn long_at(bytes: &[u8], place: usize) -> Seq48
+    requires { place + 6 ≤ length bytes.now }
+    ensures { result ≡ number_at place 6 bytes.now }
+{
+    match Seq48::new(BigEndian::read_u48(&bytes[place..])) {
+        Some(number) => number,
+        None => unreachable!(),
+    }
+}
+
+fn short_at(bytes: &[u8], place: usize) -> Seq24
+    requires { place + 3 ≤ length bytes.now }
+    ensures { result ≡ number_at place 3 bytes.now }
+{
+    match Seq24::new(BigEndian::read_u24(&bytes[place..])) {
+        Some(number) => number,
+        None => unreachable!(),
+    }
+}
+
+fn number(long: bool, bytes: &[u8]) -> Number
+    requires { fixed_length long types.Data ≤ length bytes.now }
+    ensures { result ≡ number_of long bytes.now }
+{
+    if long {
+        Number::Long(long_at(bytes, LONG_NUMBER))
+    } else {
+        Number::Short(short_at(bytes, SHORT_NUMBER))
+    }
+}
+
+fn ack(long: bool, bytes: &[u8]) -> Number
+    requires { fixed_length long types.Ack ≤ length bytes.now }
+    ensures { result ≡ ack_of long bytes.now }
+{
+    if long {
+        Number::Long(long_at(bytes, LONG_ACK))
+    } else {
+        Number::Short(short_at(bytes, SHORT_ACK))
+    }
+}
+
+fn kind(packet_type: PacketType, long: bool, bytes: &[u8]) -> Kind
+    requires { fixed_length long packet_type ≤ length bytes.now }
+    ensures { result ≡ kind_of packet_type long bytes.now }
+{
+    match packet_type {
+        PacketType::Request => Kind::Request {
+            service: BigEndian::read_u32(&bytes[REQUEST_SERVICE..]),
+        },
+        PacketType::Response => Kind::Response {
+            ack: long_at(bytes, LONG_ACK),
+            service: BigEndian::read_u32(&bytes[RESPONSE_SERVICE..]),
+        },
+        PacketType::Data => Kind::Data,
+        PacketType::Ack => Kind::Ack {
+            ack: ack(long, bytes),
+        },
+        PacketType::DataAck => Kind::DataAck {
+            ack: ack(long, bytes),
+        },
+        PacketType::CloseReq => Kind::CloseReq {
+            ack: long_at(bytes, LONG_ACK),
+        },
+        PacketType::Close => Kind::Close {
+            ack: long_at(bytes, LONG_ACK),
+        },
+        PacketType::Reset => Kind::Reset {
+            ack: long_at(bytes, LONG_ACK),
+            code: bytes[RESET_CODE],
+            detail: [
+                bytes[RESET_DETAIL],
+                bytes[RESET_DETAIL + 1],
+                bytes[RESET_DETAIL + 2],
+            ],
+        },
+        PacketType::Sync => Kind::Sync {
+            ack: long_at(bytes, LONG_ACK),
+        },
+        PacketType::SyncAck => Kind::SyncAck {
+            ack: long_at(bytes, LONG_ACK),
+        },
+    }
+}
+
+// The header of a packet whose fixed part is there.
+pub(crate) fn header(packet_type: PacketType, long: bool, bytes: &[u8]) -> Header
+    requires { fixed_length long packet_type ≤ length bytes.now }
+    ensures { result ≡ header_of packet_type long bytes.now }
+{
+    Header {
+        from: BigEndian::read_u16(&bytes[SOURCE_PORT..]),
+        to: BigEndian::read_u16(&bytes[DESTINATION_PORT..]),
+        ccval: bytes[COVERAGE] / NIBBLE,
+        cscov: bytes[COVERAGE] % NIBBLE,
+        checksum: BigEndian::read_u16(&bytes[CHECKSUM..]),
+        number: number(long, bytes),
+        kind: kind(packet_type, long, bytes),
+    }
+}

@@ -1,0 +1,126 @@
+//! The bytes of one packet, and the place where an end leaves it.
+ghost use Rattle.std.specs.Prelude.{◌≡◌, ◌+◌, ◌<◌, ◌≤◌, ◌↔◌, [], ◌++◌, length, IsSome, IfSome, MatchOption};
+ghost use Rattle.std.specs.Borrow.{sem};
+
+use arrayvec::ArrayVec;
+use std::marker::Model;
+
+/// The most bytes of a frame: 1,020 of header and options, which is all that a Data Offset counts (RFC 4340, section
+/// 5.1), and 1,024 of data (own).
+pub(crate) const FRAME_SIZE: usize = 2044;
+
+/// A packet's bytes, at most 2,044 of them, in the value itself. Contracts see the list of bytes.
+#[derive(Debug, Drop)]
+pub struct Frame {
+    bytes: ArrayVec<u8, FRAME_SIZE>,
+}
+
+impl Model for Frame {
+    ghost use Rattle.std.specs.Prelude.{List, ℕ};
+
+    ghost Value = { List ℕ };
+
+    ghost view = { λ f. f.bytes.items };
+}
+
+impl Frame {
+    ghost use Rattle.dccp_packets.specs.Lending.{LendsBytes};
+
+    /// A frame of no bytes.
+    pub fn new() -> Frame
+        ensures { result ≡ [] }
+    {
+        Frame {
+            bytes: ArrayVec::new(),
+        }
+    }
+
+    /// A frame of these bytes, or None exactly where there are more than 2,044.
+    pub fn of(bytes: &[u8]) -> Option<Frame>
+        ensures made { IsSome result ↔ (length bytes.now ≤ 2044) }
+        ensures value { IfSome result (λ f. f ≡ bytes.now) }
+    {
+        if FRAME_SIZE < bytes.len() {
+            return None;
+        }
+        let mut frame = Frame::new();
+        frame.append(bytes);
+        Some(frame)
+    }
+
+    /// The bytes, at most 2,044.
+    pub fn bytes(&self) -> &[u8]
+        ensures value { result.now ≡ self.now }
+        ensures fits { length result.now ≤ 2044 }
+    {
+        self.bytes.as_slice()
+    }
+
+    /// The bytes, to be changed where they stand.
+    pub fn bytes_mut(&mut self) -> &mut [u8]
+        ensures* writes_back { sem 𝓛 (LendsBytes self.entry result) }
+        ensures value { result.now ≡ self.old }
+        ensures fits { length result.now ≤ 2044 }
+    {
+        self.bytes.as_mut_slice()
+    }
+
+    // Takes all bytes away.
+    pub(crate) fn clear(&mut self)
+        ensures { self.new ≡ [] }
+    {
+        self.bytes.clear();
+    }
+
+    pub(crate) fn append(&mut self, piece: &[u8])
+        requires { length self.old + length piece.now ≤ 2044 }
+        ensures { self.new ≡ self.old ++ piece.now }
+    {
+        let _ = self.bytes.try_extend_from_slice(piece);
+    }
+}
+
+/// Where an end leaves the frame that one of its calls sends: it holds no frame, or one. Contracts see no list of bytes,
+/// or one. Each call of an end that takes an Outbox empties it first.
+#[derive(Debug, Drop)]
+pub struct Outbox {
+    entry: Option<Frame>,
+}
+
+impl Model for Outbox {
+    ghost use Rattle.std.specs.Prelude.{List, Option, ℕ};
+
+    ghost Value = { Option (List ℕ) };
+
+    ghost view = { λ o. o.entry };
+}
+
+impl Outbox {
+    /// An Outbox that holds no frame.
+    pub fn new() -> Outbox
+        ensures { result ≡ None }
+    {
+        Outbox { entry: None }
+    }
+
+    /// The frame that it holds.
+    pub fn frame(&self) -> Option<&Frame>
+        ensures { MatchOption result (self.now ≡ None) (λ f. self.now ≡ Some f.now) }
+    {
+        self.entry.as_ref()
+    }
+
+    /// Takes the frame away, if it holds one.
+    pub fn clear(&mut self)
+        ensures { self.new ≡ None }
+    {
+        self.entry = None;
+    }
+
+    /// Holds `frame` alone.
+    pub fn put(&mut self, frame: Frame)
+        ensures { self.new ≡ Some frame }
+    {
+        self.entry = Some(frame);
+    }
+}

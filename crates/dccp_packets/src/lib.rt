@@ -1,0 +1,17 @@
+//! DCCP packets as bytes: the ten types with both forms of sequence numbers, read and written (RFC 4340, section 5).
+//!
+//! Nothing here takes memory, and the checksum and the options are carried without being judged.
+#![tactic(auto)]
+
+mod fields;
+mod frame;
+mod header;
+mod laws;
+mod reading;
+mod writing;
+
+pub use crate::frame::{Frame, Outbox};
+pub use crate::header::{Header, Kind, Number, PacketType};
+pub use crate::laws::{what_is_read_is_the_table, what_is_spelled_is_read};
+pub use crate::reading::{Malformed, Packet, decode};
+pub use crate::writing::{OptionsTooLong, encode};

@@ -1,0 +1,67 @@
+//! Reading packets.
+ghost use Rattle.std.specs.Prelude.{◌≡◌, ◌<◌, ◌≤◌, length, MatchResult, IfOk, IsTrue};
+ghost use Rattle.dccp_packets.specs.Grammar.{decoded, is_valid, Fits};
+
+use crate::{Header, PacketType, fields};
+
+/// A packet's parts. Options and payload are borrowed from the bytes that were decoded.
+#[derive(Clone, Copy, Debug, PartialEq, Eq)]
+pub struct Packet<'a> {
+    pub header: Header,
+    /// The option area, up to the Data Offset (RFC 4340, section 5.8).
+    pub options: &'a [u8],
+    /// The application data, to the packet's end.
+    pub payload: &'a [u8],
+}
+
+/// Why bytes are no packet. The first cause that holds is answered, in this order.
+#[derive(Clone, Copy, Debug, PartialEq, Eq)]
+pub enum Malformed {
+    /// Fewer than 12 bytes, the shortest generic header (RFC 4340, section 5.1).
+    Short,
+    /// The type is 10 to 15 (RFC 4340, section 5.1).
+    ReservedType,
+    /// The Data Offset ends before the fixed part of the type does (RFC 4340, section 5.1).
+    OffsetSmall,
+    /// The Data Offset lies beyond the bytes (RFC 4340, section 5.1).
+    OffsetLarge,
+    /// Short numbers on a type other than Data, Ack and DataAck (RFC 4340, section 5.1).
+    ShortNumbers,
+}
+
+// The generic header with a short number.
+const SHORTEST: usize = 12;
+
+/// The packet that `bytes` are, borrowed from them, or the first cause in the order of `Malformed` (RFC 4340, section 5).
+/// Reserved bits are ignored. Its checksum and its options are not judged.
+pub fn decode(bytes: &[u8]) -> Result<Packet<'_>, Malformed>
+    ensures exact { MatchResult result
+        (λ p. decoded bytes.now ≡ Ok (record { header = p.header; options = p.options.now; payload = p.payload.now }))
+        (λ e. decoded bytes.now ≡ Err e) }
+    ensures valid { IfOk result (λ p. IsTrue (is_valid p.header)) }
+    ensures fits { IfOk result (λ p. Fits p.header) }
+{
+    if bytes.len() < SHORTEST {
+        return Err(Malformed::Short);
+    }
+    let Some(packet_type) = PacketType::of(fields::type_code(bytes)) else {
+        return Err(Malformed::ReservedType);
+    };
+    let long = fields::has_long_numbers(bytes);
+    let fixed = packet_type.fixed_length(long);
+    let offset = fields::data_offset(bytes);
+    if offset < fixed {
+        return Err(Malformed::OffsetSmall);
+    }
+    if bytes.len() < offset {
+        return Err(Malformed::OffsetLarge);
+    }
+    if !packet_type.has_form(long) {
+        return Err(Malformed::ShortNumbers);
+    }
+    Ok(Packet {
+        header: fields::header(packet_type, long, bytes),
+        options: &bytes[fixed..offset],
+        payload: &bytes[offset..],
+    })
+}

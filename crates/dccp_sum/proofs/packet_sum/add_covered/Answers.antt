@@ -1,0 +1,12 @@
+-- The covered bytes in their parts before and behind the checksum.
+use Rattle.std.proofs.Common.{arith}
+use Rattle.dccp_sum.proofs.Sums.{same-short, same-long}
+use Rattle.dccp_sum.proofs.packet_sum.add_covered.Goals as goal
+
+pub returns-then-covered-lt8 : goal.returns-then-covered-lt8
+returns-then-covered-lt8 c =
+    same-short c.args.bytes.now c.args.covered c.min.result c.args.start c.add_words.result c.requires.whole (omega arith) (omega arith) c.add_words.ensures.value
+
+pub returns : goal.returns
+returns c =
+    same-long c.args.bytes.now c.args.covered c.args.start c.add_words-before.result c.add_words-2.result c.requires.whole (omega arith) c.add_words-before.ensures.value c.add_words-2.ensures.value

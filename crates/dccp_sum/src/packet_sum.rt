@@ -1,0 +1,120 @@
+//! The checksum of a packet.
+ghost use Rattle.std.specs.Prelude.{◌≡◌, ◌+◌, ◌*◌, ◌^◌, ◌<◌, ◌≤◌, length, take, ◌%◌, ◌≢◌, false, is_some, IsSomeAnd, IsTrue, ◌↔◌};
+ghost use Rattle.dccp_sum.specs.Words.{word_sum, IsSameSum};
+ghost use Rattle.dccp_sum.specs.Coverage.{covered};
+ghost use Rattle.dccp_sum.specs.Checksum.{with_checksum, checksum, same_checksum, stated, checked, sealed};
+
+use crate::Pseudo;
+use crate::pseudo_header::add_pseudo_header;
+use crate::words::{add_words, fold};
+use byteorder::{BigEndian, ByteOrder};
+
+/// Why a packet's checksum was refused.
+#[derive(Clone, Copy, Debug, PartialEq, Eq)]
+pub enum SumFault {
+    /// The coverage that the packet states passes its end.
+    CoverageTooLarge,
+    /// The checksum in the packet is not that of its bytes.
+    Wrong,
+}
+
+/// How many bytes of the packet its checksum covers, from its start: all of them where the field CsCov is 0, otherwise
+/// header and options and `4 * (CsCov - 1)` bytes of the data. None exactly where that passes the packet's end
+/// (RFC 4340, section 9.2).
+pub fn covered(bytes: &[u8]) -> Option<usize>
+    requires { 8 ≤ length bytes.now }
+    ensures { result ≡ covered bytes.now }
+{
+    let coverage = usize::from(bytes[5] % 16);
+    if coverage == 0 {
+        return Some(bytes.len());
+    }
+    let covered = 4 * usize::from(bytes[4]) + 4 * (coverage - 1);
+    if covered <= bytes.len() {
+        Some(covered)
+    } else {
+        None
+    }
+}
+
+// The words that the checksum covers added to the sum, where its own two bytes count as zero.
+fn add_covered(start: u64, bytes: &[u8], covered: usize) -> u64
+    requires whole { 8 ≤ length bytes.now }
+    requires inside { covered ≤ length bytes.now }
+    requires room { start + 2 ^ 31 * length bytes.now < 2 ^ 64 }
+    ensures { IsSameSum result (start + word_sum (take covered (with_checksum 0 bytes.now))) }
+{
+    if covered < 8 {
+        return add_words(start, &bytes[..covered.min(6)]);
+    }
+    let before = add_words(start, &bytes[..6]);
+    add_words(before, &bytes[8..covered])
+}
+
+/// The checksum of a packet whose first `covered` bytes it covers: the complement of the ones' complement sum over the
+/// pseudo-header and these bytes, with the checksum's own bytes 6 and 7 taken as zero and an odd last byte followed by
+/// zero (RFC 4340, section 9; RFC 1071, section 1).
+pub fn checksum(pseudo: &Pseudo, bytes: &[u8], covered: usize) -> u16
+    requires low { 8 ≤ length bytes.now }
+    requires high { length bytes.now ≤ 65535 }
+    requires inside { covered ≤ length bytes.now }
+    ensures { result ≡ checksum pseudo.now bytes.now covered }
+{
+    let header = add_pseudo_header(pseudo, bytes.len() as u64);
+    0xffff - fold(add_covered(header, bytes, covered))
+}
+
+// Tells whether two checksums are equal, where zero has two spellings.
+fn is_same(a: u16, b: u16) -> bool
+    ensures { result ≡ same_checksum a b }
+{
+    a == b || (matches!(a, 0 | 0xffff) && matches!(b, 0 | 0xffff))
+}
+
+/// Checks a packet's checksum. Refused are, in this order: a coverage that passes the packet's end, exactly where
+/// `covered` answers None; and a checksum in bytes 6 and 7 that is not that of the packet, where the two spellings of
+/// zero, 0000 and ffff, count as equal (RFC 4340, section 9.1).
+pub fn check(pseudo: &Pseudo, bytes: &[u8]) -> Result<(), SumFault>
+    requires low { 8 ≤ length bytes.now }
+    requires high { length bytes.now ≤ 65535 }
+    ensures value { result ≡ checked pseudo.now bytes.now }
+    ensures too_large { (result ≡ Err SumFault.CoverageTooLarge) ↔ (covered bytes.now ≡ None) }
+    ensures wrong { (result ≡ Err SumFault.Wrong)
+        ↔ IsSomeAnd (covered bytes.now) (λ n. stated bytes.now % 65535 ≢ checksum pseudo.now bytes.now n % 65535) }
+{
+    let Some(covered) = covered(bytes) else {
+        return Err(SumFault::CoverageTooLarge);
+    };
+    let stated = BigEndian::read_u16(&bytes[6..]);
+    if is_same(stated, checksum(pseudo, bytes, covered)) {
+        Ok(())
+    } else {
+        Err(SumFault::Wrong)
+    }
+}
+
+// Puts a checksum into a packet.
+fn write_checksum(bytes: &mut [u8], sum: u16)
+    requires { 8 ≤ length bytes.old }
+    ensures { bytes.new ≡ with_checksum sum bytes.old }
+{
+    BigEndian::write_u16(&mut bytes[6..], sum);
+}
+
+/// Writes a packet's checksum into its bytes 6 and 7 and answers true; `check` then accepts the packet. Where `covered`
+/// answers None it changes nothing and answers false.
+pub fn seal(pseudo: &Pseudo, bytes: &mut [u8]) -> bool
+    requires low { 8 ≤ length bytes.old }
+    requires high { length bytes.old ≤ 65535 }
+    ensures answer { result ≡ is_some (covered bytes.old) }
+    ensures value { bytes.new ≡ sealed pseudo.now bytes.old }
+    ensures refused { result ≡ false → bytes.new ≡ bytes.old }
+    ensures accepted { IsTrue result → checked pseudo.now bytes.new ≡ Ok tt }
+{
+    let Some(covered) = covered(bytes) else {
+        return false;
+    };
+    let sum = checksum(pseudo, bytes, covered);
+    write_checksum(bytes, sum);
+    true
+}
