@@ -1,4 +1,5 @@
 pub mod Asking
+pub mod Causes
 pub mod Listing
 pub mod Places
 pub mod Soundness

@@ -8,14 +8,21 @@
 mod answers;
 mod due;
 mod judging;
+mod laws;
 mod lists;
 mod negotiation;
 mod offers;
 mod row;
 mod stands;
+#[cfg(test)]
+mod tests;
 
 pub use crate::answers::{Answer, ConfirmOut, Opening, Settling};
 pub use crate::due::Due;
+pub use crate::laws::{
+    both_ends_reconcile_alike, causes_of_resets, late_confirms_are_ignored,
+    openings_keep_their_number, refusals_change_nothing, rows_stand_apart, values_are_lawful,
+};
 pub use crate::lists::Lists;
 pub use crate::negotiation::Negotiation;
 pub use crate::stands::{Held, Role2, Stand};
