@@ -1,7 +1,6 @@
 -- What leads to a Reset, what an opening leaves, and which Confirms come late.
-use Rattle.std.proofs.Common.{◌≡◌, ◌≢◌, ◌↔◌, ◌⊎◌, inl, inr, ℕ, ◌<◌, ◌≤◌, ◌&&◌, not, nat_lt, Bool, true, false, List, Option, Some, None, refl, sym, ap, ◌∙◌, subst, arith, if◌then◌else◌}
-use Rattle.std.proofs.lemmas.Bool.{and_from}
-use Rattle.seq_circle.specs.Circle.{IsBefore, is_before, distance}
+use Rattle.std.proofs.Common.{◌≡◌, ◌≢◌, ◌↔◌, ◌⊎◌, inl, inr, ℕ, Bool, true, false, List, Option, Some, None, refl, ap, ◌∙◌, arith, if◌then◌else◌}
+use Rattle.seq_circle.specs.Circle.{IsBefore, is_before}
 use Rattle.feature_lists.specs.Features.{described}
 use Rattle.feature_machine.specs.declared.stands.Stand.{Stand}
 use Rattle.feature_machine.specs.declared.stands.Stand.TheVariants as stand
@@ -11,7 +10,7 @@ use Rattle.feature_machine.specs.declared.judging.Proposal.{Proposal}
 use Rattle.feature_machine.specs.declared.judging.Proposal.TheVariants as p
 use Rattle.feature_machine.specs.declared.judging.Confirmation.{Confirmation}
 use Rattle.feature_machine.specs.declared.judging.Confirmation.TheVariants as c
-use Rattle.feature_machine.specs.Rows.{Heard, Proposed, Confirmed, Preferred, Offered, Sending, RowEvent, RowAnswer, Confirm, Confirms, Ignored, Settled, Fatal, Opens, says, settled, row_line, row_step, answers_opening, confirmation, timely_confirmation}
+use Rattle.feature_machine.specs.Rows.{Heard, Proposed, Confirmed, Preferred, Offered, Sending, Confirm, Ignored, Settled, Fatal, Opens, says, settled, row_line, row_step, answers_opening, confirmation, timely_confirmation}
 use Rattle.feature_machine.proofs.Soundness.{if_both}
 
 abbrev ChangeFails : Stand → Proposal → Type 0

@@ -1,5 +1,5 @@
 -- What is listed for the rows.
-use Rattle.std.proofs.Common.{◌≡◌, ◌≢◌, ℕ, ◌+◌, ◌-◌, ◌*◌, ◌<◌, ◌==◌, Bool, true, false, ◌||◌, eq-eqb, suc, take, drop, ◌++◌, append_assoc, List, [], ◌∷◌, length, map, get_or, set, refl, sym, ap, ◌∙◌, subst, arith}
+use Rattle.std.proofs.Common.{◌≡◌, ℕ, ◌+◌, ◌<◌, ◌==◌, Bool, true, false, ◌||◌, eq-eqb, suc, take, drop, ◌++◌, append_assoc, List, [], ◌∷◌, length, map, get_or, set, refl, sym, ap, ◌∙◌, subst, arith}
 use Rattle.std.proofs.lemmas.List.{length-map, get_or-map, map-append, take_more, length-take-le}
 use Rattle.std.proofs.Math.Seq.{drop-cons, set-append_seam}
 use Rattle.feature_lists.specs.Wishes.{is_ours}
@@ -9,9 +9,8 @@ use Rattle.feature_lists.specs.declared.features.Place.{Place}
 use Rattle.feature_lists.specs.declared.features.Place.TheVariants as located
 use Rattle.feature_machine.specs.declared.stands.Role2.{Role2}
 use Rattle.feature_machine.specs.declared.offers.Listed.{Listed}
-use Rattle.feature_machine.specs.declared.row.Row.{Row}
-use Rattle.feature_machine.specs.Lists.{index_of, usual_listed, usual_lists, listed_at, list_put, unoffered, without_offers, IsListed, IsLists}
-use Rattle.feature_machine.specs.Negotiating.{first_row, first_rows, row_at, IsNegotiation}
+use Rattle.feature_machine.specs.Lists.{index_of, usual_listed, usual_lists, listed_at, unoffered, without_offers, IsListed, IsLists}
+use Rattle.feature_machine.specs.Negotiating.{first_row, first_rows, IsNegotiation}
 use Rattle.feature_lists.specs.Features.{initial_of, is_permitted}
 use Rattle.feature_machine.specs.Sound.{IsRowOf, is_active}
 use Rattle.feature_machine.proofs.Places.{index_below}

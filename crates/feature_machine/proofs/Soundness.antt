@@ -1,17 +1,14 @@
 -- What every row keeps, each step keeps.
 use Rattle.byteorder.specs.Endian.{big_number}
-use Rattle.std.proofs.Common.{if◌then◌else◌, zero, suc, ◌≡◌, ℕ, ◌+◌, ◌-◌, ◌*◌, ◌^◌, ◌<◌, ◌≤◌, ◌==◌, ◌&&◌, ◌||◌, not, Bool, true, false, List, [], ◌∷◌, length, Option, Some, None, Contains, find, slice_get, get_or, refl, sym, subst, arith, eqb-true, eq-eqb, nat_lt}
-use Rattle.std.specs.List.{list_all, list_any}
-use Rattle.std.proofs.lemmas.List.Folds.{Any-from_list_any}
+use Rattle.std.proofs.Common.{if◌then◌else◌, zero, suc, ◌≡◌, ℕ, ◌^◌, ◌<◌, ◌==◌, ◌&&◌, not, Bool, true, false, List, [], ◌∷◌, length, Option, Some, None, Contains, slice_get, refl, sym, subst, arith, eqb-true}
+use Rattle.std.specs.List.{list_all}
 use Rattle.std.proofs.lemmas.List.Sums.{AllPass-from_list_all}
-use Rattle.std.proofs.lemmas.Bool.{and_parts, and_from}
-use Rattle.std.proofs.lemmas.Option.{slice_get_cases}
-use Rattle.feature_lists.specs.Features.{described, initial_of, is_permitted}
-use Rattle.feature_lists.specs.Lists.{has_entry, reconciled}
+use Rattle.std.proofs.lemmas.Bool.{and_parts}
+use Rattle.feature_lists.specs.Features.{described, is_permitted}
+use Rattle.feature_lists.specs.Lists.{has_entry}
 use Rattle.feature_lists.specs.Wishes.{is_allowed, is_counted, is_ours, is_wish}
 use Rattle.feature_lists.specs.Lists.{is_distinct}
 use Rattle.feature_lists.proofs.FirstShared.{has_entry-from_Contains, Contains-from_has_entry, FirstPassing, find_passing}
-use Rattle.feature_lists.proofs.Allowed.{permitted_byte}
 use Rattle.feature_lists.specs.declared.features.Feature.{Feature}
 use Rattle.feature_lists.specs.declared.features.Feature.TheVariants as f
 use Rattle.feature_lists.specs.declared.features.Place.{Place}
@@ -22,15 +19,12 @@ use Rattle.feature_machine.specs.declared.stands.Role2.{Role2}
 use Rattle.feature_machine.specs.declared.stands.Role2.TheVariants as role
 use Rattle.feature_machine.specs.declared.stands.Stand.{Stand}
 use Rattle.feature_machine.specs.declared.stands.Stand.TheVariants as stand
-use Rattle.feature_machine.specs.declared.offers.Offer.{Offer}
 use Rattle.feature_machine.specs.declared.offers.Offer.TheVariants as offer
 use Rattle.feature_machine.specs.declared.row.Row.{Row}
-use Rattle.feature_machine.specs.declared.judging.Proposal.{Proposal}
 use Rattle.feature_machine.specs.declared.judging.Proposal.TheVariants as p
-use Rattle.feature_machine.specs.declared.judging.Confirmation.{Confirmation}
 use Rattle.feature_machine.specs.declared.judging.Confirmation.TheVariants as c
-use Rattle.feature_machine.specs.Rows.{is_there, says, Fatal, Heard, Proposed, Confirmed, Preferred, Offered, Sending, RowStep, tells_value, width, is_server_priority, is_number, answers_opening, confirmation, timely_confirmation, list_confirmation, listed_confirmation, is_acceptable, number_confirmation, holding, settled, opened_with, without_offer, sent_anew, RowEvent, Change, Confirm, Prefers, Offers, Sends, entries, reconciled_by, proposal, list_proposal, shared_or_not, row_step, row_line, heard}
-use Rattle.feature_machine.specs.Sound.{is_lawful, is_active, is_pending, IsLawfulProposal, NeverAsks, IsSound, IsLawful}
+use Rattle.feature_machine.specs.Rows.{is_there, says, Fatal, Heard, Proposed, Confirmed, Preferred, Offered, Sending, tells_value, width, is_server_priority, is_number, answers_opening, confirmation, timely_confirmation, list_confirmation, listed_confirmation, is_acceptable, number_confirmation, holding, settled, opened_with, without_offer, RowEvent, Change, Confirm, Prefers, Offers, Sends, entries, reconciled_by, proposal, list_proposal, shared_or_not, row_step, row_line, heard}
+use Rattle.feature_machine.specs.Sound.{is_lawful, is_active, is_pending, IsLawfulProposal, IsSound, IsLawful}
 
 -- a lawful value of a server-priority feature is a byte
 pub lawful_byte : (feature : Feature) (place : Place) (value : ℕ) → (described feature).is_server_priority ≡ true → is_lawful feature place value ≡ true → value < 256

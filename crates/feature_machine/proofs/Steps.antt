@@ -1,5 +1,5 @@
 -- What no step changes: which row it is; and nothing at all where the row refuses.
-use Rattle.std.proofs.Common.{◌≡◌, ◌≢◌, ℕ, Bool, true, false, List, Option, Some, None, refl, sym, ◌∙◌, ap, subst, if◌then◌else◌}
+use Rattle.std.proofs.Common.{◌≡◌, ◌≢◌, ℕ, true, false, List, Option, Some, None, refl, ◌∙◌, ap}
 use Rattle.std.proofs.lemmas.List.{set-get_or}
 use Rattle.feature_lists.specs.Features.{described}
 use Rattle.feature_lists.specs.declared.features.Feature.{Feature}
@@ -10,13 +10,13 @@ use Rattle.feature_machine.specs.declared.offers.Offer.TheVariants as offer
 use Rattle.feature_machine.specs.declared.row.Row.{Row}
 use Rattle.feature_machine.specs.declared.judging.Proposal.TheVariants as p
 use Rattle.feature_machine.specs.declared.judging.Confirmation.TheVariants as c
-use Rattle.feature_machine.specs.Rows.{Heard, Proposed, Confirmed, Preferred, Offered, Sending, RowEvent, RowStep, RowAnswer, Change, Confirm, confirmation, Fatal, says, settled, row_line, row_step, heard}
+use Rattle.feature_machine.specs.Rows.{Heard, Proposed, Confirmed, Preferred, Offered, Sending, RowEvent, Confirm, confirmation, Fatal, says, settled, row_line, row_step, heard}
 use Rattle.feature_machine.specs.declared.judging.Confirmation.{Confirmation}
 use Rattle.feature_machine.specs.declared.answers.Settling.TheVariants as settling
 use Rattle.feature_machine.specs.Answers.{settling_of}
 use Rattle.feature_machine.specs.Lists.{index_of}
 use Rattle.feature_machine.specs.Negotiating.{row_at, put, stepped}
-use Rattle.feature_machine.specs.Sound.{IsSound, IsRowOf, IsSameRow, IsRefusal, IsLawful}
+use Rattle.feature_machine.specs.Sound.{IsRowOf, IsSameRow, IsRefusal, IsLawful}
 use Rattle.feature_machine.proofs.Soundness.{if_both, step_sound}
 
 line_same : (row : Row) (s : Stand) (h : Heard) → IsSameRow row (row_line row s h).row

@@ -1,5 +1,5 @@
 -- The answers of the calls, as rows give them.
-use Rattle.std.specs.Prelude.{◌≡◌, ℕ, Bool, true, false, not, List}
+use Rattle.std.specs.Prelude.{ℕ, Bool, true, false, not, List}
 use Rattle.feature_machine.specs.declared.answers.Answer.{Answer}
 use Rattle.feature_machine.specs.declared.answers.Answer.TheVariants as answer
 use Rattle.feature_machine.specs.declared.answers.Settling.{Settling}

@@ -1,14 +1,12 @@
 -- The wishes and offers that an end starts with (own).
-use Rattle.std.specs.Prelude.{◌≡◌, ℕ, ◌+◌, ◌-◌, ◌*◌, Bool, true, false, List, [], ◌∷◌, length, map, Option, Some, None, slice_index_or, slice_set, Result, Ok, Err, if◌then◌else◌}
+use Rattle.std.specs.Prelude.{◌≡◌, ℕ, ◌+◌, ◌-◌, ◌*◌, Bool, true, false, List, [], ◌∷◌, length, map, Some, slice_index_or, slice_set}
 use Rattle.feature_lists.specs.Features.{number_of}
-use Rattle.feature_lists.specs.Wishes.{is_ours, wish_of, usual_of}
+use Rattle.feature_lists.specs.Wishes.{is_ours, usual_of}
 use Rattle.feature_lists.specs.declared.features.Feature.{Feature}
 use Rattle.feature_lists.specs.declared.features.Feature.TheVariants as f
 use Rattle.feature_lists.specs.declared.features.Place.{Place}
 use Rattle.feature_lists.specs.declared.features.Place.TheVariants as located
 use Rattle.feature_lists.specs.declared.wishes.Wanted.{Wanted}
-use Rattle.feature_lists.specs.declared.wishes.PreferFault.{PreferFault}
-use Rattle.feature_lists.specs.declared.wishes.PreferFault.TheVariants as fault
 use Rattle.feature_machine.specs.declared.offers.Offer.{Offer}
 use Rattle.feature_machine.specs.declared.offers.Offer.TheVariants as offer
 use Rattle.feature_machine.specs.declared.offers.Listed.{Listed}

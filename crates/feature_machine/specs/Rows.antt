@@ -4,7 +4,6 @@ use Rattle.byteorder.specs.Endian.{big_number, big_bytes}
 use Rattle.seq_circle.specs.Circle.{is_before}
 use Rattle.feature_lists.specs.Features.{described, is_permitted}
 use Rattle.feature_lists.specs.Lists.{has_entry, reconciled}
-use Rattle.feature_lists.specs.declared.features.Feature.{Feature}
 use Rattle.feature_lists.specs.declared.features.Place.{Place}
 use Rattle.feature_lists.specs.declared.features.Place.TheVariants as located
 use Rattle.feature_lists.specs.declared.wishes.Wanted.{Wanted}

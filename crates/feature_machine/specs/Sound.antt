@@ -11,7 +11,7 @@ use Rattle.feature_machine.specs.declared.offers.Offer.TheVariants as offer
 use Rattle.feature_machine.specs.declared.row.Row.{Row}
 use Rattle.feature_machine.specs.declared.judging.Proposal.{Proposal}
 use Rattle.feature_machine.specs.declared.judging.Proposal.TheVariants as p
-use Rattle.feature_machine.specs.Rows.{RowAnswer, Ignored, Fatal, RowEvent, Change, Confirm, Prefers, Offers, Sends}
+use Rattle.feature_machine.specs.Rows.{RowAnswer, Ignored, Fatal, RowEvent, Prefers}
 
 -- a value that a row may hold: the initial one, or one that is permitted
 abbrev pub is_lawful : Feature → Place → ℕ → Bool

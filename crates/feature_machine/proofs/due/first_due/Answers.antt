@@ -1,6 +1,5 @@
-use Rattle.std.proofs.Common.{◌≡◌, ◌≤◌, ◌<◌, ◌+◌, ◌∙◌, sym, subst, arith, drop, ℕ, length, true, false}
-use Rattle.feature_machine.specs.Negotiating.{due_keys, is_due}
-use Rattle.feature_machine.specs.declared.row.Row.{Row}
+use Rattle.std.proofs.Common.{◌≡◌, ◌∙◌, sym, subst, arith, drop, ℕ}
+use Rattle.feature_machine.specs.Negotiating.{due_keys}
 use Rattle.feature_machine.proofs.Asking.{due_passed}
 use Rattle.feature_machine.proofs.due.first_due.Goals as goal
 

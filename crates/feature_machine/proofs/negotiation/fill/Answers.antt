@@ -1,4 +1,4 @@
-use Rattle.std.proofs.Common.{◌≡◌, ◌<◌, ◌+◌, length, arith, set, map, take, drop, ◌++◌, get_or}
+use Rattle.std.proofs.Common.{arith}
 use Rattle.feature_machine.specs.Negotiating.{first_row}
 use Rattle.feature_machine.proofs.Listing.{mapped_more}
 use Rattle.feature_machine.proofs.negotiation.fill.Goals as goal

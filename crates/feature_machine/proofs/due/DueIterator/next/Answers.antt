@@ -1,6 +1,4 @@
-use Rattle.std.proofs.Common.{◌≡◌, ◌≤◌, ◌<◌, ◌+◌, ◌∙◌, sym, subst, arith, drop, ℕ, length, refl, ap}
-use Rattle.feature_machine.specs.Negotiating.{due_keys, is_due}
-use Rattle.feature_machine.specs.declared.row.Row.{Row}
+use Rattle.std.proofs.Common.{◌∙◌, sym, arith, length, ap}
 use Rattle.feature_machine.proofs.Asking.{due_taken}
 use Rattle.feature_machine.proofs.due.DueIterator.next.Goals as goal
 

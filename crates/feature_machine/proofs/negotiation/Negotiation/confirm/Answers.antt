@@ -1,9 +1,7 @@
-use Rattle.std.proofs.Common.{subst, sym, ap, ◌∙◌, ◌≡◌}
-use Rattle.feature_machine.specs.Rows.{Change, Confirm, Prefers, Offers, Sends, row_step}
-use Rattle.feature_machine.specs.Sound.{IsRowOf, IsRefusal}
-use Rattle.feature_machine.specs.Negotiating.{stepped}
-use Rattle.feature_machine.specs.declared.answers.Settling.TheVariants as settling
-use Rattle.feature_machine.proofs.Steps.{step_stays, put_same, step_its, stepped_stays, confirm_refuses}
+use Rattle.std.proofs.Common.{subst, sym, ◌∙◌}
+use Rattle.feature_machine.specs.Rows.{Confirm}
+use Rattle.feature_machine.specs.Sound.{IsRowOf}
+use Rattle.feature_machine.proofs.Steps.{step_stays, put_same, step_its, confirm_refuses}
 use Rattle.feature_machine.proofs.negotiation.Negotiation.confirm.Goals as goal
 
 -- the row stays its place's

@@ -1,8 +1,7 @@
-use Rattle.std.proofs.Common.{subst, sym, ap, ◌∙◌, ◌≡◌}
-use Rattle.feature_machine.specs.Rows.{Change, Confirm, Prefers, Offers, Sends, row_step}
-use Rattle.feature_machine.specs.Sound.{IsRowOf, IsRefusal}
-use Rattle.feature_machine.specs.Negotiating.{stepped}
-use Rattle.feature_machine.proofs.Steps.{step_its, stepped_stays, confirm_refuses}
+use Rattle.std.proofs.Common.{subst, sym}
+use Rattle.feature_machine.specs.Rows.{Sends}
+use Rattle.feature_machine.specs.Sound.{IsRowOf}
+use Rattle.feature_machine.proofs.Steps.{step_its}
 use Rattle.feature_machine.proofs.negotiation.Negotiation.sent.Goals as goal
 
 -- the row stays its place's
