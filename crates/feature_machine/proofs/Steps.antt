@@ -15,8 +15,9 @@ use Rattle.feature_machine.specs.declared.judging.Confirmation.{Confirmation}
 use Rattle.feature_machine.specs.declared.answers.Settling.TheVariants as settling
 use Rattle.feature_machine.specs.Answers.{settling_of}
 use Rattle.feature_machine.specs.Lists.{index_of}
-use Rattle.feature_machine.specs.Negotiating.{row_at, put, stepped}
+use Rattle.feature_machine.specs.Negotiating.{row_at, put, stepped, IsNegotiation}
 use Rattle.feature_machine.specs.Sound.{IsRowOf, IsSameRow, IsRefusal, IsLawful}
+use Rattle.feature_machine.proofs.Places.{put_negotiation}
 use Rattle.feature_machine.proofs.Soundness.{if_both, step_sound}
 
 line_same : (row : Row) (s : Stand) (h : Heard) → IsSameRow row (row_line row s h).row
@@ -133,3 +134,8 @@ line_refuses row stand.Changing c.Wrong other = tt
 
 pub confirm_refuses : (row : Row) (body : List ℕ) (ack : Option ℕ) → settling_of (row_step row (Confirm body ack)).answer ≢ settling.Settled → IsRefusal (row_step row (Confirm body ack)).answer
 confirm_refuses row body ack other = line_refuses row row.stand (confirmation row body ack) other
+
+-- the eighteen rows stay sound
+pub stepped_negotiation : (rows : List Row) (feature : Feature) (place : Place) (event : RowEvent) → IsNegotiation rows → IsLawful (row_at rows feature place) event → IsNegotiation (stepped rows feature place event).rows
+stepped_negotiation rows feature place event n lawful =
+    put_negotiation rows feature place (row_step (row_at rows feature place) event).row n (step_its feature place (row_at rows feature place) event (n.each feature place) lawful)

@@ -5,7 +5,7 @@ ghost use Rattle.feature_lists.specs.Features.{described};
 ghost use Rattle.feature_lists.specs.declared.features.Feature.{Feature};
 ghost use Rattle.feature_lists.specs.declared.features.Place.{Place};
 ghost use Rattle.feature_machine.specs.Lists.{index_of};
-ghost use Rattle.feature_machine.specs.Negotiating.{row_at, put, OthersStay};
+ghost use Rattle.feature_machine.specs.Negotiating.{row_at, put, stepped, OthersStay, IsNegotiation};
 ghost use Rattle.feature_machine.specs.Rows.{RowEvent, Change, Confirm, Offers, Settled, Ignored, Fatal, Opens, row_step, says, proposal, confirmation, reconciled_by};
 ghost use Rattle.feature_machine.specs.Sound.{IsSound, IsLawful, IsSameRow, IsRefusal};
 ghost use Rattle.feature_machine.specs.declared.judging.Confirmation.TheVariants.{Empty, Wrong};
@@ -18,6 +18,12 @@ ghost use Rattle.feature_machine.specs.declared.stands.Stand.TheVariants.{Stable
 pub fn values_are_lawful()
     ensures steps { (row : Row) (event : RowEvent) → IsSound row → IsLawful row event → IsSound (row_step row event).row }
     ensures fits { (row : Row) → IsSound row → row.value < 256 ^ (described row.feature).width }
+{}
+
+/// So the eighteen rows stay sound, each in its place, whatever happens to one of them.
+pub fn rows_stay_sound()
+    ensures { (rows : List Row) (feature : Feature) (place : Place) (event : RowEvent) → IsNegotiation rows
+        → IsLawful (row_at rows feature place) event → IsNegotiation (stepped rows feature place event).rows }
 {}
 
 /// A row in CHANGING passes over a Confirm without an acknowledgement number, one that acknowledges a packet from before its last

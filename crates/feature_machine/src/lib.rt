@@ -21,7 +21,8 @@ pub use crate::answers::{Answer, ConfirmOut, Opening, Settling};
 pub use crate::due::Due;
 pub use crate::laws::{
     both_ends_reconcile_alike, causes_of_resets, late_confirms_are_ignored,
-    openings_keep_their_number, refusals_change_nothing, rows_stand_apart, values_are_lawful,
+    openings_keep_their_number, refusals_change_nothing, rows_stand_apart, rows_stay_sound,
+    values_are_lawful,
 };
 pub use crate::lists::Lists;
 pub use crate::negotiation::Negotiation;

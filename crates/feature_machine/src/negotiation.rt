@@ -79,7 +79,8 @@ fn fill(rows: &mut [Row], role: Role2, listed: &[Listed])
 impl Negotiation {
     /// The rows of an end before anything was negotiated: each is STABLE with its feature's initial value.
     pub fn new(role: Role2, lists: &Lists) -> Negotiation
-        ensures { result ≡ first_rows role lists.now }
+        ensures rows { result ≡ first_rows role lists.now }
+        ensures sound { IsNegotiation result }
     {
         let listed = lists.all();
         let mut rows = [Row::first(role, &listed[0]); 18];
@@ -99,6 +100,7 @@ impl Negotiation {
     fn row(&self, feature: Feature, place: Place) -> Row
         ensures value { result ≡ row_at self.now feature place }
         ensures its { IsRowOf feature place result }
+        ensures sound { IsNegotiation self.now }
     {
         self.rows[index_of(feature, place)]
     }
@@ -142,6 +144,7 @@ impl Negotiation {
     pub fn held(&self, feature: Feature, place: Place) -> Held
         ensures value { result ≡ held_by (row_at self.now feature place) }
         ensures its { IsRowOf feature place (row_at self.now feature place) }
+        ensures sound { IsNegotiation self.now }
     {
         let row = self.row(feature, place);
         Held {
