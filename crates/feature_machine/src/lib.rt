@@ -5,9 +5,17 @@
 //! Nothing here takes memory, reads a packet or sends one, and no row is changed by another row's event.
 #![tactic(auto)]
 
+mod answers;
+mod due;
 mod judging;
+mod lists;
+mod negotiation;
 mod offers;
 mod row;
 mod stands;
 
+pub use crate::answers::{Answer, ConfirmOut, Opening, Settling};
+pub use crate::due::Due;
+pub use crate::lists::Lists;
+pub use crate::negotiation::Negotiation;
 pub use crate::stands::{Held, Role2, Stand};

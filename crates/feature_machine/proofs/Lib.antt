@@ -1,0 +1,5 @@
+pub mod Asking
+pub mod Listing
+pub mod Places
+pub mod Soundness
+pub mod Steps
