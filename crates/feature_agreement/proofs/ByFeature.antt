@@ -8,6 +8,7 @@ use Rattle.feature_lists.specs.declared.features.Place.TheVariants as place
 use Rattle.feature_machine.specs.declared.row.Row.{Row}
 use Rattle.feature_machine.specs.declared.stands.Role2.{Role2}
 use Rattle.feature_machine.specs.declared.stands.Role2.TheVariants as end
+use Rattle.feature_machine.specs.Sound.{IsSameRow}
 use Rattle.feature_agreement.specs.View.{Carried, Side}
 use Rattle.feature_agreement.specs.Moves.{Moves, IsReachable, negotiable}
 use Rattle.feature_agreement.specs.Rows.{RowMoves, pair_by, pair_of, row_pair, rule_at, opens_at, location_of, opposite}
@@ -41,12 +42,12 @@ one_pair feature place.Here = refl
 one_pair feature place.There = refl
 
 -- what a step leaves of a row tells its pair
-pub same_pair : (old new : Row) → new.role ≡ old.role → new.feature ≡ old.feature → new.place ≡ old.place → row_pair new ≡ row_pair old
-same_pair old new role feature at = rw (role, feature, at)
+pub same_pair : (old new : Row) → IsSameRow old new → row_pair new ≡ row_pair old
+same_pair old new same = rw (same.role, same.feature, same.place)
 
-pub same_moves : (old new : Row) (there : List Carried) (before after : Side) → new.role ≡ old.role → new.feature ≡ old.feature
-    → new.place ≡ old.place → RowMoves new there before after → RowMoves old there before after
-same_moves old new there before after role feature at moves = rw (role, feature, at) at moves
+pub same_moves : (old new : Row) (there : List Carried) (before after : Side) → IsSameRow old new → RowMoves new there before after
+    → RowMoves old there before after
+same_moves old new there before after same moves = rw (same.role, same.feature, same.place) at moves
 
 pub server_row_steps : (row : Row) (server client after : Side) → row.role ≡ end.Server → RowMoves row client.frames server after
     → IsReachable (row_pair row) server client → IsReachable (row_pair row) after client

@@ -5,6 +5,7 @@ ghost use Rattle.feature_lists.specs.declared.features.Place.{Place};
 ghost use Rattle.feature_machine.specs.declared.row.Row.{Row};
 ghost use Rattle.feature_machine.specs.declared.stands.Role2.{Role2};
 ghost use Rattle.feature_machine.specs.declared.stands.Role2.TheVariants.{Server, Client};
+ghost use Rattle.feature_machine.specs.Sound.{IsSameRow};
 ghost use Rattle.feature_agreement.specs.View.{Carried, Side};
 ghost use Rattle.feature_agreement.specs.Moves.{IsReachable};
 ghost use Rattle.feature_agreement.specs.Rows.{RowMoves, pair_of, row_pair, location_of, opposite};
@@ -27,10 +28,8 @@ pub fn row_steps_stay_reachable()
         → IsReachable (row_pair row) server client → IsReachable (row_pair row) after client }
     ensures client_step { (row : Row) (server client after : Side) → row.role ≡ Client → RowMoves row server.frames client after
         → IsReachable (row_pair row) server client → IsReachable (row_pair row) server after }
-    ensures same_pair { (old new : Row) → new.role ≡ old.role → new.feature ≡ old.feature → new.place ≡ old.place
-        → row_pair new ≡ row_pair old }
-    ensures same_moves { (old new : Row) (there : List Carried) (before after : Side)
-        → new.role ≡ old.role → new.feature ≡ old.feature → new.place ≡ old.place
+    ensures same_pair { (old new : Row) → IsSameRow old new → row_pair new ≡ row_pair old }
+    ensures same_moves { (old new : Row) (there : List Carried) (before after : Side) → IsSameRow old new
         → RowMoves new there before after → RowMoves old there before after }
     ensures one_pair { (feature : Feature) (place : Place)
         → pair_of feature (location_of Server place) ≡ pair_of feature (location_of Client (opposite place)) }
