@@ -1,5 +1,5 @@
 -- What the Ack Vectors of a packet report (RFC 4340, section 11.4).
-use Rattle.std.specs.Prelude.{ℕ, ◌+◌, ◌-◌, ◌/◌, ◌%◌, ◌^◌, Bool, true, false, ◌||◌, ◌==◌, List, [], ◌∷◌, ◌++◌, replicate, Option, Some, None, Result, Ok, Err, slice_get, if◌then◌else◌}
+use Rattle.std.specs.Prelude.{ℕ, ◌+◌, ◌-◌, ◌/◌, ◌%◌, ◌^◌, Bool, ◌||◌, ◌==◌, nat_lt, List, [], ◌∷◌, ◌++◌, replicate, Option, Some, None, Result, Ok, Err, slice_get, if◌then◌else◌}
 use Rattle.std.specs.List.{concat}
 use Rattle.seq_circle.specs.Circle.{residue, distance}
 use Rattle.dccp_options.specs.declared.option.OptFault.{OptFault}
@@ -37,7 +37,8 @@ joined_report ack (vector ∷ others) = Some (record { ack = ack; bytes = concat
 abbrev pub report_of : ℕ → List (Result Entry OptFault) → Option Report
 report_of ack items = joined_report ack (ack_vectors items)
 
--- the state in a byte's upper two bits: 0 received, 1 received ECN marked, 3 not yet received; the reserved 2 is read as 3 (RFC 4340, section 11.4; the reading is own)
+-- the state in a byte's upper two bits: 0 received, 1 received ECN marked, 3 not yet received (RFC 4340, section 11.4);
+-- the reserved 2 is read as 3 (own)
 abbrev pub state_of : ℕ → ℕ
 state_of byte = if byte / 64 == 2 then 3 else byte / 64
 
@@ -64,3 +65,12 @@ runs_of hi [] = []
 runs_of hi (byte ∷ rest) =
     record { hi = hi; count = run_length byte; state = state_of byte }
     ∷ runs_of (residue (hi + (2 ^ 48 - run_length byte))) rest
+
+-- the number is one of the run's
+abbrev pub is_in_run : Run → ℕ → Bool
+is_in_run run n = nat_lt (distance n run.hi) run.count
+
+-- the state that the first run with the number gives it
+abbrev pub state_in : List Run → ℕ → Option ℕ
+state_in [] n = None
+state_in (run ∷ rest) n = if is_in_run run n then Some run.state else state_in rest n

@@ -1,2 +1,3 @@
 pub mod Grammar
 pub mod Lending
+pub mod Table

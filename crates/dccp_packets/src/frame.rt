@@ -12,7 +12,7 @@ pub(crate) const FRAME_SIZE: usize = 2044;
 /// A packet's bytes, at most 2,044 of them, in the value itself. Contracts see the list of bytes.
 #[derive(Debug, Drop)]
 pub struct Frame {
-    bytes: ArrayVec<u8, 2044>,
+    bytes: ArrayVec<u8, FRAME_SIZE>,
 }
 
 impl Model for Frame {

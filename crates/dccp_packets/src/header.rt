@@ -1,6 +1,6 @@
 //! The fields that a packet's header carries, without their places on the wire.
-ghost use Rattle.std.specs.Prelude.{◌≡◌};
-ghost use Rattle.dccp_packets.specs.Grammar.{type_of, code_of, fixed_length, has_form, packet_type, is_long, has_forms, is_valid, header_length};
+ghost use Rattle.std.specs.Prelude.{◌≡◌, ◌<◌, ◌^◌, length};
+ghost use Rattle.dccp_packets.specs.Grammar.{type_of, code_of, fixed_length, has_form, packet_type, is_long, has_forms, is_valid, header_length, NumberFits, KindFits, Fits};
 
 use seq_circle::{Seq24, Seq48};
 
@@ -50,7 +50,7 @@ pub enum Kind {
         ack: Seq48,
         service: u32,
     },
-    /// Carries no acknowledgement.
+    /// Carries no acknowledgement and nothing else of its own (RFC 4340, section 5.4).
     Data,
     /// The acknowledgement has the form of the sequence number.
     Ack {
@@ -60,9 +60,11 @@ pub enum Kind {
     DataAck {
         ack: Number,
     },
+    /// Acknowledges a packet of the client (RFC 4340, section 5.5).
     CloseReq {
         ack: Seq48,
     },
+    /// Acknowledges a packet of the other end (RFC 4340, section 5.5).
     Close {
         ack: Seq48,
     },
@@ -72,9 +74,11 @@ pub enum Kind {
         code: u8,
         detail: [u8; 3],
     },
+    /// Acknowledges the packet that made it necessary (RFC 4340, section 5.7).
     Sync {
         ack: Seq48,
     },
+    /// Acknowledges the Sync (RFC 4340, section 5.7).
     SyncAck {
         ack: Seq48,
     },
@@ -169,6 +173,20 @@ impl Number {
             Number::Short(_) => false,
         }
     }
+
+    // What the types of the fields keep, as a fact for callers.
+    fn known_to_fit(&self)
+        ensures { NumberFits self.now }
+    {
+        match self {
+            Number::Long(number) => {
+                let _ = number.get();
+            }
+            Number::Short(number) => {
+                let _ = number.get();
+            }
+        }
+    }
 }
 
 impl Kind {
@@ -187,6 +205,31 @@ impl Kind {
             Kind::Reset { .. } => PacketType::Reset,
             Kind::Sync { .. } => PacketType::Sync,
             Kind::SyncAck { .. } => PacketType::SyncAck,
+        }
+    }
+
+    fn known_to_fit(&self)
+        ensures { KindFits self.now }
+    {
+        match *self {
+            Kind::Data => {}
+            Kind::Request { service } => service_fits(service),
+            Kind::Response { ack, service } => {
+                let _ = ack.get();
+                service_fits(service);
+            }
+            Kind::Ack { ack } | Kind::DataAck { ack } => ack.known_to_fit(),
+            Kind::CloseReq { ack }
+            | Kind::Close { ack }
+            | Kind::Sync { ack }
+            | Kind::SyncAck { ack } => {
+                let _ = ack.get();
+            }
+            Kind::Reset { ack, code, detail } => {
+                let _ = ack.get();
+                code_fits(code);
+                detail_has_three(detail);
+            }
         }
     }
 
@@ -211,6 +254,16 @@ impl Header {
         self.ccval < 16 && self.cscov < 16 && self.kind.has_forms(self.number.is_long())
     }
 
+    pub(crate) fn known_to_fit(&self)
+        ensures { Fits self.now }
+    {
+        short_fits(self.from);
+        short_fits(self.to);
+        short_fits(self.checksum);
+        self.number.known_to_fit();
+        self.kind.known_to_fit();
+    }
+
     // The length of the fixed part, in bytes.
     pub(crate) fn length(&self) -> usize
         ensures { result ≡ header_length self.now }
@@ -218,3 +271,20 @@ impl Header {
         self.kind.packet_type().fixed_length(self.number.is_long())
     }
 }
+
+// What a field keeps by its type alone, for a field that stands inside a variant or behind a reference.
+fn service_fits(service: u32)
+    ensures { service < 2 ^ 32 }
+{}
+
+fn short_fits(field: u16)
+    ensures { field < 2 ^ 16 }
+{}
+
+fn code_fits(code: u8)
+    ensures { code < 2 ^ 8 }
+{}
+
+pub(crate) fn detail_has_three(detail: [u8; 3])
+    ensures { length detail ≡ 3 }
+{}

@@ -1,6 +1,190 @@
 //! Writing packets.
+ghost use Rattle.std.specs.Prelude.{◌≡◌, ◌+◌, ◌*◌, ◌/◌, ◌%◌, ◌-◌, ◌^◌, ◌<◌, ◌≤◌, ◌↔◌, ◌∷◌, [], ◌++◌, length, replicate, IsTrue, IsErr, OnOk, OnErr};
+ghost use Rattle.byteorder.specs.Endian.{big_bytes};
+ghost use Rattle.dccp_packets.specs.Grammar.{is_valid, Fits, decoded, header_length, type_byte, number_bytes, long_ack_bytes, ack_bytes, kind_bytes, common_bytes, header_bytes, padded, spelling};
+
+use crate::header::detail_has_three;
+use crate::{Frame, Header, Kind, Number};
+use byteorder::{BigEndian, ByteOrder};
+use seq_circle::{Seq24, Seq48};
 
 /// The fixed part and the padded options pass 1,020 bytes, the most that a Data Offset of 8 bits can count (RFC 4340,
 /// section 5.1).
 #[derive(Clone, Copy, Debug, PartialEq, Eq)]
 pub struct OptionsTooLong;
+
+const WORD: usize = 4;
+
+const NIBBLE: u8 = 16;
+
+// X is the lowest bit of its byte, below the type.
+const X: u8 = 2;
+
+const RESERVED: u8 = 0;
+
+// 255 words, the most that a Data Offset counts, in bytes.
+const LONGEST_HEADER: usize = 1020;
+
+/// Writes the packet into `out`, in place of what was there: the header, the options filled with zeros up to four bytes,
+/// and the data. Reserved bits are zero, and the checksum is the header's (RFC 4340, section 5). OptionsTooLong comes
+/// exactly where the fixed part and the padded options pass 1,020 bytes, and `out` is then unchanged.
+pub fn encode(
+    header: &Header,
+    options: &[u8],
+    payload: &[u8],
+    out: &mut Frame,
+) -> Result<(), OptionsTooLong>
+    requires valid { IsTrue (is_valid header.now) }
+    requires short { length payload.now ≤ 1024 }
+    ensures refused { IsErr result ↔ (1020 < header_length header.now + length (padded options.now)) }
+    ensures unchanged { OnErr result (out.new ≡ out.old) }
+    ensures written { OnOk result (out.new ≡ spelling header.now options.now payload.now) }
+    ensures read_back { OnOk result (decoded out.new
+        ≡ Ok (record { header = header.now; options = padded options.now; payload = payload.now })) }
+    ensures fits { OnOk result (length out.new ≤ 2044) }
+{
+    let fixed = header.length();
+    let filled = options.len() + padding(options);
+    if LONGEST_HEADER < fixed + filled {
+        return Err(OptionsTooLong);
+    }
+    header.known_to_fit();
+    out.clear();
+    put_header(header, ((fixed + filled) / WORD) as u8, out);
+    put_padded(options, out);
+    out.append(payload);
+    Ok(())
+}
+
+// How many zeros fill the options up to a word.
+fn padding(options: &[u8]) -> usize
+    ensures value { result ≡ (4 - length options.now % 4) % 4 }
+    ensures filled { length (padded options.now) ≡ length options.now + result }
+{
+    (WORD - options.len() % WORD) % WORD
+}
+
+fn put_padded(options: &[u8], out: &mut Frame)
+    requires { length out.old + length (padded options.now) ≤ 2044 }
+    ensures { out.new ≡ out.old ++ padded options.now }
+{
+    out.append(options);
+    out.append(&[0; WORD][..padding(options)]);
+}
+
+fn put_u16(value: u16, out: &mut Frame)
+    requires { length out.old + 2 ≤ 2044 }
+    ensures { out.new ≡ out.old ++ big_bytes 2 value }
+{
+    let mut piece = [0; 2];
+    BigEndian::write_u16(&mut piece, value);
+    out.append(&piece);
+}
+
+fn put_u32(value: u32, out: &mut Frame)
+    requires { length out.old + 4 ≤ 2044 }
+    ensures { out.new ≡ out.old ++ big_bytes 4 value }
+{
+    let mut piece = [0; 4];
+    BigEndian::write_u32(&mut piece, value);
+    out.append(&piece);
+}
+
+fn put_long(number: Seq48, out: &mut Frame)
+    requires { length out.old + 6 ≤ 2044 }
+    ensures { out.new ≡ out.old ++ big_bytes 6 number }
+{
+    let mut piece = [0; 6];
+    BigEndian::write_u48(&mut piece, number.get());
+    out.append(&piece);
+}
+
+fn put_short(number: Seq24, out: &mut Frame)
+    requires { length out.old + 3 ≤ 2044 }
+    ensures { out.new ≡ out.old ++ big_bytes 3 number }
+{
+    let mut piece = [0; 3];
+    BigEndian::write_u24(&mut piece, number.get());
+    out.append(&piece);
+}
+
+fn put_number(number: &Number, out: &mut Frame)
+    requires { length out.old + 7 ≤ 2044 }
+    ensures { out.new ≡ out.old ++ number_bytes number.now }
+{
+    match *number {
+        Number::Long(number) => {
+            out.append(&[RESERVED]);
+            put_long(number, out);
+        }
+        Number::Short(number) => put_short(number, out),
+    }
+}
+
+fn put_long_ack(ack: Seq48, out: &mut Frame)
+    requires { length out.old + 8 ≤ 2044 }
+    ensures { out.new ≡ out.old ++ long_ack_bytes ack }
+{
+    out.append(&[RESERVED, RESERVED]);
+    put_long(ack, out);
+}
+
+fn put_ack(ack: &Number, out: &mut Frame)
+    requires { length out.old + 8 ≤ 2044 }
+    ensures { out.new ≡ out.old ++ ack_bytes ack.now }
+{
+    match *ack {
+        Number::Long(ack) => put_long_ack(ack, out),
+        Number::Short(ack) => {
+            out.append(&[RESERVED]);
+            put_short(ack, out);
+        }
+    }
+}
+
+fn put_kind(kind: &Kind, out: &mut Frame)
+    requires { length out.old + 12 ≤ 2044 }
+    ensures { out.new ≡ out.old ++ kind_bytes kind.now }
+{
+    match *kind {
+        Kind::Request { service } => put_u32(service, out),
+        Kind::Response { ack, service } => {
+            put_long_ack(ack, out);
+            put_u32(service, out);
+        }
+        Kind::Data => {}
+        Kind::Ack { ack } | Kind::DataAck { ack } => put_ack(&ack, out),
+        Kind::CloseReq { ack } | Kind::Close { ack } | Kind::Sync { ack } | Kind::SyncAck { ack } =>
+            put_long_ack(ack, out),
+        Kind::Reset { ack, code, detail } => {
+            detail_has_three(detail);
+            put_long_ack(ack, out);
+            out.append(&[code]);
+            out.append(&detail);
+        }
+    }
+}
+
+fn put_header(header: &Header, words: u8, out: &mut Frame)
+    requires valid { IsTrue (is_valid header.now) }
+    requires fits { Fits header.now }
+    requires empty { out.old ≡ [] }
+    ensures value { out.new ≡ header_bytes header.now words }
+    ensures long { length out.new ≡ header_length header.now }
+{
+    put_u16(header.from, out);
+    put_u16(header.to, out);
+    out.append(&[words, header.ccval * NIBBLE + header.cscov]);
+    put_u16(header.checksum, out);
+    out.append(&[type_byte(header)]);
+    put_number(&header.number, out);
+    put_kind(&header.kind, out);
+}
+
+// The type above X, which is 1 with long numbers.
+fn type_byte(header: &Header) -> u8
+    ensures { result ≡ type_byte header.now }
+{
+    let x = if header.number.is_long() { 1 } else { 0 };
+    header.kind.packet_type().code() * X + x
+}

@@ -5,7 +5,15 @@
 #![tactic(auto)]
 
 mod features;
+mod laws;
+mod prefs;
 mod reconciliation;
+#[cfg(test)]
+mod tests;
+mod wishes;
 
 pub use crate::features::{Feature, Place, initial};
+pub use crate::laws::{allowed_lists, reconciliation_is_the_first_shared, wishes_are_given};
+pub use crate::prefs::Prefs;
 pub use crate::reconciliation::reconcile;
+pub use crate::wishes::{PreferFault, Wanted, usual, wish};

@@ -1,0 +1,3 @@
+pub mod End
+pub mod Steps
+pub mod Usual

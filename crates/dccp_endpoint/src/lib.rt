@@ -1,0 +1,20 @@
+//! One end of a DCCP connection: what it does with each packet that arrives and with each call (RFC 4340, section 8).
+//!
+//! An [`Endpoint`] is made from a [`Config`] and serves one connection. Its calls put at most one frame into an
+//! `Outbox`, which they empty first; a refused call leaves the end unchanged and the box empty. It has no socket and no
+//! clock, and takes no memory once it is made. Frames that arrive are handed to `receive`, in whatever order.
+#![tactic(auto)]
+
+mod config;
+mod endpoint;
+mod held;
+mod outcome;
+mod phase;
+#[cfg(test)]
+mod tests;
+
+pub use crate::config::Config;
+pub use crate::endpoint::Endpoint;
+pub use crate::held::{Held, Stand};
+pub use crate::outcome::{OpenFault, Outcome, Why};
+pub use crate::phase::{Phase, Role};

@@ -1,0 +1,11 @@
+-- What was taken or given of bytes that are known, where a call ended early (own).
+use Rattle.std.specs.Prelude.{◌≡◌, ℕ, ◌<◌, List, length, take, Option}
+use Rattle.std.specs.Io.KnownBytes.{prepend_known, append_known}
+
+-- a sink took a front of the piece, and not all of it
+abbrev pub TakesFront : Option (List ℕ) → Option (List ℕ) → List ℕ → Type 0
+TakesFront old new piece = (n : ℕ) × (n < length piece) × (new ≡ append_known old (take n piece))
+
+-- a source gave the next bytes, however many
+abbrev pub GivesFront : Option (List ℕ) → Option (List ℕ) → Type 0
+GivesFront old new = (bytes : List ℕ) × (old ≡ prepend_known bytes new)

@@ -1,0 +1,113 @@
+-- The states that the bytes of Ack Vectors give.
+use Rattle.std.proofs.Common.{◌≡◌, ℕ, zero, suc, ◌+◌, ◌-◌, ◌*◌, ◌/◌, ◌^◌, ◌≤◌, ◌<◌, Bool, true, false, nat_lt, List, [], ◌∷◌, ◌++◌, length, replicate, slice_get, Some, if◌then◌else◌, refl, ap, sym, ◌∙◌, arith, append_assoc, length-append, slice_index_or}
+use Rattle.std.specs.List.{Contains}
+use Prim.Native.Nat.compare
+use Rattle.std.proofs.lemmas.List.{length-replicate}
+use Rattle.std.proofs.lemmas.Grind.{common_steps}
+use Rattle.seq_circle.specs.Circle.{residue, distance}
+use Rattle.dccp_options.specs.declared.report.Run.{Run}
+use Rattle.dccp_options.specs.Vectors.{state_of, run_length, states, state_at, runs_of, is_in_run, state_in}
+
+-- a byte of this state and this many numbers gives both back
+pub state_of-byte : (state count : ℕ) → state < 4 → 1 ≤ count → count ≤ 64
+    → state_of (state * 64 + count - 1) ≡ (if nat_lt state 2 then state else 3)
+state_of-byte state count s low high =
+    let q : (state * 64 + count - 1) / 64 ≡ state = omega arith in rw q (grind (arith, common_steps))
+
+pub run_length-byte : (state count : ℕ) → 1 ≤ count → count ≤ 64 → run_length (state * 64 + count - 1) ≡ count
+run_length-byte state count low high = omega arith
+
+-- vectors that continue each other give their states one behind the other
+pub states-append : (front behind : List ℕ) → states (front ++ behind) ≡ states front ++ states behind
+states-append [] behind = refl
+states-append (byte ∷ rest) behind =
+    ap (λ xs. replicate (run_length byte) (state_of byte) ++ xs) (states-append rest behind)
+    ∙ sym (append_assoc (replicate (run_length byte) (state_of byte)) (states rest) (states behind))
+
+-- in a run of one state, and past it
+pub slice_get-run : (count state i : ℕ) (rest : List ℕ)
+    → slice_get (replicate count state ++ rest) i ≡ (if nat_lt i count then Some state else slice_get rest (i - count))
+slice_get-run zero state i rest =
+    let past : nat_lt i 0 ≡ false = grind (arith, common_steps) in
+    let same : i - 0 ≡ i = omega arith in
+    rw (past, same) refl
+slice_get-run (suc count) state zero rest =
+    let first : nat_lt 0 (suc count) ≡ true = grind (arith, common_steps) in
+    rw first refl
+slice_get-run (suc count) state (suc i) rest =
+    let less : nat_lt (suc i) (suc count) ≡ nat_lt i count = rw compare.suc-suc refl in
+    let same : suc i - suc count ≡ i - count = omega arith in
+    rw (less, same) (slice_get-run count state i rest)
+
+-- how far a number lies below the next run
+pub distance-below : (n hi count : ℕ) → n < 2 ^ 48 → hi < 2 ^ 48 → count ≤ 64 → count ≤ distance n hi
+    → distance n (residue (hi + (2 ^ 48 - count))) ≡ distance n hi - count
+distance-below n hi count fits_n fits_hi small far = omega arith
+
+-- two choices are one where they are so past the test
+pub if_same : {A : Type 0} (b : Bool) (x y z : A) → (b ≡ false → y ≡ z) → (if b then x else y) ≡ (if b then x else z)
+if_same true x y z h = refl
+if_same false x y z h = h refl
+
+-- the runs give each number the state that the bytes give it
+pub state_at-runs : (ack : ℕ) (bytes : List ℕ) (n : ℕ) → ack < 2 ^ 48 → n < 2 ^ 48
+    → state_at ack bytes n ≡ state_in (runs_of ack bytes) n
+state_at-runs ack [] n fits_ack fits_n = refl
+state_at-runs ack (byte ∷ rest) n fits_ack fits_n =
+    let count = run_length byte in
+    let below = residue (ack + (2 ^ 48 - count)) in
+    slice_get-run count (state_of byte) (distance n ack) (states rest)
+    ∙ if_same (nat_lt (distance n ack) count) (Some (state_of byte)) (slice_get (states rest) (distance n ack - count))
+    (state_in (runs_of below rest) n)
+    (λ past.
+    let far : count ≤ distance n ack = grind (arith, common_steps, past) in
+    let step = distance-below n ack count fits_n fits_ack (omega arith) far in
+    ap (slice_get (states rest)) (sym step) ∙ state_at-runs below rest n (omega arith) fits_n)
+
+pub length-states : (byte : ℕ) (rest : List ℕ) → length (states (byte ∷ rest)) ≡ run_length byte + length (states rest)
+length-states byte rest =
+    length-append (replicate (run_length byte) (state_of byte)) (states rest)
+    ∙ ap (λ k. k + length (states rest)) (length-replicate (run_length byte) (state_of byte))
+
+-- a byte covers at most 64 numbers
+pub length-states-le : (bytes : List ℕ) → length (states bytes) ≤ 64 * length bytes
+length-states-le [] = omega arith
+length-states-le (byte ∷ rest) = omega (arith, length-states byte rest, length-states-le rest)
+
+-- how far a number lies below a run, where the runs behind it do not go round the circle
+pub distance-above : (n hi count : ℕ) → n < 2 ^ 48 → hi < 2 ^ 48 → count ≤ 64
+    → distance n (residue (hi + (2 ^ 48 - count))) + count < 2 ^ 48
+    → distance n hi ≡ distance n (residue (hi + (2 ^ 48 - count))) + count
+distance-above n hi count fits_n fits_hi small near = omega arith
+
+-- a number of a run, whichever it is, lies within the bytes, which give it the run's state
+pub run-gives : (k ack n : ℕ) (bytes : List ℕ) (other : Run) → ack < 2 ^ 48 → n < 2 ^ 48
+    → length (states bytes) ≤ 2 ^ 48 → k < length (runs_of ack bytes)
+    → is_in_run (slice_index_or (runs_of ack bytes) k other) n ≡ true
+    → (state_at ack bytes n ≡ Some (slice_index_or (runs_of ack bytes) k other).state)
+    × (distance n ack < length (states bytes))
+run-gives k ack n [] other _ _ _ inside _ = absurd (omega arith)
+run-gives zero ack n (byte ∷ rest) other fits_ack fits_n few inside here =
+    let count = run_length byte in
+    let at = slice_get-run count (state_of byte) (distance n ack) (states rest) in
+    let near : distance n ack < count = grind (arith, common_steps, here) in
+    (rw here at at, omega (arith, length-states byte rest))
+run-gives (suc k) ack n (byte ∷ rest) other fits_ack fits_n few inside here =
+    let count = run_length byte in
+    let below = residue (ack + (2 ^ 48 - count)) in
+    let whole = length-states byte rest in
+    let later = run-gives k below n rest other (omega arith) fits_n (omega arith) (omega arith) here in
+    let up : distance n ack ≡ distance n below + count =
+    distance-above n ack count fits_n fits_ack (omega arith) (omega (arith, later.1)) in
+    let past : nat_lt (distance n ack) count ≡ false = grind (arith, common_steps, up) in
+    let same : distance n ack - count ≡ distance n below = omega arith in
+    let at = slice_get-run count (state_of byte) (distance n ack) (states rest) in
+    (rw (past, same) at at ∙ later.0, omega (arith, later.1))
+
+-- the same of any run among those of at most 1,008 bytes
+pub each_run-gives : (ack n : ℕ) (bytes : List ℕ) (run : Run) → ack < 2 ^ 48 → n < 2 ^ 48 → length bytes ≤ 1008
+    → Contains (runs_of ack bytes) run → is_in_run run n ≡ true → state_at ack bytes n ≡ Some run.state
+each_run-gives ack n bytes run fits_ack fits_n few (k, inside, is_run) here =
+    let at = run-gives k ack n bytes run fits_ack fits_n (omega (arith, length-states-le bytes)) inside
+    (ap (λ r. is_in_run r n) is_run ∙ here) in
+    at.0 ∙ ap (λ r. Some r.state) is_run

@@ -1,0 +1,138 @@
+-- What is spelled is read again.
+use Rattle.std.proofs.Common.{◌≡◌, ℕ, ◌+◌, ◌-◌, ◌*◌, ◌/◌, ◌%◌, ◌≤◌, Bool, true, false, IsTrue, nat_lt, if◌then◌else◌, List, ◌∷◌, ◌++◌, length, drop, take, slice_range, ◌&&◌, Some, Ok, refl, sym, ap, ◌∙◌, arith, ◌==◌}
+use Rattle.std.proofs.lemmas.List.{length-append, drop-drop, take_at, drop_at}
+use Rattle.std.proofs.lemmas.Bool.{false≢true, and_parts, ltb-true}
+use Rattle.byteorder.specs.Endian.{big_bytes}
+use Rattle.byteorder.specs.Numbers.{big_number-reads_back}
+use Rattle.dccp_packets.specs.declared.header.PacketType.{PacketType}
+use Rattle.dccp_packets.specs.declared.header.PacketType.TheVariants as types
+use Rattle.dccp_packets.specs.declared.header.Number.{Number}
+use Rattle.dccp_packets.specs.declared.header.Number.TheVariants.{Long, Short}
+use Rattle.dccp_packets.specs.declared.header.Kind.{Kind}
+use Rattle.dccp_packets.specs.declared.header.Kind.TheVariants.{Request, Response, Data, Ack, DataAck, CloseReq, Close, Reset, Sync, SyncAck}
+use Rattle.dccp_packets.specs.declared.header.Header.{Header}
+use Rattle.dccp_packets.specs.Grammar.{NumberFits, KindFits, Fits, type_of, code_of, is_long, has_form, has_forms, is_valid, packet_type, header_length, number_at, data_offset, number_of, kind_of, header_of, decoded, number_bytes, kind_bytes, common_bytes, header_bytes, padded, spelling}
+use Rattle.dccp_packets.proofs.Pieces.{same_response, same_reset, same_header, same_parts, decoded_ok}
+use Rattle.dccp_packets.proofs.Lengths.{forms_of_valid, length-header_bytes, shortest, offset_in_words}
+
+-- the sequence number, behind the common bytes
+number_again : (number : Number) (kind_part : List ℕ) → NumberFits number → (h : Header) (words : ℕ) (rest : List ℕ)
+    → number_of (is_long number) (common_bytes h words ++ ((number_bytes number ++ kind_part) ++ rest)) ≡ number
+number_again (Long n) kind_part fits h words rest = ap Long (big_number-reads_back 6 n (kind_part ++ rest) fits)
+number_again (Short n) kind_part fits h words rest = ap Short (big_number-reads_back 3 n (kind_part ++ rest) fits)
+
+-- what the type alone carries, behind the common bytes and the sequence number
+kind_again : (number : Number) (kind : Kind) → KindFits kind → has_forms (is_long number) kind ≡ true → (h : Header) (words : ℕ) (rest : List ℕ)
+    → kind_of (packet_type kind) (is_long number) (common_bytes h words ++ ((number_bytes number ++ kind_bytes kind) ++ rest)) ≡ kind
+kind_again (Long n) (Request service) fits form h words rest = ap Request (big_number-reads_back 4 service rest fits)
+kind_again (Long n) (Response ack service) fits form h words rest =
+    same_response (big_number-reads_back 6 ack (big_bytes 4 service ++ rest) fits.0) (big_number-reads_back 4 service rest fits.1)
+kind_again (Long n) Data fits form h words rest = refl
+kind_again (Long n) (Ack (Long ack)) fits form h words rest = ap (λ x. Ack (Long x)) (big_number-reads_back 6 ack rest fits)
+kind_again (Long n) (Ack (Short ack)) fits form h words rest = absurd (false≢true form)
+kind_again (Long n) (DataAck (Long ack)) fits form h words rest = ap (λ x. DataAck (Long x)) (big_number-reads_back 6 ack rest fits)
+kind_again (Long n) (DataAck (Short ack)) fits form h words rest = absurd (false≢true form)
+kind_again (Long n) (CloseReq ack) fits form h words rest = ap CloseReq (big_number-reads_back 6 ack rest fits)
+kind_again (Long n) (Close ack) fits form h words rest = ap Close (big_number-reads_back 6 ack rest fits)
+kind_again (Long n) (Reset ack code detail) fits form h words rest =
+    same_reset (big_number-reads_back 6 ack (code ∷ (detail ++ rest)) fits.0) refl (take_at detail rest 3 fits.2)
+kind_again (Long n) (Sync ack) fits form h words rest = ap Sync (big_number-reads_back 6 ack rest fits)
+kind_again (Long n) (SyncAck ack) fits form h words rest = ap SyncAck (big_number-reads_back 6 ack rest fits)
+kind_again (Short n) (Request service) fits form h words rest = absurd (false≢true form)
+kind_again (Short n) (Response ack service) fits form h words rest = absurd (false≢true form)
+kind_again (Short n) Data fits form h words rest = refl
+kind_again (Short n) (Ack (Long ack)) fits form h words rest = absurd (false≢true form)
+kind_again (Short n) (Ack (Short ack)) fits form h words rest = ap (λ x. Ack (Short x)) (big_number-reads_back 3 ack rest fits)
+kind_again (Short n) (DataAck (Long ack)) fits form h words rest = absurd (false≢true form)
+kind_again (Short n) (DataAck (Short ack)) fits form h words rest = ap (λ x. DataAck (Short x)) (big_number-reads_back 3 ack rest fits)
+kind_again (Short n) (CloseReq ack) fits form h words rest = absurd (false≢true form)
+kind_again (Short n) (Close ack) fits form h words rest = absurd (false≢true form)
+kind_again (Short n) (Reset ack code detail) fits form h words rest = absurd (false≢true form)
+kind_again (Short n) (Sync ack) fits form h words rest = absurd (false≢true form)
+kind_again (Short n) (SyncAck ack) fits form h words rest = absurd (false≢true form)
+
+-- the type, above X
+type_again : (kind : PacketType) (long : Bool) → type_of ((2 * code_of kind + (if long then 1 else 0)) / 2 % 16) ≡ Some kind
+type_again types.Request true = refl
+type_again types.Request false = refl
+type_again types.Response true = refl
+type_again types.Response false = refl
+type_again types.Data true = refl
+type_again types.Data false = refl
+type_again types.Ack true = refl
+type_again types.Ack false = refl
+type_again types.DataAck true = refl
+type_again types.DataAck false = refl
+type_again types.CloseReq true = refl
+type_again types.CloseReq false = refl
+type_again types.Close true = refl
+type_again types.Close false = refl
+type_again types.Reset true = refl
+type_again types.Reset false = refl
+type_again types.Sync true = refl
+type_again types.Sync false = refl
+type_again types.SyncAck true = refl
+type_again types.SyncAck false = refl
+
+-- X
+x_again : (code : ℕ) (long : Bool) → ((2 * code + (if long then 1 else 0)) % 2 == 1) ≡ long
+x_again code true = let odd : (2 * code + 1) % 2 ≡ 1 = omega arith in ap (λ n. n == 1) odd
+x_again code false = let even : (2 * code + 0) % 2 ≡ 0 = omega arith in ap (λ n. n == 1) even
+
+-- a type that may not carry short numbers is not valid with them
+form_again : (long : Bool) (kind : Kind) → has_forms long kind ≡ true → has_form long (packet_type kind) ≡ true
+form_again long (Request service) form = form
+form_again long (Response ack service) form = form
+form_again long Data form = refl
+form_again long (Ack ack) form = refl
+form_again long (DataAck ack) form = refl
+form_again long (CloseReq ack) form = form
+form_again long (Close ack) form = form
+form_again long (Reset ack code detail) form = form
+form_again long (Sync ack) form = form
+form_again long (SyncAck ack) form = form
+
+-- the fields of a header, from the front of its spelling
+header_again : (h : Header) (words : ℕ) (rest : List ℕ) → Fits h → IsTrue (is_valid h) → header_of (packet_type h.kind) (is_long h.number) (header_bytes h words ++ rest) ≡ h
+header_again h words rest fits valid =
+    let small = and_parts (nat_lt h.ccval 16) (nat_lt h.cscov 16) (and_parts (nat_lt h.ccval 16 && nat_lt h.cscov 16) (has_forms (is_long h.number) h.kind) valid).0 in
+    let low = ltb-true h.ccval 16 small.0 in
+    let cover = ltb-true h.cscov 16 small.1 in
+    let bytes = header_bytes h words ++ rest in
+    let from : number_at 0 2 bytes ≡ h.from = big_number-reads_back 2 h.from (drop 2 bytes) fits.from in
+    let to : number_at 2 2 bytes ≡ h.to = big_number-reads_back 2 h.to (drop 4 bytes) fits.to in
+    let ccval : (16 * h.ccval + h.cscov) / 16 ≡ h.ccval = omega (arith, low, cover) in
+    let cscov : (16 * h.ccval + h.cscov) % 16 ≡ h.cscov = omega (arith, low, cover) in
+    let checksum : number_at 6 2 bytes ≡ h.checksum = big_number-reads_back 2 h.checksum (drop 8 bytes) fits.checksum in
+    let number : number_of (is_long h.number) bytes ≡ h.number =
+    number_again h.number (kind_bytes h.kind) fits.number h words rest in
+    let kind : kind_of (packet_type h.kind) (is_long h.number) bytes ≡ h.kind =
+    kind_again h.number h.kind fits.kind (forms_of_valid h valid) h words rest in
+    same_header from to ccval cscov checksum number kind
+
+pub reads_back : (h : Header) (o d : List ℕ) → Fits h → IsTrue (is_valid h) → header_length h + length (padded o) ≤ 1020
+    → decoded (spelling h o d) ≡ Ok (record { header = h; options = padded o; payload = d })
+reads_back h o d fits valid room =
+    let fixed = header_length h in
+    let filled = length (padded o) in
+    let words = (fixed + filled) / 4 in
+    let bytes = spelling h o d in
+    let enough = shortest (is_long h.number) (packet_type h.kind) in
+    let offset : data_offset bytes ≡ fixed + filled = offset_in_words h o in
+    let front = length-header_bytes h words fits valid in
+    let all : length bytes ≡ length (header_bytes h words) + length (padded o ++ d) = length-append (header_bytes h words) (padded o ++ d) in
+    let behind = length-append (padded o) d in
+    let after : drop fixed bytes ≡ padded o ++ d = drop_at (header_bytes h words) (padded o ++ d) fixed front in
+    let header = header_again h words (padded o ++ d) fits valid in
+    let options : slice_range bytes fixed (data_offset bytes) ≡ padded o =
+    ap (λ n. take (n - fixed) (drop fixed bytes)) offset ∙ ap (take (fixed + filled - fixed)) after ∙ take_at (padded o) d (fixed + filled - fixed) (omega arith) in
+    let payload : drop (data_offset bytes) bytes ≡ d =
+    ap (λ n. drop n bytes) offset ∙ sym (drop-drop filled fixed bytes) ∙ ap (drop filled) after ∙ drop_at (padded o) d filled refl in
+    decoded_ok (packet_type h.kind) (is_long h.number) bytes
+    (omega (arith, all, front, enough))
+    (type_again (packet_type h.kind) (is_long h.number))
+    (x_again (code_of (packet_type h.kind)) (is_long h.number))
+    (omega (arith, offset))
+    (omega (arith, offset, all, front, behind))
+    (form_again (is_long h.number) h.kind (forms_of_valid h valid))
+    ∙ ap Ok (same_parts header options payload)

@@ -1,0 +1,65 @@
+-- One feature at one of the two ends, seen as a pair of sides: what the frames of each carry for it, and what each row holds (own; the
+-- options and the names are RFC 4340's, section 6). A frame goes by its count: a side's first numbered frame has count 1, and 0 is none.
+use Rattle.std.specs.Prelude.{ℕ, Bool, true, false, Option, None, Some, List, [], ◌∷◌, ◌++◌, slice_index_or}
+use Rattle.std.specs.Option.{option_or}
+use Rattle.std.specs.List.{list_any}
+use Rattle.feature_machine.specs.declared.stands.Stand.{Stand}
+
+-- What one frame carries for the feature. A wish is a preference list; the value of a feature that is not negotiable is a wish of one entry,
+-- and its Confirm has an empty one. A Confirm has the count of the peer's frame that it acknowledges.
+pub data Carried : Type 0 where
+  Nothing : Carried
+  Change : (wish : List ℕ) → Carried
+  Confirm : (acknowledged value : ℕ) (wish : List ℕ) → Carried
+
+-- one side of the pair: what it sent and took, and its row
+pub record Side : Type 0 where
+  -- what its numbered frames carry, oldest first
+  pub frames : List Carried
+  -- the count of the peer's frame with the greatest number that it took (GSR)
+  pub greatest : ℕ
+  -- the count of its frame with the first Change of the row's last opening (FGSS); it stays when the row settles
+  pub opened : ℕ
+  pub stand : Stand
+  -- the wish that the row last sent, or its configured one before that
+  pub active : List ℕ
+  pub value : ℕ
+
+-- what the frame with this count carries
+abbrev pub carried_at : List Carried → ℕ → Carried
+carried_at frames count = slice_index_or (Nothing ∷ frames) count Nothing
+
+-- one frame more
+abbrev pub with_frame : List Carried → Carried → List Carried
+with_frame frames frame = frames ++ frame ∷ []
+
+abbrev pub is_change : Carried → Bool
+is_change Nothing = false
+is_change (Change wish) = true
+is_change (Confirm acknowledged value wish) = false
+
+-- the wish that a Change carries
+abbrev pub change_of : Carried → Option (List ℕ)
+change_of Nothing = None
+change_of (Change wish) = Some wish
+change_of (Confirm acknowledged value wish) = None
+
+-- the wish that a Change or a Confirm carries
+abbrev pub wish_of : Carried → Option (List ℕ)
+wish_of Nothing = None
+wish_of (Change wish) = Some wish
+wish_of (Confirm acknowledged value wish) = Some wish
+
+-- some frame carries a Change
+abbrev pub has_change : List Carried → Bool
+has_change frames = list_any is_change frames
+
+-- the wish in the last frame with a Change
+abbrev pub last_change : List Carried → Option (List ℕ)
+last_change [] = None
+last_change (frame ∷ frames) = option_or (last_change frames) (change_of frame)
+
+-- the wish in the last frame with a Change or a Confirm
+abbrev pub last_wish : List Carried → Option (List ℕ)
+last_wish [] = None
+last_wish (frame ∷ frames) = option_or (last_wish frames) (wish_of frame)

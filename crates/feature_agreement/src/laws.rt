@@ -1,0 +1,50 @@
+//! The laws on a feature's two sides.
+ghost use Rattle.std.specs.Prelude.{ℕ, List, IsTrue};
+ghost use Rattle.feature_agreement.specs.View.{Side};
+ghost use Rattle.feature_agreement.specs.Moves.{Pair, Moves, swapped, fresh, IsReachable, at_server, at_client};
+ghost use Rattle.feature_agreement.specs.Exchanges.{server_asked, client_asking, server_crossing, client_crossing};
+ghost use Rattle.feature_agreement.specs.Agreement.{Agree, Given, AgreeOn, GivenBy};
+
+/// Two sides are reachable at the start, whatever was configured, and after each step of either that is a list of moves.
+pub fn steps_stay_reachable()
+    ensures start { (pair : Pair) (servers clients : List ℕ)
+        → IsReachable pair (fresh pair.initial servers) (fresh pair.initial clients) }
+    ensures server_step { (pair : Pair) (server client after : Side)
+        → Moves pair.rule pair.server_opens client.frames server after
+        → IsReachable pair server client → IsReachable pair after client }
+    ensures client_step { (pair : Pair) (server client after : Side)
+        → Moves (swapped pair.rule) pair.client_opens server.frames client after
+        → IsReachable pair server client → IsReachable pair server after }
+{}
+
+/// Two sides that moves can reach agree, for each rule that both apply to the server's wish and the client's (RFC 4340,
+/// section 6.3.1, has one). Whatever their stands, each value was given to its row.
+pub fn reachable_sides_agree()
+    ensures agree { (pair : Pair) (server client : Side)
+        → IsReachable pair server client → Agree pair.rule server client }
+    ensures given { (pair : Pair) (server client : Side)
+        → IsReachable pair server client → ∥ Given pair.initial pair.rule server client ∥₁ }
+{}
+
+/// The same of a feature that is not negotiable (RFC 4340, section 6.3.2): its value is the one that the end where it is
+/// located sent last.
+pub fn location_decides()
+    ensures agree_at_server { (initial : ℕ) (server client : Side)
+        → IsReachable (at_server initial) server client → AgreeOn server client }
+    ensures agree_at_client { (initial : ℕ) (server client : Side)
+        → IsReachable (at_client initial) server client → AgreeOn client server }
+    ensures given_at_server { (initial : ℕ) (server client : Side)
+        → IsReachable (at_server initial) server client → ∥ GivenBy initial server client ∥₁ }
+    ensures given_at_client { (initial : ℕ) (server client : Side)
+        → IsReachable (at_client initial) server client → ∥ GivenBy initial client server ∥₁ }
+{}
+
+/// Rows do settle: by a Change and its Confirm, and by two Changes that cross, each confirmed. Both rows then are STABLE,
+/// at the value that the rule gives, whatever the two wishes are. This shows that the laws above speak of something.
+pub fn exchanges_settle()
+    ensures asked { (pair : Pair) (servers clients : List ℕ) → IsTrue (pair.client_opens clients)
+        → IsReachable pair (server_asked pair servers clients) (client_asking pair servers clients) }
+    ensures crossing { (pair : Pair) (servers clients : List ℕ)
+        → IsTrue (pair.server_opens servers) → IsTrue (pair.client_opens clients)
+        → IsReachable pair (server_crossing pair servers clients) (client_crossing pair servers clients) }
+{}

@@ -1,0 +1,26 @@
+//! What reconciliation and wishes mean, apart from how they are found.
+ghost use Rattle.std.specs.Prelude.{◌≡◌, ℕ, List, ◌↔◌, Some, None, Ok, true};
+ghost use Rattle.feature_lists.specs.Lists.{reconciled, IsFirstShared, SharesNothing};
+ghost use Rattle.feature_lists.specs.Wishes.{is_allowed, IsAllowed, is_wish, wish_of};
+ghost use Rattle.feature_lists.specs.declared.features.Feature.{Feature};
+ghost use Rattle.feature_lists.specs.declared.features.Place.{Place};
+ghost use Rattle.feature_lists.specs.declared.wishes.Wanted.{Wanted};
+
+/// Two lists settle on a value exactly where it stands in both and none before it in the server's list stands in the
+/// client's, and on nothing exactly where no value stands in both (RFC 4340, section 6.3.1).
+pub fn reconciliation_is_the_first_shared()
+    ensures found { (server client : List ℕ) (value : ℕ) → (reconciled server client ≡ Some value) ↔ IsFirstShared server client value }
+    ensures none { (server client : List ℕ) → (reconciled server client ≡ None) ↔ SharesNothing server client }
+{}
+
+/// A list of values is allowed exactly where it has one to eight entries, each permitted and none twice, and for a
+/// non-negotiable feature just one (own).
+pub fn allowed_lists()
+    ensures { (feature : Feature) (place : Place) (values : List ℕ) → (is_allowed feature place values ≡ true) ↔ IsAllowed feature place values }
+{}
+
+/// The wishes of a feature at a place are exactly those that `wish` gives there for some values.
+pub fn wishes_are_given()
+    ensures { (feature : Feature) (place : Place) (wanted : Wanted) → (is_wish feature place wanted ≡ true)
+        ↔ ((values : List ℕ) × (wish_of feature place values ≡ Ok wanted)) }
+{}

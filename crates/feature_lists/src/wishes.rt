@@ -1,0 +1,148 @@
+//! What an end may wish for a feature.
+ghost use Rattle.std.specs.Prelude.{◌≡◌, ◌≢◌, ◌↔◌, Err, true, false, IfOk, IfSome, IsSome};
+ghost use Rattle.std.specs.List.{list_all};
+ghost use Rattle.feature_lists.specs.Features.{described, is_permitted, usual_values};
+ghost use Rattle.feature_lists.specs.Lists.{is_distinct};
+ghost use Rattle.feature_lists.specs.Wishes.{is_counted, is_allowed, is_ours, wish_of, usual_of, is_wish};
+ghost use Rattle.feature_lists.specs.declared.features.Place.TheVariants.{There};
+
+use crate::prefs::MOST_ENTRIES;
+use crate::{Feature, Place, Prefs};
+
+/// What an end wants for a feature at one place: a wish.
+#[derive(Clone, Copy, Debug, PartialEq, Eq)]
+pub enum Wanted {
+    /// For a server-priority feature: the values that the end accepts, best first.
+    List(Prefs),
+    /// For a non-negotiable feature, at the end where it is located: its value.
+    Number(u64),
+}
+
+/// Why a wish for a feature is refused. The refused call changes nothing.
+#[derive(Clone, Copy, Debug, PartialEq, Eq)]
+pub enum PreferFault {
+    /// The end is in no phase in which it can ask for a change. `wish` never answers this.
+    NotOpen = 1,
+    /// The values are none, more than eight, or not distinct; one is not permitted; or there is not exactly one for a
+    /// non-negotiable feature.
+    BadList = 2,
+    /// The feature is non-negotiable, and located at the peer.
+    NotOurs = 3,
+}
+
+// Tells whether the value of the feature is a list's reconciliation, and not its location's to tell.
+fn is_server_priority(feature: Feature) -> bool
+    ensures { result ≡ (described feature).is_server_priority }
+{
+    !matches!(feature, Feature::SequenceWindow | Feature::AckRatio)
+}
+
+// Tells whether an end's list for the feature at this place may have the value.
+fn is_permitted(feature: Feature, place: Place, value: u64) -> bool
+    ensures { result ≡ is_permitted feature place value }
+{
+    match (feature, place) {
+        (Feature::Ccid, _) => value == 2 || value == 248,
+        (Feature::ShortSeqnos, _) => value == 0,
+        (Feature::SequenceWindow, _) => 32 <= value && value <= 70_368_744_177_663,
+        (Feature::EcnIncapable, Place::Here) => value == 1,
+        (Feature::EcnIncapable, Place::There) => value <= 1,
+        (Feature::AckRatio, _) => value <= 65_535,
+        (Feature::SendAckVector, _) => value <= 1,
+        (Feature::SendNdpCount, _) => value == 0,
+        (Feature::MinCsCov, _) => value <= 15,
+        (Feature::CheckDataChecksum, _) => value == 0,
+    }
+}
+
+fn is_distinct(values: &[u64]) -> bool
+    ensures { result ≡ is_distinct values.now }
+{
+    let mut tail = values;
+    while let [first, others @ ..] = tail {
+        if others.contains(first) {
+            return false;
+        }
+        tail = others;
+    }
+    true
+}
+
+fn is_counted(feature: Feature, count: usize) -> bool
+    ensures { result ≡ is_counted feature count }
+{
+    1 <= count && count <= MOST_ENTRIES && (is_server_priority(feature) || count == 1)
+}
+
+fn are_permitted(feature: Feature, place: Place, values: &[u64]) -> bool
+    ensures { result ≡ list_all (is_permitted feature place) values.now }
+{
+    values
+        .iter()
+        .all(|value| is_permitted(feature, place, *value))
+}
+
+fn is_allowed(feature: Feature, place: Place, values: &[u64]) -> bool
+    ensures { result ≡ is_allowed feature place values.now }
+{
+    is_counted(feature, values.len())
+        && are_permitted(feature, place, values)
+        && is_distinct(values)
+}
+
+fn is_ours(feature: Feature, place: Place) -> bool
+    ensures { result ≡ is_ours feature place }
+{
+    place == Place::Here || is_server_priority(feature)
+}
+
+/// The wish for these values of the feature at this place, best first (own).
+///
+/// Refused first with BadList, exactly where the list is empty, has more than eight entries, repeats one, has a value
+/// that is not permitted, or has not exactly one value for a non-negotiable feature; then with NotOurs, exactly for a
+/// non-negotiable feature at There, whose values are judged by the range of Here.
+pub fn wish(feature: Feature, place: Place, values: &[u64]) -> Result<Wanted, PreferFault>
+    ensures value { result ≡ wish_of feature place values.now }
+    ensures bad_list { (result ≡ Err PreferFault.BadList) ↔ (is_allowed feature place values.now ≡ false) }
+    ensures not_ours { (result ≡ Err PreferFault.NotOurs) ↔ ((is_allowed feature place values.now ≡ true)
+        × ((described feature).is_server_priority ≡ false) × (place ≡ There)) }
+    ensures never_not_open { result ≢ Err PreferFault.NotOpen }
+    ensures wish { IfOk result (λ wanted. is_wish feature place wanted ≡ true) }
+{
+    if !is_allowed(feature, place, values) {
+        Err(PreferFault::BadList)
+    } else if !is_ours(feature, place) {
+        Err(PreferFault::NotOurs)
+    } else if is_server_priority(feature) {
+        Ok(Wanted::List(Prefs::of(values)))
+    } else {
+        Ok(Wanted::Number(values[0]))
+    }
+}
+
+fn usual_values(feature: Feature, place: Place) -> &'static [u64]
+    ensures { result.now ≡ usual_values feature place }
+{
+    match (feature, place) {
+        (Feature::Ccid, _) => &[2, 248],
+        (Feature::ShortSeqnos, _) => &[0],
+        (Feature::SequenceWindow, _) => &[100],
+        (Feature::EcnIncapable, Place::Here) => &[1],
+        (Feature::EcnIncapable, Place::There) => &[1, 0],
+        (Feature::AckRatio, _) => &[2],
+        (Feature::SendAckVector, Place::Here) => &[1, 0],
+        (Feature::SendAckVector, Place::There) => &[1],
+        (Feature::SendNdpCount, _) => &[0],
+        (Feature::MinCsCov, _) => &[0],
+        (Feature::CheckDataChecksum, _) => &[0],
+    }
+}
+
+/// The wish of an end that was told no other (own), or None exactly for a non-negotiable feature at There.
+pub fn usual(feature: Feature, place: Place) -> Option<Wanted>
+    ensures value { result ≡ usual_of feature place }
+    ensures made { IsSome result ↔ (is_ours feature place ≡ true) }
+    ensures wish { IfSome result (λ wanted. is_wish feature place wanted ≡ true) }
+{
+    wish(feature, place, usual_values(feature, place)).ok()
+}

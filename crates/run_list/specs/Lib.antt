@@ -1,0 +1,3 @@
+pub mod MarkedSet
+pub mod Runs
+pub mod Stretches

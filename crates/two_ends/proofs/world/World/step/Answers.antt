@@ -1,0 +1,11 @@
+-- One more event, or none.
+use Rattle.std.proofs.Common.{Ok, Err}
+use Rattle.two_ends.proofs.Keeping.{reached-safe}
+use Rattle.two_ends.proofs.Reaching.{step-reached, leaves}
+use Rattle.two_ends.proofs.world.World.step.Goals as goal
+
+pub invariant_of-self : goal.invariant_of-self
+invariant_of-self c = step-reached _ c.args.event.now _ c.step.result (leaves _ _ _ c.step.result c.step.ensures.ok c.step.ensures.err) c.self.invariant
+
+pub returns-clause-safe : goal.returns-clause-safe
+returns-clause-safe c = reached-safe _ (invariant_of-self c)

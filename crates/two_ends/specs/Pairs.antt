@@ -1,0 +1,70 @@
+-- A feature at its location, as the two ends hold it and as their frames speak of it (RFC 4340, sections 6 and 6.1).
+use Rattle.std.specs.Prelude.{ℕ, ◌==◌, ◌&&◌, ◌||◌, Bool, List, [], ◌∷◌, Option, Some, None, Result, Ok, Err, if◌then◌else◌}
+use Rattle.dccp_options.specs.Grammar.{Entry}
+use Rattle.dccp_options.specs.declared.option.OptFault.{OptFault}
+use Rattle.feature_lists.specs.Features.{number_of}
+use Rattle.feature_lists.specs.declared.features.Feature.{Feature}
+use Rattle.feature_lists.specs.declared.features.Place.{Place}
+use Rattle.feature_lists.specs.declared.features.Place.TheVariants.{Here, There}
+use Rattle.dccp_endpoint.specs.End.{held_of}
+use Rattle.dccp_endpoint.specs.declared.held.Held.{Held}
+use Rattle.two_ends.specs.declared.event.Side.{Side}
+use Rattle.two_ends.specs.declared.event.Side.TheVariants.{Client, Server}
+use Rattle.two_ends.specs.World.{WorldState, half_of, other}
+use Rattle.two_ends.specs.Frames.{options_in}
+
+-- The feature at this side: the row Here of its end and the row There of the other's.
+pub record Pair : Type 0 where
+  pub feature : Feature
+  pub location : Side
+
+-- where a side sees the feature
+abbrev pub place_at : Side → Side → Place
+place_at Client Client = Here
+place_at Client Server = There
+place_at Server Client = There
+place_at Server Server = Here
+
+-- what a side holds for the pair
+abbrev pub held_at : WorldState → Pair → Side → Held
+held_at w pair side = held_of (half_of w side).end pair.feature (place_at side pair.location)
+
+-- what a packet says of a pair
+pub data Saying : Type 0 where
+  Nothing : Saying
+  Change : (values : List ℕ) → Saying
+  Confirm : (values : List ℕ) → Saying
+
+-- the option types by which a side speaks of a feature Here and There: Change L and Confirm L, Change R and Confirm R
+abbrev pub change_type : Place → ℕ
+change_type Here = 32
+change_type There = 34
+
+abbrev pub confirm_type : Place → ℕ
+confirm_type Here = 33
+confirm_type There = 35
+
+-- an option for this feature carries its number first, and values behind it
+abbrev pub values_for : ℕ → List ℕ → Option (List ℕ)
+values_for number [] = None
+values_for number (first ∷ values) = if first == number then Some values else None
+
+abbrev pub change_or_confirm : Bool → List ℕ → Saying
+change_or_confirm is_change values = if is_change then Change values else Confirm values
+
+-- the first option for the pair is what the packet says of it (own)
+abbrev pub said_then : Option (List ℕ) → Bool → Saying → Saying
+said_then None is_change later = later
+said_then (Some values) is_change later = change_or_confirm is_change values
+
+abbrev pub said_in : ℕ → Place → List (Result Entry OptFault) → Saying
+said_in number place [] = Nothing
+said_in number place (Err _ ∷ rest) = said_in number place rest
+said_in number place (Ok entry ∷ rest) =
+    if (entry.kind == change_type place) || (entry.kind == confirm_type place)
+    then said_then (values_for number entry.body) (entry.kind == change_type place) (said_in number place rest)
+    else said_in number place rest
+
+-- what a frame of a side says of a pair
+abbrev pub said_by : Pair → Side → List ℕ → Saying
+said_by pair side bytes = said_in (number_of pair.feature) (place_at side pair.location) (options_in bytes)

@@ -1,0 +1,117 @@
+-- Two ends, all frames that they ever sent, and what happens to them (own). Losing, repeating and reordering frames is the
+-- choice of deliveries.
+use Rattle.std.specs.Prelude.{ℕ, ◌-◌, ◌^◌, Bool, false, nat_le, if◌then◌else◌, List, [], ◌∷◌, ◌++◌, length, Option, Some, None, Result, Ok, Err, slice_get}
+use Rattle.dccp_endpoint.specs.End.{EndState, fresh, floor_of}
+use Rattle.dccp_endpoint.specs.Steps.{Step, opens, receives}
+use Rattle.dccp_endpoint.specs.declared.config.Config.{Config}
+use Rattle.dccp_endpoint.specs.declared.outcome.Outcome.{Outcome}
+use Rattle.dccp_endpoint.specs.declared.outcome.OpenFault.{OpenFault}
+use Rattle.two_ends.specs.declared.frames.SentFrame.{SentFrame}
+use Rattle.two_ends.specs.declared.event.Side.{Side}
+use Rattle.two_ends.specs.declared.event.Side.TheVariants.{Client, Server}
+use Rattle.two_ends.specs.declared.event.Event.{Event}
+use Rattle.two_ends.specs.declared.event.Event.TheVariants as event
+use Rattle.two_ends.specs.declared.event.Seen.{Seen}
+use Rattle.two_ends.specs.declared.event.Seen.TheVariants as seen
+use Rattle.two_ends.specs.declared.event.Refusal.{Refusal}
+use Rattle.two_ends.specs.declared.event.WorldFault.{WorldFault}
+use Rattle.two_ends.specs.declared.event.WorldFault.TheVariants as fault
+use Rattle.two_ends.specs.declared.event.Refusal.TheVariants as refusal
+
+-- one side: its end, the frames that it ever sent, oldest first, and the numbers that it processed, in order
+pub record Half : Type 0 where
+  pub end : EndState
+  pub frames : List SentFrame
+  pub processed : List ℕ
+
+pub record WorldState : Type 0 where
+  pub client : Half
+  pub server : Half
+
+-- a side's next state with what was seen of its step
+pub record HalfStep : Type 0 where
+  pub half : Half
+  pub seen : Seen
+
+-- the world's
+pub record WorldStep : Type 0 where
+  pub world : WorldState
+  pub seen : Seen
+
+-- a frame as it is kept: how many numbers its sender had processed, that step's included, and its floor
+abbrev pub kept : ℕ → ℕ → Option (List ℕ) → List SentFrame
+kept processed floor None = []
+kept processed floor (Some bytes) = record { bytes = bytes; processed = processed; floor = floor } ∷ []
+
+-- a step of the end, with its frame at the list's end
+abbrev pub moved : {Answer : Type 0} → Half → Step Answer → Half
+moved half step = record half { end = step.after; frames = half.frames ++ kept (length half.processed) (floor_of step.after) step.frame }
+
+-- what is seen of a call
+abbrev pub seen_of_open : Result (Unit {0}) OpenFault → Seen
+seen_of_open (Ok _) = seen.Called (Ok tt)
+seen_of_open (Err _) = seen.Called (Err refusal.NotFresh)
+
+abbrev pub half_opens : Half → HalfStep
+half_opens half = record { half = moved half (opens half.end); seen = seen_of_open (opens half.end).answer }
+
+abbrev pub half_receives : Half → List ℕ → HalfStep
+half_receives half bytes = record { half = moved half (receives half.end bytes); seen = seen.Received (receives half.end bytes).answer }
+
+abbrev pub half_of : WorldState → Side → Half
+half_of w Client = w.client
+half_of w Server = w.server
+
+abbrev pub other : Side → Side
+other Client = Server
+other Server = Client
+
+abbrev pub with_half : WorldState → Side → Half → WorldState
+with_half w Client half = record w { client = half }
+with_half w Server half = record w { server = half }
+
+-- a side has sent all the frames that the order of its numbers allows (RFC 4340, section 3.1)
+abbrev pub is_full : Half → Bool
+is_full half = nat_le (2 ^ 47 - 1) (length half.frames)
+
+abbrev pub unless_full : WorldState → Side → HalfStep → Result WorldStep WorldFault
+unless_full w side step =
+    if is_full (half_of w side) then Err fault.Full
+    else Ok (record { world = with_half w side step.half; seen = step.seen })
+
+-- a frame of one side arrives at the other
+abbrev pub arrives : WorldState → Side → Option SentFrame → Result WorldStep WorldFault
+arrives w from None = Err fault.NoSuchFrame
+arrives w from (Some frame) = unless_full w (other from) (half_receives (half_of w (other from)) frame.bytes)
+
+-- one event
+abbrev pub happens : WorldState → Event → Result WorldStep WorldFault
+happens w event.Open = unless_full w Client (half_opens w.client)
+happens w (event.Deliver from index) = arrives w from (slice_get (half_of w from).frames index)
+
+-- the event names a frame that was not sent
+abbrev pub lacks_frame : WorldState → Event → Bool
+lacks_frame w event.Open = false
+lacks_frame w (event.Deliver from index) = nat_le (length (half_of w from).frames) index
+
+-- the side that acts
+abbrev pub actor : Event → Side
+actor event.Open = Client
+actor (event.Deliver from index) = other from
+
+-- the world after an event; one that cannot happen changes nothing
+abbrev pub world_after : WorldState → Result WorldStep WorldFault → WorldState
+world_after w (Ok step) = step.world
+world_after w (Err _) = w
+
+-- a whole schedule
+abbrev pub run : WorldState → List Event → WorldState
+run w [] = w
+run w (event ∷ events) = run (world_after w (happens w event)) events
+
+-- two ends that have sent and received nothing
+abbrev pub half_at_start : Config → Half
+half_at_start config = record { end = fresh config; frames = []; processed = [] }
+
+abbrev pub at_start : Config → Config → WorldState
+at_start client server = record { client = half_at_start client; server = half_at_start server }

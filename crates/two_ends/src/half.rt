@@ -1,0 +1,96 @@
+//! One side of the world: an end, the frames that it ever sent, and the numbers that it processed.
+use crate::frames::keep_frame;
+use crate::{Refusal, Seen, SentFrame};
+use dccp_endpoint::{Config, Endpoint};
+use dccp_packets::Outbox;
+use seq_circle::NoMemory;
+use std::alloc::Global;
+use std::marker::Model;
+
+// No frame is longer.
+const MOST_BYTES: usize = 2044;
+
+#[derive(Drop)]
+pub(crate) struct HalfWorld {
+    alloc: Global,
+    end: Endpoint,
+    frames: Vec<SentFrame>,
+    processed: Vec<u64>,
+}
+
+impl Model for HalfWorld {
+    ghost use Rattle.two_ends.specs.World.{Half};
+
+    ghost Value = { Half };
+
+    ghost view = { λ h. record { end = h.end; frames = h.frames.items; processed = h.processed.items } };
+}
+
+impl HalfWorld {
+    ghost use Rattle.std.specs.Prelude.{◌≡◌, ◌≤◌, ◌<◌, length, IfOk, OnErr, Ok};
+    ghost use Rattle.two_ends.specs.World.{half_at_start, half_opens, half_receives};
+
+    pub(crate) fn new(alloc: Global, config: Config) -> Result<HalfWorld, NoMemory>
+        ensures { IfOk result (λ half. half ≡ half_at_start config) }
+    {
+        let end = Endpoint::new(config)?;
+        Ok(HalfWorld {
+            alloc,
+            end,
+            frames: Vec::new(alloc),
+            processed: Vec::new(alloc),
+        })
+    }
+
+    pub(crate) fn end(&self) -> &Endpoint
+        ensures { result.now ≡ self.now.end }
+    {
+        &self.end
+    }
+
+    pub(crate) fn frames(&self) -> &[SentFrame]
+        ensures { result.now ≡ self.now.frames }
+    {
+        &self.frames
+    }
+
+    pub(crate) fn processed(&self) -> &[u64]
+        ensures { result.now ≡ self.now.processed }
+    {
+        &self.processed
+    }
+
+    // The client opens. All memory that the step may need is taken before the end is touched.
+    pub(crate) fn open(&mut self) -> Result<Seen, NoMemory>
+        ensures ok { IfOk result (λ seen. record { half = self.new; seen = seen } ≡ half_opens self.old) }
+        ensures err { OnErr result (self.new ≡ self.old) }
+    {
+        self.frames.reserve(1)?;
+        let block = Vec::with_capacity(self.alloc, MOST_BYTES)?;
+        let mut out = Outbox::new();
+        let answer = match self.end.open(&mut out) {
+            Ok(()) => Ok(()),
+            Err(_) => Err(Refusal::NotFresh),
+        };
+        let processed = self.processed.len() as u64;
+        let floor = self.end.floor();
+        keep_frame(&mut self.frames, block, &out, processed, floor);
+        Ok(Seen::Called(answer))
+    }
+
+    // A frame of the other side arrives.
+    pub(crate) fn receive(&mut self, bytes: &[u8]) -> Result<Seen, NoMemory>
+        requires { length bytes.now ≤ 2044 }
+        ensures ok { IfOk result (λ seen. record { half = self.new; seen = seen } ≡ half_receives self.old bytes.now) }
+        ensures err { OnErr result (self.new ≡ self.old) }
+    {
+        self.frames.reserve(1)?;
+        let block = Vec::with_capacity(self.alloc, MOST_BYTES)?;
+        let mut out = Outbox::new();
+        let outcome = self.end.receive(bytes, &mut out);
+        let processed = self.processed.len() as u64;
+        let floor = self.end.floor();
+        keep_frame(&mut self.frames, block, &out, processed, floor);
+        Ok(Seen::Received(outcome))
+    }
+}

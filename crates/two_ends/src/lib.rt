@@ -1,0 +1,18 @@
+//! Two ends of one connection and all frames that they ever sent, as a world in which any frame may arrive at any time,
+//! again and in any order, or never (own; the ends are RFC 4340's).
+//!
+//! Whatever the schedule, the world is safe: where both ends call a feature settled they hold one value, and their Ack
+//! Vectors tell what was processed. Nothing is said of progress or time, and no frame is altered on its way.
+#![tactic(auto)]
+
+mod event;
+mod frames;
+mod half;
+mod pair;
+#[cfg(test)]
+mod tests;
+mod world;
+
+pub use crate::event::{Event, Refusal, Seen, Side, WorldFault};
+pub use crate::frames::{FrameBytes, SentFrame};
+pub use crate::world::{World, every_run_is_safe};

@@ -1,0 +1,109 @@
+//! The two sides together, and exactly what an event makes of them.
+ghost use Rattle.std.specs.Prelude.{◌≡◌, ◌≢◌, ◌↔◌, Ok, Err, None, IfOk, IfSome, IsSome, OnErr, true, false, slice_get};
+ghost use Rattle.two_ends.specs.World.{is_full, half_opens, half_receives};
+
+use crate::half::HalfWorld;
+use crate::{Event, Seen, SentFrame, Side, WorldFault};
+use dccp_endpoint::{Config, Endpoint};
+use seq_circle::NoMemory;
+use std::alloc::Global;
+use std::marker::Model;
+
+// A side's numbers keep their order for so many frames (RFC 4340, section 3.1).
+const MOST_FRAMES: usize = (1 << 47) - 1;
+
+#[derive(Drop)]
+pub(crate) struct Pair {
+    client: HalfWorld,
+    server: HalfWorld,
+}
+
+impl Model for Pair {
+    ghost use Rattle.two_ends.specs.World.{WorldState};
+
+    ghost Value = { WorldState };
+
+    ghost view = { λ p. record { client = p.client; server = p.server } };
+}
+
+impl Pair {
+    ghost use Rattle.std.specs.Prelude.{◌≡◌, ◌↔◌, ◌⊎◌, IfOk, IfErr, OnErr, Ok, Err, slice_get, Option, Some, None};
+    ghost use Rattle.two_ends.specs.World.{at_start, happens, half_of, unless_full, half_opens, arrives};
+
+    pub(crate) fn new(alloc: Global, client: Config, server: Config) -> Result<Pair, NoMemory>
+        ensures { IfOk result (λ pair. pair ≡ at_start client server) }
+    {
+        let client = HalfWorld::new(alloc, client)?;
+        let server = HalfWorld::new(alloc, server)?;
+        Ok(Pair { client, server })
+    }
+
+    pub(crate) fn half(&self, side: Side) -> &HalfWorld
+        ensures { result.now ≡ half_of self.now side }
+    {
+        match side {
+            Side::Client => &self.client,
+            Side::Server => &self.server,
+        }
+    }
+
+    // One event: exactly what `happens` says, unless memory runs out.
+    pub(crate) fn step(&mut self, event: &Event) -> Result<Seen, WorldFault>
+        ensures ok { IfOk result (λ seen. happens self.old event.now ≡ Ok (record { world = self.new; seen = seen })) }
+        ensures no_such_frame { (result ≡ Err WorldFault.NoSuchFrame) ↔ (happens self.old event.now ≡ Err WorldFault.NoSuchFrame) }
+        ensures full { (result ≡ Err WorldFault.Full) ↔ (happens self.old event.now ≡ Err WorldFault.Full) }
+        ensures err { OnErr result (self.new ≡ self.old) }
+    {
+        match *event {
+            Event::Open => open(&mut self.client),
+            Event::Deliver {
+                from: Side::Client,
+                index,
+            } => deliver(self.client.frames(), index, &mut self.server),
+            Event::Deliver {
+                from: Side::Server,
+                index,
+            } => deliver(self.server.frames(), index, &mut self.client),
+        }
+    }
+}
+
+// A side that has not sent all the frames that it may.
+fn is_full(half: &HalfWorld) -> bool
+    ensures { result ≡ is_full half.now }
+{
+    MOST_FRAMES <= half.frames().len()
+}
+
+fn open(half: &mut HalfWorld) -> Result<Seen, WorldFault>
+    ensures ok { IfOk result (λ seen. (is_full half.old ≡ false) × (record { half = half.new; seen = seen } ≡ half_opens half.old)) }
+    ensures full { (result ≡ Err WorldFault.Full) ↔ (is_full half.old ≡ true) }
+    ensures there { result ≢ Err WorldFault.NoSuchFrame }
+    ensures err { OnErr result (half.new ≡ half.old) }
+{
+    if is_full(half) {
+        return Err(WorldFault::Full);
+    }
+    match half.open() {
+        Ok(seen) => Ok(seen),
+        Err(NoMemory) => Err(WorldFault::NoMemory),
+    }
+}
+
+fn deliver(frames: &[SentFrame], index: u64, half: &mut HalfWorld) -> Result<Seen, WorldFault>
+    ensures ok { IfOk result (λ seen. IfSome (slice_get frames.now index) (λ frame. (is_full half.old ≡ false) × (record { half = half.new; seen = seen } ≡ half_receives half.old frame.bytes))) }
+    ensures no_such_frame { (result ≡ Err WorldFault.NoSuchFrame) ↔ (slice_get frames.now index ≡ None) }
+    ensures full { (result ≡ Err WorldFault.Full) ↔ (IsSome (slice_get frames.now index) × (is_full half.old ≡ true)) }
+    ensures err { OnErr result (half.new ≡ half.old) }
+{
+    let Some(frame) = frames.get(index as usize) else {
+        return Err(WorldFault::NoSuchFrame);
+    };
+    if is_full(half) {
+        return Err(WorldFault::Full);
+    }
+    match half.receive(frame.bytes.as_slice()) {
+        Ok(seen) => Ok(seen),
+        Err(NoMemory) => Err(WorldFault::NoMemory),
+    }
+}

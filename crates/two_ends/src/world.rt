@@ -1,0 +1,91 @@
+//! The world.
+ghost use Rattle.std.specs.Prelude.{◌≡◌, List};
+ghost use Rattle.two_ends.specs.World.{at_start, run};
+ghost use Rattle.two_ends.specs.Safe.{Safe};
+ghost use Rattle.two_ends.specs.declared.event.Event.{Event};
+ghost use Rattle.dccp_endpoint.specs.declared.config.Config.{Config};
+ghost use Rattle.dccp_endpoint.specs.declared.phase.Role.TheVariants as role;
+
+use crate::pair::Pair;
+use crate::{Event, Seen, SentFrame, Side, WorldFault};
+use dccp_endpoint::{Config, Endpoint};
+use seq_circle::NoMemory;
+use std::alloc::Global;
+use std::marker::Model;
+
+/// A client, a server, and every frame that either ever sent. [`World::step`] lets one thing happen. After each step the
+/// world is safe, whatever was delivered, lost, repeated or reordered before.
+#[derive(Drop)]
+pub struct World {
+    pair: Pair,
+}
+
+impl Model for World {
+    ghost use Rattle.two_ends.specs.World.{WorldState};
+    ghost use Rattle.two_ends.specs.Reached.{Reached};
+
+    ghost Value = { WorldState };
+
+    ghost view = { λ w. w.pair };
+
+    ghost invariant = { λ w. Reached w.pair };
+}
+
+impl World {
+    ghost use Rattle.std.specs.Prelude.{◌≡◌, ◌↔◌, IfOk, OnErr, Ok, Err};
+    ghost use Rattle.two_ends.specs.World.{at_start, happens, half_of};
+    ghost use Rattle.dccp_endpoint.specs.declared.phase.Role.TheVariants as role;
+    ghost use Rattle.two_ends.specs.Safe.{Safe};
+
+    /// Two ends of these configurations that have sent and received nothing.
+    pub fn new(alloc: Global, client: Config, server: Config) -> Result<World, NoMemory>
+        requires client { client.role ≡ role.Client }
+        requires server { server.role ≡ role.Server }
+        ensures start { IfOk result (λ w. w ≡ at_start client server) }
+        ensures safe { IfOk result (λ w. Safe w) }
+    {
+        let pair = Pair::new(alloc, client, server)?;
+        Ok(World { pair })
+    }
+
+    /// Lets one event happen: exactly what `happens` says of it. Refusals, in this order: `NoSuchFrame` exactly where a
+    /// delivery's index is not below the number of frames of its sender, `Full` exactly where otherwise the side that
+    /// would act has sent 2^47 - 1 frames, `NoMemory`. Each leaves the world unchanged: all memory that the step may
+    /// need is taken before it.
+    pub fn step(&mut self, event: &Event) -> Result<Seen, WorldFault>
+        ensures ok { IfOk result (λ seen. happens self.old event.now ≡ Ok (record { world = self.new; seen = seen })) }
+        ensures no_such_frame { (result ≡ Err WorldFault.NoSuchFrame) ↔ (happens self.old event.now ≡ Err WorldFault.NoSuchFrame) }
+        ensures full { (result ≡ Err WorldFault.Full) ↔ (happens self.old event.now ≡ Err WorldFault.Full) }
+        ensures err { OnErr result (self.new ≡ self.old) }
+        ensures safe { Safe self.new }
+    {
+        self.pair.step(event)
+    }
+
+    /// All frames that a side ever sent, oldest first.
+    pub fn frames(&self, side: Side) -> &[SentFrame]
+        ensures { result.now ≡ (half_of self.now side).frames }
+    {
+        self.pair.half(side).frames()
+    }
+
+    /// The numbers that a side processed, in order.
+    pub fn processed(&self, side: Side) -> &[u64]
+        ensures { result.now ≡ (half_of self.now side).processed }
+    {
+        self.pair.half(side).processed()
+    }
+
+    /// The end of a side.
+    pub fn end(&self, side: Side) -> &Endpoint
+        ensures { result.now ≡ (half_of self.now side).end }
+    {
+        self.pair.half(side).end()
+    }
+}
+
+/// The world is safe after every list of events, from any two configurations.
+pub fn every_run_is_safe()
+    ensures { (client server : Config) (events : List Event) → client.role ≡ role.Client → server.role ≡ role.Server → Safe (run (at_start client server) events) }
+{
+}
