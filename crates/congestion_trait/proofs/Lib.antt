@@ -1,2 +1,5 @@
 pub mod Runs
+pub mod Settled
 pub mod Settling
+pub mod Standings
+pub mod Calls

@@ -1,5 +1,5 @@
 -- What a report makes of a list, entry by entry.
-use Rattle.std.proofs.Common.{◌≡◌, ℕ, suc, ◌+◌, ◌-◌, ◌<◌, ◌≤◌, Bool, true, false, not, ◌&&◌, ◌||◌, leb, cond, List, [], ◌∷◌, ◌++◌, map, Option, Some, None, length, take, drop, get_or, slice_get, slice_set, refl, sym, ap, ◌∙◌, append_assoc, length-drop, subst, arith}
+use Rattle.std.proofs.Common.{◌≡◌, ℕ, suc, ◌+◌, ◌<◌, ◌≤◌, Bool, true, false, not, ◌&&◌, ◌||◌, leb, cond, List, [], ◌∷◌, ◌++◌, map, Option, Some, length, take, drop, get_or, slice_get, slice_set, refl, sym, ap, ◌∙◌, append_assoc, length-drop, subst, arith}
 use Rattle.std.proofs.lemmas.List.Sums.{sum_by-cons, count_by-le-length}
 use Rattle.std.proofs.lemmas.List.{take_more, drop_more, get_or_append_left, get_or-take, length-take-le, set_at, length-map}
 use Rattle.std.proofs.lemmas.Option.{get_or_from_slice_get}
@@ -15,7 +15,7 @@ lost_where true x = refl
 lost_where false x = refl
 
 -- an entry after a report, in one step
-settled-is : (received passed : Bool) (x : Entry)
+pub settled-is : (received passed : Bool) (x : Entry)
     → lost_if passed (cond received (record x { standing = Reported }) x)
     ≡ record x { standing = cond received Reported (cond (is_out x.standing && passed) Lost x.standing) }
 settled-is true passed x = refl

@@ -1,5 +1,5 @@
 -- The fixed window: nothing but a flight list (own).
-use Rattle.std.specs.Prelude.{ℕ, ◌==◌, List, []}
+use Rattle.std.specs.Prelude.{◌==◌, List, []}
 use Rattle.congestion_trait.specs.declared.flight.Entry.{Entry}
 use Rattle.congestion_trait.specs.Flight.{sent, after_report}
 use Rattle.congestion_trait.specs.Control.{Control}

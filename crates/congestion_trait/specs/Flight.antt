@@ -1,5 +1,5 @@
 -- The flight list of a sender, and what a report makes of it (RFC 4341, section 5; the three standings are own).
-use Rattle.std.specs.Prelude.{ℕ, Bool, true, false, not, ◌&&◌, ◌||◌, ◌==◌, nat_le, List, [], ◌∷◌, ◌++◌, map, count_by, Option, Some, None, if◌then◌else◌}
+use Rattle.std.specs.Prelude.{ℕ, ◌+◌, Bool, true, false, not, ◌&&◌, ◌||◌, ◌==◌, nat_le, List, [], ◌∷◌, ◌++◌, map, count_by, Contains, Option, Some, None, if◌then◌else◌}
 use Rattle.circular_buffer.specs.Buffer.{keep_last}
 use Rattle.seq_circle.specs.Circle.{is_before}
 use Rattle.congestion_trait.specs.declared.flight.Entry.{Entry}
@@ -95,3 +95,17 @@ is_congested states mark [] = false
 is_congested states mark (entry ∷ later) =
     is_past mark entry.number && (is_newly_marked states entry || is_newly_lost states entry later)
     || is_congested states mark later
+
+-- some entry of the list has this number and stands so
+abbrev pub Has : List Entry → ℕ → Standing → Type 0
+Has entries number standing = Contains entries (record { number = number; standing = standing })
+
+-- this report takes the entry out of the pipe: it was Out, and is received or passed
+abbrev pub leaves_pipe : States → Entry → List Entry → Bool
+leaves_pipe states entry later =
+    is_out entry.standing && (is_received (states entry.number) || is_passed (map (reported states) later))
+
+-- how many entries this report takes out of the pipe
+abbrev pub leaving_count : States → List Entry → ℕ
+leaving_count states [] = 0
+leaving_count states (entry ∷ later) = (if leaves_pipe states entry later then 1 else 0) + leaving_count states later

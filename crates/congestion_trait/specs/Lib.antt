@@ -2,3 +2,4 @@ pub mod Flight
 pub mod Control
 pub mod Fixed
 pub mod Walk
+pub mod Calls

@@ -1,9 +1,10 @@
 -- How a report is read along with a flight list, from the newest entry to the oldest.
-use Rattle.std.specs.Prelude.{◌≡◌, ℕ, ◌+◌, ◌-◌, ◌<◌, ◌≤◌, Bool, false, ◌&&◌, nat_lt, List, [], ◌∷◌, ◌++◌, map, take, drop, Option, Some, None, slice_get, if◌then◌else◌}
+use Rattle.std.specs.Prelude.{◌≡◌, ℕ, ◌-◌, ◌<◌, ◌≤◌, Bool, false, ◌&&◌, nat_lt, List, [], ◌∷◌, ◌++◌, map, take, drop, length, Option, Some, None, slice_get, IsTrue, if◌then◌else◌}
+use Rattle.std.specs.List.{list_all}
 use Rattle.dccp_options.specs.declared.report.Run.{Run}
 use Rattle.dccp_options.specs.Vectors.{Report}
 use Rattle.congestion_trait.specs.declared.flight.Standing.{Standing}
-use Rattle.congestion_trait.specs.declared.flight.Standing.TheVariants.{Out, Reported, Lost}
+use Rattle.congestion_trait.specs.declared.flight.Standing.TheVariants.{Reported, Lost}
 use Rattle.congestion_trait.specs.declared.flight.Entry.{Entry}
 use Rattle.congestion_trait.specs.declared.walk.Walk.{Walk}
 use Rattle.congestion_trait.specs.Flight.{States, is_out, is_reported, is_received, after_report, acked_count, is_congested, reported_count, reported, pipe_of}
@@ -44,3 +45,14 @@ pub record IsAlong (told : States) (mark : Option ℕ) (old : List Entry) (index
   pub congested : walk.congested ≡ is_congested told mark (drop index old)
   pub reported : walk.reported ≡ reported_count (map (reported told) (drop index old))
   pub out : walk.out ≡ pipe_of (after_report told (drop index old))
+
+-- every entry is Reported: no report changes any of them
+abbrev pub AllReported : List Entry → Type 0
+AllReported entries = IsTrue (list_all (λ entry. is_reported entry.standing) entries)
+
+-- what the counts beside a list say of it, of whose first entries so many are Reported
+pub record IsKept (entries : List Entry) (capacity out settled : ℕ) : Type 0 where
+  pub holds : capacity ≡ 2048
+  pub counted : out ≡ pipe_of entries
+  pub within : settled ≤ length entries
+  pub front : AllReported (take settled entries)

@@ -1,10 +1,11 @@
 //! The flight list.
-ghost use Rattle.std.specs.Prelude.{◌≡◌, ℕ, ◌≤◌, [], IfOk, Option};
+ghost use Rattle.std.specs.Prelude.{◌≡◌, ℕ, ◌≤◌, [], length, IfOk, Option};
+ghost use Rattle.std.specs.Option.{option_to_list};
 ghost use Rattle.dccp_options.specs.Vectors.{state_at};
 ghost use Rattle.congestion_trait.specs.Flight.{pipe_of, sent, after_report, acked_count, is_congested};
 ghost use Rattle.congestion_trait.specs.Walk.{was_out};
 
-use crate::walk::settle;
+use crate::walk::{settle, settled_from};
 use circular_buffer::HeapCircularBuffer;
 use dccp_options::AckReport;
 use seq_circle::{NoMemory, Seq48};
@@ -48,6 +49,8 @@ pub struct FlightNews {
 pub struct Flight {
     entries: HeapCircularBuffer<Entry>,
     out: u32,
+    // The entries before this place are Reported, so that no report has to look at them.
+    settled: usize,
 }
 
 impl Model for Flight {
@@ -58,10 +61,9 @@ impl Model for Flight {
 
     ghost view = { λ f. f.entries.items };
 
-    ghost use Rattle.std.specs.Prelude.{◌≡◌};
-    ghost use Rattle.congestion_trait.specs.Flight.{pipe_of};
+    ghost use Rattle.congestion_trait.specs.Walk.{IsKept};
 
-    ghost invariant = { λ f. (f.entries.capacity ≡ 2048) × (f.out ≡ pipe_of f.entries.items) };
+    ghost invariant = { λ f. IsKept f.entries.items f.entries.capacity f.out f.settled };
 }
 
 impl Flight {
@@ -70,7 +72,11 @@ impl Flight {
         ensures { IfOk result (λ flight. flight ≡ []) }
     {
         let entries = HeapCircularBuffer::with_capacity(alloc, CAPACITY)?;
-        Ok(Flight { entries, out: 0 })
+        Ok(Flight {
+            entries,
+            out: 0,
+            settled: 0,
+        })
     }
 
     /// Forgets every entry.
@@ -79,6 +85,7 @@ impl Flight {
     {
         self.entries.clear();
         self.out = 0;
+        self.settled = 0;
     }
 
     /// How many entries are Out.
@@ -101,11 +108,13 @@ impl Flight {
         if !was_out(&driven_out) {
             self.out += 1;
         }
+        self.settled = self.settled.saturating_sub(count_of(&driven_out));
     }
 
     /// Settles every entry by a report: those that it gives state 0 or 1 are Reported, and those that are still Out before
     /// three Reported ones are Lost (RFC 4341, section 5). `mark` is the recovery mark: what it covers shows no new congestion.
-    /// The cost is that of the entries and the report's runs, while numbers were sent in their order.
+    /// While numbers are sent in their order, the cost is that of the report's runs and of the entries from the oldest one
+    /// that is not Reported.
     pub fn report(&mut self, report: &AckReport<'_>, mark: Option<Seq48>) -> FlightNews
         ensures entries { self.new ≡ after_report (state_at report.now.ack report.now.bytes) self.old }
         ensures acked { result.acked ≡ acked_count (state_at report.now.ack report.now.bytes) self.old }
@@ -113,12 +122,23 @@ impl Flight {
         ensures congested { result.congested ≡ is_congested (state_at report.now.ack report.now.bytes) mark self.old }
     {
         let _len = self.entries.len();
-        let walk = settle(&mut self.entries, report, &mark);
+        let walk = settle(&mut self.entries, self.settled, report, &mark);
         self.out = walk.out;
+        self.settled = settled_from(&self.entries, self.settled);
         FlightNews {
             acked: walk.acked,
             congested: walk.congested,
         }
+    }
+}
+
+// How many entries left the list.
+fn count_of(driven_out: &Option<Entry>) -> usize
+    ensures { result ≡ length (option_to_list driven_out.now) }
+{
+    match driven_out {
+        Some(_) => 1,
+        None => 0,
     }
 }
 

@@ -8,8 +8,14 @@ mod congestion;
 mod cursor;
 mod fixed;
 mod flight;
+mod laws;
+#[cfg(test)]
+mod tests;
 mod walk;
 
 pub use crate::congestion::Congestion;
 pub use crate::fixed::FixedWindow;
 pub use crate::flight::{Entry, Flight, FlightNews, Standing};
+pub use crate::laws::{
+    in_flight_falls_once, only_reports_report, only_sending_puts_out, standings_after_calls,
+};

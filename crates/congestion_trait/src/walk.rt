@@ -1,9 +1,9 @@
 //! What a report makes of the entries, from the newest to the oldest.
-ghost use Rattle.std.specs.Prelude.{◌≡◌, ℕ, ◌+◌, ◌<◌, ◌≤◌, ◌&&◌, ◌||◌, not, nat_le, length, slice_get, slice_set, Some, Option};
+ghost use Rattle.std.specs.Prelude.{◌≡◌, ℕ, ◌+◌, ◌<◌, ◌≤◌, ◌&&◌, ◌||◌, not, nat_le, length, take, slice_get, slice_set, Some, Option};
 ghost use Rattle.circular_buffer.specs.Buffer.{buffer};
 ghost use Rattle.dccp_options.specs.Vectors.{state_at};
 ghost use Rattle.congestion_trait.specs.Flight.{pipe_of, reported_count, after_report, acked_count, is_congested, is_out, is_reported, is_received, is_unmarked, is_marked, is_past};
-ghost use Rattle.congestion_trait.specs.Walk.{standing_after, one_if};
+ghost use Rattle.congestion_trait.specs.Walk.{standing_after, one_if, AllReported};
 
 use crate::cursor::Cursor;
 use crate::flight::{Entry, Standing};
@@ -34,6 +34,12 @@ fn is_past(mark: &Option<Seq48>, number: Seq48) -> bool
         Some(mark) => mark.before(number),
         None => true,
     }
+}
+
+fn is_reported(standing: Standing) -> bool
+    ensures { result ≡ is_reported standing }
+{
+    matches!(standing, Standing::Reported)
 }
 
 // How an entry stands after a report that gives its number this state.
@@ -99,13 +105,16 @@ impl Walk {
     }
 }
 
-// Settles every entry by a report, from the newest to the oldest.
+// Settles the entries by a report, from the newest down to the first `settled`, which are Reported.
 pub fn settle(
     entries: &mut HeapCircularBuffer<Entry>,
+    settled: usize,
     report: &AckReport<'_>,
     mark: &Option<Seq48>,
 ) -> Walk
-    requires { length entries.old.items ≤ 2048 }
+    requires few { length entries.old.items ≤ 2048 }
+    requires within { settled ≤ length entries.old.items }
+    requires front { AllReported (take settled entries.old.items) }
     ensures entries { entries.new ≡ buffer (after_report (state_at report.now.ack report.now.bytes) entries.old.items) entries.old.capacity }
     ensures acked { result.acked ≡ acked_count (state_at report.now.ack report.now.bytes) entries.old.items }
     ensures congested { result.congested ≡ is_congested (state_at report.now.ack report.now.bytes) mark.now entries.old.items }
@@ -118,11 +127,25 @@ pub fn settle(
         reported: 0,
         out: 0,
     };
-    for index in (0..entries.len()).rev() {
+    for index in (settled..entries.len()).rev() {
         let entry = entry_at(entries, index);
         let state = cursor.state(report, entry.number);
         let standing = walk.step(&entry, state, mark);
         set_standing(entries, index, standing);
     }
     walk
+}
+
+// How many entries at the front are Reported, of which the first ones are known to be.
+pub fn settled_from(entries: &HeapCircularBuffer<Entry>, known: usize) -> usize
+    requires within { known ≤ length entries.now.items }
+    requires front { AllReported (take known entries.now.items) }
+    ensures within { result ≤ length entries.now.items }
+    ensures front { AllReported (take result entries.now.items) }
+{
+    let mut settled = known;
+    while settled < entries.len() && is_reported(entry_at(entries, settled).standing) {
+        settled += 1;
+    }
+    settled
 }

@@ -4,8 +4,17 @@
 //! contracts above speak of; the adapters over standard input and output tell nothing but their counts.
 #![tactic(auto)]
 
+mod calls;
+mod memory;
+mod standard;
 mod streams;
+mod sure;
+#[cfg(test)]
+mod tests;
 mod whole;
 
+pub use crate::memory::{MemorySink, MemorySource};
+pub use crate::standard::{StdSink, StdSource};
 pub use crate::streams::{Failed, Sink, Source};
+pub use crate::sure::{SureSink, SureSource};
 pub use crate::whole::{InputFault, read_all, write_all};

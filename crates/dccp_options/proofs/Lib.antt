@@ -1,4 +1,7 @@
 mod Examples
+pub mod Listings
 pub mod RawOptions
 pub mod ReadBack
+pub mod ReadVectors
+pub mod Sizes
 pub mod States

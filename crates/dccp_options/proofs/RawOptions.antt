@@ -1,6 +1,5 @@
 -- How the options of an area follow one another.
-use Rattle.std.proofs.Common.{◌≡◌, ℕ, zero, suc, ◌+◌, ◌-◌, ◌≤◌, List, [], ◌∷◌, length, drop, Some, None, refl, ap, sym, ◌∙◌, arith, length-drop}
-use Rattle.std.proofs.lemmas.Grind.{common_steps}
+use Rattle.std.proofs.Common.{◌≡◌, ℕ, zero, suc, ◌+◌, ◌-◌, ◌≤◌, List, [], ◌∷◌, length, drop, Some, ap, sym, ◌∙◌, arith, length-drop}
 use Rattle.dccp_options.specs.Grammar.{RawOption, raw_options, raw_then, option_body, bytes_after}
 
 -- bytes that belong to the option before are passed over

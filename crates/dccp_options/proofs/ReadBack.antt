@@ -1,10 +1,9 @@
 -- What a writer of options writes, the list of options reads.
-use Rattle.std.proofs.Common.{◌≡◌, ℕ, zero, suc, ◌+◌, ◌-◌, ◌≤◌, ◌<◌, Bool, true, false, ◌&&◌, nat_le, nat_lt, nat_eq, List, [], ◌∷◌, ◌++◌, length, take, drop, map, replicate, Option, Some, None, Result, Ok, Err, if◌then◌else◌, refl, ap, sym, ◌∙◌, arith, append_assoc, length-append, All}
+use Rattle.std.proofs.Common.{◌≡◌, ℕ, zero, suc, ◌+◌, ◌-◌, ◌≤◌, Bool, true, false, nat_le, List, [], ◌∷◌, ◌++◌, length, take, drop, map, replicate, Some, Ok, refl, ap, sym, ◌∙◌, arith, append_assoc, append-nil, length-append, All}
 use Rattle.std.proofs.lemmas.Grind.{common_steps}
 use Rattle.std.proofs.lemmas.List.Elements.{All-tail}
 use Rattle.std.proofs.Math.Seq.{take-append_seam, drop-append_seam}
-use Rattle.dccp_options.specs.declared.option.OptFault.{OptFault}
-use Rattle.dccp_options.specs.Grammar.{Entry, RawOption, raw_options, option_body, counted_body, bytes_after, is_one_byte, entries, entry_then, part_of, Part, options_of}
+use Rattle.dccp_options.specs.Grammar.{RawOption, raw_options, option_body, bytes_after, is_one_byte, entries, entry_then, part_of, options_of}
 use Rattle.dccp_options.specs.Grammar.Part.{Listed}
 use Rattle.dccp_options.specs.Written.{Item, IsWritable, mark, spelled, written, entries_at}
 use Rattle.dccp_options.proofs.RawOptions.{raw_options-first}
@@ -37,14 +36,14 @@ pub raw_options-long : (place kind : ℕ) (body more : List ℕ) → 32 ≤ kind
 raw_options-long place kind body more h =
     let after = bytes_after-long kind body h in
     let fits : bytes_after kind body ≤ length ((length body + 2) ∷ (body ++ more)) =
-        grind (arith, common_steps, after, length-append body more) in
+    grind (arith, common_steps, after, length-append body more) in
     let first = raw_options-first place kind ((length body + 2) ∷ (body ++ more)) body (option_body-long kind body more h) fits in
     let n : place + 1 + bytes_after kind body ≡ place + (length body + 2) = omega (arith, after) in
     let d : drop (bytes_after kind body) ((length body + 2) ∷ (body ++ more)) ≡ more =
-        let n : bytes_after kind body ≡ suc (length body) = omega (arith, after) in
-        ap (λ k. drop k ((length body + 2) ∷ (body ++ more))) n ∙ drop-append_seam body more in
+    let n : bytes_after kind body ≡ suc (length body) = omega (arith, after) in
+    ap (λ k. drop k ((length body + 2) ∷ (body ++ more))) n ∙ drop-append_seam body more in
     first ∙ ap (λ p. record { place = place; kind = kind; body = body }
-        ∷ raw_options p 0 (drop (bytes_after kind body) ((length body + 2) ∷ (body ++ more)))) n
+    ∷ raw_options p 0 (drop (bytes_after kind body) ((length body + 2) ∷ (body ++ more)))) n
     ∙ ap (λ b. record { place = place; kind = kind; body = body } ∷ raw_options (place + (length body + 2)) 0 b) d
 
 -- an option with a length is listed, with its mark
@@ -56,9 +55,9 @@ entries-listed marked place kind body rest h =
     (part-listed kind h)
 
 -- zeros behind the options list nothing
-pub entries-zeros : (place zeros : ℕ) → entries false (raw_options place 0 (replicate zeros 0)) ≡ []
-entries-zeros place zero = refl
-entries-zeros place (suc zeros) = entries-zeros (place + 1) zeros
+pub entries-padding : (place pads : ℕ) → entries false (raw_options place 0 (replicate pads 0)) ≡ []
+entries-padding place zero = refl
+entries-padding place (suc pads) = entries-padding (place + 1) pads
 
 -- one option, in front of what is listed behind it
 pub entries-spelled : (place kind : ℕ) (mandatory : Bool) (body more : List ℕ) → 32 ≤ kind
@@ -71,27 +70,40 @@ entries-spelled place kind false body more h =
     let p : place ≡ place + 0 = omega arith in
     ap (entries false) long ∙ entries-listed false place kind body (raw_options (place + (length body + 2)) 0 more) h
     ∙ ap (λ at. Ok (record { place = at; mandatory = false; kind = kind; body = body })
-        ∷ entries false (raw_options (place + (length body + 2)) 0 more)) p
+    ∷ entries false (raw_options (place + (length body + 2)) 0 more)) p
     ∙ ap (λ at. Ok (record { place = place + 0; mandatory = false; kind = kind; body = body })
-        ∷ entries false (raw_options at 0 more)) n
+    ∷ entries false (raw_options at 0 more)) n
 entries-spelled place kind true body more h =
     let long = raw_options-long (place + 1) kind body more h in
     let n : place + 1 + (length body + 2) ≡ place + length (spelled true kind body) = omega arith in
     ap (entries true) long ∙ entries-listed true (place + 1) kind body (raw_options (place + 1 + (length body + 2)) 0 more) h
     ∙ ap (λ at. Ok (record { place = place + 1; mandatory = true; kind = kind; body = body })
-        ∷ entries false (raw_options at 0 more)) n
+    ∷ entries false (raw_options at 0 more)) n
 
 -- the options that were written, and zeros behind them, are listed place by place
-pub entries-written : (place zeros : ℕ) (items : List Item) → All (λ item. IsWritable item) items
-    → entries false (raw_options place 0 (written items ++ replicate zeros 0)) ≡ map Ok (entries_at place items)
-entries-written place zeros [] _ = entries-zeros place zeros
-entries-written place zeros (item ∷ rest) all =
-    let behind = written rest ++ replicate zeros 0 in
+pub entries-written : (place pads : ℕ) (items : List Item) → All (λ item. IsWritable item) items
+    → entries false (raw_options place 0 (written items ++ replicate pads 0)) ≡ map Ok (entries_at place items)
+entries-written place pads [] _ = entries-padding place pads
+entries-written place pads (item ∷ rest) all =
+    let behind = written rest ++ replicate pads 0 in
     let first : IsWritable item = all 0 item (omega arith) in
     let others = All-tail (λ i. IsWritable i) item rest all in
-    let joined = append_assoc (spelled item.mandatory item.kind item.body) (written rest) (replicate zeros 0) in
+    let joined = append_assoc (spelled item.mandatory item.kind item.body) (written rest) (replicate pads 0) in
     let here = entries-spelled place item.kind item.mandatory item.body behind first.has_length in
-    let later = entries-written (place + length (spelled item.mandatory item.kind item.body)) zeros rest others in
+    let later = entries-written (place + length (spelled item.mandatory item.kind item.body)) pads rest others in
     ap (λ b. entries false (raw_options place 0 b)) joined
     ∙ here
     ∙ ap (λ xs. Ok (record { place = place + length (mark item.mandatory); mandatory = item.mandatory; kind = item.kind; body = item.body }) ∷ xs) later
+
+pub options_of-written : (items : List Item) (pads : ℕ) → All IsWritable items
+    → options_of (written items ++ replicate pads 0) false ≡ map Ok (entries_at 0 items)
+options_of-written items pads all = entries-written 0 pads items all
+
+-- one more option stands behind the others
+pub written-more : (items : List Item) (item : Item)
+    → written (items ++ item ∷ []) ≡ written items ++ spelled item.mandatory item.kind item.body
+written-more [] item = append-nil (spelled item.mandatory item.kind item.body)
+written-more (first ∷ rest) item =
+    let bytes = spelled first.mandatory first.kind first.body in
+    ap (λ xs. bytes ++ xs) (written-more rest item)
+    ∙ sym (append_assoc bytes (written rest) (spelled item.mandatory item.kind item.body))

@@ -1,6 +1,8 @@
 -- The states that the bytes of Ack Vectors give.
-use Rattle.std.proofs.Common.{◌≡◌, ℕ, zero, suc, ◌+◌, ◌-◌, ◌*◌, ◌/◌, ◌%◌, ◌^◌, ◌≤◌, ◌<◌, Bool, true, false, nat_lt, List, [], ◌∷◌, ◌++◌, length, replicate, slice_get, Option, Some, None, if◌then◌else◌, refl, ap, sym, ◌∙◌, arith, append_assoc, length-append}
+use Rattle.std.proofs.Common.{◌≡◌, ℕ, zero, suc, ◌+◌, ◌-◌, ◌*◌, ◌/◌, ◌^◌, ◌≤◌, ◌<◌, Bool, true, false, nat_lt, List, [], ◌∷◌, ◌++◌, length, replicate, slice_get, Some, if◌then◌else◌, refl, ap, sym, ◌∙◌, arith, append_assoc, length-append, slice_index_or}
+use Rattle.std.specs.List.{Contains}
 use Prim.Native.Nat.compare
+use Rattle.std.proofs.lemmas.List.{length-replicate}
 use Rattle.std.proofs.lemmas.Grind.{common_steps}
 use Rattle.seq_circle.specs.Circle.{residue, distance}
 use Rattle.dccp_options.specs.declared.report.Run.{Run}
@@ -58,6 +60,54 @@ state_at-runs ack (byte ∷ rest) n fits_ack fits_n =
     ∙ if_same (nat_lt (distance n ack) count) (Some (state_of byte)) (slice_get (states rest) (distance n ack - count))
     (state_in (runs_of below rest) n)
     (λ past.
-        let far : count ≤ distance n ack = grind (arith, common_steps, past) in
-        let step = distance-below n ack count fits_n fits_ack (omega arith) far in
-        ap (slice_get (states rest)) (sym step) ∙ state_at-runs below rest n (omega arith) fits_n)
+    let far : count ≤ distance n ack = grind (arith, common_steps, past) in
+    let step = distance-below n ack count fits_n fits_ack (omega arith) far in
+    ap (slice_get (states rest)) (sym step) ∙ state_at-runs below rest n (omega arith) fits_n)
+
+pub length-states : (byte : ℕ) (rest : List ℕ) → length (states (byte ∷ rest)) ≡ run_length byte + length (states rest)
+length-states byte rest =
+    length-append (replicate (run_length byte) (state_of byte)) (states rest)
+    ∙ ap (λ k. k + length (states rest)) (length-replicate (run_length byte) (state_of byte))
+
+-- a byte covers at most 64 numbers
+pub length-states-le : (bytes : List ℕ) → length (states bytes) ≤ 64 * length bytes
+length-states-le [] = omega arith
+length-states-le (byte ∷ rest) = omega (arith, length-states byte rest, length-states-le rest)
+
+-- how far a number lies below a run, where the runs behind it do not go round the circle
+pub distance-above : (n hi count : ℕ) → n < 2 ^ 48 → hi < 2 ^ 48 → count ≤ 64
+    → distance n (residue (hi + (2 ^ 48 - count))) + count < 2 ^ 48
+    → distance n hi ≡ distance n (residue (hi + (2 ^ 48 - count))) + count
+distance-above n hi count fits_n fits_hi small near = omega arith
+
+-- a number of a run, whichever it is, lies within the bytes, which give it the run's state
+pub run-gives : (k ack n : ℕ) (bytes : List ℕ) (other : Run) → ack < 2 ^ 48 → n < 2 ^ 48
+    → length (states bytes) ≤ 2 ^ 48 → k < length (runs_of ack bytes)
+    → is_in_run (slice_index_or (runs_of ack bytes) k other) n ≡ true
+    → (state_at ack bytes n ≡ Some (slice_index_or (runs_of ack bytes) k other).state)
+    × (distance n ack < length (states bytes))
+run-gives k ack n [] other _ _ _ inside _ = absurd (omega arith)
+run-gives zero ack n (byte ∷ rest) other fits_ack fits_n few inside here =
+    let count = run_length byte in
+    let at = slice_get-run count (state_of byte) (distance n ack) (states rest) in
+    let near : distance n ack < count = grind (arith, common_steps, here) in
+    (rw here at at, omega (arith, length-states byte rest))
+run-gives (suc k) ack n (byte ∷ rest) other fits_ack fits_n few inside here =
+    let count = run_length byte in
+    let below = residue (ack + (2 ^ 48 - count)) in
+    let whole = length-states byte rest in
+    let later = run-gives k below n rest other (omega arith) fits_n (omega arith) (omega arith) here in
+    let up : distance n ack ≡ distance n below + count =
+    distance-above n ack count fits_n fits_ack (omega arith) (omega (arith, later.1)) in
+    let past : nat_lt (distance n ack) count ≡ false = grind (arith, common_steps, up) in
+    let same : distance n ack - count ≡ distance n below = omega arith in
+    let at = slice_get-run count (state_of byte) (distance n ack) (states rest) in
+    (rw (past, same) at at ∙ later.0, omega (arith, later.1))
+
+-- the same of any run among those of at most 1,008 bytes
+pub each_run-gives : (ack n : ℕ) (bytes : List ℕ) (run : Run) → ack < 2 ^ 48 → n < 2 ^ 48 → length bytes ≤ 1008
+    → Contains (runs_of ack bytes) run → is_in_run run n ≡ true → state_at ack bytes n ≡ Some run.state
+each_run-gives ack n bytes run fits_ack fits_n few (k, inside, is_run) here =
+    let at = run-gives k ack n bytes run fits_ack fits_n (omega (arith, length-states-le bytes)) inside
+    (ap (λ r. is_in_run r n) is_run ∙ here) in
+    at.0 ∙ ap (λ r. Some r.state) is_run

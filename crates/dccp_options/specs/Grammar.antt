@@ -3,7 +3,7 @@ use Rattle.std.specs.Prelude.{ℕ, zero, suc, ◌+◌, ◌-◌, Bool, true, fals
 use Rattle.dccp_options.specs.declared.option.OptFault.{OptFault}
 use Rattle.dccp_options.specs.declared.option.OptFault.TheVariants.{MandatoryAtEnd, MandatoryTwice}
 
--- an option as the list has it: where its type byte stands in the area, counted from 0, and whether Mandatory marks it
+-- an option as the list has it: where its type byte stands in the area, counted from 0, and whether it is marked
 pub record Entry : Type 0 where
   pub place : ℕ
   pub mandatory : Bool
@@ -20,7 +20,8 @@ pub record RawOption : Type 0 where
 abbrev pub is_one_byte : ℕ → Bool
 is_one_byte kind = nat_lt kind 32
 
--- what follows the type byte: the length, which counts the type and itself too, and the data; none where the length is below 2 or beyond the area (RFC 4340, section 5.8)
+-- what follows the type byte: the length, which counts the type and itself too, and the data; none where the length is
+-- below 2 or beyond the area (RFC 4340, section 5.8)
 abbrev pub counted_body : List ℕ → Option (List ℕ)
 counted_body [] = None
 counted_body (count ∷ rest) =
@@ -47,7 +48,8 @@ raw_options place (suc skip) (_ ∷ rest) = raw_options (place + 1) skip rest
 raw_options place zero (kind ∷ rest) =
     raw_then place kind (option_body kind rest) (λ skip. raw_options (place + 1) skip rest)
 
--- the types that Data packets ignore: Mandatory, Change and Confirm, Init Cookie, Ack Vector, Data Dropped and Elapsed Time (RFC 4340, section 5.8, table 3)
+-- the types that Data packets ignore: Mandatory, Change and Confirm, Init Cookie, Ack Vector, Data Dropped and Elapsed
+-- Time (RFC 4340, section 5.8, table 3)
 abbrev pub is_ignored_on_data : ℕ → Bool
 is_ignored_on_data kind =
     kind == 1
@@ -71,8 +73,10 @@ pub data Part : Type 0 where
 abbrev pub part_of : ℕ → Part
 part_of kind = if kind == 0 then Padding else if kind == 1 then Mandatory else Listed
 
--- an option, with its mark, and what stands behind it. Padding is left out, and takes a mark before it away; Mandatory marks the next option, and twice in a row is a fault, which ends the list (RFC 4340, section 5.8.2)
-abbrev pub entry_then : Part → Bool → RawOption → (Bool → List (Result Entry OptFault)) → List (Result Entry OptFault)
+-- an option, with its mark, and what stands behind it. Padding is left out, and takes a mark before it away; Mandatory
+-- marks the next option, and twice in a row is a fault, which ends the list (RFC 4340, sections 5.8.1 and 5.8.2)
+abbrev pub entry_then : Part → Bool → RawOption → (Bool → List (Result Entry OptFault))
+    → List (Result Entry OptFault)
 entry_then Padding _ _ behind = behind false
 entry_then Mandatory false _ behind = behind true
 entry_then Mandatory true _ _ = Err MandatoryTwice ∷ []

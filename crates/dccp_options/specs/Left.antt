@@ -1,6 +1,5 @@
 -- What the readers of options have left to give.
 use Rattle.std.specs.Prelude.{ℕ, Bool, false, List, ◌++◌, Result, Ok, Err}
-use Rattle.std.specs.Borrow.{Bor}
 use Rattle.dccp_options.specs.declared.option.Opt.{Opt}
 use Rattle.dccp_options.specs.declared.option.OptFault.{OptFault}
 use Rattle.dccp_options.specs.declared.cursor.RawOpt.{RawOpt}

@@ -1,5 +1,5 @@
 -- What the Ack Vectors of a packet report (RFC 4340, section 11.4).
-use Rattle.std.specs.Prelude.{ℕ, ◌+◌, ◌-◌, ◌/◌, ◌%◌, ◌^◌, Bool, true, false, ◌||◌, ◌==◌, nat_lt, List, [], ◌∷◌, ◌++◌, replicate, Option, Some, None, Result, Ok, Err, slice_get, if◌then◌else◌}
+use Rattle.std.specs.Prelude.{ℕ, ◌+◌, ◌-◌, ◌/◌, ◌%◌, ◌^◌, Bool, ◌||◌, ◌==◌, nat_lt, List, [], ◌∷◌, ◌++◌, replicate, Option, Some, None, Result, Ok, Err, slice_get, if◌then◌else◌}
 use Rattle.std.specs.List.{concat}
 use Rattle.seq_circle.specs.Circle.{residue, distance}
 use Rattle.dccp_options.specs.declared.option.OptFault.{OptFault}
@@ -37,7 +37,8 @@ joined_report ack (vector ∷ others) = Some (record { ack = ack; bytes = concat
 abbrev pub report_of : ℕ → List (Result Entry OptFault) → Option Report
 report_of ack items = joined_report ack (ack_vectors items)
 
--- the state in a byte's upper two bits: 0 received, 1 received ECN marked, 3 not yet received; the reserved 2 is read as 3 (RFC 4340, section 11.4; the reading is own)
+-- the state in a byte's upper two bits: 0 received, 1 received ECN marked, 3 not yet received (RFC 4340, section 11.4);
+-- the reserved 2 is read as 3 (own)
 abbrev pub state_of : ℕ → ℕ
 state_of byte = if byte / 64 == 2 then 3 else byte / 64
 

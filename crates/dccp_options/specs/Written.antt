@@ -32,5 +32,10 @@ pub record IsWritable (item : Item) : Type 0 where
 abbrev pub entries_at : ℕ → List Item → List Entry
 entries_at place [] = []
 entries_at place (item ∷ rest) =
-    record { place = place + length (mark item.mandatory); mandatory = item.mandatory; kind = item.kind; body = item.body }
+    record {
+      place = place + length (mark item.mandatory);
+      mandatory = item.mandatory;
+      kind = item.kind;
+      body = item.body;
+    }
     ∷ entries_at (place + length (spelled item.mandatory item.kind item.body)) rest

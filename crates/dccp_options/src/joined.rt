@@ -1,5 +1,5 @@
 //! The bytes of a packet's Ack Vectors, one vector behind the other.
-ghost use Rattle.std.specs.Prelude.{◌≡◌, ◌≢◌, [], ◌∷◌, MatchOption, false};
+ghost use Rattle.std.specs.Prelude.{◌≡◌, ◌≢◌, ◌≤◌, [], ◌∷◌, length, MatchOption, false};
 ghost use Rattle.dccp_options.specs.Vectors.{ack_vectors, vector_bytes};
 ghost use Rattle.dccp_options.specs.Left.{entries_left, bytes_left};
 
@@ -34,7 +34,8 @@ impl<'a> JoinedBytes<'a> {
     pub(crate) fn of(mut options: Cursor<'a>) -> Option<JoinedBytes<'a>>
         ensures { MatchOption result (ack_vectors (entries_left false options.entry) ≡ [])
             (λ joined. (ack_vectors (entries_left false options.entry) ≢ [])
-            × (bytes_left joined ≡ vector_bytes (entries_left false options.entry))) }
+            × (bytes_left joined ≡ vector_bytes (entries_left false options.entry))
+            × (length (bytes_left joined) ≤ 1008)) }
     {
         let vector = next_vector(&mut options)?;
         Some(JoinedBytes { vector, options })

@@ -7,11 +7,18 @@
 mod cursor;
 mod joined;
 mod kinds;
+mod laws;
 mod list;
 mod option;
 mod report;
+#[cfg(test)]
+mod tests;
 mod writer;
 
+pub use crate::laws::{
+    a_written_vector_is_reported, an_area_has_one_list, runs_give_the_states,
+    vectors_continue_each_other, written_options_are_listed,
+};
 pub use crate::list::{OptList, options};
 pub use crate::option::{Opt, OptFault};
 pub use crate::report::{AckReport, ReportRuns, Run};

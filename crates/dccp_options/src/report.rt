@@ -1,5 +1,5 @@
 //! What the Ack Vectors of a packet report.
-ghost use Rattle.std.specs.Prelude.{◌≡◌, ◌≤◌, ◌↔◌, ◌<◌, ◌∷◌, [], length, IsNone, IfSome};
+ghost use Rattle.std.specs.Prelude.{◌≡◌, ◌^◌, ◌≤◌, ◌↔◌, ◌<◌, [], length, IsNone};
 ghost use Rattle.dccp_options.specs.Vectors.{ack_vectors, report_of, state_of, run_length, state_at, runs_of};
 
 use crate::joined::JoinedBytes;
@@ -27,12 +27,15 @@ pub struct AckReport<'a> {
 }
 
 impl<'a> Model for AckReport<'a> {
+    ghost use Rattle.std.specs.Prelude.{◌≤◌, length};
     ghost use Rattle.dccp_options.specs.Vectors.{Report};
     ghost use Rattle.dccp_options.specs.Left.{bytes_left};
 
     ghost Value = { Report };
 
     ghost view = { λ report. record { ack = report.ack; bytes = bytes_left report.bytes } };
+
+    ghost invariant = { λ report. length (bytes_left report.bytes) ≤ 1008 };
 }
 
 /// The runs of a report that are still to come, from the highest down: an iterator. Contracts see the list of them.
@@ -99,8 +102,12 @@ impl<'a> AckReport<'a> {
 
     /// The runs of the vectors, one a byte, from the acknowledgement number downwards.
     pub fn runs(&self) -> ReportRuns<'a>
-        ensures { result ≡ runs_of self.now.ack self.now.bytes }
+        ensures value { result ≡ runs_of self.now.ack self.now.bytes }
+        ensures ack_fits { self.now.ack < 2 ^ 48 }
+        ensures bytes_fit { length self.now.bytes ≤ 1008 }
     {
+        // The clause on the number is what reading it tells.
+        let _number = self.ack.get();
         ReportRuns {
             hi: self.ack,
             bytes: self.bytes,

@@ -55,7 +55,7 @@ padded_words options =
     omega (arith, whole, zeros)
 
 -- and so is the fixed part
-fixed_words : (long : Bool) (kind : PacketType) → fixed_length long kind % 4 ≡ 0
+pub fixed_words : (long : Bool) (kind : PacketType) → fixed_length long kind % 4 ≡ 0
 fixed_words long types.Request = refl
 fixed_words long types.Response = refl
 fixed_words true types.Data = refl

@@ -17,13 +17,13 @@ use Rattle.dccp_packets.proofs.Pieces.{same_response, same_reset, same_header, s
 use Rattle.dccp_packets.proofs.Lengths.{shortest}
 
 -- what reading makes of a row
-record Reads (number : Number) (kind : Kind) (bytes : List ℕ) (size : ℕ) : Type 0 where
-  typed : type_of (type_code bytes) ≡ Some (packet_type kind)
-  x : has_long_numbers bytes ≡ is_long number
-  size_is : size ≡ fixed_length (is_long number) (packet_type kind)
-  form : has_form (is_long number) (packet_type kind) ≡ true
-  number_is : number_of (is_long number) bytes ≡ number
-  kind_is : kind_of (packet_type kind) (is_long number) bytes ≡ kind
+pub record Reads (number : Number) (kind : Kind) (bytes : List ℕ) (size : ℕ) : Type 0 where
+  pub typed : type_of (type_code bytes) ≡ Some (packet_type kind)
+  pub x : has_long_numbers bytes ≡ is_long number
+  pub size_is : size ≡ fixed_length (is_long number) (packet_type kind)
+  pub form : has_form (is_long number) (packet_type kind) ≡ true
+  pub number_is : number_of (is_long number) bytes ≡ number
+  pub kind_is : kind_of (packet_type kind) (is_long number) bytes ≡ kind
 
 code_read : (code x : ℕ) (bytes : List ℕ) → code < 16 → x < 2 → HasType code x bytes → type_code bytes ≡ code
 code_read code x bytes small bit has = let byte = has.1 in omega (arith, byte)
@@ -53,7 +53,7 @@ short_row code n kind b size small known form has size_is number kind_is = recor
   kind_is = kind_is;
 }
 
-row_read : (number : Number) (kind : Kind) (b : List ℕ) (size : ℕ) → IsRow number kind b size → Reads number kind b size
+pub row_read : (number : Number) (kind : Kind) (b : List ℕ) (size : ℕ) → IsRow number kind b size → Reads number kind b size
 row_read (Long n) (Request service) b size row = long_row 0 n (Request service) b size (omega arith) refl refl row.0 row.1 row.2 (ap Request (sym row.3))
 row_read (Long n) (Response ack service) b size row = long_row 1 n (Response ack service) b size (omega arith) refl refl row.0 row.1 row.2 (same_response (sym row.3) (sym row.4))
 row_read (Short n) Data b size row = short_row 2 n Data b size (omega arith) refl refl row.0 row.1 row.2 refl

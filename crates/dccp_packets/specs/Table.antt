@@ -51,3 +51,35 @@ pub record IsPacket (h : Header) (options payload bytes : List ℕ) : Type 0 whe
   pub nibble : h.cscov < 16
   pub checksum : h.checksum ≡ number_at 6 2 bytes
   pub row : IsRow h.number h.kind bytes (length fixed)
+
+-- every number of the list is a byte
+abbrev pub AreBytes : List ℕ → Type 0
+AreBytes bytes = (k : ℕ) → slice_index bytes k < 256
+
+-- The reserved bits are zero: three in byte 8, one byte before a long sequence number, two before a long acknowledgement
+-- and one before a short one.
+abbrev pub NumberHasZeros : Number → List ℕ → Type 0
+NumberHasZeros (Long n) b = slice_index b 9 ≡ 0
+NumberHasZeros (Short n) b = Unit {0}
+
+abbrev pub LongAckHasZeros : List ℕ → Type 0
+LongAckHasZeros b = (slice_index b 16 ≡ 0) × (slice_index b 17 ≡ 0)
+
+abbrev pub KindHasZeros : Kind → List ℕ → Type 0
+KindHasZeros (Request service) b = Unit {0}
+KindHasZeros (Response ack service) b = LongAckHasZeros b
+KindHasZeros Data b = Unit {0}
+KindHasZeros (Ack (Long ack)) b = LongAckHasZeros b
+KindHasZeros (Ack (Short ack)) b = slice_index b 12 ≡ 0
+KindHasZeros (DataAck (Long ack)) b = LongAckHasZeros b
+KindHasZeros (DataAck (Short ack)) b = slice_index b 12 ≡ 0
+KindHasZeros (CloseReq ack) b = LongAckHasZeros b
+KindHasZeros (Close ack) b = LongAckHasZeros b
+KindHasZeros (Reset ack code detail) b = LongAckHasZeros b
+KindHasZeros (Sync ack) b = LongAckHasZeros b
+KindHasZeros (SyncAck ack) b = LongAckHasZeros b
+
+pub record HasZeros (h : Header) (bytes : List ℕ) : Type 0 where
+  pub types : slice_index bytes 8 < 32
+  pub number : NumberHasZeros h.number bytes
+  pub kind : KindHasZeros h.kind bytes

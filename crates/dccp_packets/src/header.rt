@@ -50,7 +50,7 @@ pub enum Kind {
         ack: Seq48,
         service: u32,
     },
-    /// Carries no acknowledgement.
+    /// Carries no acknowledgement and nothing else of its own (RFC 4340, section 5.4).
     Data,
     /// The acknowledgement has the form of the sequence number.
     Ack {
@@ -60,9 +60,11 @@ pub enum Kind {
     DataAck {
         ack: Number,
     },
+    /// Acknowledges a packet of the client (RFC 4340, section 5.5).
     CloseReq {
         ack: Seq48,
     },
+    /// Acknowledges a packet of the other end (RFC 4340, section 5.5).
     Close {
         ack: Seq48,
     },
@@ -72,9 +74,11 @@ pub enum Kind {
         code: u8,
         detail: [u8; 3],
     },
+    /// Acknowledges the packet that made it necessary (RFC 4340, section 5.7).
     Sync {
         ack: Seq48,
     },
+    /// Acknowledges the Sync (RFC 4340, section 5.7).
     SyncAck {
         ack: Seq48,
     },

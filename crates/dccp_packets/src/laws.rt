@@ -1,8 +1,11 @@
 //! What holds of the grammar itself.
-ghost use Rattle.std.specs.Prelude.{◌≡◌, ℕ, ◌+◌, ◌≤◌, List, length, IsTrue};
+ghost use Rattle.std.specs.Prelude.{◌≡◌, ℕ, ◌+◌, ◌<◌, ◌≤◌, ◌↔◌, false, List, length, IsTrue};
 ghost use Rattle.dccp_packets.specs.declared.header.Header.{Header};
-ghost use Rattle.dccp_packets.specs.Grammar.{decoded, spelling, padded, header_length, is_valid, Fits};
-ghost use Rattle.dccp_packets.specs.Table.{IsPacket};
+ghost use Rattle.dccp_packets.specs.declared.header.PacketType.{PacketType};
+ghost use Rattle.dccp_packets.specs.Grammar.{type_code, type_of, data_offset, fixed_length, has_long_numbers, has_form, decoded, spelling, padded, header_length, is_valid, Fits};
+ghost use Rattle.dccp_packets.specs.Table.{IsPacket, AreBytes, HasZeros};
+
+use crate::Malformed;
 
 /// What is spelled is read again: the header, the options filled with zeros up to four bytes, and the data, for every
 /// type and form of numbers (RFC 4340, section 5).
@@ -18,4 +21,25 @@ pub fn what_is_read_is_the_table()
         → decoded bytes ≡ Ok (record { header = h; options = options; payload = payload }) → IsPacket h options payload bytes }
     ensures complete { (h : Header) (options payload bytes : List ℕ)
         → IsPacket h options payload bytes → decoded bytes ≡ Ok (record { header = h; options = options; payload = payload }) }
+{}
+
+/// Each fault is answered exactly where it holds and none before it does, in the order of `Malformed`.
+pub fn the_first_fault_is_answered()
+    ensures short { (bytes : List ℕ) → (decoded bytes ≡ Err Malformed.Short) ↔ (length bytes < 12) }
+    ensures reserved_type { (bytes : List ℕ) → 12 ≤ length bytes → (decoded bytes ≡ Err Malformed.ReservedType) ↔ (10 ≤ type_code bytes) }
+    ensures offset_small { (bytes : List ℕ) (kind : PacketType) → 12 ≤ length bytes → type_of (type_code bytes) ≡ Some kind
+        → (decoded bytes ≡ Err Malformed.OffsetSmall) ↔ (data_offset bytes < fixed_length (has_long_numbers bytes) kind) }
+    ensures offset_large { (bytes : List ℕ) (kind : PacketType) → 12 ≤ length bytes → type_of (type_code bytes) ≡ Some kind
+        → fixed_length (has_long_numbers bytes) kind ≤ data_offset bytes
+        → (decoded bytes ≡ Err Malformed.OffsetLarge) ↔ (length bytes < data_offset bytes) }
+    ensures short_numbers { (bytes : List ℕ) (kind : PacketType) → 12 ≤ length bytes → type_of (type_code bytes) ≡ Some kind
+        → fixed_length (has_long_numbers bytes) kind ≤ data_offset bytes → data_offset bytes ≤ length bytes
+        → (decoded bytes ≡ Err Malformed.ShortNumbers) ↔ (has_form (has_long_numbers bytes) kind ≡ false) }
+{}
+
+/// Of the spellings of a packet just one has all reserved bits zero, and that is the one that `encode` writes (RFC 4340,
+/// section 5).
+pub fn one_spelling_has_no_reserved_bit()
+    ensures { (h : Header) (options payload bytes : List ℕ) → IsPacket h options payload bytes → AreBytes bytes → HasZeros h bytes
+        → bytes ≡ spelling h options payload }
 {}

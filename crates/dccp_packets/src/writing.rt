@@ -22,7 +22,7 @@ const X: u8 = 2;
 
 const RESERVED: u8 = 0;
 
-// The most words that a Data Offset of 8 bits counts, in bytes.
+// 255 words, the most that a Data Offset counts, in bytes.
 const LONGEST_HEADER: usize = 1020;
 
 /// Writes the packet into `out`, in place of what was there: the header, the options filled with zeros up to four bytes,

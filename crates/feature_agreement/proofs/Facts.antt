@@ -2,7 +2,7 @@
 use Rattle.std.proofs.Common.{◌≡◌, ℕ, ◌<◌, ◌≤◌, true, ◌⊎◌, List, [], length}
 use Rattle.std.specs.Prelude.{Some, is_some, unwrap_or}
 use Rattle.feature_agreement.specs.View.{Carried, Side, carried_at, has_change, last_wish}
-use Rattle.feature_agreement.specs.View.Stand.{Stable}
+use Rattle.feature_machine.specs.declared.stands.Stand.TheVariants.{Stable}
 use Rattle.feature_agreement.specs.View.Carried.{Nothing, Change, Confirm}
 use Rattle.feature_agreement.specs.Moves.{Rule, swapped}
 

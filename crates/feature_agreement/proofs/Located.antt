@@ -3,7 +3,7 @@
 use Rattle.std.proofs.Common.{◌≡◌, ℕ, ◌<◌, true, inl, List, [], ◌∷◌, refl, ap, ◌∙◌, arith}
 use Rattle.std.specs.Prelude.{Some, unwrap_or, IsTrue}
 use Rattle.feature_agreement.specs.View.{Carried, Side, carried_at, last_wish, last_change, wish_of}
-use Rattle.feature_agreement.specs.View.Stand.{Stable}
+use Rattle.feature_machine.specs.declared.stands.Stand.TheVariants.{Stable}
 use Rattle.feature_agreement.specs.View.Carried.{Nothing, Change, Confirm}
 use Rattle.feature_agreement.specs.Moves.{Rule, swapped, passed, settled, answered, waiting, opening, sent, fresh, Move, Reached, own_value, one_value, no_wish, at_server, at_client}
 use Rattle.feature_agreement.specs.Moves.Move.{Passes, Settles, Answers, Waits, Opens, Sends, Sends_again}

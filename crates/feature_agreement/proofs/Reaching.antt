@@ -2,7 +2,7 @@
 use Rattle.std.proofs.Common.{◌≡◌, ℕ, ◌<◌, true, ◌⊎◌, List, arith}
 use Rattle.std.specs.Prelude.{Some, is_some, IsTrue}
 use Rattle.feature_agreement.specs.View.{Side, last_wish}
-use Rattle.feature_agreement.specs.View.Stand.{Stable}
+use Rattle.feature_machine.specs.declared.stands.Stand.TheVariants.{Stable}
 use Rattle.feature_agreement.specs.Moves.{Rule, swapped, Moves, Pair, Reached}
 use Rattle.feature_agreement.specs.Moves.Moves.{Done, Next}
 use Rattle.feature_agreement.specs.Moves.Reached.{Server_moves, Client_moves}

@@ -2,7 +2,7 @@
 use Rattle.std.proofs.Common.{◌≡◌, ℕ, suc, ◌<◌, ◌≤◌, Bool, List, length, refl, arith, length-append}
 use Rattle.std.specs.Prelude.{Option, Some, None, unwrap_or}
 use Rattle.feature_agreement.specs.View.{Side, carried_at, with_frame}
-use Rattle.feature_agreement.specs.View.Stand.{Stable, Changing}
+use Rattle.feature_machine.specs.declared.stands.Stand.TheVariants.{Stable, Changing}
 use Rattle.feature_agreement.specs.View.Carried.{Nothing, Change, Confirm}
 use Rattle.feature_agreement.specs.Moves.{Rule, swapped, passed, settled, answered, waiting, opening, sent, fresh, Move, Pair, Reached}
 use Rattle.feature_agreement.specs.Moves.Move.{Passes, Settles, Answers, Waits, Opens, Sends, Sends_again}

@@ -2,7 +2,7 @@
 use Rattle.std.proofs.Common.{◌≡◌, ℕ, suc, Bool, List, length, refl, sym, subst, arith}
 use Rattle.std.specs.Prelude.{Option, Some, None, unwrap_or}
 use Rattle.feature_agreement.specs.View.{Carried, Side, carried_at, with_frame, wish_of}
-use Rattle.feature_agreement.specs.View.Stand.{Changing}
+use Rattle.feature_machine.specs.declared.stands.Stand.TheVariants.{Changing}
 use Rattle.feature_agreement.specs.View.Carried.{Nothing, Change, Confirm}
 use Rattle.feature_agreement.specs.Moves.{Rule, swapped, settled, answered, sent, Move, Pair, Reached}
 use Rattle.feature_agreement.specs.Moves.Move.{Passes, Settles, Answers, Waits, Opens, Sends, Sends_again}

@@ -1,7 +1,7 @@
 -- What holds of two sides: they agree, and their values were given to them. Both are read from the frames and the rows' stands and values.
 use Rattle.std.specs.Prelude.{◌≡◌, ℕ, Bool, Some, is_some, List, [], ◌∷◌, ◌||◌, IsTrue}
 use Rattle.feature_agreement.specs.View.{Carried, Side, carried_at, wish_of, has_change, last_change, last_wish}
-use Rattle.feature_agreement.specs.View.Stand.{Stable}
+use Rattle.feature_machine.specs.declared.stands.Stand.TheVariants.{Stable}
 use Rattle.feature_agreement.specs.View.Carried.{Change}
 use Rattle.feature_agreement.specs.Moves.{Rule}
 

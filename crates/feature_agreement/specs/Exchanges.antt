@@ -1,7 +1,7 @@
 -- Two runs of a pair of rows, to show that moves lead somewhere: both rows end in STABLE, with what the rule says (own).
 use Rattle.std.specs.Prelude.{ℕ, List, [], ◌∷◌, unwrap_or}
 use Rattle.feature_agreement.specs.View.{Side}
-use Rattle.feature_agreement.specs.View.Stand.{Stable}
+use Rattle.feature_machine.specs.declared.stands.Stand.TheVariants.{Stable}
 use Rattle.feature_agreement.specs.View.Carried.{Change, Confirm}
 use Rattle.feature_agreement.specs.Moves.{Pair}
 

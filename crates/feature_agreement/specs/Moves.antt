@@ -2,7 +2,7 @@
 -- allow more than a row does where that costs nothing: a row opens from any stand, and answers a Change in any.
 use Rattle.std.specs.Prelude.{◌≡◌, ℕ, ◌+◌, ◌<◌, ◌≤◌, Bool, true, false, Option, None, Some, List, [], ◌∷◌, length, unwrap_or}
 use Rattle.feature_agreement.specs.View.{Carried, Side, carried_at, with_frame}
-use Rattle.feature_agreement.specs.View.Stand.{Stable, Changing, Unstable}
+use Rattle.feature_machine.specs.declared.stands.Stand.TheVariants.{Stable, Changing, Unstable}
 use Rattle.feature_agreement.specs.View.Carried.{Nothing, Change, Confirm}
 
 -- the value that two wishes lead to, if they lead to one; the acting side's wish stands first

@@ -3,12 +3,7 @@
 use Rattle.std.specs.Prelude.{ℕ, Bool, true, false, Option, None, Some, List, [], ◌∷◌, ◌++◌, slice_index_or}
 use Rattle.std.specs.Option.{option_or}
 use Rattle.std.specs.List.{list_any}
-
--- the three stands of a row
-pub data Stand : Type 0 where
-  Stable : Stand
-  Changing : Stand
-  Unstable : Stand
+use Rattle.feature_machine.specs.declared.stands.Stand.{Stand}
 
 -- What one frame carries for the feature. A wish is a preference list; the value of a feature that is not negotiable is a wish of one entry,
 -- and its Confirm has an empty one. A Confirm has the count of the peer's frame that it acknowledges.

@@ -1,4 +1,4 @@
-use Rattle.std.proofs.Common.{ℕ, ◌≤◌, ◌<◌, ◌^◌, length}
+use Rattle.std.proofs.Common.{◌≤◌, ◌<◌, ◌^◌, length}
 use Rattle.dccp_options.specs.Vectors.{states}
 use Rattle.congestion_trait.specs.Walk.{IsAt, IsTop}
 use Rattle.congestion_trait.proofs.cursor.Cursor.state.Given as goal

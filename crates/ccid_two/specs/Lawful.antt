@@ -1,0 +1,41 @@
+-- Both kinds keep the flight list's rules, whichever is in force.
+use Rattle.std.specs.Prelude.{◌≡◌, ℕ, ◌==◌, Bool, true, false, cond, List, [], refl, if◌then◌else◌}
+use Rattle.congestion_trait.specs.declared.flight.Entry.{Entry}
+use Rattle.congestion_trait.specs.Flight.{States, sent, after_report}
+use Rattle.congestion_trait.specs.Control.{IsLawful}
+use Rattle.ccid_two.specs.declared.kinds.Kind.{Kind}
+use Rattle.ccid_two.specs.declared.kinds.Kind.TheVariants.{CcidTwo, Fixed}
+use Rattle.ccid_two.specs.Window as two
+use Rattle.ccid_two.specs.Kinds.{Both, flight_by, sent_by, reported_by, timed_out_by, kinds_control}
+
+started_empty : (is_fixed : Bool) (both : Both)
+    → let next = cond is_fixed (record both { kind = Fixed; fixed = [] }) (record both { kind = CcidTwo; ccid_two = two.fresh }) in
+    flight_by next.kind next ≡ []
+started_empty true both = refl
+started_empty false both = refl
+
+sending_adds : (kind : Kind) (ccid_two : two.State) (fixed : List Entry) (number : ℕ)
+    → let both : Both = record { kind = kind; ccid_two = ccid_two; fixed = fixed } in
+    flight_by (sent_by kind both number).kind (sent_by kind both number) ≡ sent (flight_by kind both) number
+sending_adds CcidTwo ccid_two fixed number = refl
+sending_adds Fixed ccid_two fixed number = refl
+
+report_settles : (kind : Kind) (ccid_two : two.State) (fixed : List Entry) (states : States) (ratio : ℕ)
+    → let both : Both = record { kind = kind; ccid_two = ccid_two; fixed = fixed } in
+    flight_by (reported_by kind both states ratio).kind (reported_by kind both states ratio) ≡ after_report states (flight_by kind both)
+report_settles CcidTwo ccid_two fixed states ratio = refl
+report_settles Fixed ccid_two fixed states ratio = refl
+
+timeout_empties : (kind : Kind) (ccid_two : two.State) (fixed : List Entry)
+    → let both : Both = record { kind = kind; ccid_two = ccid_two; fixed = fixed } in
+    flight_by (timed_out_by kind both).kind (timed_out_by kind both) ≡ []
+timeout_empties CcidTwo ccid_two fixed = refl
+timeout_empties Fixed ccid_two fixed = refl
+
+pub kinds_lawful : IsLawful kinds_control
+kinds_lawful = record {
+  start_empties = λ both ccid. started_empty (ccid == 248) both;
+  sending_adds = λ both number. sending_adds both.kind both.ccid_two both.fixed number;
+  report_settles = λ both states ratio. report_settles both.kind both.ccid_two both.fixed states ratio;
+  timeout_empties = λ both. timeout_empties both.kind both.ccid_two both.fixed;
+}

@@ -1,0 +1,118 @@
+//! The choice between the kinds.
+ghost use Rattle.std.specs.Prelude.{◌≡◌, IfOk};
+ghost use Rattle.ccid_two.specs.Kinds.{at_first, kinds_control};
+
+use crate::window::Ccid2;
+use congestion_trait::{Congestion, FixedWindow};
+use dccp_options::AckReport;
+use seq_circle::{NoMemory, Seq48};
+use std::alloc::Global;
+use std::marker::Model;
+
+const CCID_TWO: u8 = 2;
+
+const CCID_FIXED: u8 = 248;
+
+/// Which kind of congestion control is in force.
+#[derive(Clone, Copy, Debug, PartialEq, Eq)]
+pub enum Kind {
+    /// CCID 2 (RFC 4341).
+    CcidTwo,
+    /// CCID 248: the fixed window (own).
+    Fixed,
+}
+
+/// CCID 2 and CCID 248 in one: `start` tells which is in force. It begins with CCID 2.
+#[derive(Drop)]
+pub struct Kinds {
+    kind: Kind,
+    ccid_two: Ccid2,
+    fixed: FixedWindow,
+}
+
+impl Model for Kinds {
+    ghost use Rattle.ccid_two.specs.Kinds.{Both};
+
+    ghost Value = { Both };
+
+    ghost view = { λ k. record { kind = k.kind; ccid_two = k.ccid_two; fixed = k.fixed } };
+}
+
+impl Kinds {
+    /// Both kinds with nothing sent, and CCID 2 in force. NoMemory where no blocks for their flight lists are to be had.
+    pub fn new(alloc: Global) -> Result<Kinds, NoMemory>
+        ensures { IfOk result (λ kinds. kinds ≡ at_first) }
+    {
+        let ccid_two = Ccid2::new(alloc)?;
+        let fixed = FixedWindow::new(alloc)?;
+        Ok(Kinds {
+            kind: Kind::CcidTwo,
+            ccid_two,
+            fixed,
+        })
+    }
+}
+
+impl Congestion for Kinds {
+    ghost control = { kinds_control };
+
+    fn knows(&self, ccid: u8) -> bool {
+        ccid == CCID_TWO || ccid == CCID_FIXED
+    }
+
+    fn start(&mut self, ccid: u8) {
+        if ccid == CCID_FIXED {
+            self.kind = Kind::Fixed;
+            self.fixed.start(ccid);
+        } else {
+            self.kind = Kind::CcidTwo;
+            self.ccid_two.start(ccid);
+        }
+    }
+
+    fn window(&self) -> u32 {
+        match self.kind {
+            Kind::CcidTwo => self.ccid_two.window(),
+            Kind::Fixed => self.fixed.window(),
+        }
+    }
+
+    fn in_flight(&self) -> u32 {
+        match self.kind {
+            Kind::CcidTwo => self.ccid_two.in_flight(),
+            Kind::Fixed => self.fixed.in_flight(),
+        }
+    }
+
+    fn may_send(&self) -> bool {
+        match self.kind {
+            Kind::CcidTwo => self.ccid_two.may_send(),
+            Kind::Fixed => self.fixed.may_send(),
+        }
+    }
+
+    fn on_sent(&mut self, number: Seq48) {
+        match self.kind {
+            Kind::CcidTwo => self.ccid_two.on_sent(number),
+            Kind::Fixed => self.fixed.on_sent(number),
+        }
+    }
+
+    fn on_report(&mut self, report: &AckReport<'_>, ratio: u16) {
+        match self.kind {
+            Kind::CcidTwo => self.ccid_two.on_report(report, ratio),
+            Kind::Fixed => self.fixed.on_report(report, ratio),
+        }
+    }
+
+    fn on_timeout(&mut self) {
+        match self.kind {
+            Kind::CcidTwo => self.ccid_two.on_timeout(),
+            Kind::Fixed => self.fixed.on_timeout(),
+        }
+    }
+
+    ghost use Rattle.ccid_two.specs.Lawful.{kinds_lawful};
+
+    ghost lawful = { kinds_lawful };
+}

@@ -1,0 +1,50 @@
+//! What follows for every kind of congestion control.
+ghost use Rattle.std.specs.Prelude.{◌≡◌, ℕ, ◌+◌, ◌⊎◌, IsTrue, map, List};
+ghost use Rattle.congestion_trait.specs.declared.flight.Entry.{Entry};
+ghost use Rattle.congestion_trait.specs.declared.flight.Standing.TheVariants.{Out, Reported};
+ghost use Rattle.std.specs.List.{list_any};
+ghost use Rattle.congestion_trait.specs.Calls.{Call, run, sends, tells};
+ghost use Rattle.congestion_trait.specs.Flight.{States, Has, is_received, after_report, leaving_count, pipe_of};
+
+use crate::congestion::Congestion;
+
+/// A number is Reported only where it was before, or where the report gives it state 0 or 1. No other call makes a number
+/// Reported.
+pub fn only_reports_report<C: Congestion>()
+    ensures reports { (state : C) (states : States) (ratio number : ℕ)
+        → Has (C.control.flight (C.control.with_report state states ratio)) number Reported
+        → Has (C.control.flight state) number Reported ⊎ IsTrue (is_received (states number)) }
+    ensures sending { (state : C) (next number : ℕ)
+        → Has (C.control.flight (C.control.with_sent state next)) number Reported → Has (C.control.flight state) number Reported }
+    ensures starting { (state : C) (ccid number : ℕ) → Has (C.control.flight (C.control.started state ccid)) number Reported → ⊥ }
+    ensures timeouts { (state : C) (number : ℕ) → Has (C.control.flight (C.control.timed_out state)) number Reported → ⊥ }
+{}
+
+/// A number that is not Out, since it was reported or taken for lost, is never Out again, unless it is sent anew.
+pub fn only_sending_puts_out<C: Congestion>()
+    ensures reports { (state : C) (states : States) (ratio number : ℕ)
+        → Has (C.control.flight (C.control.with_report state states ratio)) number Out → Has (C.control.flight state) number Out }
+    ensures sending { (state : C) (next number : ℕ)
+        → Has (C.control.flight (C.control.with_sent state next)) number Out → Has (C.control.flight state) number Out ⊎ (number ≡ next) }
+    ensures starting { (state : C) (ccid number : ℕ) → Has (C.control.flight (C.control.started state ccid)) number Out → ⊥ }
+    ensures timeouts { (state : C) (number : ℕ) → Has (C.control.flight (C.control.timed_out state)) number Out → ⊥ }
+{}
+
+/// A report lowers what is in flight by one for each entry that was Out and is now Reported or Lost. An entry that was
+/// Lost before lowers it no second time.
+pub fn in_flight_falls_once<C: Congestion>()
+    ensures { (state : C) (states : States) (ratio : ℕ)
+        → pipe_of (C.control.flight (C.control.with_report state states ratio)) + leaving_count states (C.control.flight state)
+        ≡ pipe_of (C.control.flight state) }
+{}
+
+/// After any calls a number is Out only where it was before them or one of them sends it: what was reported or taken for
+/// lost is never Out again. And it is Reported only where it was before them or one of them gives it state 0 or 1.
+pub fn standings_after_calls<C: Congestion>()
+    ensures out { (state : C) (calls : List Call) (number : ℕ)
+        → Has (C.control.flight (run C.control state calls)) number Out
+        → Has (C.control.flight state) number Out ⊎ IsTrue (list_any (sends number) calls) }
+    ensures reported { (state : C) (calls : List Call) (number : ℕ)
+        → Has (C.control.flight (run C.control state calls)) number Reported
+        → Has (C.control.flight state) number Reported ⊎ IsTrue (list_any (tells number) calls) }
+{}

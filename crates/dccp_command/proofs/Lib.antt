@@ -1,0 +1,4 @@
+pub mod Along
+pub mod Ending
+pub mod FirstLine
+pub mod Leading

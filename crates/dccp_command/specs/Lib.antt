@@ -1,0 +1,5 @@
+pub mod Text
+pub mod Lines
+pub mod Shown
+pub mod Transcript
+pub mod Top

@@ -1,0 +1,262 @@
+//! The lines that `run` writes.
+ghost use Rattle.std.specs.Prelude.{◌≡◌, ◌++◌, List, ℕ, OnOk, Some};
+ghost use Rattle.dccp_command.specs.Text.{side_name, side_letter, phase_name, stand_mark, malformed_name, sum_name, why_name, refusal_name};
+ghost use Rattle.dccp_command.specs.Shown.{frame_name, event_text, outcome_text, seen_text, event_line, frame_line, sent_line, held_text, row_text, end_name, end_counts, end_rows, end_line, end_lines};
+
+use crate::text::{put, put_hex, put_number};
+use dccp_endpoint::{Endpoint, Held, Outcome, Phase, Stand, Why};
+use dccp_packets::Malformed;
+use dccp_sum::SumFault;
+use feature_lists::{Feature, Place};
+use seq_circle::NoMemory;
+use two_ends::{Event, Refusal, Seen, SentFrame, Side, World};
+
+const FEATURES: [Feature; 9] = [
+    Feature::Ccid,
+    Feature::ShortSeqnos,
+    Feature::SequenceWindow,
+    Feature::EcnIncapable,
+    Feature::AckRatio,
+    Feature::SendAckVector,
+    Feature::SendNdpCount,
+    Feature::MinCsCov,
+    Feature::CheckDataChecksum,
+];
+
+fn side_name(side: Side) -> &'static [u8]
+    ensures { result.now ≡ side_name side }
+{
+    match side {
+        Side::Client => b"client",
+        Side::Server => b"server",
+    }
+}
+
+fn side_letter(side: Side) -> &'static [u8]
+    ensures { result.now ≡ side_letter side }
+{
+    match side {
+        Side::Client => b"c",
+        Side::Server => b"s",
+    }
+}
+
+fn phase_name(phase: Phase) -> &'static [u8]
+    ensures { result.now ≡ phase_name phase }
+{
+    match phase {
+        Phase::Closed => b"CLOSED",
+        Phase::Listen => b"LISTEN",
+        Phase::Request => b"REQUEST",
+        Phase::Respond => b"RESPOND",
+        Phase::PartOpen => b"PARTOPEN",
+        Phase::Open => b"OPEN",
+        Phase::CloseReq => b"CLOSEREQ",
+        Phase::Closing => b"CLOSING",
+        Phase::TimeWait => b"TIMEWAIT",
+    }
+}
+
+fn stand_mark(stand: Stand) -> &'static [u8]
+    ensures { result.now ≡ stand_mark stand }
+{
+    match stand {
+        Stand::Stable => b"",
+        Stand::Changing => b"*",
+        Stand::Unstable => b"!",
+    }
+}
+
+fn malformed_name(fault: Malformed) -> &'static [u8]
+    ensures { result.now ≡ malformed_name fault }
+{
+    match fault {
+        Malformed::Short => b"Short",
+        Malformed::ReservedType => b"ReservedType",
+        Malformed::OffsetSmall => b"OffsetSmall",
+        Malformed::OffsetLarge => b"OffsetLarge",
+        Malformed::ShortNumbers => b"ShortNumbers",
+    }
+}
+
+fn sum_name(fault: SumFault) -> &'static [u8]
+    ensures { result.now ≡ sum_name fault }
+{
+    match fault {
+        SumFault::CoverageTooLarge => b"CoverageTooLarge",
+        SumFault::Wrong => b"Wrong",
+    }
+}
+
+fn why_name(why: Why) -> &'static [u8]
+    ensures { result.now ≡ why_name why }
+{
+    match why {
+        Why::Malformed(fault) => malformed_name(fault),
+        Why::Sum(fault) => sum_name(fault),
+        Why::OtherFlow => b"OtherFlow",
+    }
+}
+
+fn refusal_name(fault: Refusal) -> &'static [u8]
+    ensures { result.now ≡ refusal_name fault }
+{
+    match fault {
+        Refusal::NotFresh => b"NotFresh",
+    }
+}
+
+fn put_frame_name(text: &mut Vec<u8>, side: Side, index: u64) -> Result<(), NoMemory>
+    ensures { OnOk result (text.new.items ≡ text.old.items ++ frame_name side index) }
+{
+    put(text, side_letter(side))?;
+    put_number(text, index)
+}
+
+fn put_event(text: &mut Vec<u8>, event: &Event) -> Result<(), NoMemory>
+    ensures { OnOk result (text.new.items ≡ text.old.items ++ event_text event.now) }
+{
+    match *event {
+        Event::Open => put(text, b"open"),
+        Event::Deliver { from, index } => {
+            put(text, b"deliver ")?;
+            put_frame_name(text, from, index)
+        }
+    }
+}
+
+fn put_outcome(text: &mut Vec<u8>, outcome: &Outcome) -> Result<(), NoMemory>
+    ensures { OnOk result (text.new.items ≡ text.old.items ++ outcome_text outcome.now) }
+{
+    match *outcome {
+        Outcome::Took { .. } => put(text, b"took"),
+        Outcome::Dropped(why) => {
+            put(text, b"dropped ")?;
+            put(text, why_name(why))
+        }
+        Outcome::NotBuilt => put(text, b""),
+    }
+}
+
+fn put_seen(text: &mut Vec<u8>, seen: &Seen) -> Result<(), NoMemory>
+    ensures { OnOk result (text.new.items ≡ text.old.items ++ seen_text seen.now) }
+{
+    match seen {
+        Seen::Called(Ok(())) => put(text, b"ok"),
+        Seen::Called(Err(fault)) => {
+            put(text, b"refused ")?;
+            put(text, refusal_name(*fault))
+        }
+        Seen::Received(outcome) => put_outcome(text, outcome),
+    }
+}
+
+/// Puts the line of an event that took place.
+pub(crate) fn put_event_line(
+    text: &mut Vec<u8>,
+    number: u64,
+    event: &Event,
+    seen: &Seen,
+) -> Result<(), NoMemory>
+    ensures { OnOk result (text.new.items ≡ text.old.items ++ event_line number event.now seen.now) }
+{
+    put_number(text, number)?;
+    put(text, b" ")?;
+    put_event(text, event)?;
+    put(text, b": ")?;
+    put_seen(text, seen)?;
+    put(text, b"\n")
+}
+
+fn put_frame_line(
+    text: &mut Vec<u8>,
+    side: Side,
+    index: u64,
+    frame: &SentFrame,
+) -> Result<(), NoMemory>
+    ensures { OnOk result (text.new.items ≡ text.old.items ++ frame_line side index (Some frame.now)) }
+{
+    put(text, b"sent ")?;
+    put_frame_name(text, side, index)?;
+    put(text, b" ")?;
+    put_hex(text, frame.bytes.as_slice())?;
+    put(text, b"\n")
+}
+
+/// Puts the line of the frame that a side sent in a step, if it sent one, where it had sent `before` frames before.
+pub(crate) fn put_sent_line(
+    text: &mut Vec<u8>,
+    world: &World,
+    side: Side,
+    before: usize,
+) -> Result<(), NoMemory>
+    ensures { OnOk result (text.new.items ≡ text.old.items ++ sent_line world.now side before) }
+{
+    match world.frames(side).get(before) {
+        Some(frame) => put_frame_line(text, side, before as u64, frame),
+        None => Ok(()),
+    }
+}
+
+fn put_held(text: &mut Vec<u8>, held: Held) -> Result<(), NoMemory>
+    ensures { OnOk result (text.new.items ≡ text.old.items ++ held_text held) }
+{
+    put_number(text, held.value)?;
+    put(text, stand_mark(held.stand))
+}
+
+fn put_row(text: &mut Vec<u8>, end: &Endpoint, feature: Feature) -> Result<(), NoMemory>
+    ensures { OnOk result (text.new.items ≡ text.old.items ++ row_text end.now feature) }
+{
+    put(text, b" ")?;
+    put_number(text, u64::from(feature.number()))?;
+    put(text, b"=")?;
+    put_held(text, end.held(feature, Place::Here))?;
+    put(text, b"/")?;
+    put_held(text, end.held(feature, Place::There))
+}
+
+#[tactic(auto, unfolding(crate::specs::Shown::end_rows))]
+fn put_rows(text: &mut Vec<u8>, end: &Endpoint) -> Result<(), NoMemory>
+    ensures { OnOk result (text.new.items ≡ text.old.items ++ end_rows end.now) }
+{
+    for feature in &FEATURES {
+        put_row(text, end, *feature)?;
+    }
+    Ok(())
+}
+
+fn put_end_name(text: &mut Vec<u8>, side: Side, end: &Endpoint) -> Result<(), NoMemory>
+    ensures { OnOk result (text.new.items ≡ text.old.items ++ end_name side end.now) }
+{
+    put(text, b"end ")?;
+    put(text, side_name(side))?;
+    put(text, b" ")?;
+    put(text, phase_name(end.phase()))
+}
+
+fn put_end_counts(text: &mut Vec<u8>, end: &Endpoint) -> Result<(), NoMemory>
+    ensures { OnOk result (text.new.items ≡ text.old.items ++ end_counts end.now) }
+{
+    put(text, b" window ")?;
+    put_number(text, u64::from(end.window()))?;
+    put(text, b" flight ")?;
+    put_number(text, u64::from(end.in_flight()))
+}
+
+fn put_end_line(text: &mut Vec<u8>, side: Side, end: &Endpoint) -> Result<(), NoMemory>
+    ensures { OnOk result (text.new.items ≡ text.old.items ++ end_line side end.now) }
+{
+    put_end_name(text, side, end)?;
+    put_end_counts(text, end)?;
+    put_rows(text, end)?;
+    put(text, b"\n")
+}
+
+/// Puts the two lines at a schedule's end.
+pub(crate) fn put_end_lines(text: &mut Vec<u8>, world: &World) -> Result<(), NoMemory>
+    ensures { OnOk result (text.new.items ≡ text.old.items ++ end_lines world.now) }
+{
+    put_end_line(text, Side::Client, world.end(Side::Client))?;
+    put_end_line(text, Side::Server, world.end(Side::Server))
+}

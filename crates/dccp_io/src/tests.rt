@@ -1,0 +1,117 @@
+use crate::{
+    Failed, InputFault, MemorySink, MemorySource, Sink, Source, StdSink, StdSource, SureSink,
+    SureSource, read_all, write_all,
+};
+use std::io;
+use std::io::{Error, ErrorKind, Read};
+use std::test::Fail;
+
+#[test]
+fn memory_source_fails_at_the_listed_call(rt: HostRuntime) -> Result<(), Fail> {
+    let bytes = b"hello".to_vec(rt.alloc())?;
+    let mut source = MemorySource::new(bytes, [2].to_vec(rt.alloc())?, 2);
+    let mut block = [0; 4];
+    assert_eq!(rt; source.read(&mut block), Ok(2));
+    assert_eq!(rt; block.as_slice(), b"he\0\0".as_slice());
+    assert_eq!(rt; source.read(&mut block), Err(Failed));
+    assert_eq!(rt; source.read(&mut block), Ok(2));
+    assert_eq!(rt; source.read(&mut block), Ok(1));
+    assert_eq!(rt; block.as_slice(), b"ol\0\0".as_slice());
+    assert_eq!(rt; source.read(&mut block), Ok(0));
+    Ok(())
+}
+
+#[test]
+fn memory_sink_fails_at_the_listed_call(rt: HostRuntime) -> Result<(), Fail> {
+    let failing = [3].to_vec(rt.alloc())?;
+    let mut sink = MemorySink::new(rt.alloc(), failing, 1, 9)
+        .ok()
+        .ok_or("no memory")?;
+    assert_eq!(rt; write_all(&mut sink, b"hello"), Err(Failed));
+    assert_eq!(rt; sink.taken(), b"he".as_slice());
+    assert_eq!(rt; write_all(&mut sink, b"llo"), Ok(()));
+    assert_eq!(rt; sink.taken(), b"hello".as_slice());
+    Ok(())
+}
+
+#[test]
+fn a_sink_that_takes_nothing_fails(rt: HostRuntime) -> Result<(), Fail> {
+    let failing = Vec::new(rt.alloc());
+    let mut sink = MemorySink::new(rt.alloc(), failing, 0, 9)
+        .ok()
+        .ok_or("no memory")?;
+    assert_eq!(rt; sink.write(b"hello"), Ok(0));
+    assert_eq!(rt; write_all(&mut sink, b"hello"), Err(Failed));
+    assert_eq!(rt; write_all(&mut sink, b""), Ok(()));
+    assert_eq!(rt; sink.taken().len(), 0);
+    Ok(())
+}
+
+#[test]
+fn input_is_read_whole_or_to_the_limit(rt: HostRuntime) -> Result<(), Fail> {
+    let bytes = b"hello".to_vec(rt.alloc())?;
+    let mut source = MemorySource::new(bytes, Vec::new(rt.alloc()), 2);
+    let front = read_all(rt.alloc(), &mut &mut source, 3)
+        .ok()
+        .ok_or("not read")?;
+    assert_eq!(rt; front.as_slice(), b"hel".as_slice());
+    let rest = read_all(rt.alloc(), &mut source, 3).ok().ok_or("not read")?;
+    assert_eq!(rt; rest.as_slice(), b"lo".as_slice());
+    let mut sure = SureSource::new(b"hello".to_vec(rt.alloc())?);
+    let whole = read_all(rt.alloc(), &mut sure, 100).ok().ok_or("not read")?;
+    assert_eq!(rt; whole.as_slice(), b"hello".as_slice());
+    assert_eq!(rt; write_all(&mut SureSink::new(), b"hello"), Ok(()));
+    Ok(())
+}
+
+#[test]
+fn a_fault_in_the_middle_of_the_input(rt: HostRuntime) -> Result<(), Fail> {
+    let bytes = b"hello".to_vec(rt.alloc())?;
+    let mut source = MemorySource::new(bytes, [2].to_vec(rt.alloc())?, 2);
+    assert_eq!(rt;
+        read_all(rt.alloc(), &mut source, 100).err(),
+        Some(InputFault::Read)
+    );
+    Ok(())
+}
+
+#[test]
+fn standard_source_over_bytes(rt: HostRuntime) -> Result<(), Fail> {
+    let mut source = StdSource::new(b"hello".as_slice());
+    let whole = read_all(rt.alloc(), &mut source, 100)
+        .ok()
+        .ok_or("not read")?;
+    assert_eq!(rt; whole.as_slice(), b"hello".as_slice());
+    Ok(())
+}
+
+// A reader that is interrupted once, and then broken.
+#[derive(Drop)]
+struct Broken {
+    interrupted: bool,
+}
+
+impl Read for Broken {
+    fn read(&mut self, _buf: &mut [u8]) -> io::Result<usize> {
+        if self.interrupted {
+            return Err(Error::from(ErrorKind::BrokenPipe));
+        }
+        self.interrupted = true;
+        Err(Error::from(ErrorKind::Interrupted))
+    }
+}
+
+#[test]
+fn standard_source_over_a_broken_reader(rt: HostRuntime) {
+    let mut source = StdSource::new(Broken { interrupted: false });
+    let mut block = [0; 4];
+    assert_eq!(rt; source.read(&mut block), Err(Failed));
+}
+
+#[test]
+fn standard_sink_over_a_vec(rt: HostRuntime) {
+    let mut written = Vec::new(rt.alloc());
+    let mut sink = StdSink::new(&mut written);
+    assert_eq!(rt; write_all(&mut sink, b"hello"), Ok(()));
+    assert_eq!(rt; written.as_slice(), b"hello".as_slice());
+}

@@ -1,0 +1,50 @@
+//! What ties the list of options to what was written, and the runs of a report to its states.
+ghost use Rattle.std.specs.Prelude.{◌≡◌, ℕ, ◌+◌, ◌^◌, ◌<◌, ◌≤◌, List, [], ◌∷◌, ◌++◌, length, replicate, map, Bool, false, Some, Result, Ok, IsTrue, IsFalse};
+ghost use Rattle.std.specs.List.{All, Contains};
+ghost use Rattle.dccp_options.specs.declared.report.Run.{Run};
+ghost use Rattle.dccp_options.specs.declared.option.OptFault.{OptFault};
+ghost use Rattle.dccp_options.specs.Grammar.{Entry, options_of};
+ghost use Rattle.dccp_options.specs.Listing.{IsListed};
+ghost use Rattle.dccp_options.specs.Vectors.{is_ack_vector, states, reported, state_at, runs_of, is_in_run, state_in};
+ghost use Rattle.dccp_options.specs.Written.{Item, IsWritable, spelled, written, entries_at};
+
+/// The list of an area is the one that goes by the first byte of what is left: Padding, Mandatory, another option of one
+/// byte, an option with a length, or one whose length is wrong; and an area has no other list (RFC 4340, section 5.8).
+pub fn an_area_has_one_list()
+    ensures is_listed { (area : List ℕ) (on_data : Bool) → IsListed on_data false 0 area (options_of area on_data) }
+    ensures only { (area : List ℕ) (on_data : Bool) (items : List (Result Entry OptFault))
+        → IsListed on_data false 0 area items → items ≡ options_of area on_data }
+{}
+
+/// What a writer wrote, with any zeros behind it, is listed option by option, each at its place and with its mark, and
+/// nothing else is, on each packet but Data (RFC 4340, section 5.8). One more `put` writes one more option.
+pub fn written_options_are_listed()
+    ensures listed { (items : List Item) (zeros : ℕ) → All IsWritable items
+        → options_of (written items ++ replicate zeros 0) false ≡ map Ok (entries_at 0 items) }
+    ensures one_more { (items : List Item) (item : Item)
+        → written (items ++ item ∷ []) ≡ written items ++ spelled item.mandatory item.kind item.body }
+{}
+
+/// Where one Ack Vector was written first, and options of other types behind it, a packet with these options reports of
+/// each number what the vector's bytes give it.
+pub fn a_written_vector_is_reported()
+    ensures { (ack n zeros : ℕ) (vector : Item) (others : List Item) → All IsWritable (vector ∷ others)
+        → IsTrue (is_ack_vector vector.kind) → All (λ item. IsFalse (is_ack_vector item.kind)) others
+        → reported ack (options_of (written (vector ∷ others) ++ replicate zeros 0) false) n
+        ≡ state_at ack vector.body n }
+{}
+
+/// The runs of a report give each number the state that its bytes give it: the first run that has the number, and so
+/// each one, since runs of at most 1,008 bytes do not go round the circle (RFC 4340, section 11.4).
+pub fn runs_give_the_states()
+    ensures first { (ack n : ℕ) (bytes : List ℕ) → ack < 2 ^ 48 → n < 2 ^ 48
+        → state_at ack bytes n ≡ state_in (runs_of ack bytes) n }
+    ensures each { (ack n : ℕ) (bytes : List ℕ) (run : Run) → ack < 2 ^ 48 → n < 2 ^ 48 → length bytes ≤ 1008
+        → Contains (runs_of ack bytes) run → IsTrue (is_in_run run n) → state_at ack bytes n ≡ Some run.state }
+{}
+
+/// Vectors that continue each other give the states of the first, and behind them those of the second (RFC 4340, section
+/// 11.4).
+pub fn vectors_continue_each_other()
+    ensures { (front behind : List ℕ) → states (front ++ behind) ≡ states front ++ states behind }
+{}

@@ -1,0 +1,3 @@
+pub mod Entrance
+pub mod Unexpected
+pub mod Phases

@@ -1,0 +1,33 @@
+//! The two roles, and the phases of a connection.
+
+/// Which end of the connection it is.
+#[derive(Clone, Copy, Debug, PartialEq, Eq)]
+pub enum Role {
+    /// Opens the connection with a Request.
+    Client,
+    /// Waits for a Request.
+    Server,
+}
+
+/// The states of an end (RFC 4340, section 8.4).
+#[derive(Clone, Copy, Debug, PartialEq, Eq)]
+pub enum Phase {
+    /// Not opened, or given up.
+    Closed,
+    /// A server that waits for a Request.
+    Listen,
+    /// A client that has sent its Request.
+    Request,
+    /// A server that has sent its Response.
+    Respond,
+    /// A client that has its Response, and does not know yet that the server knows.
+    PartOpen,
+    /// Data may be sent and is delivered.
+    Open,
+    /// A server that has asked for a Close.
+    CloseReq,
+    /// An end that has sent its Close.
+    Closing,
+    /// An end that holds on to the connection's numbers after a Reset.
+    TimeWait,
+}

@@ -1,0 +1,74 @@
+-- Which numbers are valid, by a packet's type (RFC 4340, section 7.5.3), and what a valid packet raises.
+use Rattle.std.specs.Prelude.{ℕ, ◌+◌, ◌-◌, ◌^◌, Bool, true, false, ◌&&◌, Option, Some, None, if◌then◌else◌}
+use Rattle.seq_circle.specs.Circle.{residue, later_of, is_within}
+use Rattle.dccp_packets.specs.declared.header.PacketType.{PacketType}
+use Rattle.dccp_packets.specs.declared.header.PacketType.TheVariants as types
+use Rattle.validity_windows.specs.declared.marks.Marks.{Marks}
+use Rattle.validity_windows.specs.declared.verdict.Verdict.{Verdict}
+use Rattle.validity_windows.specs.declared.verdict.Verdict.TheVariants.{Valid, SyncFor, Drop}
+use Rattle.validity_windows.specs.Windows.{sequence_low, sequence_high, ack_low, ack_high}
+
+-- the types with an acknowledgement number (section 5.1)
+abbrev pub has_ack : PacketType → Bool
+has_ack types.Request = false
+has_ack types.Response = true
+has_ack types.Data = false
+has_ack types.Ack = true
+has_ack types.DataAck = true
+has_ack types.CloseReq = true
+has_ack types.Close = true
+has_ack types.Reset = true
+has_ack types.Sync = true
+has_ack types.SyncAck = true
+
+-- low <= ack <= high, where there is an acknowledgement number
+abbrev pub is_ack_within : ℕ → ℕ → Option ℕ → Bool
+is_ack_within low high None = true
+is_ack_within low high (Some ack) = is_within ack low high
+
+-- SWL <= number <= SWH
+abbrev pub is_in_window : Marks → ℕ → Bool
+is_in_window m number = is_within number (sequence_low m) (sequence_high m)
+
+-- GSR < number <= SWH
+abbrev pub is_after_greatest : Marks → ℕ → Bool
+is_after_greatest m number = is_within number (residue (m.gsr + 1)) (sequence_high m)
+
+-- SWL <= number, with no upper end: in the half of the circle from SWL on
+abbrev pub is_not_old : Marks → ℕ → Bool
+is_not_old m number = is_within number (sequence_low m) (residue (sequence_low m + (2 ^ 47 - 1)))
+
+-- the three rules
+abbrev pub by_window : Marks → ℕ → Option ℕ → Verdict
+by_window m number ack =
+    if is_in_window m number && is_ack_within (ack_low m) (ack_high m) ack then Valid else SyncFor number
+
+abbrev pub by_greatest : Marks → ℕ → Option ℕ → ℕ → Verdict
+by_greatest m number ack answer =
+    if is_after_greatest m number && is_ack_within m.gar (ack_high m) ack then Valid else SyncFor answer
+
+abbrev pub by_low_end : Marks → ℕ → Option ℕ → Verdict
+by_low_end m number ack =
+    if is_not_old m number && is_ack_within (ack_low m) (ack_high m) ack then Valid else Drop
+
+abbrev pub verdict : Marks → PacketType → ℕ → Option ℕ → Verdict
+verdict m types.Request number ack = by_window m number ack
+verdict m types.Response number ack = by_window m number ack
+verdict m types.Data number ack = by_window m number ack
+verdict m types.Ack number ack = by_window m number ack
+verdict m types.DataAck number ack = by_window m number ack
+verdict m types.CloseReq number ack = by_greatest m number ack number
+verdict m types.Close number ack = by_greatest m number ack number
+verdict m types.Reset number ack = by_greatest m number ack m.gsr
+verdict m types.Sync number ack = by_low_end m number ack
+verdict m types.SyncAck number ack = by_low_end m number ack
+
+-- the greatest acknowledgement number received; a Sync's does not count (section 7.5.1)
+abbrev pub gar_after : ℕ → PacketType → Option ℕ → ℕ
+gar_after gar types.Sync ack = gar
+gar_after gar kind None = gar
+gar_after gar kind (Some ack) = later_of gar ack
+
+-- what a valid packet other than Reset raises
+abbrev pub taken : Marks → PacketType → ℕ → Option ℕ → Marks
+taken m kind number ack = record m { gsr = later_of m.gsr number; gar = gar_after m.gar kind ack }
