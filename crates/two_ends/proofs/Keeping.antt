@@ -1,6 +1,6 @@
 -- Every schedule leaves the world safe. No frame carries an option yet and no number is marked, so each step keeps this: all
 -- frames are silent and no number was processed. What Safe says then follows.
-use Rattle.std.proofs.Common.{◌≡◌, refl, ap, sym, ◌∙◌, subst, ℕ, List, [], ◌∷◌, ◌++◌, ◌||◌, Option, Some, None, true, false, Bool, if◌then◌else◌, Result, Ok, Err, IsTrue, slice_get, length, slice_index, Contains, arith, ◌<◌}
+use Rattle.std.proofs.Common.{◌≡◌, refl, ap, sym, ◌∙◌, subst, ℕ, zero, suc, List, [], ◌∷◌, ◌++◌, ◌||◌, Option, Some, None, true, false, Bool, if◌then◌else◌, Result, Ok, Err, IsTrue, slice_get, length, slice_index, Contains, arith, ◌<◌}
 use Rattle.std.specs.List.{list_any}
 use Rattle.dccp_endpoint.specs.Steps.{Step, opens, receives}
 use Rattle.dccp_endpoint.specs.End.{EndState, floor_of}
@@ -17,7 +17,8 @@ use Rattle.two_ends.specs.Lists.{last_shown, or_earlier}
 use Rattle.two_ends.specs.Frames.{options_in}
 use Rattle.two_ends.specs.Pairs.{Pair, Saying, Nothing, said_by, said_in, place_at, held_at}
 use Rattle.two_ends.specs.Negotiated.{Agree, AreOfOneMind, IsSettled, Given, Origin, Initial, is_change, side_changed, was_negotiated, list_said, value_said, last_list, last_value}
-use Rattle.two_ends.specs.Reported.{Once, IsOnce, Heard}
+use Rattle.two_ends.specs.Reported.{Once, IsOnce, Heard, Truthful, Told}
+use Rattle.dccp_options.specs.Vectors.{report_of}
 use Rattle.feature_lists.specs.Features.{number_of}
 use Rattle.two_ends.specs.Safe.{Safe}
 use Rattle.two_ends.specs.Reached.{Reached}
@@ -122,10 +123,29 @@ quiet-once w q side =
     let none : length (half_of w side).processed ≡ 0 = ap length (of-half w side q).unprocessed in
     record { distinct = λ i j here there same. absurd (omega arith); sent = λ i here. absurd (omega arith) }
 
+silent-at : (frames : List SentFrame) (index : ℕ) (frame : SentFrame) → AreSilent frames → slice_get frames index ≡ Some frame → options_in frame.bytes ≡ []
+silent-at [] index frame s there = cc there
+silent-at (first ∷ frames) zero frame s there =
+    let some : Some first ≡ Some frame = there in
+    let same : first ≡ frame = cc some in
+    subst (λ (f : SentFrame). options_in f.bytes ≡ []) same s.0
+silent-at (first ∷ frames) (suc index) frame s there = silent-at frames index frame s.1 there
+
+quiet-truthful : (w : WorldState) → AreQuiet w → Truthful w
+quiet-truthful w q side index frame ack bytes there carries =
+    let none : report_of ack (options_in frame.bytes) ≡ None = ap (report_of ack) (silent-at (half_of w side).frames index frame (of-half w side q).silent there) in
+    let some = carries.carries in
+    cc (none, some)
+
+quiet-told : (w : WorldState) → AreQuiet w → Told w
+quiet-told w q side n fits below = absurd (omega arith)
+
 pub quiet-safe : (w : WorldState) → AreQuiet w → Safe w
 quiet-safe w q = record {
   agree = λ pair settled. of-one-mind w q pair;
   given = λ pair side. Initial refl;
+  truthful = quiet-truthful w q;
+  told = quiet-told w q;
   once = quiet-once w q;
   heard = λ side n reported. absurd (omega (arith, reported.1));
 }
