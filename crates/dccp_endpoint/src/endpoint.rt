@@ -209,7 +209,13 @@ impl Endpoint {
     }
 
     // RFC 4340, section 8.1.3: the Response to the Request is acknowledged.
-    fn take_response(&mut self, number: Seq48, ack: Seq48, service: u32, out: &mut Outbox) -> Outcome
+    fn take_response(
+        &mut self,
+        number: Seq48,
+        ack: Seq48,
+        service: u32,
+        out: &mut Outbox,
+    ) -> Outcome
         requires { out.old ≡ None }
         ensures { record { after = self.new; frame = out.new; answer = result } ≡ enters self.old phase.Request (Long number) (kind.Response ack service) }
     {

@@ -25,9 +25,7 @@ pub enum Why {
 pub enum Outcome {
     /// It was taken. `delivered` is the place of its data in the input, first and past the last, where there was data to
     /// deliver.
-    Took {
-        delivered: Option<(usize, usize)>,
-    },
+    Took { delivered: Option<(usize, usize)> },
     /// It was dropped.
     Dropped(Why),
     /// It needs a part of the protocol that is not built yet. The end is unchanged.

@@ -63,7 +63,7 @@ arrives-quiet : (w : WorldState) (from : Side) (frame : Option SentFrame) → Ar
 arrives-quiet w from None q = q
 arrives-quiet w from (Some frame) q =
     full-quiet w (other from) (half_receives (half_of w (other from)) frame.bytes) q
-      (moved-quiet (half_of w (other from)) (receives (half_of w (other from)).end frame.bytes) (of-half w (other from) q) (receives-silent (half_of w (other from)).end frame.bytes))
+    (moved-quiet (half_of w (other from)) (receives (half_of w (other from)).end frame.bytes) (of-half w (other from) q) (receives-silent (half_of w (other from)).end frame.bytes))
 
 event-quiet : (w : WorldState) (e : Event) → AreQuiet w → AreQuiet (world_after w (happens w e))
 event-quiet w event.Open q = full-quiet w Client (half_opens w.client) q (moved-quiet w.client (opens w.client.end) q.client (opens-silent w.client.end))
@@ -99,7 +99,7 @@ module _ (w : WorldState) (q : AreQuiet w) (pair : Pair) where
   unchanged-by : (side : Side) → side_changed w pair side ≡ false
   unchanged-by side =
       no-frame (λ frame. is_change (said_by pair side frame.bytes)) (λ frame none. ap is_change (says-nothing pair side frame.bytes none))
-        (half_of w side).frames (of-half w side q).silent
+      (half_of w side).frames (of-half w side q).silent
 
   not-negotiated : was_negotiated w pair ≡ false
   not-negotiated =
@@ -108,7 +108,7 @@ module _ (w : WorldState) (q : AreQuiet w) (pair : Pair) where
   no-list : (side : Side) → last_list w pair side ≡ None
   no-list side =
       none-shown (λ (frame : SentFrame). list_said (said_by pair side frame.bytes)) (λ frame none. ap list_said (says-nothing pair side frame.bytes none))
-        (half_of w side).frames (of-half w side q).silent
+      (half_of w side).frames (of-half w side q).silent
 
   of-one-mind : AreOfOneMind w pair
   of-one-mind = record {

@@ -36,7 +36,7 @@ step-reached old event new (Ok seen) took r =
       is_server = r.is_server;
       events = r.events ++ event ∷ [];
       same =
-        sym (ap (world_after old) took)
-        ∙ ap (λ (w : WorldState). world_after w (happens w event)) r.same
-        ∙ sym (run-snoc (at_start r.client r.server) r.events event);
+          sym (ap (world_after old) took)
+          ∙ ap (λ (w : WorldState). world_after w (happens w event)) r.same
+          ∙ sym (run-snoc (at_start r.client r.server) r.events event);
     }

@@ -24,7 +24,7 @@ pub record HasSentNumber (w : WorldState) (side : Side) (n : ℕ) : Type 0 where
 -- Each number is processed once, and only where the other side sent it.
 pub record IsOnce (w : WorldState) (side : Side) : Type 0 where
   pub distinct : (i j : ℕ) → i < length (half_of w side).processed → j < length (half_of w side).processed
-    → slice_index (half_of w side).processed i ≡ slice_index (half_of w side).processed j → i ≡ j
+      → slice_index (half_of w side).processed i ≡ slice_index (half_of w side).processed j → i ≡ j
   pub sent : (i : ℕ) → i < length (half_of w side).processed → HasSentNumber w (other side) (slice_index (half_of w side).processed i)
 
 abbrev pub Once : WorldState → Type 0
@@ -54,7 +54,7 @@ pub record TellsTruth (half : Half) (frame : SentFrame) (ack : ℕ) (bytes : Lis
 -- every Ack Vector that was ever sent
 abbrev pub Truthful : WorldState → Type 0
 Truthful w = (side : Side) (index : ℕ) (frame : SentFrame) (ack : ℕ) (bytes : List ℕ) → slice_get (half_of w side).frames index ≡ Some frame
-  → CarriesVector frame ack bytes → TellsTruth (half_of w side) frame ack bytes
+    → CarriesVector frame ack bytes → TellsTruth (half_of w side) frame ack bytes
 
 -- A frame whose vector told of a number, down to the floor, and which the other side processed.
 pub record ToldIn (w : WorldState) (side : Side) (n : ℕ) : Type 0 where
@@ -76,4 +76,4 @@ pub data IsSettledNumber (w : WorldState) (side : Side) (n : ℕ) : Type 0 where
 -- every number from the first received up to the floor
 abbrev pub Told : WorldState → Type 0
 Told w = (side : Side) (n : ℕ) → n < 2 ^ 48 → distance (half_of w side).end.isr n < distance (half_of w side).end.isr (floor_of (half_of w side).end)
-  → IsSettledNumber w side n
+    → IsSettledNumber w side n

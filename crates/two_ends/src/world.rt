@@ -87,5 +87,4 @@ impl World {
 /// The world is safe after every list of events, from any two configurations.
 pub fn every_run_is_safe()
     ensures { (client server : Config) (events : List Event) → client.role ≡ role.Client → server.role ≡ role.Server → Safe (run (at_start client server) events) }
-{
-}
+{}
