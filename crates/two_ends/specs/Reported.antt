@@ -1,11 +1,12 @@
 -- What the ends processed of each other's packets, and what they believe received (RFC 4340, section 11.4).
 use Rattle.std.specs.Prelude.{◌≡◌, ℕ, ◌<◌, false, List, length, slice_get, slice_index, Some, Contains}
 use Rattle.dccp_packets.specs.Grammar.{Parts}
+use Rattle.dccp_endpoint.specs.Arrivals.{value_of}
 use Rattle.dccp_endpoint.specs.End.{reported_of}
 use Rattle.two_ends.specs.declared.frames.SentFrame.{SentFrame}
 use Rattle.two_ends.specs.declared.event.Side.{Side}
 use Rattle.two_ends.specs.World.{WorldState, half_of, other}
-use Rattle.two_ends.specs.Frames.{packet_of, is_reset, value_of}
+use Rattle.two_ends.specs.Frames.{packet_of, is_reset}
 
 -- A side sent a packet with this number that is no Reset. A Reset without a connection has a number of the other side.
 pub record HasSentNumber (w : WorldState) (side : Side) (n : ℕ) : Type 0 where
