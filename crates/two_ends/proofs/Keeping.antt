@@ -2,7 +2,8 @@
 -- frames are silent and no number was processed. What Safe says then follows.
 use Rattle.std.proofs.Common.{◌≡◌, refl, ap, sym, ◌∙◌, subst, ℕ, zero, suc, List, [], ◌∷◌, ◌++◌, ◌||◌, Option, Some, None, true, false, Bool, if◌then◌else◌, Result, Ok, Err, IsTrue, slice_get, length, slice_index, Contains, arith, ◌<◌}
 use Rattle.std.specs.List.{list_any}
-use Rattle.dccp_endpoint.specs.Steps.{Step, opens, receives}
+use Rattle.dccp_endpoint.specs.Receiving.{receives}
+use Rattle.dccp_endpoint.specs.Steps.{Step, opens}
 use Rattle.dccp_endpoint.specs.End.{EndState, floor_of}
 use Rattle.dccp_endpoint.specs.declared.config.Config.{Config}
 use Rattle.two_ends.specs.declared.frames.SentFrame.{SentFrame}

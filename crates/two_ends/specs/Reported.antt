@@ -5,11 +5,12 @@ use Rattle.run_list.specs.MarkedSet.{has, floor_under}
 use Rattle.ack_vectors.specs.Vector.{vector, is_whole}
 use Rattle.dccp_options.specs.Vectors.{report_of}
 use Rattle.dccp_packets.specs.Grammar.{Parts}
+use Rattle.dccp_endpoint.specs.Arrivals.{ack_of, value_of}
 use Rattle.dccp_endpoint.specs.End.{floor_of, reported_of}
 use Rattle.two_ends.specs.declared.frames.SentFrame.{SentFrame}
 use Rattle.two_ends.specs.declared.event.Side.{Side}
 use Rattle.two_ends.specs.World.{Half, WorldState, half_of, other}
-use Rattle.two_ends.specs.Frames.{packet_of, options_in, ack_of, is_reset, value_of}
+use Rattle.two_ends.specs.Frames.{packet_of, options_in, is_reset}
 
 -- A side sent a packet with this number that is no Reset. A Reset without a connection has a number of the other side.
 pub record HasSentNumber (w : WorldState) (side : Side) (n : ℕ) : Type 0 where
@@ -75,5 +76,5 @@ pub data IsSettledNumber (w : WorldState) (side : Side) (n : ℕ) : Type 0 where
 
 -- every number from the first received up to the floor
 abbrev pub Told : WorldState → Type 0
-Told w = (side : Side) (n : ℕ) → n < 2 ^ 48 → distance (half_of w side).end.isr n < distance (half_of w side).end.isr (floor_of (half_of w side).end)
+Told w = (side : Side) (n : ℕ) → n < 2 ^ 48 → distance (half_of w side).end.marks.isr n < distance (half_of w side).end.marks.isr (floor_of (half_of w side).end)
     → IsSettledNumber w side n
