@@ -33,9 +33,7 @@ pub enum Why {
 pub enum Outcome {
     /// It was taken. `delivered` is the place of its data in the input, first and past the last, where there was data to
     /// deliver.
-    Took {
-        delivered: Option<(usize, usize)>,
-    },
+    Took { delivered: Option<(usize, usize)> },
     /// It was dropped.
     Dropped(Why),
     /// It was answered with a Sync that acknowledges this number.
@@ -43,10 +41,7 @@ pub enum Outcome {
     /// It is a valid Reset with this code, and the end is in TIMEWAIT.
     WasReset(u8),
     /// It was answered with a Reset of this code and detail (RFC 4340, section 5.6).
-    SentReset {
-        code: u8,
-        detail: [u8; 3],
-    },
+    SentReset { code: u8, detail: [u8; 3] },
     /// It needs a part of the protocol that is not built yet. The end is unchanged.
     NotBuilt,
 }

@@ -8,8 +8,11 @@ use std::test::Fail;
 
 // The frames of the plain handshake.
 const REQUEST: &str = "9c401389050031ec01000000000003e80000002a";
+
 const RESPONSE: &str = "13899c400700261403000000000007d000000000000003e80000002a";
+
 const ACK: &str = "9c4013890600234107000000000003e900000000000007d0";
+
 const SERVER_ACK: &str = "13899c400600234007000000000007d100000000000003e9";
 
 // The client tears the connection down by a Reset with the code Aborted.
@@ -63,7 +66,10 @@ fn requesting() -> Result<Endpoint, Fail> {
 fn dropped_in_listen(rt: HostRuntime) -> Result<(), Fail> {
     let cases = [
         ("0102", Why::Malformed(Malformed::Short)),
-        ("9c401389050031ed01000000000003e80000002a", Why::Sum(SumFault::Wrong)),
+        (
+            "9c401389050031ed01000000000003e80000002a",
+            Why::Sum(SumFault::Wrong),
+        ),
         (
             "9c4013890503000001000000000003e80000002a01020304050607",
             Why::Sum(SumFault::CoverageTooLarge),
@@ -85,7 +91,11 @@ fn dropped_in_listen(rt: HostRuntime) -> Result<(), Fail> {
 #[test]
 fn reset_in_listen(rt: HostRuntime) -> Result<(), Fail> {
     let cases = [
-        (ACK, 3, "13899c400700173c0f000000000007d100000000000003e903000000"),
+        (
+            ACK,
+            3,
+            "13899c400700173c0f000000000007d100000000000003e903000000",
+        ),
         (
             "9c401389050031eb01000000000003e80000002b",
             8,
