@@ -4,3 +4,4 @@ pub mod Arrivals
 pub mod Faults
 pub mod Steps
 pub mod Receiving
+pub mod Telling

@@ -175,7 +175,7 @@ started e ph a =
     record e {
       phase = ph;
       marks =
-        record e.marks { isr = a.number; gsr = a.number; osr = a.number; gar = gar_after e.marks.gar (packet_type a.kind) (ack_of a.kind) };
+          record e.marks { isr = a.number; gsr = a.number; osr = a.number; gar = gar_after e.marks.gar (packet_type a.kind) (ack_of a.kind) };
     }
 
 -- step 4: what is no answer to the Request

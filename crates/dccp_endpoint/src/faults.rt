@@ -10,7 +10,9 @@ use dccp_packets::PacketType;
 use dccp_states::Phase;
 
 const OPTION_ERROR: u8 = 5;
+
 const MANDATORY_ERROR: u8 = 6;
+
 const MANDATORY: u8 = 1;
 
 // Tells whether an option of this type and so many bytes of data is understood.

@@ -41,10 +41,7 @@ pub enum Outcome {
     /// It is a valid Reset with this code, and the end is in TIMEWAIT.
     WasReset(u8),
     /// It was answered with a Reset of this code and detail (RFC 4340, section 5.6).
-    SentReset {
-        code: u8,
-        detail: [u8; 3],
-    },
+    SentReset { code: u8, detail: [u8; 3] },
     /// It needs a part of the protocol that is not built yet. The end is unchanged.
     NotBuilt,
 }

@@ -1,0 +1,281 @@
+//! The worked packets of one end, and each outcome of `receive`.
+use crate::{Config, Endpoint, OpenFault, Outcome, Phase, Role, Why};
+use dccp_packets::{Malformed, Outbox};
+use dccp_sum::SumFault;
+use seq_circle::Seq48;
+use std::alloc::Global;
+use std::test::Fail;
+
+// The frames of the plain handshake.
+const REQUEST: &str = "9c401389050031ec01000000000003e80000002a";
+
+const RESPONSE: &str = "13899c400700261403000000000007d000000000000003e80000002a";
+
+const ACK: &str = "9c4013890600234107000000000003e900000000000007d0";
+
+const SERVER_ACK: &str = "13899c400600234007000000000007d100000000000003e9";
+
+// The client tears the connection down by a Reset with the code Aborted.
+const RESET: &str = "9c4013890700183d0f000000000003e900000000000007d002000000";
+
+// Whether an end answers a packet so, and sends this frame, or none where it is empty.
+fn is_answered(
+    alloc: Global,
+    end: &mut Endpoint,
+    packet: &str,
+    wanted: Outcome,
+    sent: &str,
+) -> Result<bool, Fail> {
+    let bytes = hex::decode(alloc, packet)?;
+    let frame = hex::decode(alloc, sent)?;
+    if 2044 < bytes.len() {
+        return Err(Fail::from("no packet is longer"));
+    }
+    let mut out = Outbox::new();
+    let outcome = end.receive(&bytes, &mut out);
+    let is_sent = match out.frame() {
+        Some(own) => own.bytes() == frame.as_slice(),
+        None => frame.is_empty(),
+    };
+    Ok(outcome == wanted && is_sent)
+}
+
+const TOOK: Outcome = Outcome::Took { delivered: None };
+
+fn listening() -> Result<Endpoint, Fail> {
+    Ok(Endpoint::new(Config::usual(Role::Server))?)
+}
+
+fn responding(alloc: Global) -> Result<Endpoint, Fail> {
+    let mut end = listening()?;
+    if is_answered(alloc, &mut end, REQUEST, TOOK, RESPONSE)? {
+        Ok(end)
+    } else {
+        Err(Fail::from("a Response"))
+    }
+}
+
+fn requesting() -> Result<Endpoint, Fail> {
+    let mut end = Endpoint::new(Config::usual(Role::Client))?;
+    let mut out = Outbox::new();
+    end.open(&mut out)?;
+    Ok(end)
+}
+
+#[test]
+fn dropped_in_listen(rt: HostRuntime) -> Result<(), Fail> {
+    let cases = [
+        ("0102", Why::Malformed(Malformed::Short)),
+        (
+            "9c401389050031ed01000000000003e80000002a",
+            Why::Sum(SumFault::Wrong),
+        ),
+        (
+            "9c4013890503000001000000000003e80000002a01020304050607",
+            Why::Sum(SumFault::CoverageTooLarge),
+        ),
+        ("9c411389050031eb01000000000003e80000002a", Why::OtherFlow),
+        ("9c40138904002647060003ea000007d1", Why::ShortOff),
+        (RESET, Why::StrayReset),
+    ];
+    let mut end = listening()?;
+    for (packet, why) in cases {
+        let is_so = is_answered(rt.alloc(), &mut end, packet, Outcome::Dropped(why), "")?;
+        assert!(rt; is_so, "{packet}");
+        assert_eq!(rt; end.phase(), Phase::Listen, "{packet}");
+    }
+    Ok(())
+}
+
+// Code 3, No Connection, and code 8, Bad Service Code, without a connection.
+#[test]
+fn reset_in_listen(rt: HostRuntime) -> Result<(), Fail> {
+    let cases = [
+        (
+            ACK,
+            3,
+            "13899c400700173c0f000000000007d100000000000003e903000000",
+        ),
+        (
+            "9c401389050031eb01000000000003e80000002b",
+            8,
+            "13899c4007001a0e0f0000000000000000000000000003e808000000",
+        ),
+    ];
+    let mut end = listening()?;
+    for (packet, code, sent) in cases {
+        let detail = [0, 0, 0];
+        let wanted = Outcome::SentReset { code, detail };
+        let is_so = is_answered(rt.alloc(), &mut end, packet, wanted, sent)?;
+        assert!(rt; is_so, "{packet}");
+        assert_eq!(rt; end.phase(), Phase::Listen, "{packet}");
+    }
+    Ok(())
+}
+
+#[test]
+fn options_in_request(rt: HostRuntime) -> Result<(), Fail> {
+    let faults = [
+        (
+            "9c401389060030e701000000000003e80000002a00000001",
+            5,
+            [1, 0, 0],
+            "13899c400700153d0f000000000007d000000000000003e805010000",
+        ),
+        (
+            "9c4013890700217a01000000000003e80000002a0163040709000000",
+            6,
+            [0x63, 7, 9],
+            "13899c4007000cd20f000000000007d000000000000003e806630709",
+        ),
+    ];
+    for (packet, code, detail, sent) in faults {
+        let mut end = listening()?;
+        let wanted = Outcome::SentReset { code, detail };
+        let is_so = is_answered(rt.alloc(), &mut end, packet, wanted, sent)?;
+        assert!(rt; is_so, "{packet}");
+        assert_eq!(rt; end.phase(), Phase::Closed, "{packet}");
+    }
+    let fine = [
+        "9c40138906002fe801000000000003e80000002a01000000",
+        "9c401389060010e701000000000003e80000002a20010000",
+    ];
+    for packet in fine {
+        let mut end = listening()?;
+        let is_so = is_answered(rt.alloc(), &mut end, packet, TOOK, RESPONSE)?;
+        assert!(rt; is_so, "{packet}");
+        assert_eq!(rt; end.phase(), Phase::Respond, "{packet}");
+    }
+    Ok(())
+}
+
+#[test]
+fn packets_in_respond(rt: HostRuntime) -> Result<(), Fail> {
+    let far = Seq48::new(2000).ok_or("below 2^48")?;
+    let next = Seq48::new(1001).ok_or("below 2^48")?;
+    let cases = [
+        (
+            "9c4013890600193c11000000000003e900000000000007d5",
+            Outcome::Dropped(Why::BadSync),
+            "",
+            Phase::Respond,
+        ),
+        (
+            "9c40138906001f5a07000000000007d000000000000007d0",
+            Outcome::Synced(far),
+            "13899c400600155911000000000007d100000000000007d0",
+            Phase::Respond,
+        ),
+        (
+            "9c4013890400851705000000000003e9aa",
+            Outcome::Synced(next),
+            "13899c400600194011000000000007d100000000000003e9",
+            Phase::Respond,
+        ),
+        (
+            "9c4013890800083107000000000003e900000000000007d020050102f8000000",
+            Outcome::NotBuilt,
+            "",
+            Phase::Respond,
+        ),
+        (RESET, Outcome::WasReset(2), "", Phase::TimeWait),
+    ];
+    for (packet, wanted, sent, phase) in cases {
+        let mut end = responding(rt.alloc())?;
+        let is_so = is_answered(rt.alloc(), &mut end, packet, wanted, sent)?;
+        assert!(rt; is_so, "{packet}");
+        assert_eq!(rt; end.phase(), phase, "{packet}");
+    }
+    Ok(())
+}
+
+#[test]
+fn data_in_request(rt: HostRuntime) -> Result<(), Fail> {
+    let mut end = requesting()?;
+    let wanted = Outcome::SentReset {
+        code: 4,
+        detail: [2, 0, 0],
+    };
+    let sent = "9c4013890700163b0f000000000003e900000000000007d004020000";
+    let is_so = is_answered(
+        rt.alloc(),
+        &mut end,
+        "13899c4004002b3205000000000007d0",
+        wanted,
+        sent,
+    )?;
+    assert!(rt; is_so);
+    assert_eq!(rt; end.phase(), Phase::Request);
+    Ok(())
+}
+
+#[test]
+fn answers_in_request(rt: HostRuntime) -> Result<(), Fail> {
+    let other = Outcome::SentReset {
+        code: 8,
+        detail: [0, 0, 0],
+    };
+    let cases = [
+        (
+            "13899c400700261303000000000007d000000000000003e80000002b",
+            other,
+            "9c4013890700123d0f000000000003e900000000000007d008000000",
+            Phase::Closed,
+        ),
+        (
+            "13899c400700183f0f000000000007d000000000000003e702000000",
+            Outcome::Dropped(Why::StrayReset),
+            "",
+            Phase::Request,
+        ),
+        (
+            "13899c400700183e0f000000000007d000000000000003e802000000",
+            Outcome::WasReset(2),
+            "",
+            Phase::TimeWait,
+        ),
+        (RESPONSE, TOOK, ACK, Phase::PartOpen),
+    ];
+    for (packet, wanted, sent, phase) in cases {
+        let mut end = requesting()?;
+        let is_so = is_answered(rt.alloc(), &mut end, packet, wanted, sent)?;
+        assert!(rt; is_so, "{packet}");
+        assert_eq!(rt; end.phase(), phase, "{packet}");
+    }
+    Ok(())
+}
+
+#[test]
+fn plain_handshake(rt: HostRuntime) -> Result<(), Fail> {
+    let mut server = responding(rt.alloc())?;
+    assert!(rt; is_answered(rt.alloc(), &mut server, ACK, TOOK, SERVER_ACK)?);
+    assert_eq!(rt; server.phase(), Phase::Open);
+    let mut client = requesting()?;
+    assert!(rt; is_answered(rt.alloc(), &mut client, RESPONSE, TOOK, ACK)?);
+    assert!(rt; is_answered(rt.alloc(), &mut client, SERVER_ACK, TOOK, "")?);
+    assert_eq!(rt; client.phase(), Phase::Open);
+    let mut out = Outbox::new();
+    assert_eq!(rt; client.open(&mut out), Err(OpenFault::NotFresh));
+    assert!(rt; out.frame().is_none());
+    Ok(())
+}
+
+#[test]
+fn repeated_request(rt: HostRuntime) -> Result<(), Fail> {
+    let again = "13899c400700261303000000000007d100000000000003e80000002a";
+    let sync = "9c4013890600194011000000000003ea00000000000007d0";
+    let sync_ack = "13899c400600173e13000000000007d200000000000003ea";
+    let mut server = responding(rt.alloc())?;
+    assert!(rt; is_answered(rt.alloc(), &mut server, REQUEST, TOOK, again)?);
+    let mut client = requesting()?;
+    let answer = "9c4013890600234007000000000003e900000000000007d1";
+    assert!(rt; is_answered(rt.alloc(), &mut client, again, TOOK, answer)?);
+    let number = Seq48::new(2000).ok_or("below 2^48")?;
+    let synced = Outcome::Synced(number);
+    assert!(rt; is_answered(rt.alloc(), &mut client, RESPONSE, synced, sync)?);
+    assert!(rt; is_answered(rt.alloc(), &mut server, sync, TOOK, sync_ack)?);
+    assert_eq!(rt; server.phase(), Phase::Open);
+    assert!(rt; is_answered(rt.alloc(), &mut client, sync_ack, TOOK, "")?);
+    assert_eq!(rt; client.phase(), Phase::Open);
+    Ok(())
+}

@@ -8,8 +8,8 @@ use crate::config::number as number_of;
 use crate::faults::{first_fault, is_unbuilt};
 use crate::{Fault, Outcome, Passage, Why};
 use dccp_packets::{Header, Kind, Number, Outbox, Packet, PacketType, decode};
-use dccp_sum::check;
 use dccp_states::{Entrance, Phase, Reply, after, gate, unexpected};
+use dccp_sum::check;
 use seq_circle::Seq48;
 use validity_windows::Verdict;
 
@@ -103,6 +103,7 @@ impl Endpoint {
     ghost use Rattle.dccp_endpoint.specs.Arrivals.{shown, ack_of, service_of, is_data};
     ghost use Rattle.dccp_endpoint.specs.Receiving.{receives, by_ports, by_form, is_of_connection, enters, accepts, answers, packet_error, judged, takes, raised, started, passage, passes, goes_on, by_fault, options_in, is_other_service, moved_to, replies, resets, resets_bare, syncs, took, arrival};
     ghost use Rattle.dccp_endpoint.specs.Steps.{sends};
+    ghost use Rattle.dccp_endpoint.specs.Telling.{Tells};
     ghost use Rattle.dccp_endpoint.specs.Faults.{first_fault};
     ghost use Rattle.dccp_packets.specs.declared.header.Kind.TheVariants as kind;
     ghost use Rattle.dccp_packets.specs.declared.header.Number.TheVariants.{Long};
@@ -111,12 +112,24 @@ impl Endpoint {
     /// does not fit, whose ports are not those of the connection or whose numbers are short are dropped, in this order. The
     /// phase decides whether the packet may enter, the windows whether its numbers are valid, its type whether it is out of
     /// place; then its options are read, and it moves the phase and is answered. What needs a part that is not built yet is
-    /// `NotBuilt`. A packet that is dropped or `NotBuilt` changes nothing.
+    /// `NotBuilt`. The outcome tells what has changed: a packet that is dropped or `NotBuilt` changes nothing and sends nothing,
+    /// a valid Reset moves the phase alone, a Sync takes the next number and acknowledges the number that `Synced` has, and a
+    /// Reset carries the code and detail that `SentReset` has.
     pub fn receive(&mut self, bytes: &[u8], out: &mut Outbox) -> Outcome
         requires { length bytes.now ≤ 2044 }
         ensures step { record { after = self.new; frame = out.new; answer = result } ≡ receives self.old bytes.now }
+        ensures told { Tells self.old result self.new out.new }
     {
         out.clear();
+        self.take_bytes(bytes, out)
+    }
+
+    // Step 1: the bytes are a packet with a fitting checksum.
+    fn take_bytes(&mut self, bytes: &[u8], out: &mut Outbox) -> Outcome
+        requires empty { out.old ≡ None }
+        requires fits { length bytes.now ≤ 2044 }
+        ensures { record { after = self.new; frame = out.new; answer = result } ≡ receives self.old bytes.now }
+    {
         let packet = match decode(bytes) {
             Ok(packet) => packet,
             Err(fault) => return Outcome::Dropped(Why::Malformed(fault)),
@@ -328,7 +341,12 @@ impl Endpoint {
         ensures { result ≡ passage self.now phase (arrival packet.now number) }
     {
         let kind = packet.header.kind.packet_type();
-        if unexpected(self.config.role, phase, kind, !number.before(self.marks.osr)) {
+        if unexpected(
+            self.config.role,
+            phase,
+            kind,
+            !number.before(self.marks.osr),
+        ) {
             Passage::Misplaced
         } else if self.is_other_service(phase, &packet.header.kind) {
             Passage::OtherService
@@ -349,7 +367,13 @@ impl Endpoint {
     }
 
     // Steps 7 and 8, after the numbers were raised.
-    fn go_on(&mut self, how: Passage, packet: &Packet<'_>, number: Seq48, out: &mut Outbox) -> Outcome
+    fn go_on(
+        &mut self,
+        how: Passage,
+        packet: &Packet<'_>,
+        number: Seq48,
+        out: &mut Outbox,
+    ) -> Outcome
         requires empty { out.old ≡ None }
         requires short { length packet.now.options.now ≤ 1008 }
         ensures { record { after = self.new; frame = out.new; answer = result } ≡ goes_on self.old (arrival packet.now number) how }
@@ -477,7 +501,13 @@ impl Endpoint {
     }
 
     // A Reset without a connection takes its numbers from the packet, and the end stays as it is.
-    fn reset_bare(&mut self, packet: &Packet<'_>, number: Seq48, code: u8, out: &mut Outbox) -> Outcome
+    fn reset_bare(
+        &mut self,
+        packet: &Packet<'_>,
+        number: Seq48,
+        code: u8,
+        out: &mut Outbox,
+    ) -> Outcome
         ensures { record { after = self.new; frame = out.new; answer = result } ≡ resets_bare self.old (arrival packet.now number) code }
     {
         let detail = [0, 0, 0];
