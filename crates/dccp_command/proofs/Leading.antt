@@ -58,10 +58,10 @@ step-led play piece event (Err fault.NoMemory) took = tt
 event-led : (play : Play) (piece : List ℕ) (event : Event) → Led play piece (says_event play piece event)
 event-led play piece event =
     if-led play piece (nat_lt play.events most_events)
-      (if is_built play event then by_step play piece event (happens play.world event) else not_built play) (not_built play)
-      (if-led play piece (is_built play event) (by_step play piece event (happens play.world event)) (not_built play)
-        (step-led play piece event (happens play.world event) refl) tt)
-      tt
+    (if is_built play event then by_step play piece event (happens play.world event) else not_built play) (not_built play)
+    (if-led play piece (is_built play event) (by_step play piece event (happens play.world event)) (not_built play)
+    (step-led play piece event (happens play.world event) refl) tt)
+    tt
 
 line-led : (play : Play) (piece : List ℕ) (said : Option Line) → Led play piece (by_line play piece said)
 line-led play piece None = tt
@@ -73,4 +73,4 @@ line-led play piece (Some (line.Event event)) = event-led play piece event
 pub judged-led : (play : Play) (piece : List ℕ) → Led play piece (judged play piece)
 judged-led play piece =
     if-led play piece (nat_le (play.read + length piece) most_bytes) (by_line play piece (read_line (text_of piece))) (not_built play)
-      (line-led play piece (read_line (text_of piece))) tt
+    (line-led play piece (read_line (text_of piece))) tt

@@ -9,7 +9,8 @@ use dccp_io::{InputFault, Sink, Source, read_all, write_all};
 use std::alloc::Global;
 use std::thread::Threads;
 
-const USAGE: &[u8] = b"usage: dccp run | replay --side server|client [--plain] | campaign --first F --seeds N --events E --workers W | show\n";
+const USAGE: &[u8] =
+    b"usage: dccp run | replay --side server|client [--plain] | campaign --first F --seeds N --events E --workers W | show\n";
 
 /// How a call of the tool ended (own), numbered from 0 as the program's exit status.
 #[derive(Clone, Copy, Debug, PartialEq, Eq)]
