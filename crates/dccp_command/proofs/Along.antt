@@ -8,7 +8,7 @@ use Rattle.dccp_command.specs.declared.play.Play.{Play}
 use Rattle.dccp_command.specs.Lines.{lines_of}
 use Rattle.dccp_command.specs.Shown.{end_lines}
 use Rattle.dccp_command.specs.Transcript.{Verdict, Accepted, Refused, judged, Judges, Performance, onto, goes_on, performed_from, first_world, first_play, performed, transcript, is_refused, SafeThroughout}
-use Rattle.dccp_command.proofs.Leading.{Moves, Stays, Happens, Leads, Led, judged-led}
+use Rattle.dccp_command.proofs.Leading.{Moves, Stays, Happens, Led, judged-led}
 
 pub record Along (play : Play) (rest text input : List ℕ) : Type 0 where
   pub events : List Event

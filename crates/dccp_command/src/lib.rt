@@ -4,6 +4,7 @@
 //! clock, starts no thread, and reads and writes nothing but the source and the sink that it is lent.
 #![tactic(auto)]
 
+mod laws;
 mod lines;
 mod play;
 mod schedule;
@@ -14,4 +15,5 @@ mod text;
 mod top;
 mod transcript;
 
+pub use crate::laws::lines_are_their_forms;
 pub use crate::top::{Status, dccp};

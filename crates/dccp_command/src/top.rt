@@ -42,8 +42,9 @@ pub fn dccp<R: Threads + Sync, S: Source, K: Sink>(
     input: &mut S,
     output: &mut K,
 ) -> Status
-    // Other words come to the usage line, whatever the sink does.
+    // Other words come to the usage line, whatever the sink does, and no byte is read.
     ensures words { (result ≡ Status.Words) ↔ (is_run words.now ≡ false) }
+    ensures unread { is_run words.now ≡ false → input.new ≡ input.old }
     ensures usage_front { is_run words.now ≡ false → HasBegun (K.taken output.old) (K.taken output.new) usage }
     ensures usage_whole { is_run words.now ≡ false → (Rose (K.faults output.old) (K.faults output.new) → ⊥)
         → (Rose (K.empty_takes output.old) (K.empty_takes output.new) → ⊥) → HasTaken (K.taken output.old) (K.taken output.new) usage }

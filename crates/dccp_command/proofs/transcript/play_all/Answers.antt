@@ -1,7 +1,6 @@
 -- The loop keeps Along; each end of it gives Ends.
 use Rattle.std.proofs.Common.{◌≡◌, ◌∙◌, sym, subst, ℕ, List, ◌++◌, length, Bool, true, false, arith}
 use Rattle.std.proofs.lemmas.Bool.Decides.{nat_tests}
-use Rattle.two_ends.specs.Safe.{Safe}
 use Rattle.dccp_command.specs.Transcript.{Judges, judged}
 use Rattle.dccp_command.specs.Shown.{end_lines}
 use Rattle.dccp_command.proofs.Along.{Along, Ends, along-start, along-turn, along-end, along-refused, no-bytes}
