@@ -1,5 +1,5 @@
 -- Both kinds keep the flight list's rules, whichever is in force.
-use Rattle.std.specs.Prelude.{◌≡◌, ℕ, ◌==◌, Bool, true, false, cond, List, [], refl, if◌then◌else◌}
+use Rattle.std.specs.Prelude.{◌≡◌, ℕ, ◌==◌, Bool, true, false, cond, List, [], refl}
 use Rattle.congestion_trait.specs.declared.flight.Entry.{Entry}
 use Rattle.congestion_trait.specs.Flight.{States, sent, after_report}
 use Rattle.congestion_trait.specs.Control.{IsLawful}

@@ -1,3 +1,4 @@
 pub mod Window
 pub mod Kinds
 pub mod Lawful
+pub mod Mark

@@ -5,7 +5,13 @@
 #![tactic(auto)]
 
 mod kinds;
+mod laws;
+#[cfg(test)]
+mod tests;
 mod window;
 
 pub use crate::kinds::{Kind, Kinds};
+pub use crate::laws::{
+    one_mark_one_halving, only_losses_past_the_mark_halve, window_stays_in_range,
+};
 pub use crate::window::Ccid2;

@@ -6,7 +6,7 @@ use Rattle.two_ends.specs.declared.event.Seen.{Seen}
 use Rattle.two_ends.specs.declared.event.Seen.TheVariants.{Called, Received}
 use Rattle.two_ends.specs.declared.event.WorldFault.{WorldFault}
 use Rattle.two_ends.specs.declared.event.WorldFault.TheVariants as fault
-use Rattle.dccp_endpoint.specs.declared.outcome.Outcome.TheVariants.{Took, Dropped, NotBuilt}
+use Rattle.dccp_endpoint.specs.declared.outcome.Outcome.TheVariants.{Took, Dropped, Synced, WasReset, SentReset, NotBuilt}
 use Rattle.dccp_command.specs.declared.schedule.Line.{Line}
 use Rattle.dccp_command.specs.declared.schedule.Line.TheVariants as line
 use Rattle.dccp_command.specs.declared.play.Play.{Play}
@@ -45,6 +45,10 @@ seen-led play piece event w (Called answer) took = took-led play piece event (re
 seen-led play piece event w (Received NotBuilt) took = tt
 seen-led play piece event w (Received (Took delivered)) took = took-led play piece event (record { world = w; seen = Received (Took delivered) }) took
 seen-led play piece event w (Received (Dropped why)) took = took-led play piece event (record { world = w; seen = Received (Dropped why) }) took
+seen-led play piece event w (Received (Synced number)) took = took-led play piece event (record { world = w; seen = Received (Synced number) }) took
+seen-led play piece event w (Received (WasReset code)) took = took-led play piece event (record { world = w; seen = Received (WasReset code) }) took
+seen-led play piece event w (Received (SentReset code detail)) took =
+    took-led play piece event (record { world = w; seen = Received (SentReset code detail) }) took
 
 step-led : (play : Play) (piece : List ℕ) (event : Event) (step : Result WorldStep WorldFault) → happens play.world event ≡ step
     → Led play piece (by_step play piece event step)

@@ -8,7 +8,7 @@ use Rattle.feature_lists.specs.declared.features.Place.TheVariants.{Here, There}
 use Rattle.dccp_endpoint.specs.End.{EndState, held_of, window_of, in_flight_of}
 use Rattle.dccp_endpoint.specs.declared.held.Held.{Held}
 use Rattle.dccp_endpoint.specs.declared.outcome.Outcome.{Outcome}
-use Rattle.dccp_endpoint.specs.declared.outcome.Outcome.TheVariants.{Took, Dropped, NotBuilt}
+use Rattle.dccp_endpoint.specs.declared.outcome.Outcome.TheVariants.{Took, Dropped, Synced, WasReset, SentReset, NotBuilt}
 use Rattle.two_ends.specs.World.{WorldState, half_of}
 use Rattle.two_ends.specs.declared.frames.SentFrame.{SentFrame}
 use Rattle.two_ends.specs.declared.event.Side.{Side}
@@ -29,9 +29,15 @@ event_text event.Open = codes "open"
 event_text (event.Deliver from index) = codes "deliver " ++ frame_name from index
 
 -- what was seen of it
+abbrev pub byte_text : ℕ → List ℕ
+byte_text byte = codes " " ++ decimal byte
+
 abbrev pub outcome_text : Outcome → List ℕ
 outcome_text (Took delivered) = codes "took"
 outcome_text (Dropped why) = codes "dropped " ++ why_name why
+outcome_text (Synced number) = codes "synced " ++ decimal number
+outcome_text (WasReset code) = codes "was reset " ++ decimal code
+outcome_text (SentReset code detail) = codes "sent reset " ++ decimal code ++ flat_map byte_text detail
 outcome_text NotBuilt = []
 
 abbrev pub seen_text : Seen → List ℕ

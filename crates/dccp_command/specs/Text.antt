@@ -1,7 +1,7 @@
 -- Words of the tool's texts (own).
 use Rattle.std.specs.Prelude.{ℕ, List, [], codes}
-use Rattle.dccp_endpoint.specs.declared.phase.Phase.{Phase}
-use Rattle.dccp_endpoint.specs.declared.phase.Phase.TheVariants as phase
+use Rattle.dccp_states.specs.declared.phase.Phase.{Phase}
+use Rattle.dccp_states.specs.declared.phase.Phase.TheVariants as phase
 use Rattle.dccp_endpoint.specs.declared.held.Stand.{Stand}
 use Rattle.dccp_endpoint.specs.declared.held.Stand.TheVariants as stand
 use Rattle.dccp_endpoint.specs.declared.outcome.Why.{Why}
@@ -56,6 +56,9 @@ abbrev pub why_name : Why → List ℕ
 why_name (why.Malformed fault) = malformed_name fault
 why_name (why.Sum fault) = sum_name fault
 why_name why.OtherFlow = codes "OtherFlow"
+why_name why.StrayReset = codes "StrayReset"
+why_name why.ShortOff = codes "ShortOff"
+why_name why.BadSync = codes "BadSync"
 
 abbrev pub refusal_name : Refusal → List ℕ
 refusal_name refusal.NotFresh = codes "NotFresh"

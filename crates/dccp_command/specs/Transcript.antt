@@ -1,7 +1,7 @@
 -- What `run` writes of an input: the lines of its accepted lines, then the two end lines or the line of the first refusal (own).
 use Rattle.std.specs.Prelude.{◌≡◌, ℕ, ◌+◌, ◌++◌, Bool, true, false, ◌==◌, nat_le, nat_lt, if◌then◌else◌, List, [], ◌∷◌, codes, decimal, length, take, Option, Some, None, Result, Ok, Err}
 use Rattle.dccp_endpoint.specs.Usual.{usual}
-use Rattle.dccp_endpoint.specs.declared.phase.Role.TheVariants as role
+use Rattle.dccp_states.specs.declared.phase.Role.TheVariants as role
 use Rattle.dccp_endpoint.specs.declared.outcome.Outcome.TheVariants.{NotBuilt}
 use Rattle.two_ends.specs.World.{WorldState, WorldStep, at_start, happens, half_of, actor, run}
 use Rattle.two_ends.specs.Safe.{Safe}

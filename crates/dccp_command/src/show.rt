@@ -1,7 +1,7 @@
 //! The lines that `run` writes.
-ghost use Rattle.std.specs.Prelude.{◌≡◌, ◌++◌, List, ℕ, OnOk, Some};
+ghost use Rattle.std.specs.Prelude.{◌≡◌, ◌++◌, List, ℕ, OnOk, Some, flat_map};
 ghost use Rattle.dccp_command.specs.Text.{side_name, side_letter, phase_name, stand_mark, malformed_name, sum_name, why_name, refusal_name};
-ghost use Rattle.dccp_command.specs.Shown.{frame_name, event_text, outcome_text, seen_text, event_line, frame_line, sent_line, held_text, row_text, end_name, end_counts, end_rows, end_line, end_lines};
+ghost use Rattle.dccp_command.specs.Shown.{frame_name, event_text, byte_text, outcome_text, seen_text, event_line, frame_line, sent_line, held_text, row_text, end_name, end_counts, end_rows, end_line, end_lines};
 
 use crate::text::{put, put_hex, put_number};
 use dccp_endpoint::{Endpoint, Held, Outcome, Phase, Stand, Why};
@@ -95,6 +95,9 @@ fn why_name(why: Why) -> &'static [u8]
         Why::Malformed(fault) => malformed_name(fault),
         Why::Sum(fault) => sum_name(fault),
         Why::OtherFlow => b"OtherFlow",
+        Why::StrayReset => b"StrayReset",
+        Why::ShortOff => b"ShortOff",
+        Why::BadSync => b"BadSync",
     }
 }
 
@@ -125,6 +128,22 @@ fn put_event(text: &mut Vec<u8>, event: &Event) -> Result<(), NoMemory>
     }
 }
 
+fn put_byte(text: &mut Vec<u8>, byte: u8) -> Result<(), NoMemory>
+    ensures { OnOk result (text.new.items ≡ text.old.items ++ byte_text byte) }
+{
+    put(text, b" ")?;
+    put_number(text, u64::from(byte))
+}
+
+fn put_detail(text: &mut Vec<u8>, detail: &[u8; 3]) -> Result<(), NoMemory>
+    ensures { OnOk result (text.new.items ≡ text.old.items ++ flat_map byte_text detail.now) }
+{
+    for byte in detail {
+        put_byte(text, *byte)?;
+    }
+    Ok(())
+}
+
 fn put_outcome(text: &mut Vec<u8>, outcome: &Outcome) -> Result<(), NoMemory>
     ensures { OnOk result (text.new.items ≡ text.old.items ++ outcome_text outcome.now) }
 {
@@ -134,7 +153,20 @@ fn put_outcome(text: &mut Vec<u8>, outcome: &Outcome) -> Result<(), NoMemory>
             put(text, b"dropped ")?;
             put(text, why_name(why))
         }
-        Outcome::NotBuilt => put(text, b""),
+        Outcome::Synced(number) => {
+            put(text, b"synced ")?;
+            put_number(text, number.get())
+        }
+        Outcome::WasReset(code) => {
+            put(text, b"was reset ")?;
+            put_number(text, u64::from(code))
+        }
+        Outcome::SentReset { code, detail } => {
+            put(text, b"sent reset ")?;
+            put_number(text, u64::from(code))?;
+            put_detail(text, &detail)
+        }
+        Outcome::NotBuilt => Ok(()),
     }
 }
 

@@ -3,45 +3,47 @@ use Rattle.std.specs.Prelude.{ℕ, ◌+◌, ◌-◌, ◌^◌, Bool, false, List,
 use Rattle.seq_circle.specs.Circle.{residue}
 use Rattle.feature_lists.specs.Features.{initial_of}
 use Rattle.feature_lists.specs.declared.features.Feature.{Feature}
+use Rattle.feature_lists.specs.declared.features.Feature.TheVariants.{SequenceWindow}
 use Rattle.feature_lists.specs.declared.features.Place.{Place}
 use Rattle.dccp_endpoint.specs.declared.config.Config.{Config}
-use Rattle.dccp_endpoint.specs.declared.phase.Role.{Role}
-use Rattle.dccp_endpoint.specs.declared.phase.Role.TheVariants.{Client, Server}
-use Rattle.dccp_endpoint.specs.declared.phase.Phase.{Phase}
-use Rattle.dccp_endpoint.specs.declared.phase.Phase.TheVariants.{Closed, Listen}
+use Rattle.dccp_states.specs.declared.phase.Role.{Role}
+use Rattle.dccp_states.specs.declared.phase.Role.TheVariants.{Client, Server}
+use Rattle.dccp_states.specs.declared.phase.Phase.{Phase}
+use Rattle.dccp_states.specs.declared.phase.Phase.TheVariants.{Closed, Listen}
+use Rattle.validity_windows.specs.declared.marks.Marks.{Marks}
 use Rattle.dccp_endpoint.specs.declared.held.Held.{Held}
 use Rattle.dccp_endpoint.specs.declared.held.Stand.TheVariants.{Stable}
 
--- A configuration, the phase, and the greatest and first numbers sent and received (RFC 4340, section 7.1). Until a
--- packet was received, isr, gsr and osr are 0.
+-- A configuration, the phase, whether it was opened, and the marks: the first and greatest numbers sent and received and
+-- the widths of the windows (RFC 4340, section 7.1). Until a packet was received, isr, gsr and osr are 0.
 pub record EndState : Type 0 where
   pub config : Config
   pub phase : Phase
   pub opened : Bool
-  pub gss : ℕ
-  pub gar : ℕ
-  pub isr : ℕ
-  pub gsr : ℕ
-  pub osr : ℕ
+  pub marks : Marks
 
 -- where each role begins (RFC 4340, section 8.1)
 abbrev pub first_phase : Role → Phase
 first_phase Client = Closed
 first_phase Server = Listen
 
--- an end that has sent and received nothing: its greatest sent number is the one before its first
-abbrev pub fresh : Config → EndState
-fresh config =
+-- The marks of an end that has sent and received nothing: its greatest sent number is the one before its first. The
+-- windows are as wide as the feature Sequence Window says of each end (section 7.5.2).
+abbrev pub first_marks : ℕ → Marks
+first_marks iss =
     record {
-      config = config;
-      phase = first_phase config.role;
-      opened = false;
-      gss = residue (config.iss + (2 ^ 48 - 1));
-      gar = config.iss;
+      iss = iss;
+      gss = residue (iss + (2 ^ 48 - 1));
+      gar = iss;
       isr = 0;
       gsr = 0;
       osr = 0;
+      own_w = initial_of SequenceWindow;
+      peer_w = initial_of SequenceWindow;
     }
+
+abbrev pub fresh : Config → EndState
+fresh config = record { config = config; phase = first_phase config.role; opened = false; marks = first_marks config.iss }
 
 -- What a row shows: its value and stand. No feature is negotiated yet, so each row stands at its initial value.
 abbrev pub held_of : EndState → Feature → Place → Held
@@ -49,7 +51,7 @@ held_of e feature place = record { value = initial_of feature; stand = Stable }
 
 -- The least number that an Ack Vector may report. No number is marked yet, so it is the first received.
 abbrev pub floor_of : EndState → ℕ
-floor_of e = e.isr
+floor_of e = e.marks.isr
 
 -- How many data packets may be in flight, and how many are. No data is sent yet: it is the first window of CCID 2
 -- (RFC 4341, section 5; the number is own), and nothing is.

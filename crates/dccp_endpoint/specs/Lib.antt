@@ -1,3 +1,6 @@
 pub mod End
-pub mod Steps
 pub mod Usual
+pub mod Arrivals
+pub mod Faults
+pub mod Steps
+pub mod Receiving

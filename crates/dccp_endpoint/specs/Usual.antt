@@ -3,8 +3,8 @@ use Rattle.std.specs.Prelude.{ℕ, List, [], ◌∷◌}
 use Rattle.dccp_sum.specs.declared.pseudo_header.Pseudo.{Pseudo}
 use Rattle.dccp_sum.specs.declared.pseudo_header.Pseudo.TheVariants.{V4}
 use Rattle.dccp_endpoint.specs.declared.config.Config.{Config}
-use Rattle.dccp_endpoint.specs.declared.phase.Role.{Role}
-use Rattle.dccp_endpoint.specs.declared.phase.Role.TheVariants.{Client, Server}
+use Rattle.dccp_states.specs.declared.phase.Role.{Role}
+use Rattle.dccp_states.specs.declared.phase.Role.TheVariants.{Client, Server}
 
 -- from the client 10.0.0.1 to the server 10.0.0.2
 abbrev pub to_server : Pseudo

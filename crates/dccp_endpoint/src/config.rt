@@ -1,7 +1,7 @@
 //! What an end is made from.
 ghost use Rattle.std.specs.Prelude.{◌≡◌, ◌<◌, ◌^◌};
 
-use crate::Role;
+use dccp_states::Role;
 use dccp_sum::Pseudo;
 use seq_circle::Seq48;
 

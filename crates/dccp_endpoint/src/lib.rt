@@ -7,14 +7,17 @@
 
 mod config;
 mod endpoint;
+mod faults;
 mod held;
 mod outcome;
-mod phase;
+mod passage;
 #[cfg(test)]
 mod tests;
 
 pub use crate::config::Config;
 pub use crate::endpoint::Endpoint;
 pub use crate::held::{Held, Stand};
-pub use crate::outcome::{OpenFault, Outcome, Why};
-pub use crate::phase::{Phase, Role};
+pub use crate::outcome::{Fault, OpenFault, Outcome, Why};
+pub use crate::passage::Passage;
+pub use dccp_states::{Phase, Role};
+pub use validity_windows::Marks;

@@ -1,6 +1,7 @@
 //! What an end answers.
 use dccp_packets::Malformed;
 use dccp_sum::SumFault;
+use seq_circle::Seq48;
 
 /// Why `open` was refused. The end is unchanged.
 #[derive(Clone, Copy, Debug, PartialEq, Eq)]
@@ -18,6 +19,13 @@ pub enum Why {
     Sum(SumFault),
     /// The ports are not those of the connection.
     OtherFlow,
+    /// A Reset that belongs to no connection: in CLOSED, LISTEN and TIMEWAIT, and in REQUEST where it acknowledges nothing
+    /// that was sent (RFC 4340, section 8.5, steps 2 to 4).
+    StrayReset,
+    /// A packet with short numbers, which are not negotiated (RFC 4340, section 7.6.1).
+    ShortOff,
+    /// A Sync or SyncAck whose numbers are not valid (RFC 4340, section 7.5.3).
+    BadSync,
 }
 
 /// What became of a packet.
@@ -25,11 +33,27 @@ pub enum Why {
 pub enum Outcome {
     /// It was taken. `delivered` is the place of its data in the input, first and past the last, where there was data to
     /// deliver.
-    Took {
-        delivered: Option<(usize, usize)>,
-    },
+    Took { delivered: Option<(usize, usize)> },
     /// It was dropped.
     Dropped(Why),
+    /// It was answered with a Sync that acknowledges this number.
+    Synced(Seq48),
+    /// It is a valid Reset with this code, and the end is in TIMEWAIT.
+    WasReset(u8),
+    /// It was answered with a Reset of this code and detail (RFC 4340, section 5.6).
+    SentReset {
+        code: u8,
+        detail: [u8; 3],
+    },
     /// It needs a part of the protocol that is not built yet. The end is unchanged.
     NotBuilt,
+}
+
+/// What a Reset tells of the packet that it answers: its code and the bytes Data 1 to 3 (RFC 4340, section 5.6).
+#[derive(Clone, Copy, Debug, PartialEq, Eq)]
+pub struct Fault {
+    pub code: u8,
+    pub first: u8,
+    pub second: u8,
+    pub third: u8,
 }

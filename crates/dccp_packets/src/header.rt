@@ -123,7 +123,8 @@ impl PacketType {
         }
     }
 
-    pub(crate) fn code(self) -> u8
+    /// The type's code, from 0 to 9 (RFC 4340, section 5.1).
+    pub fn code(self) -> u8
         ensures { result ≡ code_of self }
     {
         match self {

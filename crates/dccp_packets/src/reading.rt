@@ -41,6 +41,7 @@ pub fn decode(bytes: &[u8]) -> Result<Packet<'_>, Malformed>
         (λ e. decoded bytes.now ≡ Err e) }
     ensures valid { IfOk result (λ p. IsTrue (is_valid p.header)) }
     ensures fits { IfOk result (λ p. Fits p.header) }
+    ensures options_fit { IfOk result (λ p. length p.options.now ≤ 1008) }
 {
     if bytes.len() < SHORTEST {
         return Err(Malformed::Short);

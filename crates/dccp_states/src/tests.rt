@@ -1,640 +1,7 @@
 use crate::{Entrance, Phase, Reply, Role, after, gate, unexpected};
 use dccp_packets::PacketType;
 
-// Each type in each phase: its entrance, the phase after it and the reply, as the tables of the profile have them.
-const TYPES_IN_PHASES: [(Phase, PacketType, Entrance, Phase, Reply); 90] = [
-    (
-        Phase::Closed,
-        PacketType::Request,
-        Entrance::NoConnection,
-        Phase::Closed,
-        Reply::Nothing,
-    ),
-    (
-        Phase::Closed,
-        PacketType::Response,
-        Entrance::NoConnection,
-        Phase::Closed,
-        Reply::Nothing,
-    ),
-    (
-        Phase::Closed,
-        PacketType::Data,
-        Entrance::NoConnection,
-        Phase::Closed,
-        Reply::Nothing,
-    ),
-    (
-        Phase::Closed,
-        PacketType::Ack,
-        Entrance::NoConnection,
-        Phase::Closed,
-        Reply::Nothing,
-    ),
-    (
-        Phase::Closed,
-        PacketType::DataAck,
-        Entrance::NoConnection,
-        Phase::Closed,
-        Reply::Nothing,
-    ),
-    (
-        Phase::Closed,
-        PacketType::CloseReq,
-        Entrance::NoConnection,
-        Phase::Closed,
-        Reply::Nothing,
-    ),
-    (
-        Phase::Closed,
-        PacketType::Close,
-        Entrance::NoConnection,
-        Phase::Closed,
-        Reply::Nothing,
-    ),
-    (
-        Phase::Closed,
-        PacketType::Reset,
-        Entrance::Stray,
-        Phase::TimeWait,
-        Reply::Torn,
-    ),
-    (
-        Phase::Closed,
-        PacketType::Sync,
-        Entrance::NoConnection,
-        Phase::Closed,
-        Reply::Nothing,
-    ),
-    (
-        Phase::Closed,
-        PacketType::SyncAck,
-        Entrance::NoConnection,
-        Phase::Closed,
-        Reply::Nothing,
-    ),
-    (
-        Phase::Listen,
-        PacketType::Request,
-        Entrance::Accept,
-        Phase::Listen,
-        Reply::Nothing,
-    ),
-    (
-        Phase::Listen,
-        PacketType::Response,
-        Entrance::NoConnection,
-        Phase::Listen,
-        Reply::Nothing,
-    ),
-    (
-        Phase::Listen,
-        PacketType::Data,
-        Entrance::NoConnection,
-        Phase::Listen,
-        Reply::Nothing,
-    ),
-    (
-        Phase::Listen,
-        PacketType::Ack,
-        Entrance::NoConnection,
-        Phase::Listen,
-        Reply::Nothing,
-    ),
-    (
-        Phase::Listen,
-        PacketType::DataAck,
-        Entrance::NoConnection,
-        Phase::Listen,
-        Reply::Nothing,
-    ),
-    (
-        Phase::Listen,
-        PacketType::CloseReq,
-        Entrance::NoConnection,
-        Phase::Listen,
-        Reply::Nothing,
-    ),
-    (
-        Phase::Listen,
-        PacketType::Close,
-        Entrance::NoConnection,
-        Phase::Listen,
-        Reply::Nothing,
-    ),
-    (
-        Phase::Listen,
-        PacketType::Reset,
-        Entrance::Stray,
-        Phase::TimeWait,
-        Reply::Torn,
-    ),
-    (
-        Phase::Listen,
-        PacketType::Sync,
-        Entrance::NoConnection,
-        Phase::Listen,
-        Reply::Nothing,
-    ),
-    (
-        Phase::Listen,
-        PacketType::SyncAck,
-        Entrance::NoConnection,
-        Phase::Listen,
-        Reply::Nothing,
-    ),
-    (
-        Phase::Request,
-        PacketType::Request,
-        Entrance::PacketError,
-        Phase::Request,
-        Reply::Nothing,
-    ),
-    (
-        Phase::Request,
-        PacketType::Response,
-        Entrance::InRequest,
-        Phase::PartOpen,
-        Reply::Ack,
-    ),
-    (
-        Phase::Request,
-        PacketType::Data,
-        Entrance::PacketError,
-        Phase::Request,
-        Reply::Nothing,
-    ),
-    (
-        Phase::Request,
-        PacketType::Ack,
-        Entrance::PacketError,
-        Phase::Request,
-        Reply::Nothing,
-    ),
-    (
-        Phase::Request,
-        PacketType::DataAck,
-        Entrance::PacketError,
-        Phase::Request,
-        Reply::Nothing,
-    ),
-    (
-        Phase::Request,
-        PacketType::CloseReq,
-        Entrance::PacketError,
-        Phase::Request,
-        Reply::Nothing,
-    ),
-    (
-        Phase::Request,
-        PacketType::Close,
-        Entrance::PacketError,
-        Phase::Request,
-        Reply::Nothing,
-    ),
-    (
-        Phase::Request,
-        PacketType::Reset,
-        Entrance::InRequest,
-        Phase::TimeWait,
-        Reply::Torn,
-    ),
-    (
-        Phase::Request,
-        PacketType::Sync,
-        Entrance::PacketError,
-        Phase::Request,
-        Reply::Nothing,
-    ),
-    (
-        Phase::Request,
-        PacketType::SyncAck,
-        Entrance::PacketError,
-        Phase::Request,
-        Reply::Nothing,
-    ),
-    (
-        Phase::Respond,
-        PacketType::Request,
-        Entrance::Check,
-        Phase::Respond,
-        Reply::Response,
-    ),
-    (
-        Phase::Respond,
-        PacketType::Response,
-        Entrance::Check,
-        Phase::Respond,
-        Reply::Nothing,
-    ),
-    (
-        Phase::Respond,
-        PacketType::Data,
-        Entrance::Check,
-        Phase::Respond,
-        Reply::Nothing,
-    ),
-    (
-        Phase::Respond,
-        PacketType::Ack,
-        Entrance::Check,
-        Phase::Open,
-        Reply::Ack,
-    ),
-    (
-        Phase::Respond,
-        PacketType::DataAck,
-        Entrance::Check,
-        Phase::Open,
-        Reply::Ack,
-    ),
-    (
-        Phase::Respond,
-        PacketType::CloseReq,
-        Entrance::Check,
-        Phase::Respond,
-        Reply::Nothing,
-    ),
-    (
-        Phase::Respond,
-        PacketType::Close,
-        Entrance::Check,
-        Phase::Closed,
-        Reply::ResetClosed,
-    ),
-    (
-        Phase::Respond,
-        PacketType::Reset,
-        Entrance::Check,
-        Phase::TimeWait,
-        Reply::Torn,
-    ),
-    (
-        Phase::Respond,
-        PacketType::Sync,
-        Entrance::Check,
-        Phase::Open,
-        Reply::SyncAck,
-    ),
-    (
-        Phase::Respond,
-        PacketType::SyncAck,
-        Entrance::Check,
-        Phase::Open,
-        Reply::Ack,
-    ),
-    (
-        Phase::PartOpen,
-        PacketType::Request,
-        Entrance::Check,
-        Phase::PartOpen,
-        Reply::Nothing,
-    ),
-    (
-        Phase::PartOpen,
-        PacketType::Response,
-        Entrance::Check,
-        Phase::PartOpen,
-        Reply::Ack,
-    ),
-    (
-        Phase::PartOpen,
-        PacketType::Data,
-        Entrance::Check,
-        Phase::Open,
-        Reply::Nothing,
-    ),
-    (
-        Phase::PartOpen,
-        PacketType::Ack,
-        Entrance::Check,
-        Phase::Open,
-        Reply::Nothing,
-    ),
-    (
-        Phase::PartOpen,
-        PacketType::DataAck,
-        Entrance::Check,
-        Phase::Open,
-        Reply::Nothing,
-    ),
-    (
-        Phase::PartOpen,
-        PacketType::CloseReq,
-        Entrance::Check,
-        Phase::Closing,
-        Reply::Close,
-    ),
-    (
-        Phase::PartOpen,
-        PacketType::Close,
-        Entrance::Check,
-        Phase::Closed,
-        Reply::ResetClosed,
-    ),
-    (
-        Phase::PartOpen,
-        PacketType::Reset,
-        Entrance::Check,
-        Phase::TimeWait,
-        Reply::Torn,
-    ),
-    (
-        Phase::PartOpen,
-        PacketType::Sync,
-        Entrance::Check,
-        Phase::PartOpen,
-        Reply::SyncAck,
-    ),
-    (
-        Phase::PartOpen,
-        PacketType::SyncAck,
-        Entrance::Check,
-        Phase::Open,
-        Reply::Nothing,
-    ),
-    (
-        Phase::Open,
-        PacketType::Request,
-        Entrance::Check,
-        Phase::Open,
-        Reply::Nothing,
-    ),
-    (
-        Phase::Open,
-        PacketType::Response,
-        Entrance::Check,
-        Phase::Open,
-        Reply::Nothing,
-    ),
-    (
-        Phase::Open,
-        PacketType::Data,
-        Entrance::Check,
-        Phase::Open,
-        Reply::Nothing,
-    ),
-    (
-        Phase::Open,
-        PacketType::Ack,
-        Entrance::Check,
-        Phase::Open,
-        Reply::Nothing,
-    ),
-    (
-        Phase::Open,
-        PacketType::DataAck,
-        Entrance::Check,
-        Phase::Open,
-        Reply::Nothing,
-    ),
-    (
-        Phase::Open,
-        PacketType::CloseReq,
-        Entrance::Check,
-        Phase::Closing,
-        Reply::Close,
-    ),
-    (
-        Phase::Open,
-        PacketType::Close,
-        Entrance::Check,
-        Phase::Closed,
-        Reply::ResetClosed,
-    ),
-    (
-        Phase::Open,
-        PacketType::Reset,
-        Entrance::Check,
-        Phase::TimeWait,
-        Reply::Torn,
-    ),
-    (
-        Phase::Open,
-        PacketType::Sync,
-        Entrance::Check,
-        Phase::Open,
-        Reply::SyncAck,
-    ),
-    (
-        Phase::Open,
-        PacketType::SyncAck,
-        Entrance::Check,
-        Phase::Open,
-        Reply::Nothing,
-    ),
-    (
-        Phase::CloseReq,
-        PacketType::Request,
-        Entrance::Check,
-        Phase::CloseReq,
-        Reply::Nothing,
-    ),
-    (
-        Phase::CloseReq,
-        PacketType::Response,
-        Entrance::Check,
-        Phase::CloseReq,
-        Reply::Nothing,
-    ),
-    (
-        Phase::CloseReq,
-        PacketType::Data,
-        Entrance::Check,
-        Phase::CloseReq,
-        Reply::Nothing,
-    ),
-    (
-        Phase::CloseReq,
-        PacketType::Ack,
-        Entrance::Check,
-        Phase::CloseReq,
-        Reply::Nothing,
-    ),
-    (
-        Phase::CloseReq,
-        PacketType::DataAck,
-        Entrance::Check,
-        Phase::CloseReq,
-        Reply::Nothing,
-    ),
-    (
-        Phase::CloseReq,
-        PacketType::CloseReq,
-        Entrance::Check,
-        Phase::CloseReq,
-        Reply::Nothing,
-    ),
-    (
-        Phase::CloseReq,
-        PacketType::Close,
-        Entrance::Check,
-        Phase::Closed,
-        Reply::ResetClosed,
-    ),
-    (
-        Phase::CloseReq,
-        PacketType::Reset,
-        Entrance::Check,
-        Phase::TimeWait,
-        Reply::Torn,
-    ),
-    (
-        Phase::CloseReq,
-        PacketType::Sync,
-        Entrance::Check,
-        Phase::CloseReq,
-        Reply::SyncAck,
-    ),
-    (
-        Phase::CloseReq,
-        PacketType::SyncAck,
-        Entrance::Check,
-        Phase::CloseReq,
-        Reply::Nothing,
-    ),
-    (
-        Phase::Closing,
-        PacketType::Request,
-        Entrance::Check,
-        Phase::Closing,
-        Reply::Nothing,
-    ),
-    (
-        Phase::Closing,
-        PacketType::Response,
-        Entrance::Check,
-        Phase::Closing,
-        Reply::Nothing,
-    ),
-    (
-        Phase::Closing,
-        PacketType::Data,
-        Entrance::Check,
-        Phase::Closing,
-        Reply::Nothing,
-    ),
-    (
-        Phase::Closing,
-        PacketType::Ack,
-        Entrance::Check,
-        Phase::Closing,
-        Reply::Nothing,
-    ),
-    (
-        Phase::Closing,
-        PacketType::DataAck,
-        Entrance::Check,
-        Phase::Closing,
-        Reply::Nothing,
-    ),
-    (
-        Phase::Closing,
-        PacketType::CloseReq,
-        Entrance::Check,
-        Phase::Closing,
-        Reply::Nothing,
-    ),
-    (
-        Phase::Closing,
-        PacketType::Close,
-        Entrance::Check,
-        Phase::Closed,
-        Reply::ResetClosed,
-    ),
-    (
-        Phase::Closing,
-        PacketType::Reset,
-        Entrance::Check,
-        Phase::TimeWait,
-        Reply::Torn,
-    ),
-    (
-        Phase::Closing,
-        PacketType::Sync,
-        Entrance::Check,
-        Phase::Closing,
-        Reply::SyncAck,
-    ),
-    (
-        Phase::Closing,
-        PacketType::SyncAck,
-        Entrance::Check,
-        Phase::Closing,
-        Reply::Nothing,
-    ),
-    (
-        Phase::TimeWait,
-        PacketType::Request,
-        Entrance::NoConnection,
-        Phase::TimeWait,
-        Reply::Nothing,
-    ),
-    (
-        Phase::TimeWait,
-        PacketType::Response,
-        Entrance::NoConnection,
-        Phase::TimeWait,
-        Reply::Nothing,
-    ),
-    (
-        Phase::TimeWait,
-        PacketType::Data,
-        Entrance::NoConnection,
-        Phase::TimeWait,
-        Reply::Nothing,
-    ),
-    (
-        Phase::TimeWait,
-        PacketType::Ack,
-        Entrance::NoConnection,
-        Phase::TimeWait,
-        Reply::Nothing,
-    ),
-    (
-        Phase::TimeWait,
-        PacketType::DataAck,
-        Entrance::NoConnection,
-        Phase::TimeWait,
-        Reply::Nothing,
-    ),
-    (
-        Phase::TimeWait,
-        PacketType::CloseReq,
-        Entrance::NoConnection,
-        Phase::TimeWait,
-        Reply::Nothing,
-    ),
-    (
-        Phase::TimeWait,
-        PacketType::Close,
-        Entrance::NoConnection,
-        Phase::TimeWait,
-        Reply::Nothing,
-    ),
-    (
-        Phase::TimeWait,
-        PacketType::Reset,
-        Entrance::Stray,
-        Phase::TimeWait,
-        Reply::Torn,
-    ),
-    (
-        Phase::TimeWait,
-        PacketType::Sync,
-        Entrance::NoConnection,
-        Phase::TimeWait,
-        Reply::Nothing,
-    ),
-    (
-        Phase::TimeWait,
-        PacketType::SyncAck,
-        Entrance::NoConnection,
-        Phase::TimeWait,
-        Reply::Nothing,
-    ),
-];
-
+// The types, in the order of the letters below.
 const KINDS: [PacketType; 10] = [
     PacketType::Request,
     PacketType::Response,
@@ -648,315 +15,174 @@ const KINDS: [PacketType; 10] = [
     PacketType::SyncAck,
 ];
 
-// For each role and phase, and a number before OSR or not, the types that are out of place, in the order of their codes.
-const OUT_OF_PLACE: [(Role, Phase, bool, [bool; 10]); 36] = [
-    (
-        Role::Client,
-        Phase::Closed,
-        false,
-        [
-            true, false, false, false, false, false, false, false, false, false,
-        ],
-    ),
-    (
-        Role::Client,
-        Phase::Closed,
-        true,
-        [
-            true, false, false, false, false, false, false, false, false, false,
-        ],
-    ),
-    (
-        Role::Client,
-        Phase::Listen,
-        false,
-        [
-            true, false, false, false, false, false, false, false, false, false,
-        ],
-    ),
-    (
-        Role::Client,
-        Phase::Listen,
-        true,
-        [
-            true, false, false, false, false, false, false, false, false, false,
-        ],
-    ),
-    (
-        Role::Client,
-        Phase::Request,
-        false,
-        [
-            true, false, false, false, false, false, false, false, false, false,
-        ],
-    ),
-    (
-        Role::Client,
-        Phase::Request,
-        true,
-        [
-            true, false, false, false, false, false, false, false, false, false,
-        ],
-    ),
-    (
-        Role::Client,
-        Phase::Respond,
-        false,
-        [
-            true, false, true, false, false, false, false, false, false, false,
-        ],
-    ),
-    (
-        Role::Client,
-        Phase::Respond,
-        true,
-        [
-            true, false, true, false, false, false, false, false, false, false,
-        ],
-    ),
-    (
-        Role::Client,
-        Phase::PartOpen,
-        false,
-        [
-            true, false, false, false, false, false, false, false, false, false,
-        ],
-    ),
-    (
-        Role::Client,
-        Phase::PartOpen,
-        true,
-        [
-            true, false, false, false, false, false, false, false, false, false,
-        ],
-    ),
-    (
-        Role::Client,
-        Phase::Open,
-        false,
-        [
-            true, false, false, false, false, false, false, false, false, false,
-        ],
-    ),
-    (
-        Role::Client,
-        Phase::Open,
-        true,
-        [
-            true, true, false, false, false, false, false, false, false, false,
-        ],
-    ),
-    (
-        Role::Client,
-        Phase::CloseReq,
-        false,
-        [
-            true, false, false, false, false, false, false, false, false, false,
-        ],
-    ),
-    (
-        Role::Client,
-        Phase::CloseReq,
-        true,
-        [
-            true, true, false, false, false, false, false, false, false, false,
-        ],
-    ),
-    (
-        Role::Client,
-        Phase::Closing,
-        false,
-        [
-            true, false, false, false, false, false, false, false, false, false,
-        ],
-    ),
-    (
-        Role::Client,
-        Phase::Closing,
-        true,
-        [
-            true, true, false, false, false, false, false, false, false, false,
-        ],
-    ),
-    (
-        Role::Client,
-        Phase::TimeWait,
-        false,
-        [
-            true, false, false, false, false, false, false, false, false, false,
-        ],
-    ),
-    (
-        Role::Client,
-        Phase::TimeWait,
-        true,
-        [
-            true, true, false, false, false, false, false, false, false, false,
-        ],
-    ),
-    (
-        Role::Server,
-        Phase::Closed,
-        false,
-        [
-            false, true, false, false, false, true, false, false, false, false,
-        ],
-    ),
-    (
-        Role::Server,
-        Phase::Closed,
-        true,
-        [
-            false, true, false, false, false, true, false, false, false, false,
-        ],
-    ),
-    (
-        Role::Server,
-        Phase::Listen,
-        false,
-        [
-            false, true, false, false, false, true, false, false, false, false,
-        ],
-    ),
-    (
-        Role::Server,
-        Phase::Listen,
-        true,
-        [
-            false, true, false, false, false, true, false, false, false, false,
-        ],
-    ),
-    (
-        Role::Server,
-        Phase::Request,
-        false,
-        [
-            false, true, false, false, false, true, false, false, false, false,
-        ],
-    ),
-    (
-        Role::Server,
-        Phase::Request,
-        true,
-        [
-            false, true, false, false, false, true, false, false, false, false,
-        ],
-    ),
-    (
-        Role::Server,
-        Phase::Respond,
-        false,
-        [
-            false, true, true, false, false, true, false, false, false, false,
-        ],
-    ),
-    (
-        Role::Server,
-        Phase::Respond,
-        true,
-        [
-            false, true, true, false, false, true, false, false, false, false,
-        ],
-    ),
-    (
-        Role::Server,
-        Phase::PartOpen,
-        false,
-        [
-            false, true, false, false, false, true, false, false, false, false,
-        ],
-    ),
-    (
-        Role::Server,
-        Phase::PartOpen,
-        true,
-        [
-            false, true, false, false, false, true, false, false, false, false,
-        ],
-    ),
-    (
-        Role::Server,
-        Phase::Open,
-        false,
-        [
-            false, true, false, false, false, true, false, false, false, false,
-        ],
-    ),
-    (
-        Role::Server,
-        Phase::Open,
-        true,
-        [
-            true, true, false, false, false, true, false, false, false, false,
-        ],
-    ),
-    (
-        Role::Server,
-        Phase::CloseReq,
-        false,
-        [
-            false, true, false, false, false, true, false, false, false, false,
-        ],
-    ),
-    (
-        Role::Server,
-        Phase::CloseReq,
-        true,
-        [
-            true, true, false, false, false, true, false, false, false, false,
-        ],
-    ),
-    (
-        Role::Server,
-        Phase::Closing,
-        false,
-        [
-            false, true, false, false, false, true, false, false, false, false,
-        ],
-    ),
-    (
-        Role::Server,
-        Phase::Closing,
-        true,
-        [
-            true, true, false, false, false, true, false, false, false, false,
-        ],
-    ),
-    (
-        Role::Server,
-        Phase::TimeWait,
-        false,
-        [
-            false, true, false, false, false, true, false, false, false, false,
-        ],
-    ),
-    (
-        Role::Server,
-        Phase::TimeWait,
-        true,
-        [
-            true, true, false, false, false, true, false, false, false, false,
-        ],
-    ),
+// A letter for each type: no connection, stray, accept, in request, packet error, check.
+const ENTRANCES: [(Phase, &str); 9] = [
+    (Phase::Closed, "NNNNNNNSNN"),
+    (Phase::Listen, "ANNNNNNSNN"),
+    (Phase::Request, "EIEEEEEIEE"),
+    (Phase::Respond, "CCCCCCCCCC"),
+    (Phase::PartOpen, "CCCCCCCCCC"),
+    (Phase::Open, "CCCCCCCCCC"),
+    (Phase::CloseReq, "CCCCCCCCCC"),
+    (Phase::Closing, "CCCCCCCCCC"),
+    (Phase::TimeWait, "NNNNNNNSNN"),
 ];
 
-#[test]
-fn every_type_in_every_phase(rt: HostRuntime) {
-    for (phase, kind, entrance, next, reply) in TYPES_IN_PHASES {
-        assert_eq!(rt; gate(phase, kind), entrance, "{kind:?} in {phase:?}");
-        assert_eq!(rt; after(phase, kind), (next, reply), "{kind:?} in {phase:?}");
+// The phases after: closed, listen, Q request, respond, part open, open, A close request, G closing, time wait.
+const PHASES_AFTER: [(Phase, &str); 9] = [
+    (Phase::Closed, "CCCCCCCTCC"),
+    (Phase::Listen, "LLLLLLLTLL"),
+    (Phase::Request, "QPQQQQQTQQ"),
+    (Phase::Respond, "RRROORCTOO"),
+    (Phase::PartOpen, "PPOOOGCTPO"),
+    (Phase::Open, "OOOOOGCTOO"),
+    (Phase::CloseReq, "AAAAAACTAA"),
+    (Phase::Closing, "GGGGGGCTGG"),
+    (Phase::TimeWait, "TTTTTTTTTT"),
+];
+
+// The replies: a dot for nothing, response, ack, close, X reset, sync ack, torn.
+const REPLIES: [(Phase, &str); 9] = [
+    (Phase::Closed, ".......T.."),
+    (Phase::Listen, ".......T.."),
+    (Phase::Request, ".A.....T.."),
+    (Phase::Respond, "R..AA.XTSA"),
+    (Phase::PartOpen, ".A...CXTS."),
+    (Phase::Open, ".....CXTS."),
+    (Phase::CloseReq, "......XTS."),
+    (Phase::Closing, "......XTS."),
+    (Phase::TimeWait, ".......T.."),
+];
+
+// At a client: a dot where the type is in place, x where it is not, f where it is not from OSR on.
+const OUT_OF_PLACE_AT_CLIENT: [(Phase, &str); 9] = [
+    (Phase::Closed, "x........."),
+    (Phase::Listen, "x........."),
+    (Phase::Request, "x........."),
+    (Phase::Respond, "x.x......."),
+    (Phase::PartOpen, "x........."),
+    (Phase::Open, "xf........"),
+    (Phase::CloseReq, "xf........"),
+    (Phase::Closing, "xf........"),
+    (Phase::TimeWait, "xf........"),
+];
+
+// The same at a server.
+const OUT_OF_PLACE_AT_SERVER: [(Phase, &str); 9] = [
+    (Phase::Closed, ".x...x...."),
+    (Phase::Listen, ".x...x...."),
+    (Phase::Request, ".x...x...."),
+    (Phase::Respond, ".xx..x...."),
+    (Phase::PartOpen, ".x...x...."),
+    (Phase::Open, "fx...x...."),
+    (Phase::CloseReq, "fx...x...."),
+    (Phase::Closing, "fx...x...."),
+    (Phase::TimeWait, "fx...x...."),
+];
+
+fn entrance_letter(entrance: Entrance) -> char {
+    match entrance {
+        Entrance::NoConnection => 'N',
+        Entrance::Stray => 'S',
+        Entrance::Accept => 'A',
+        Entrance::InRequest => 'I',
+        Entrance::PacketError => 'E',
+        Entrance::Check => 'C',
+    }
+}
+
+fn phase_letter(phase: Phase) -> char {
+    match phase {
+        Phase::Closed => 'C',
+        Phase::Listen => 'L',
+        Phase::Request => 'Q',
+        Phase::Respond => 'R',
+        Phase::PartOpen => 'P',
+        Phase::Open => 'O',
+        Phase::CloseReq => 'A',
+        Phase::Closing => 'G',
+        Phase::TimeWait => 'T',
+    }
+}
+
+fn reply_letter(reply: Reply) -> char {
+    match reply {
+        Reply::Nothing => '.',
+        Reply::Response => 'R',
+        Reply::Ack => 'A',
+        Reply::Close => 'C',
+        Reply::ResetClosed => 'X',
+        Reply::SyncAck => 'S',
+        Reply::Torn => 'T',
+    }
+}
+
+fn place_letter(role: Role, phase: Phase, kind: PacketType) -> char {
+    if unexpected(role, phase, kind, false) {
+        'x'
+    } else if unexpected(role, phase, kind, true) {
+        'f'
+    } else {
+        '.'
     }
 }
 
 #[test]
-fn every_type_out_of_place(rt: HostRuntime) {
-    for (role, phase, from_osr, wanted) in OUT_OF_PLACE {
-        for (kind, wanted) in KINDS.into_iter().zip(wanted) {
-            let answer = unexpected(role, phase, kind, from_osr);
+fn entrances(rt: HostRuntime) {
+    for (phase, row) in ENTRANCES {
+        for (kind, wanted) in KINDS.into_iter().zip(row.chars()) {
             assert_eq!(rt;
-                answer,
+                entrance_letter(gate(phase, kind)),
                 wanted,
-                "{kind:?} at {role:?} in {phase:?}, {from_osr}"
+                "{kind:?} in {phase:?}"
+            );
+        }
+    }
+}
+
+#[test]
+fn phases_after(rt: HostRuntime) {
+    for (phase, row) in PHASES_AFTER {
+        for (kind, wanted) in KINDS.into_iter().zip(row.chars()) {
+            assert_eq!(rt;
+                phase_letter(after(phase, kind).0),
+                wanted,
+                "{kind:?} in {phase:?}"
+            );
+        }
+    }
+}
+
+#[test]
+fn replies(rt: HostRuntime) {
+    for (phase, row) in REPLIES {
+        for (kind, wanted) in KINDS.into_iter().zip(row.chars()) {
+            assert_eq!(rt;
+                reply_letter(after(phase, kind).1),
+                wanted,
+                "{kind:?} in {phase:?}"
+            );
+        }
+    }
+}
+
+#[test]
+fn types_out_of_place(rt: HostRuntime) {
+    for (phase, row) in OUT_OF_PLACE_AT_CLIENT {
+        for (kind, wanted) in KINDS.into_iter().zip(row.chars()) {
+            assert_eq!(rt;
+                place_letter(Role::Client, phase, kind),
+                wanted,
+                "{kind:?} in {phase:?}"
+            );
+        }
+    }
+    for (phase, row) in OUT_OF_PLACE_AT_SERVER {
+        for (kind, wanted) in KINDS.into_iter().zip(row.chars()) {
+            assert_eq!(rt;
+                place_letter(Role::Server, phase, kind),
+                wanted,
+                "{kind:?} in {phase:?}"
             );
         }
     }

@@ -7,3 +7,10 @@ pub mod Located
 pub mod Reachable
 pub mod Order
 pub mod Running
+pub mod RowFacts
+pub mod ChangeLine
+pub mod ConfirmLine
+pub mod OpeningLines
+pub mod Beginning
+pub mod Saying
+pub mod ByFeature

@@ -8,7 +8,7 @@ use Rattle.feature_agreement.specs.View.Carried.{Nothing, Change, Confirm}
 use Rattle.feature_agreement.specs.Moves.{Rule, swapped, passed, settled, answered, waiting, opening, sent, fresh, Move, Reached, own_value, one_value, no_wish, at_server, at_client}
 use Rattle.feature_agreement.specs.Moves.Move.{Passes, Settles, Answers, Waits, Opens, Sends, Sends_again}
 use Rattle.feature_agreement.specs.Moves.Reached.{Starts, Server_moves, Client_moves}
-use Rattle.feature_agreement.specs.Agreement.{was_negotiated, IsGiven, Given, AgreeOn, IsTold, GivenBy}
+use Rattle.feature_agreement.specs.Agreement.{was_negotiated, IsGiven, Given, AgreeByLocation, IsTold, GivenByLocation}
 use Rattle.feature_agreement.specs.Agreement.IsGiven.{Initial, Ruled}
 use Rattle.feature_agreement.specs.Agreement.IsTold.{Untold, Told}
 use Rattle.feature_agreement.proofs.Facts.{Kept, changed}
@@ -119,7 +119,7 @@ module _ (location remote : Side) (kept : Kept own_value location remote) (facts
       single_value location.active remote.active location.value (facts.active_single opened)
       (kept.settled.ruled stable remotes_stable (inl opened))
 
-  located_agree : AgreeOn location remote
+  located_agree : AgreeByLocation location remote
   located_agree = record {
     equal = λ stable. kept.settled.equal stable.0 stable.1;
     last_sent = λ stable negotiated.
@@ -145,25 +145,25 @@ module _ (location remote : Side) (kept : Kept own_value location remote) (facts
       let carried : carried_at location.frames count ≡ Change wish = wish_changes count wish here in
       Told count (carried ∙ ap (λ list. Change list) (single_ruled wish other value (facts.changes_single count wish carried) is))
 
-  located_given : (initial : ℕ) → Given initial own_value location remote → GivenBy initial location remote
+  located_given : (initial : ℕ) → Given initial own_value location remote → GivenByLocation initial location remote
   located_given initial given =
       record { locations = told initial location.value given.servers; remotes = told initial remote.value given.clients }
 
 module _ (initial : ℕ) (server client : Side) where
-  pub server_agree : Reached (at_server initial) server client → AgreeOn server client
+  pub server_agree : Reached (at_server initial) server client → AgreeByLocation server client
   server_agree reached =
       located_agree server client (reached_keeps (at_server initial) server client reached) (server_located initial server client reached)
 
-  pub server_given : Reached (at_server initial) server client → GivenBy initial server client
+  pub server_given : Reached (at_server initial) server client → GivenByLocation initial server client
   server_given reached =
       located_given server client (reached_keeps (at_server initial) server client reached)
       (server_located initial server client reached) initial (reached_given (at_server initial) server client reached)
 
-  pub client_agree : Reached (at_client initial) server client → AgreeOn client server
+  pub client_agree : Reached (at_client initial) server client → AgreeByLocation client server
   client_agree reached =
       located_agree client server (client_kept initial server client reached) (client_located initial server client reached)
 
-  pub client_given : Reached (at_client initial) server client → GivenBy initial client server
+  pub client_given : Reached (at_client initial) server client → GivenByLocation initial client server
   client_given reached =
       located_given client server (client_kept initial server client reached) (client_located initial server client reached) initial
       (both_turned initial (swapped own_value) server client (reached_given (at_client initial) server client reached))

@@ -5,7 +5,7 @@ use Rattle.std.proofs.Props.{props}
 use Rattle.feature_agreement.specs.View.{Side}
 use Rattle.feature_agreement.specs.Moves.{swapped, fresh, Moves, Pair, IsReachable, at_server, at_client}
 use Rattle.feature_agreement.specs.Moves.Reached.{Starts}
-use Rattle.feature_agreement.specs.Agreement.{Agree, Given, AgreeOn, GivenBy}
+use Rattle.feature_agreement.specs.Agreement.{Agree, Given, AgreeByLocation, GivenByLocation}
 use Rattle.feature_agreement.proofs.Values.{reached_given}
 use Rattle.feature_agreement.proofs.Reaching.{reached_agree, server_reaches, client_reaches}
 use Rattle.feature_agreement.proofs.Located.{server_agree, server_given, client_agree, client_given}
@@ -31,17 +31,17 @@ pub reachable_given : (pair : Pair) (server client : Side) → IsReachable pair 
 reachable_given pair server client reachable = ∥∥₁_map reachable (reached_given pair server client)
 
 pub reachable_agree_at_server : (initial : ℕ) (server client : Side) → IsReachable (at_server initial) server client
-    → AgreeOn server client
+    → AgreeByLocation server client
 reachable_agree_at_server initial server client reachable = ∥∥₁_elim reachable (hlevel props) (server_agree initial server client)
 
 pub reachable_agree_at_client : (initial : ℕ) (server client : Side) → IsReachable (at_client initial) server client
-    → AgreeOn client server
+    → AgreeByLocation client server
 reachable_agree_at_client initial server client reachable = ∥∥₁_elim reachable (hlevel props) (client_agree initial server client)
 
 pub reachable_given_at_server : (initial : ℕ) (server client : Side) → IsReachable (at_server initial) server client
-    → ∥ GivenBy initial server client ∥₁
+    → ∥ GivenByLocation initial server client ∥₁
 reachable_given_at_server initial server client reachable = ∥∥₁_map reachable (server_given initial server client)
 
 pub reachable_given_at_client : (initial : ℕ) (server client : Side) → IsReachable (at_client initial) server client
-    → ∥ GivenBy initial client server ∥₁
+    → ∥ GivenByLocation initial client server ∥₁
 reachable_given_at_client initial server client reachable = ∥∥₁_map reachable (client_given initial server client)

@@ -1,7 +1,7 @@
 -- What the facts say of two sides that moves reach: they agree.
-use Rattle.std.proofs.Common.{◌≡◌, ℕ, ◌<◌, true, ◌⊎◌, List, arith}
+use Rattle.std.proofs.Common.{◌≡◌, ℕ, ◌<◌, Bool, true, ◌⊎◌, List, arith}
 use Rattle.std.specs.Prelude.{Some, is_some, IsTrue}
-use Rattle.feature_agreement.specs.View.{Side, last_wish}
+use Rattle.feature_agreement.specs.View.{Carried, Side, last_wish}
 use Rattle.feature_machine.specs.declared.stands.Stand.TheVariants.{Stable}
 use Rattle.feature_agreement.specs.Moves.{Rule, swapped, Moves, Pair, Reached}
 use Rattle.feature_agreement.specs.Moves.Moves.{Done, Next}
@@ -35,6 +35,13 @@ module _ (rule : Rule) (side peer : Side) (facts : Kept rule side peer) where
 
 pub reached_agree : (pair : Pair) (server client : Side) → Reached pair server client → Agree pair.rule server client
 reached_agree pair server client reached = kept_agree pair.rule server client (reached_keeps pair server client reached)
+
+-- moves after moves
+pub joined : (rule : Rule) (opens : List ℕ → Bool) (there : List Carried) (before middle after : Side) → Moves rule opens there before middle
+    → Moves rule opens there middle after → Moves rule opens there before after
+joined rule opens there _ _ after (Done _) rest = rest
+joined rule opens there before middle after (Next _ next _ move moves) rest =
+    Next before next after move (joined rule opens there next middle after moves rest)
 
 pub server_reaches : (pair : Pair) (client server after : Side) → Moves pair.rule pair.server_opens client.frames server after
     → Reached pair server client → Reached pair after client

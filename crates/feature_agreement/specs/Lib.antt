@@ -3,3 +3,5 @@ pub mod Moves
 pub mod Agreement
 pub mod Counts
 pub mod Exchanges
+pub mod Rows
+pub mod EachFeature

@@ -1,12 +1,13 @@
--- One feature at one of the two ends, seen as a pair of sides: what the frames of each carry for it, and what each row holds (own; the
--- options and the names are RFC 4340's, section 6). A frame goes by its count: a side's first numbered frame has count 1, and 0 is none.
+-- One feature at one of the two ends, seen as a pair of sides: what the frames of each carry for it, and what each row holds
+-- (own; the options and the names are RFC 4340's, section 6). A frame goes by its count: a side's first numbered frame has
+-- count 1, and 0 is none.
 use Rattle.std.specs.Prelude.{ℕ, Bool, true, false, Option, None, Some, List, [], ◌∷◌, ◌++◌, slice_index_or}
 use Rattle.std.specs.Option.{option_or}
 use Rattle.std.specs.List.{list_any}
 use Rattle.feature_machine.specs.declared.stands.Stand.{Stand}
 
--- What one frame carries for the feature. A wish is a preference list; the value of a feature that is not negotiable is a wish of one entry,
--- and its Confirm has an empty one. A Confirm has the count of the peer's frame that it acknowledges.
+-- What one frame carries for the feature. A wish is a preference list; the value of a feature that is not negotiable is a wish
+-- of one entry, and its Confirm has an empty one. A Confirm has the count of the peer's frame that it acknowledges.
 pub data Carried : Type 0 where
   Nothing : Carried
   Change : (wish : List ℕ) → Carried

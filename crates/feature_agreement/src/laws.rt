@@ -1,12 +1,14 @@
 //! The laws on a feature's two sides.
-ghost use Rattle.std.specs.Prelude.{ℕ, List, IsTrue};
-ghost use Rattle.feature_agreement.specs.View.{Side};
-ghost use Rattle.feature_agreement.specs.Moves.{Pair, Moves, swapped, fresh, IsReachable, at_server, at_client};
+ghost use Rattle.std.specs.Prelude.{ℕ, Bool, List, IsTrue};
+ghost use Rattle.feature_agreement.specs.View.{Carried, Side};
+ghost use Rattle.feature_agreement.specs.Moves.{Rule, Pair, Moves, swapped, fresh, IsReachable, at_server, at_client};
 ghost use Rattle.feature_agreement.specs.Exchanges.{server_asked, client_asking, server_crossing, client_crossing};
-ghost use Rattle.feature_agreement.specs.Agreement.{Agree, Given, AgreeOn, GivenBy};
+ghost use Rattle.feature_agreement.specs.Agreement.{Agree, Given, AgreeByLocation, GivenByLocation};
 
 /// Two sides are reachable at the start, whatever was configured, and after each step of either that is a list of moves.
 pub fn steps_stay_reachable()
+    ensures joined { (rule : Rule) (opens : List ℕ → Bool) (there : List Carried) (before middle after : Side)
+        → Moves rule opens there before middle → Moves rule opens there middle after → Moves rule opens there before after }
     ensures start { (pair : Pair) (servers clients : List ℕ)
         → IsReachable pair (fresh pair.initial servers) (fresh pair.initial clients) }
     ensures server_step { (pair : Pair) (server client after : Side)
@@ -30,13 +32,13 @@ pub fn reachable_sides_agree()
 /// located sent last.
 pub fn location_decides()
     ensures agree_at_server { (initial : ℕ) (server client : Side)
-        → IsReachable (at_server initial) server client → AgreeOn server client }
+        → IsReachable (at_server initial) server client → AgreeByLocation server client }
     ensures agree_at_client { (initial : ℕ) (server client : Side)
-        → IsReachable (at_client initial) server client → AgreeOn client server }
+        → IsReachable (at_client initial) server client → AgreeByLocation client server }
     ensures given_at_server { (initial : ℕ) (server client : Side)
-        → IsReachable (at_server initial) server client → ∥ GivenBy initial server client ∥₁ }
+        → IsReachable (at_server initial) server client → ∥ GivenByLocation initial server client ∥₁ }
     ensures given_at_client { (initial : ℕ) (server client : Side)
-        → IsReachable (at_client initial) server client → ∥ GivenBy initial client server ∥₁ }
+        → IsReachable (at_client initial) server client → ∥ GivenByLocation initial client server ∥₁ }
 {}
 
 /// Rows do settle: by a Change and its Confirm, and by two Changes that cross, each confirmed. Both rows then are STABLE,

@@ -1,13 +1,21 @@
-//! Why the two ends of a connection agree on a feature, as a law on its pair of rows (own; the negotiation is that of RFC 4340, section 6,
-//! as this profile restricts it).
+//! Why the two ends of a connection agree on a feature: a law on its pair of rows (own; the negotiation is that of RFC 4340,
+//! section 6, as this profile restricts it).
 //!
-//! The crate has no code that runs. Its functions have empty bodies, and their contracts are the laws.
+//! The crate has no code that runs: its functions have empty bodies, and their contracts are the laws. It says nothing of
+//! packets, phases or windows, and never that a negotiation settles.
 #![tactic(auto)]
 
 mod counts;
+mod features;
 mod laws;
+mod lines;
 
 pub use crate::counts::numbers_count_frames;
+pub use crate::features::{every_feature_agrees, row_steps_stay_reachable};
 pub use crate::laws::{
     exchanges_settle, location_decides, reachable_sides_agree, steps_stay_reachable,
+};
+pub use crate::lines::{
+    offering_is_a_move, preferring_is_a_move, rows_stay_begun, sending_is_a_move,
+    taking_a_change_is_a_move, taking_a_confirm_is_a_move, what_rows_say_is_whole,
 };

@@ -4,9 +4,8 @@ use Rattle.byteorder.specs.Endian.{big_number, big_bytes}
 use Rattle.seq_circle.specs.Circle.{is_before}
 use Rattle.feature_lists.specs.Features.{described, is_permitted}
 use Rattle.feature_lists.specs.Lists.{has_entry, reconciled}
-use Rattle.feature_lists.specs.declared.features.Feature.{Feature}
 use Rattle.feature_lists.specs.declared.features.Place.{Place}
-use Rattle.feature_lists.specs.declared.features.Place.TheVariants as place
+use Rattle.feature_lists.specs.declared.features.Place.TheVariants as located
 use Rattle.feature_lists.specs.declared.wishes.Wanted.{Wanted}
 use Rattle.feature_lists.specs.declared.wishes.Wanted.TheVariants as wanted
 use Rattle.feature_machine.specs.declared.stands.Role2.{Role2}
@@ -74,8 +73,8 @@ abbrev pub width : Row → ℕ
 width row = (described row.feature).width
 
 abbrev pub is_there : Place → Bool
-is_there place.Here = false
-is_there place.There = true
+is_there located.Here = false
+is_there located.There = true
 
 -- the data tell a value of a non-negotiable feature that is located at the peer (RFC 4340, section 6.3.2)
 abbrev pub tells_value : Row → List ℕ → Bool
@@ -107,9 +106,12 @@ abbrev pub listed_confirmation : Row → ℕ → Option ℕ → Confirmation
 listed_confirmation row value (Some agreed) = if agreed == value then c.Shared value else c.Wrong
 listed_confirmation row value None = if value == row.value then c.Held else c.Wrong
 
+-- a value in the row's active list, or the one that it holds
+abbrev pub is_acceptable : Row → ℕ → Bool
+is_acceptable row value = has_entry (entries row.active) value || value == row.value
+
 abbrev pub list_confirmation : Row → ℕ → List ℕ → Confirmation
-list_confirmation row value [] =
-    if has_entry (entries row.active) value || value == row.value then c.Alone value else c.Wrong
+list_confirmation row value [] = if is_acceptable row value then c.Alone value else c.Wrong
 list_confirmation row value (first ∷ rest) =
     listed_confirmation row value (reconciled_by row.role (entries row.active) (first ∷ rest))
 

@@ -1,4 +1,16 @@
 //! What a Change or a Confirm is to a row.
+ghost use Rattle.std.specs.Prelude.{◌≡◌, false, ◌||◌, ◌==◌, ◌≤◌, length};
+ghost use Rattle.byteorder.specs.Endian.{big_number};
+ghost use Rattle.feature_lists.specs.Features.{described};
+ghost use Rattle.feature_lists.specs.Lists.{has_entry};
+ghost use Rattle.feature_machine.specs.Rows.{entries, is_number, reconciled_by, tells_value, proposal, list_proposal, confirmation, timely_confirmation, is_acceptable, list_confirmation, listed_confirmation, number_confirmation, answers_opening};
+ghost use Rattle.feature_machine.specs.Sound.{IsSound, IsLawfulProposal};
+
+use crate::Role2;
+use crate::row::Row;
+use byteorder::{BigEndian, ByteOrder};
+use feature_lists::{Feature, Place, Wanted, reconcile};
+use seq_circle::Seq48;
 
 /// What a Change is to a row.
 #[derive(Clone, Copy, Debug, PartialEq, Eq)]
@@ -30,4 +42,187 @@ pub enum Confirmation {
     Told(u64),
     /// It is none of these.
     Wrong,
+}
+
+pub(crate) fn is_server_priority(feature: Feature) -> bool
+    ensures { result ≡ (described feature).is_server_priority }
+{
+    !matches!(feature, Feature::SequenceWindow | Feature::AckRatio)
+}
+
+// The bytes of one value.
+fn width(feature: Feature) -> usize
+    ensures { result ≡ (described feature).width }
+{
+    match feature {
+        Feature::SequenceWindow => 6,
+        Feature::AckRatio => 2,
+        _ => 1,
+    }
+}
+
+fn number_of_bytes(feature: Feature, bytes: &[u8]) -> u64
+    requires { length bytes.now ≡ (described feature).width }
+    ensures { result ≡ big_number (described feature).width bytes.now }
+{
+    match feature {
+        Feature::SequenceWindow => BigEndian::read_u48(bytes),
+        Feature::AckRatio => u64::from(BigEndian::read_u16(bytes)),
+        _ => u64::from(bytes[0]),
+    }
+}
+
+impl Row {
+    // The entries of the active list.
+    pub(crate) fn entries(&self) -> &[u8]
+        ensures value { result.now ≡ entries self.now.active }
+        ensures few { length (entries self.now.active) ≤ 8 }
+    {
+        match &self.active {
+            Some(Wanted::List(list)) => list.bytes(),
+            _ => &[],
+        }
+    }
+
+    fn reconciled(&self, peers: &[u8]) -> Option<u8>
+        ensures { result ≡ reconciled_by self.now.role (entries self.now.active) peers.now }
+    {
+        match self.role {
+            Role2::Server => reconcile(self.entries(), peers),
+            Role2::Client => reconcile(peers, self.entries()),
+        }
+    }
+
+    fn is_number(&self, value: u64) -> bool
+        ensures { result ≡ is_number self.now.active value }
+    {
+        match &self.active {
+            Some(Wanted::Number(number)) => *number == value,
+            _ => false,
+        }
+    }
+
+    fn list_proposal(&self, body: &[u8]) -> Proposal
+        ensures { result ≡ list_proposal self.now body.now }
+    {
+        match body {
+            [] => Proposal::Invalid,
+            [_, ..] => match self.reconciled(body) {
+                Some(value) => Proposal::Shared(value),
+                None => Proposal::Unshared,
+            },
+        }
+    }
+
+    // What a Change with this data behind the feature number is to the row.
+    pub(crate) fn proposal(&self, body: &[u8]) -> Proposal
+        requires { IsSound self.now }
+        ensures value { result ≡ proposal self.now body.now }
+        ensures lawful { IsLawfulProposal self.now result }
+    {
+        if is_server_priority(self.feature) {
+            return self.list_proposal(body);
+        }
+        if self.place == Place::Here || body.len() != width(self.feature) {
+            return Proposal::Invalid;
+        }
+        let value = number_of_bytes(self.feature, body);
+        if is_in_range(self.feature, value) {
+            Proposal::Told(value)
+        } else {
+            Proposal::Invalid
+        }
+    }
+
+    fn listed_confirmation(&self, value: u8, agreed: Option<u8>) -> Confirmation
+        ensures { result ≡ listed_confirmation self.now value agreed }
+    {
+        match agreed {
+            Some(agreed) if agreed == value => Confirmation::Shared(value),
+            None if u64::from(value) == self.value => Confirmation::Held,
+            _ => Confirmation::Wrong,
+        }
+    }
+
+    fn is_acceptable(&self, value: u8) -> bool
+        ensures { result ≡ is_acceptable self.now value }
+    {
+        self.entries().contains(&value) || u64::from(value) == self.value
+    }
+
+    fn list_confirmation(&self, value: u8, list: &[u8]) -> Confirmation
+        ensures { result ≡ list_confirmation self.now value list.now }
+    {
+        match list {
+            [] => {
+                if self.is_acceptable(value) {
+                    Confirmation::Alone(value)
+                } else {
+                    Confirmation::Wrong
+                }
+            }
+            [_, ..] => self.listed_confirmation(value, self.reconciled(list)),
+        }
+    }
+
+    fn number_confirmation(&self, body: &[u8]) -> Confirmation
+        ensures { result ≡ number_confirmation self.now body.now }
+    {
+        if body.len() != width(self.feature) {
+            return Confirmation::Wrong;
+        }
+        let value = number_of_bytes(self.feature, body);
+        if self.is_number(value) {
+            Confirmation::Told(value)
+        } else {
+            Confirmation::Wrong
+        }
+    }
+
+    fn timely_confirmation(&self, body: &[u8]) -> Confirmation
+        ensures { result ≡ timely_confirmation self.now body.now }
+    {
+        match body {
+            [] => Confirmation::Empty,
+            [value, list @ ..] => {
+                if is_server_priority(self.feature) {
+                    self.list_confirmation(*value, list)
+                } else {
+                    self.number_confirmation(body)
+                }
+            }
+        }
+    }
+
+    // What a Confirm with this data behind the feature number, on a packet with this acknowledgement number, is to a row in
+    // CHANGING.
+    pub(crate) fn confirmation(&self, body: &[u8], ack: &Option<Seq48>) -> Confirmation
+        ensures { result ≡ confirmation self.now body.now ack.now }
+    {
+        if self.answers_opening(ack) {
+            self.timely_confirmation(body)
+        } else {
+            Confirmation::Late
+        }
+    }
+
+    fn answers_opening(&self, ack: &Option<Seq48>) -> bool
+        ensures { result ≡ answers_opening self.now.opened ack.now }
+    {
+        match (&self.opened, ack) {
+            (Some(opened), Some(ack)) => !ack.before(*opened),
+            _ => false,
+        }
+    }
+}
+
+// Tells whether the value of a non-negotiable feature is permitted at its location.
+fn is_in_range(feature: Feature, value: u64) -> bool
+    requires { (described feature).is_server_priority ≡ false }
+    ensures { result ≡ (described feature).permitted_there value }
+{
+    match feature {
+        Feature::SequenceWindow => 32 <= value && value <= 70_368_744_177_663,
+        _ => value <= 65_535,
+    }
 }

@@ -5,9 +5,25 @@
 //! Nothing here takes memory, reads a packet or sends one, and no row is changed by another row's event.
 #![tactic(auto)]
 
+mod answers;
+mod due;
 mod judging;
+mod laws;
+mod lists;
+mod negotiation;
 mod offers;
 mod row;
 mod stands;
+#[cfg(test)]
+mod tests;
 
+pub use crate::answers::{Answer, ConfirmOut, Opening, Settling};
+pub use crate::due::Due;
+pub use crate::laws::{
+    both_ends_reconcile_alike, causes_of_resets, late_confirms_are_ignored,
+    openings_keep_their_number, refusals_change_nothing, rows_stand_apart, rows_stay_sound,
+    values_are_lawful,
+};
+pub use crate::lists::Lists;
+pub use crate::negotiation::Negotiation;
 pub use crate::stands::{Held, Role2, Stand};

@@ -1,4 +1,6 @@
-//! What an end offers when the connection starts.
+//! What an end wants and offers when the connection starts.
+
+use feature_lists::{Feature, Place, Wanted};
 
 /// The Change of a row that an end is to send by itself when the connection starts.
 #[derive(Clone, Copy, Debug, PartialEq, Eq)]
@@ -9,4 +11,14 @@ pub enum Offer {
     Plain,
     /// A Change behind Mandatory.
     Mandatory,
+}
+
+/// What an end starts with for a feature at a place.
+#[derive(Clone, Copy, Debug, PartialEq, Eq)]
+pub struct Listed {
+    pub feature: Feature,
+    pub place: Place,
+    /// The wish; None for a non-negotiable feature at the peer.
+    pub wish: Option<Wanted>,
+    pub offer: Offer,
 }

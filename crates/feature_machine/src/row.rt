@@ -1,8 +1,32 @@
 //! One row: a feature at one place, as one end has it.
+//!
+//! ```text
+//!             prefer, offer                     prefer
+//!   STABLE -------------------> CHANGING -------------------> UNSTABLE
+//!     ^                          |    ^                          |
+//!     |   its Confirm comes      |    |     its Change is sent   |
+//!     +--------------------------+    +--------------------------+
+//! ```
+//!
+//! A Change of the peer moves no stand: a row in CHANGING answers it, takes its value and still waits for its own Confirm. Were it
+//! to go to STABLE there, the Confirm under way could carry another value than the peer holds by then.
+ghost use Rattle.std.specs.Prelude.{◌≡◌, ◌≢◌, ◌++◌, ◌∷◌, [], ℕ, ◌<◌, ◌^◌, length, true, false};
+ghost use Rattle.arrayvec.specs.ArrayVec.{array_vec_len};
+ghost use Rattle.byteorder.specs.Endian.{big_bytes};
+ghost use Rattle.feature_lists.specs.Features.{described};
+ghost use Rattle.feature_lists.specs.Wishes.{is_wish};
+ghost use Rattle.feature_machine.specs.Rows.{row_step, Change, Confirm, Prefers, Offers, Sends, confirm_body};
+ghost use Rattle.feature_machine.specs.Answers.{reply_of, settling_of, opening_of, is_opening};
+ghost use Rattle.feature_machine.specs.Negotiating.{first_row, is_due};
+ghost use Rattle.feature_machine.specs.Sound.{IsSound, is_lawful};
+ghost use Rattle.feature_machine.specs.declared.stands.Stand.TheVariants.{Stable};
 
-use crate::offers::Offer;
-use crate::{Role2, Stand};
-use feature_lists::{Feature, Place, Wanted};
+use crate::judging::{Confirmation, Proposal, is_server_priority};
+use crate::offers::{Listed, Offer};
+use crate::{Opening, Role2, Settling, Stand};
+use arrayvec::ArrayVec;
+use byteorder::{BigEndian, ByteOrder};
+use feature_lists::{Feature, Place, Wanted, initial};
 use seq_circle::Seq48;
 
 /// A feature at one place, as one end has it.
@@ -24,4 +48,216 @@ pub struct Row {
     pub offer: Offer,
     /// Whether the Change of the active wish carries Mandatory.
     pub mandatory: bool,
+}
+
+/// What a row replies to a Change.
+#[derive(Debug, Drop)]
+pub enum Reply {
+    /// A Confirm with this data behind the feature number.
+    Confirm(ArrayVec<u8, 9>),
+    Ignored,
+    /// Reset 6.
+    Fatal,
+}
+
+// A value of a non-negotiable feature in its bytes.
+fn number_bytes(feature: Feature, value: u64) -> ArrayVec<u8, 9>
+    requires negotiable { (described feature).is_server_priority ≡ false }
+    requires fits { value < 256 ^ (described feature).width }
+    ensures { result.items ≡ big_bytes (described feature).width value }
+{
+    let mut bytes = ArrayVec::new();
+    match feature {
+        Feature::SequenceWindow => {
+            let mut six = [0; 6];
+            BigEndian::write_u48(&mut six, value);
+            let _ = bytes.try_extend_from_slice(&six);
+        }
+        _ => {
+            let mut two = [0; 2];
+            BigEndian::write_u16(&mut two, value as u16);
+            let _ = bytes.try_extend_from_slice(&two);
+        }
+    }
+    bytes
+}
+
+impl Row {
+    // A row before anything was negotiated.
+    pub(crate) fn first(role: Role2, listed: &Listed) -> Row
+        ensures { result ≡ first_row role listed.now }
+    {
+        Row {
+            role,
+            feature: listed.feature,
+            place: listed.place,
+            value: initial(listed.feature),
+            stand: Stand::Stable,
+            active: listed.wish,
+            pending: None,
+            opened: None,
+            offer: listed.offer,
+            mandatory: false,
+        }
+    }
+
+    // Tells whether a Change of the row is due.
+    pub(crate) fn is_due(&self) -> bool
+        ensures { result ≡ is_due self.now }
+    {
+        match self.stand {
+            Stand::Stable => false,
+            Stand::Changing => true,
+            Stand::Unstable => true,
+        }
+    }
+
+    // A Confirm's data: the row's value, and for a server-priority feature its active list.
+    fn confirm_body(&self) -> ArrayVec<u8, 9>
+        requires { is_lawful self.now.feature self.now.place self.now.value ≡ true }
+        ensures { result.items ≡ confirm_body self.now }
+    {
+        if is_server_priority(self.feature) {
+            let mut body = ArrayVec::new();
+            body.push(self.value as u8);
+            let _ = body.try_extend_from_slice(self.entries());
+            body
+        } else {
+            number_bytes(self.feature, self.value)
+        }
+    }
+
+    // A Change comes.
+    pub(crate) fn change(&mut self, body: &[u8], mandatory: bool) -> Reply
+        requires { IsSound self.old }
+        ensures row { self.new ≡ (row_step self.old (Change body.now mandatory)).row }
+        ensures reply { reply_of result ≡ (row_step self.old (Change body.now mandatory)).answer }
+    {
+        let proposal = self.proposal(body);
+        match (proposal, self.stand) {
+            (Proposal::Invalid, _) => {
+                if mandatory {
+                    Reply::Fatal
+                } else {
+                    Reply::Confirm(ArrayVec::new())
+                }
+            }
+            (_, Stand::Unstable) => Reply::Ignored,
+            (Proposal::Shared(value), _) => {
+                self.value = u64::from(value);
+                Reply::Confirm(self.confirm_body())
+            }
+            (Proposal::Unshared, _) => {
+                if mandatory {
+                    Reply::Fatal
+                } else {
+                    Reply::Confirm(self.confirm_body())
+                }
+            }
+            (Proposal::Told(value), _) => {
+                self.value = value;
+                Reply::Confirm(self.confirm_body())
+            }
+        }
+    }
+
+    fn settle(&mut self, value: u64) -> Settling
+        ensures row { self.new ≡ record self.old { value = value; stand = Stable } }
+        ensures settled { result ≡ Settling.Settled }
+    {
+        self.value = value;
+        self.stand = Stand::Stable;
+        Settling::Settled
+    }
+
+    // A Confirm comes.
+    pub(crate) fn confirm(&mut self, body: &[u8], ack: &Option<Seq48>) -> Settling
+        ensures row { self.new ≡ (row_step self.old (Confirm body.now ack.now)).row }
+        ensures settling { result ≡ settling_of (row_step self.old (Confirm body.now ack.now)).answer }
+    {
+        if self.stand != Stand::Changing {
+            return Settling::Ignored;
+        }
+        match self.confirmation(body, ack) {
+            Confirmation::Late => Settling::Ignored,
+            Confirmation::Empty => {
+                if is_required(self.feature) {
+                    Settling::Fatal
+                } else {
+                    self.settle(self.value)
+                }
+            }
+            Confirmation::Shared(value) => self.settle(u64::from(value)),
+            Confirmation::Held => self.settle(self.value),
+            Confirmation::Alone(value) => self.settle(u64::from(value)),
+            Confirmation::Told(value) => self.settle(value),
+            Confirmation::Wrong => Settling::Fatal,
+        }
+    }
+
+    // The end wants something else.
+    pub(crate) fn prefer(&mut self, wish: Wanted) -> Opening
+        ensures row { self.new ≡ (row_step self.old (Prefers wish)).row }
+        ensures opening { result ≡ opening_of (row_step self.old (Prefers wish)).answer }
+    {
+        if self.stand == Stand::Stable {
+            self.stand = Stand::Changing;
+            self.active = Some(wish);
+            self.opened = None;
+            self.mandatory = false;
+            Opening::Now
+        } else {
+            self.stand = Stand::Unstable;
+            self.pending = Some(wish);
+            Opening::Later
+        }
+    }
+
+    // The row's offer comes up.
+    pub(crate) fn open_offer(&mut self, confirmed: bool) -> bool
+        requires { self.old.stand ≡ Stable }
+        ensures row { self.new ≡ (row_step self.old (Offers confirmed)).row }
+        ensures opening { result ≡ is_opening (row_step self.old (Offers confirmed)).answer }
+    {
+        let offer = self.offer;
+        self.offer = Offer::Nothing;
+        if offer == Offer::Nothing || confirmed {
+            return false;
+        }
+        self.stand = Stand::Changing;
+        self.opened = None;
+        self.mandatory = offer == Offer::Mandatory;
+        true
+    }
+
+    // A packet with the row's Change goes out.
+    pub(crate) fn sent(&mut self, number: Seq48)
+        ensures { self.new ≡ (row_step self.old (Sends number)).row }
+    {
+        match self.stand {
+            Stand::Stable => {}
+            Stand::Changing => {
+                if self.opened.is_none() {
+                    self.opened = Some(number);
+                }
+            }
+            Stand::Unstable => {
+                self.stand = Stand::Changing;
+                self.active = self.pending;
+                self.pending = None;
+                self.opened = Some(number);
+                self.mandatory = false;
+            }
+        }
+    }
+}
+
+// Tells whether every end has to understand the feature.
+fn is_required(feature: Feature) -> bool
+    ensures { result ≡ (described feature).is_required }
+{
+    matches!(
+        feature,
+        Feature::Ccid | Feature::ShortSeqnos | Feature::SequenceWindow
+    )
 }

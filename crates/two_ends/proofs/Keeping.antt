@@ -1,8 +1,9 @@
 -- Every schedule leaves the world safe. No frame carries an option yet and no number is marked, so each step keeps this: all
 -- frames are silent and no number was processed. What Safe says then follows.
-use Rattle.std.proofs.Common.{◌≡◌, refl, ap, sym, ◌∙◌, subst, ℕ, List, [], ◌∷◌, ◌++◌, ◌||◌, Option, Some, None, true, false, Bool, if◌then◌else◌, Result, Ok, Err, IsTrue, slice_get, length, slice_index, Contains, arith, ◌<◌}
+use Rattle.std.proofs.Common.{◌≡◌, refl, ap, sym, ◌∙◌, subst, ℕ, zero, suc, List, [], ◌∷◌, ◌++◌, ◌||◌, Option, Some, None, true, false, Bool, if◌then◌else◌, Result, Ok, Err, IsTrue, slice_get, length, slice_index, Contains, arith, ◌<◌}
 use Rattle.std.specs.List.{list_any}
-use Rattle.dccp_endpoint.specs.Steps.{Step, opens, receives}
+use Rattle.dccp_endpoint.specs.Receiving.{receives}
+use Rattle.dccp_endpoint.specs.Steps.{Step, opens}
 use Rattle.dccp_endpoint.specs.End.{EndState, floor_of}
 use Rattle.dccp_endpoint.specs.declared.config.Config.{Config}
 use Rattle.two_ends.specs.declared.frames.SentFrame.{SentFrame}
@@ -17,7 +18,8 @@ use Rattle.two_ends.specs.Lists.{last_shown, or_earlier}
 use Rattle.two_ends.specs.Frames.{options_in}
 use Rattle.two_ends.specs.Pairs.{Pair, Saying, Nothing, said_by, said_in, place_at, held_at}
 use Rattle.two_ends.specs.Negotiated.{Agree, AreOfOneMind, IsSettled, Given, Origin, Initial, is_change, side_changed, was_negotiated, list_said, value_said, last_list, last_value}
-use Rattle.two_ends.specs.Reported.{Once, IsOnce, Heard}
+use Rattle.two_ends.specs.Reported.{Once, IsOnce, Heard, Truthful, Told}
+use Rattle.dccp_options.specs.Vectors.{report_of}
 use Rattle.feature_lists.specs.Features.{number_of}
 use Rattle.two_ends.specs.Safe.{Safe}
 use Rattle.two_ends.specs.Reached.{Reached}
@@ -62,7 +64,7 @@ arrives-quiet : (w : WorldState) (from : Side) (frame : Option SentFrame) → Ar
 arrives-quiet w from None q = q
 arrives-quiet w from (Some frame) q =
     full-quiet w (other from) (half_receives (half_of w (other from)) frame.bytes) q
-      (moved-quiet (half_of w (other from)) (receives (half_of w (other from)).end frame.bytes) (of-half w (other from) q) (receives-silent (half_of w (other from)).end frame.bytes))
+    (moved-quiet (half_of w (other from)) (receives (half_of w (other from)).end frame.bytes) (of-half w (other from) q) (receives-silent (half_of w (other from)).end frame.bytes))
 
 event-quiet : (w : WorldState) (e : Event) → AreQuiet w → AreQuiet (world_after w (happens w e))
 event-quiet w event.Open q = full-quiet w Client (half_opens w.client) q (moved-quiet w.client (opens w.client.end) q.client (opens-silent w.client.end))
@@ -98,7 +100,7 @@ module _ (w : WorldState) (q : AreQuiet w) (pair : Pair) where
   unchanged-by : (side : Side) → side_changed w pair side ≡ false
   unchanged-by side =
       no-frame (λ frame. is_change (said_by pair side frame.bytes)) (λ frame none. ap is_change (says-nothing pair side frame.bytes none))
-        (half_of w side).frames (of-half w side q).silent
+      (half_of w side).frames (of-half w side q).silent
 
   not-negotiated : was_negotiated w pair ≡ false
   not-negotiated =
@@ -107,7 +109,7 @@ module _ (w : WorldState) (q : AreQuiet w) (pair : Pair) where
   no-list : (side : Side) → last_list w pair side ≡ None
   no-list side =
       none-shown (λ (frame : SentFrame). list_said (said_by pair side frame.bytes)) (λ frame none. ap list_said (says-nothing pair side frame.bytes none))
-        (half_of w side).frames (of-half w side q).silent
+      (half_of w side).frames (of-half w side q).silent
 
   of-one-mind : AreOfOneMind w pair
   of-one-mind = record {
@@ -122,10 +124,29 @@ quiet-once w q side =
     let none : length (half_of w side).processed ≡ 0 = ap length (of-half w side q).unprocessed in
     record { distinct = λ i j here there same. absurd (omega arith); sent = λ i here. absurd (omega arith) }
 
+silent-at : (frames : List SentFrame) (index : ℕ) (frame : SentFrame) → AreSilent frames → slice_get frames index ≡ Some frame → options_in frame.bytes ≡ []
+silent-at [] index frame s there = cc there
+silent-at (first ∷ frames) zero frame s there =
+    let some : Some first ≡ Some frame = there in
+    let same : first ≡ frame = cc some in
+    subst (λ (f : SentFrame). options_in f.bytes ≡ []) same s.0
+silent-at (first ∷ frames) (suc index) frame s there = silent-at frames index frame s.1 there
+
+quiet-truthful : (w : WorldState) → AreQuiet w → Truthful w
+quiet-truthful w q side index frame ack bytes there carries =
+    let none : report_of ack (options_in frame.bytes) ≡ None = ap (report_of ack) (silent-at (half_of w side).frames index frame (of-half w side q).silent there) in
+    let some = carries.carries in
+    cc (none, some)
+
+quiet-told : (w : WorldState) → AreQuiet w → Told w
+quiet-told w q side n fits below = absurd (omega arith)
+
 pub quiet-safe : (w : WorldState) → AreQuiet w → Safe w
 quiet-safe w q = record {
   agree = λ pair settled. of-one-mind w q pair;
   given = λ pair side. Initial refl;
+  truthful = quiet-truthful w q;
+  told = quiet-told w q;
   once = quiet-once w q;
   heard = λ side n reported. absurd (omega (arith, reported.1));
 }

@@ -1,7 +1,7 @@
 -- One more event leads from a world that a schedule reached to another.
 use Rattle.std.proofs.Common.{◌≡◌, refl, ap, sym, ◌∙◌, subst, List, [], ◌∷◌, ◌++◌, Result, Ok, Err, IfOk, OnErr}
 use Rattle.dccp_endpoint.specs.declared.config.Config.{Config}
-use Rattle.dccp_endpoint.specs.declared.phase.Role.TheVariants.{Client, Server}
+use Rattle.dccp_states.specs.declared.phase.Role.TheVariants.{Client, Server}
 use Rattle.two_ends.specs.declared.event.Event.{Event}
 use Rattle.two_ends.specs.declared.event.Seen.{Seen}
 use Rattle.two_ends.specs.declared.event.WorldFault.{WorldFault}
@@ -36,7 +36,7 @@ step-reached old event new (Ok seen) took r =
       is_server = r.is_server;
       events = r.events ++ event ∷ [];
       same =
-        sym (ap (world_after old) took)
-        ∙ ap (λ (w : WorldState). world_after w (happens w event)) r.same
-        ∙ sym (run-snoc (at_start r.client r.server) r.events event);
+          sym (ap (world_after old) took)
+          ∙ ap (λ (w : WorldState). world_after w (happens w event)) r.same
+          ∙ sym (run-snoc (at_start r.client r.server) r.events event);
     }

@@ -65,9 +65,9 @@ IsSettled w pair = ((held_at w pair Client).stand ≡ Stable) × ((held_at w pai
 pub record AreOfOneMind (w : WorldState) (pair : Pair) : Type 0 where
   pub equal : (held_at w pair Client).value ≡ (held_at w pair Server).value
   pub both_sent : IsServerPriority pair → IsTrue (was_negotiated w pair)
-    → IsSome (last_list w pair Client) × IsSome (last_list w pair Server)
+      → IsSome (last_list w pair Client) × IsSome (last_list w pair Server)
   pub is_reconciled : IsServerPriority pair → (servers clients : List ℕ) (value : ℕ) → last_list w pair Server ≡ Some servers
-    → last_list w pair Client ≡ Some clients → reconciled servers clients ≡ Some value → (held_at w pair Server).value ≡ value
+      → last_list w pair Client ≡ Some clients → reconciled servers clients ≡ Some value → (held_at w pair Server).value ≡ value
   pub is_last_sent : IsNotNegotiable pair → IsTrue (was_negotiated w pair) → last_value w pair ≡ Some (held_at w pair pair.location).value
 
 abbrev pub Agree : WorldState → Type 0
@@ -91,7 +91,7 @@ pub record HasTold (w : WorldState) (pair : Pair) (value : ℕ) : Type 0 where
 pub data Origin (w : WorldState) (pair : Pair) (value : ℕ) : Type 0 where
   Initial : value ≡ initial_of pair.feature → Origin w pair value
   Reconciled : (servers clients : List ℕ) → IsServerPriority pair → HasSent w pair Server servers → HasSent w pair Client clients
-    → reconciled servers clients ≡ Some value → Origin w pair value
+      → reconciled servers clients ≡ Some value → Origin w pair value
   Told : IsNotNegotiable pair → HasTold w pair value → Origin w pair value
 
 abbrev pub Given : WorldState → Type 0

@@ -1,11 +1,16 @@
 -- What the ends processed of each other's packets, and what they believe received (RFC 4340, section 11.4).
-use Rattle.std.specs.Prelude.{◌≡◌, ℕ, ◌<◌, false, List, length, slice_get, slice_index, Some, Contains}
+use Rattle.std.specs.Prelude.{◌≡◌, ℕ, ◌^◌, ◌<◌, true, false, List, length, take, slice_get, slice_index, Some, Contains}
+use Rattle.seq_circle.specs.Circle.{distance, IsBefore, IsWithin}
+use Rattle.run_list.specs.MarkedSet.{has, floor_under}
+use Rattle.ack_vectors.specs.Vector.{vector, is_whole}
+use Rattle.dccp_options.specs.Vectors.{report_of}
 use Rattle.dccp_packets.specs.Grammar.{Parts}
-use Rattle.dccp_endpoint.specs.End.{reported_of}
+use Rattle.dccp_endpoint.specs.Arrivals.{ack_of, value_of}
+use Rattle.dccp_endpoint.specs.End.{floor_of, reported_of}
 use Rattle.two_ends.specs.declared.frames.SentFrame.{SentFrame}
 use Rattle.two_ends.specs.declared.event.Side.{Side}
-use Rattle.two_ends.specs.World.{WorldState, half_of, other}
-use Rattle.two_ends.specs.Frames.{packet_of, is_reset, value_of}
+use Rattle.two_ends.specs.World.{Half, WorldState, half_of, other}
+use Rattle.two_ends.specs.Frames.{packet_of, options_in, is_reset}
 
 -- A side sent a packet with this number that is no Reset. A Reset without a connection has a number of the other side.
 pub record HasSentNumber (w : WorldState) (side : Side) (n : ℕ) : Type 0 where
@@ -20,7 +25,7 @@ pub record HasSentNumber (w : WorldState) (side : Side) (n : ℕ) : Type 0 where
 -- Each number is processed once, and only where the other side sent it.
 pub record IsOnce (w : WorldState) (side : Side) : Type 0 where
   pub distinct : (i j : ℕ) → i < length (half_of w side).processed → j < length (half_of w side).processed
-    → slice_index (half_of w side).processed i ≡ slice_index (half_of w side).processed j → i ≡ j
+      → slice_index (half_of w side).processed i ≡ slice_index (half_of w side).processed j → i ≡ j
   pub sent : (i : ℕ) → i < length (half_of w side).processed → HasSentNumber w (other side) (slice_index (half_of w side).processed i)
 
 abbrev pub Once : WorldState → Type 0
@@ -29,3 +34,47 @@ Once w = (side : Side) → IsOnce w side
 -- What an end believes received, the other side processed.
 abbrev pub Heard : WorldState → Type 0
 Heard w = (side : Side) (n : ℕ) → Contains (reported_of (half_of w side).end) n → Contains (half_of w (other side)).processed n
+
+-- what a side had processed when it sent a frame
+abbrev pub processed_by : Half → SentFrame → List ℕ
+processed_by half frame = take frame.processed half.processed
+
+-- A frame acknowledges a number and carries Ack Vectors, whose bytes are joined here.
+pub record CarriesVector (frame : SentFrame) (ack : ℕ) (bytes : List ℕ) : Type 0 where
+  pub packet : Parts
+  pub is_packet : packet_of frame.bytes ≡ Some packet
+  pub acknowledges : ack_of packet.header.kind ≡ Some ack
+  pub carries : report_of ack (options_in frame.bytes) ≡ Some (record { ack = ack; bytes = bytes })
+
+-- They are the vector of just what the side had processed, from the acknowledged number down to its floor, and it had processed
+-- nothing after that number.
+pub record TellsTruth (half : Half) (frame : SentFrame) (ack : ℕ) (bytes : List ℕ) : Type 0 where
+  pub is_vector : bytes ≡ vector (has (processed_by half frame)) frame.floor ack
+  pub none_after : (n : ℕ) → Contains (processed_by half frame) n → IsBefore ack n → ⊥
+
+-- every Ack Vector that was ever sent
+abbrev pub Truthful : WorldState → Type 0
+Truthful w = (side : Side) (index : ℕ) (frame : SentFrame) (ack : ℕ) (bytes : List ℕ) → slice_get (half_of w side).frames index ≡ Some frame
+    → CarriesVector frame ack bytes → TellsTruth (half_of w side) frame ack bytes
+
+-- A frame whose vector told of a number, down to the floor, and which the other side processed.
+pub record ToldIn (w : WorldState) (side : Side) (n : ℕ) : Type 0 where
+  pub index : ℕ
+  pub frame : SentFrame
+  pub ack : ℕ
+  pub bytes : List ℕ
+  pub is_there : slice_get (half_of w side).frames index ≡ Some frame
+  pub vector_is : CarriesVector frame ack bytes
+  pub whole : is_whole (has (processed_by (half_of w side) frame)) frame.floor ack ≡ true
+  pub heard : Contains (half_of w (other side)).processed (value_of vector_is.packet.header.number)
+  pub reaches : IsWithin n frame.floor ack
+
+-- why a side need not speak of a number any more: it lies more than 2,047 below one that it processed, or the other side was told
+pub data IsSettledNumber (w : WorldState) (side : Side) (n : ℕ) : Type 0 where
+  Far : (processed : ℕ) → Contains (half_of w side).processed processed → IsBefore n (floor_under processed) → IsSettledNumber w side n
+  WasTold : ToldIn w side n → IsSettledNumber w side n
+
+-- every number from the first received up to the floor
+abbrev pub Told : WorldState → Type 0
+Told w = (side : Side) (n : ℕ) → n < 2 ^ 48 → distance (half_of w side).end.marks.isr n < distance (half_of w side).end.marks.isr (floor_of (half_of w side).end)
+    → IsSettledNumber w side n

@@ -2,7 +2,8 @@
 -- choice of deliveries.
 use Rattle.std.specs.Prelude.{ℕ, ◌-◌, ◌^◌, Bool, false, nat_le, if◌then◌else◌, List, [], ◌∷◌, ◌++◌, length, Option, Some, None, Result, Ok, Err, slice_get}
 use Rattle.dccp_endpoint.specs.End.{EndState, fresh, floor_of}
-use Rattle.dccp_endpoint.specs.Steps.{Step, opens, receives}
+use Rattle.dccp_endpoint.specs.Steps.{Step, opens}
+use Rattle.dccp_endpoint.specs.Receiving.{receives}
 use Rattle.dccp_endpoint.specs.declared.config.Config.{Config}
 use Rattle.dccp_endpoint.specs.declared.outcome.Outcome.{Outcome}
 use Rattle.dccp_endpoint.specs.declared.outcome.OpenFault.{OpenFault}

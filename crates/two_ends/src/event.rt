@@ -17,10 +17,7 @@ pub enum Event {
     /// The client opens the connection.
     Open,
     /// The frame with this index, from 0, among all that the side `from` ever sent arrives at the other side.
-    Deliver {
-        from: Side,
-        index: u64,
-    },
+    Deliver { from: Side, index: u64 },
 }
 
 /// Why an end refused a call, by the name of its fault.

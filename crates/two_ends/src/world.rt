@@ -4,7 +4,7 @@ ghost use Rattle.two_ends.specs.World.{at_start, run};
 ghost use Rattle.two_ends.specs.Safe.{Safe};
 ghost use Rattle.two_ends.specs.declared.event.Event.{Event};
 ghost use Rattle.dccp_endpoint.specs.declared.config.Config.{Config};
-ghost use Rattle.dccp_endpoint.specs.declared.phase.Role.TheVariants as role;
+ghost use Rattle.dccp_states.specs.declared.phase.Role.TheVariants as role;
 
 use crate::pair::Pair;
 use crate::{Event, Seen, SentFrame, Side, WorldFault};
@@ -34,7 +34,7 @@ impl Model for World {
 impl World {
     ghost use Rattle.std.specs.Prelude.{◌≡◌, ◌↔◌, IfOk, OnErr, Ok, Err};
     ghost use Rattle.two_ends.specs.World.{at_start, happens, half_of};
-    ghost use Rattle.dccp_endpoint.specs.declared.phase.Role.TheVariants as role;
+    ghost use Rattle.dccp_states.specs.declared.phase.Role.TheVariants as role;
     ghost use Rattle.two_ends.specs.Safe.{Safe};
 
     /// Two ends of these configurations that have sent and received nothing.
@@ -87,5 +87,4 @@ impl World {
 /// The world is safe after every list of events, from any two configurations.
 pub fn every_run_is_safe()
     ensures { (client server : Config) (events : List Event) → client.role ≡ role.Client → server.role ≡ role.Server → Safe (run (at_start client server) events) }
-{
-}
+{}

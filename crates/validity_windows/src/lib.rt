@@ -4,10 +4,12 @@
 //! Nothing here knows phases, options or the checksum, and nothing takes memory.
 #![tactic(auto)]
 
+mod laws;
 mod marks;
-//#[cfg(test)]
-//mod tests;
+#[cfg(test)]
+mod tests;
 mod verdict;
 
+pub use crate::laws::windows_are_intervals_of_counts;
 pub use crate::marks::{Marks, Windows};
 pub use crate::verdict::Verdict;

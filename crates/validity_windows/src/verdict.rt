@@ -63,7 +63,9 @@ impl Marks {
         ensures { result ≡ by_greatest self.now number ack answer }
     {
         let windows = self.windows();
-        if number.within(self.gsr.next(), windows.swh) && is_ack_within(ack, self.gar, windows.awh) {
+        if number.within(self.gsr.next(), windows.swh)
+            && is_ack_within(ack, self.gar, windows.awh)
+        {
             Verdict::Valid
         } else {
             Verdict::SyncFor(answer)

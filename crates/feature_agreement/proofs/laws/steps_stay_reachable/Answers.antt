@@ -1,3 +1,4 @@
+use Rattle.feature_agreement.proofs.Reaching.{joined}
 use Rattle.feature_agreement.proofs.Reachable.{start_is_reachable, reachable_after_server, reachable_after_client}
 use Rattle.feature_agreement.proofs.laws.steps_stay_reachable.Goals as goal
 
@@ -9,3 +10,6 @@ returns-clause-server_step c = reachable_after_server
 
 pub returns-clause-client_step : goal.returns-clause-client_step
 returns-clause-client_step c = reachable_after_client
+
+pub returns-clause-joined : goal.returns-clause-joined
+returns-clause-joined c = joined

@@ -1,0 +1,43 @@
+-- The bytes of a run, one after the other, and those that a vector keeps.
+use Rattle.std.proofs.Common.{◌≡◌, ℕ, ◌-◌, ◌/◌, ◌%◌, ◌<◌, ◌≤◌, List, [], ◌∷◌, ◌++◌, zero, suc, refl, arith, ◌∙◌, length, take, min, inl, inr}
+use Rattle.std.proofs.lemmas.Bool.{cases_lt}
+use Rattle.std.proofs.lemmas.List.{take-append-le, take_all}
+use Rattle.ack_vectors.specs.Vector.{piece, last_piece, pieces}
+
+-- the first byte of a run covers 64 numbers, or all
+pub pieces-step : (s c : ℕ) → 0 < c → pieces s c ≡ piece s (min c 64) ∷ pieces s (c - min c 64)
+pieces-step s c h =
+    elim (cases_lt c 64) [
+      | inl short ↦
+          let full : c / 64 ≡ 0 = omega arith in
+          let rest : c % 64 ≡ c = omega arith in
+          let none : c - c ≡ 0 = omega arith in
+          let all : min c 64 ≡ c = omega arith in
+          rw (full, rest, all, none) (short_piece c h)
+      | inr long ↦
+          let full : c / 64 ≡ suc ((c - 64) / 64) = omega arith in
+          let rest : c % 64 ≡ (c - 64) % 64 = omega arith in
+          let all : min c 64 ≡ 64 = omega arith in
+          rw (full, rest, all) refl
+    ]
+  where
+    short_piece : (c : ℕ) → 0 < c → last_piece s c ≡ piece s c ∷ []
+    short_piece zero h = absurd (omega arith)
+    short_piece (suc c) h = grind arith
+
+-- a run of one number or more has a byte
+pub pieces-some : (s c : ℕ) → 0 < c → 1 ≤ length (pieces s c)
+pieces-some s c h = let step = pieces-step s c h in rw step (omega arith)
+
+-- a vector that is full, with more to come
+pub take_full : (front behind : List ℕ) → length front ≡ 253 → take 253 (front ++ behind) ≡ front
+take_full front behind h =
+    let same : take 253 (front ++ behind) ≡ take 253 front = take-append-le 253 front behind (omega arith) in
+    same ∙ take_all 253 front (omega arith)
+
+-- what was cut stays cut
+pub take_cut : (front behind : List ℕ) → 253 < length front → take 253 (front ++ behind) ≡ take 253 front
+take_cut front behind h = take-append-le 253 front behind (omega arith)
+
+pub take_fits : (xs : List ℕ) → length xs ≤ 253 → take 253 xs ≡ xs
+take_fits xs h = take_all 253 xs h

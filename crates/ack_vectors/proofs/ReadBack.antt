@@ -1,0 +1,174 @@
+-- What is written is read.
+use Rattle.std.proofs.Common.{◌≡◌, ℕ, ◌+◌, ◌-◌, ◌/◌, ◌%◌, ◌^◌, ◌<◌, ◌≤◌, ◌==◌, ◌||◌, Bool, true, false, List, [], ◌∷◌, ◌++◌, zero, suc, refl, ap, arith, sym, ◌∙◌, length, drop, min, append_assoc, length-append, length-drop, add-one, inl, inr, if◌then◌else◌, nat_lt, Option, Some, None}
+use Rattle.std.specs.Prelude.{replicate, slice_get, is_some, IsTrue, ◌↔◌}
+use Rattle.std.specs.List.{list_any}
+use Rattle.std.proofs.lemmas.Bool.{cases_lt, cases_eq, cases_Bool, lt-ltb, le-ltb, eq-eqb, ne_eqb, le-leb, leb-true, or_right}
+use Rattle.std.proofs.lemmas.List.{take-append-drop, take_all, length-replicate, replicate-append-replicate}
+use Rattle.std.proofs.lemmas.Option.{slice_get_past}
+use Rattle.seq_circle.specs.Circle.{residue, distance}
+use Rattle.run_list.specs.MarkedSet.{is_from}
+use Rattle.run_list.proofs.Steps.{down, down_fits}
+use Rattle.dccp_options.specs.Vectors.{states, state_at, state_of, run_length}
+use Rattle.dccp_options.proofs.States.{states-append}
+use Rattle.ack_vectors.specs.Vector.{state_told, states_down, states_between, numbers_between, Group, grouped_with, groups, piece, pieces, spelled, all_bytes, vector, is_whole, numbers_told}
+use Rattle.ack_vectors.specs.Kept.{is_whole_at, newest_from}
+use Rattle.ack_vectors.specs.declared.received.Record.{Record}
+use Rattle.ack_vectors.proofs.Pieces.{pieces-step}
+use Rattle.ack_vectors.proofs.Told.{states_down-same}
+
+-- one piece
+pub state_of-piece : (s c : ℕ) → (s == 2) ≡ false → 1 ≤ c → c ≤ 64 → state_of (piece s c) ≡ s
+state_of-piece s c two h k =
+    let q : piece s c / 64 ≡ s = omega arith in
+    ap (λ (x : ℕ). if x == 2 then 3 else x) q ∙ rw two refl
+
+pub run_length-piece : (s c : ℕ) → 1 ≤ c → c ≤ 64 → run_length (piece s c) ≡ c
+run_length-piece s c h k = omega arith
+
+pub states-piece : (s c : ℕ) (rest : List ℕ) → (s == 2) ≡ false → 1 ≤ c → c ≤ 64 → states (piece s c ∷ rest) ≡ replicate c s ++ states rest
+states-piece s c rest two h k =
+    ap (λ (x : ℕ). replicate x (state_of (piece s c)) ++ states rest) (run_length-piece s c h k)
+    ∙ ap (λ (x : ℕ). replicate c x ++ states rest) (state_of-piece s c two h k)
+
+-- the pieces of a run
+pub states-pieces : (fuel s c : ℕ) (rest : List ℕ) → c ≤ fuel → (s == 2) ≡ false → states (pieces s c ++ rest) ≡ replicate c s ++ states rest
+states-pieces zero s c rest h two = let none : c ≡ 0 = omega arith in rw none refl
+states-pieces (suc fuel) s c rest h two =
+    elim (cases_lt 0 c) [
+      | inl pos ↦
+          let m : ℕ = min c 64 in
+          let step : pieces s c ≡ piece s m ∷ pieces s (c - m) = pieces-step s c pos in
+          let ih = states-pieces fuel s (c - m) rest (omega arith) two in
+          let all : m + (c - m) ≡ c = omega arith in
+          ap (λ xs. states (xs ++ rest)) step
+          ∙ states-piece s m (pieces s (c - m) ++ rest) two (omega arith) (omega arith)
+          ∙ ap (λ ys. replicate m s ++ ys) ih
+          ∙ sym (append_assoc (replicate m s) (replicate (c - m) s) (states rest))
+          ∙ ap (λ xs. xs ++ states rest) (replicate-append-replicate m (c - m) s)
+          ∙ ap (λ k. replicate k s ++ states rest) all
+      | inr none ↦ let zero_is : c ≡ 0 = omega arith in rw zero_is refl
+    ]
+
+-- states that are not the reserved one
+abbrev pub ArePlain : List ℕ → Type 0
+ArePlain [] = Unit {0}
+ArePlain (s ∷ ss) = ((s == 2) ≡ false) × ArePlain ss
+
+pub states-grouped_with : (s : ℕ) (gs : List Group) → (s == 2) ≡ false → states (spelled (grouped_with s gs)) ≡ s ∷ states (spelled gs)
+states-grouped_with s [] two = states-pieces 1 s 1 [] (omega arith) two
+states-grouped_with s (g ∷ gs) two =
+    elim (cases_eq g.state s) [
+      | inl same ↦
+          let head : states (pieces s (g.count + 1) ++ spelled gs) ≡ replicate (g.count + 1) s ++ states (spelled gs) =
+          states-pieces (g.count + 1) s (g.count + 1) (spelled gs) (omega arith) two in
+          let tail : states (pieces s g.count ++ spelled gs) ≡ replicate g.count s ++ states (spelled gs) =
+          states-pieces g.count s g.count (spelled gs) (omega arith) two in
+          rw (eq-eqb g.state s same) (head ∙ ap (λ k. replicate k s ++ states (spelled gs)) (add-one g.count)
+          ∙ ap (λ ys. s ∷ ys) (sym tail ∙ ap (λ t. states (pieces t g.count ++ spelled gs)) (sym same)))
+      | inr other ↦ rw (ne_eqb g.state s other) (states-pieces 1 s 1 (spelled (g ∷ gs)) (omega arith) two)
+    ]
+
+pub states-spelled : (ss : List ℕ) → ArePlain ss → states (spelled (groups ss)) ≡ ss
+states-spelled [] h = refl
+states-spelled (s ∷ ss) h = states-grouped_with s (groups ss) h.0 ∙ ap (λ ts. s ∷ ts) (states-spelled ss h.1)
+
+pub plain-told : (b : Bool) → (state_told b == 2) ≡ false
+plain-told true = refl
+plain-told false = refl
+
+pub plain-states_down : (p : ℕ → Bool) (count n : ℕ) → ArePlain (states_down p count n)
+plain-states_down p zero n = tt
+plain-states_down p (suc count) n = (plain-told (p n), plain-states_down p count (down n))
+
+pub states-all_bytes : (p : ℕ → Bool) (floor ack : ℕ) → states (all_bytes p floor ack) ≡ states_between p floor ack
+states-all_bytes p floor ack = states-spelled (states_between p floor ack) (plain-states_down p (numbers_between floor ack) ack)
+
+pub length-states_down : (p : ℕ → Bool) (count n : ℕ) → length (states_down p count n) ≡ count
+length-states_down p zero n = refl
+length-states_down p (suc count) n = ap suc (length-states_down p count (down n))
+
+-- the state at a place is that of the number so far down
+pub slice_get-states_down : (p : ℕ → Bool) (count n i m : ℕ) → n < 2 ^ 48 → m < 2 ^ 48 → i < count → residue (m + i) ≡ n → slice_get (states_down p count n) i ≡ Some (state_told (p m))
+slice_get-states_down p zero n i m a b h e = absurd (omega arith)
+slice_get-states_down p (suc count) n zero m a b h e = let same : n ≡ m = omega arith in ap (λ k. Some (state_told (p k))) same
+slice_get-states_down p (suc count) n (suc i) m a b h e = slice_get-states_down p count (down n) i m (down_fits n) b (omega arith) (omega arith)
+
+pub slice_get-front : (front behind : List ℕ) (i : ℕ) → i < length front → slice_get (front ++ behind) i ≡ slice_get front i
+slice_get-front [] behind i h = absurd (omega arith)
+slice_get-front (x ∷ xs) behind zero h = refl
+slice_get-front (x ∷ xs) behind (suc i) h = slice_get-front xs behind i (omega arith)
+
+-- what the vector tells, and what was cut
+pub told_and_cut : (p : ℕ → Bool) (floor ack : ℕ) → states_between p floor ack ≡ states (vector p floor ack) ++ states (drop 253 (all_bytes p floor ack))
+told_and_cut p floor ack =
+    sym (states-all_bytes p floor ack) ∙ ap states (sym (take-append-drop 253 (all_bytes p floor ack)))
+    ∙ states-append (vector p floor ack) (drop 253 (all_bytes p floor ack))
+
+pub told_lengths : (p : ℕ → Bool) (floor ack : ℕ) → numbers_told p floor ack + length (states (drop 253 (all_bytes p floor ack))) ≡ numbers_between floor ack
+told_lengths p floor ack =
+    sym (length-append (states (vector p floor ack)) (states (drop 253 (all_bytes p floor ack))))
+    ∙ ap length (sym (told_and_cut p floor ack)) ∙ length-states_down p (numbers_between floor ack) ack
+
+pub read_back : (p : ℕ → Bool) (floor ack n : ℕ) → floor < 2 ^ 48 → ack < 2 ^ 48 → n < 2 ^ 48
+    → state_at ack (vector p floor ack) n ≡ (if nat_lt (distance n ack) (numbers_told p floor ack) then Some (state_told (p n)) else None)
+read_back p floor ack n a b d =
+    elim (cases_lt (distance n ack) (numbers_told p floor ack)) [
+      | inl within ↦
+          let lengths : numbers_told p floor ack + length (states (drop 253 (all_bytes p floor ack))) ≡ numbers_between floor ack = told_lengths p floor ack in
+          let short : distance n ack < numbers_between floor ack = omega arith in
+          rw (lt-ltb (distance n ack) (numbers_told p floor ack) within)
+          (sym (slice_get-front (states (vector p floor ack)) (states (drop 253 (all_bytes p floor ack))) (distance n ack) within)
+          ∙ ap (λ xs. slice_get xs (distance n ack)) (sym (told_and_cut p floor ack))
+          ∙ slice_get-states_down p (numbers_between floor ack) ack (distance n ack) n b d short (way_up n ack d b))
+      | inr past ↦
+          rw (le-ltb (distance n ack) (numbers_told p floor ack) past) (slice_get_past (states (vector p floor ack)) (distance n ack) past)
+    ]
+  where
+    way_up : (n ack : ℕ) → n < 2 ^ 48 → ack < 2 ^ 48 → residue (n + distance n ack) ≡ ack
+    way_up n ack d b = omega arith
+
+pub reach_at_most : (p : ℕ → Bool) (floor ack : ℕ) → numbers_told p floor ack ≤ numbers_between floor ack
+reach_at_most p floor ack = let lengths = told_lengths p floor ack in omega arith
+
+-- each byte tells of a number
+pub states-long : (bytes : List ℕ) → length bytes ≤ length (states bytes)
+states-long [] = omega arith
+states-long (b ∷ bs) =
+    let ih : length bs ≤ length (states bs) = states-long bs in
+    let parts : length (replicate (run_length b) (state_of b) ++ states bs) ≡ length (replicate (run_length b) (state_of b)) + length (states bs) =
+    length-append (replicate (run_length b) (state_of b)) (states bs) in
+    let run : length (replicate (run_length b) (state_of b)) ≡ b % 64 + 1 = length-replicate (run_length b) (state_of b) in
+    omega arith
+
+pub whole_reaches : (p : ℕ → Bool) (floor ack : ℕ) → IsTrue (is_whole p floor ack) ↔ (numbers_told p floor ack ≡ numbers_between floor ack)
+whole_reaches p floor ack =
+    let bytes : List ℕ = all_bytes p floor ack in
+    let lengths : numbers_told p floor ack + length (states (drop 253 bytes)) ≡ numbers_between floor ack = told_lengths p floor ack in
+    let cut : length (drop 253 bytes) ≤ length (states (drop 253 bytes)) = states-long (drop 253 bytes) in
+    let size : length (drop 253 bytes) ≡ length bytes - 253 = length-drop 253 bytes in (
+      λ h. let fits : length bytes ≤ 253 = leb-true (length bytes) 253 h in
+          ap (λ xs. length (states xs)) (take_all 253 bytes fits) ∙ ap length (states-all_bytes p floor ack) ∙ length-states_down p (numbers_between floor ack) ack,
+      λ e. le-leb (length bytes) 253 (omega arith),
+    )
+
+-- a vector looks at nothing but the numbers between
+pub states_between-same : (one other : ℕ → Bool) (floor ack : ℕ) → floor < 2 ^ 48 → ack < 2 ^ 48
+    → ((n : ℕ) → n < 2 ^ 48 → distance floor n ≤ distance floor ack → one n ≡ other n) → states_between one floor ack ≡ states_between other floor ack
+states_between-same one other floor ack a b h =
+    elim (cases_Bool (is_from floor ack)) [
+      | inl ahead ↦ rw ahead (states_down-same one other floor (distance floor ack + 1) ack a b (omega arith) (λ m fits u v. h m fits u))
+      | inr below ↦ rw below refl
+    ]
+
+-- the newest record of a whole vector, and that there is one
+pub newest_from-last : (n : ℕ) (found : Option Record) (rs : List Record) (r : Record) → newest_from n found (rs ++ r ∷ []) ≡ (if is_whole_at n r then Some r else newest_from n found rs)
+newest_from-last n found [] r = refl
+newest_from-last n found (q ∷ rs) r = newest_from-last n (if is_whole_at n q then Some q else found) rs r
+
+pub newest_from-some : (n : ℕ) (found : Option Record) (rs : List Record) → is_some (newest_from n found rs) ≡ is_some found || list_any (is_whole_at n) rs
+newest_from-some n found [] = elim (is_some found) as (λ b. b ≡ b || false) [ true ↦ refl | false ↦ refl ]
+newest_from-some n found (r ∷ rs) =
+    elim (cases_Bool (is_whole_at n r)) [
+      | inl fits ↦ rw fits (newest_from-some n (Some r) rs ∙ sym (or_right (is_some found) true refl))
+      | inr other ↦ rw other (newest_from-some n found rs)
+    ]

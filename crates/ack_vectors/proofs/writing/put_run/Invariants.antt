@@ -1,0 +1,12 @@
+use Rattle.std.proofs.Common.{◌≡◌, ◌≤◌, ◌++◌, length}
+use Rattle.ack_vectors.specs.Vector.{pieces}
+use Rattle.ack_vectors.proofs.writing.put_run.Given as goal
+
+abbrev pub invariant-loop-left : goal.invariant-loop-left
+invariant-loop-left l = record {
+  fits : length l.out.items ≤ 253;
+  joins : l.out.items ++ pieces l.state l.left ≡ l.fn.out.items ++ pieces l.state l.fn.count;
+}
+
+abbrev pub decreases-loop-left : goal.decreases-loop-left
+decreases-loop-left l = l.left

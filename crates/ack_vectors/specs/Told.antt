@@ -1,0 +1,15 @@
+-- A vector's bytes by the runs of its set, as they are written.
+use Rattle.std.specs.Prelude.{ℕ, ◌+◌, ◌-◌, List, [], ◌∷◌, ◌++◌, min, nat_lt, if◌then◌else◌}
+use Rattle.seq_circle.specs.Circle.{distance}
+use Rattle.run_list.specs.declared.walking.Stretch.{Stretch}
+use Rattle.ack_vectors.specs.Vector.{pieces}
+
+-- the bytes of so many numbers from the floor up, where these runs are still to come
+abbrev pub told : ℕ → ℕ → List Stretch → List ℕ
+told floor left [] = pieces 3 left
+told floor left (s ∷ ss) =
+    let top = distance floor s.hi + 1 in
+    let bottom = top - s.count in
+    if nat_lt bottom left
+    then pieces 3 (left - min top left) ++ (pieces 0 (min top left - bottom) ++ told floor bottom ss)
+    else told floor left ss

@@ -1,0 +1,75 @@
+-- The Ack Vector of a set of numbers, a floor and an acknowledgement (RFC 4340, section 11.4).
+use Rattle.std.specs.Prelude.{ℕ, ◌+◌, ◌-◌, ◌*◌, ◌/◌, ◌%◌, ◌^◌, ◌==◌, nat_le, Bool, true, false, List, [], ◌∷◌, ◌++◌, zero, suc, length, take, replicate, if◌then◌else◌}
+use Rattle.seq_circle.specs.Circle.{residue, distance}
+use Rattle.run_list.specs.MarkedSet.{is_from}
+use Rattle.dccp_options.specs.Vectors.{states}
+
+-- the state of a number: 0 received, 3 not yet received (RFC 4340, section 11.4)
+abbrev pub state_told : Bool → ℕ
+state_told true = 0
+state_told false = 3
+
+-- the states of so many numbers, from one down
+abbrev pub states_down : (ℕ → Bool) → ℕ → ℕ → List ℕ
+states_down has zero n = []
+states_down has (suc count) n = state_told (has n) ∷ states_down has count (residue (n + (2 ^ 48 - 1)))
+
+-- how many numbers there are from an acknowledgement down to the floor, both counted; none where it is below the floor
+abbrev pub numbers_between : ℕ → ℕ → ℕ
+numbers_between floor ack = if is_from floor ack then distance floor ack + 1 else 0
+
+-- the states that a vector is to tell
+abbrev pub states_between : (ℕ → Bool) → ℕ → ℕ → List ℕ
+states_between has floor ack = states_down has (numbers_between floor ack) ack
+
+-- a maximal run of one state
+pub record Group : Type 0 where
+  pub state : ℕ
+  pub count : ℕ
+
+abbrev pub group : ℕ → ℕ → Group
+group state count = record { state = state; count = count }
+
+-- a state before the runs of those behind it: it extends the first one, or begins one of its own
+abbrev pub grouped_with : ℕ → List Group → List Group
+grouped_with state [] = group state 1 ∷ []
+grouped_with state (g ∷ gs) =
+    if g.state == state then group state (g.count + 1) ∷ gs else group state 1 ∷ g ∷ gs
+
+-- the maximal runs of one state
+abbrev pub groups : List ℕ → List Group
+groups [] = []
+groups (state ∷ states) = grouped_with state (groups states)
+
+-- the byte of a piece: its state in the upper two bits, and its length less one in the lower six
+abbrev pub piece : ℕ → ℕ → ℕ
+piece state count = state * 64 + (count - 1)
+
+-- the last piece of a run, if the pieces of 64 leave one
+abbrev pub last_piece : ℕ → ℕ → List ℕ
+last_piece state count = if count == 0 then [] else piece state count ∷ []
+
+-- a run as its pieces, from the top: as many of 64 as there are, and what is left
+abbrev pub pieces : ℕ → ℕ → List ℕ
+pieces state count = replicate (count / 64) (piece state 64) ++ last_piece state (count % 64)
+
+-- the bytes of runs
+abbrev pub spelled : List Group → List ℕ
+spelled [] = []
+spelled (g ∷ gs) = pieces g.state g.count ++ spelled gs
+
+-- the bytes of states, however many
+abbrev pub all_bytes : (ℕ → Bool) → ℕ → ℕ → List ℕ
+all_bytes has floor ack = spelled (groups (states_between has floor ack))
+
+-- the vector: the first 253 of these bytes, as many as an option has room for (RFC 4340, section 5.8)
+abbrev pub vector : (ℕ → Bool) → ℕ → ℕ → List ℕ
+vector has floor ack = take 253 (all_bytes has floor ack)
+
+-- it is whole where there are no more
+abbrev pub is_whole : (ℕ → Bool) → ℕ → ℕ → Bool
+is_whole has floor ack = nat_le (length (all_bytes has floor ack)) 253
+
+-- how many numbers its bytes reach, from the acknowledgement down
+abbrev pub numbers_told : (ℕ → Bool) → ℕ → ℕ → ℕ
+numbers_told has floor ack = length (states (vector has floor ack))

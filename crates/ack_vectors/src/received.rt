@@ -1,0 +1,148 @@
+//! What was received, and the records of sent vectors.
+ghost use Rattle.std.specs.Prelude.{◌≡◌, ◌≢◌, IfOk, IsTrue, ◌↔◌, is_some};
+ghost use Rattle.std.specs.Bool.{OnFalse};
+ghost use Rattle.std.specs.List.{list_any};
+ghost use Rattle.run_list.specs.MarkedSet.{has, answer_to, IsFrom, IsSound};
+ghost use Rattle.ack_vectors.specs.Kept.{Kept, fresh, marked_by, recorded, acked, is_whole_at, newest_whole};
+ghost use Rattle.ack_vectors.specs.Vector.{vector, is_whole};
+
+use crate::writing::put_runs;
+use arrayvec::ArrayVec;
+use circular_buffer::HeapCircularBuffer;
+use run_list::{Marked, RunList};
+use seq_circle::{NoMemory, Seq48};
+use std::alloc::Global;
+use std::marker::Model;
+
+// Half the circle: an acknowledgement that far ahead of the floor, or farther, lies below it.
+const HALF: u64 = 1 << 47;
+
+// How many records are kept (own).
+const RECORDS: usize = 64;
+
+/// The bytes of one Ack Vector: an option has room for 253 (RFC 4340, section 5.8).
+pub type VectorBytes = ArrayVec<u8, 253>;
+
+/// A sent packet with an Ack Vector: its number, the number that it acknowledged, and whether its vector was whole (own).
+#[derive(Clone, Copy, Debug)]
+pub(crate) struct Record {
+    number: Seq48,
+    ack: Seq48,
+    whole: bool,
+}
+
+/// The numbers that an end has received, down to a floor, and the records of the last 64 Ack Vectors that it sent.
+/// Contracts see the set with its floor and the records from the oldest on.
+///
+/// `start` begins a connection, `took` marks a packet, `write` writes the vector of an acknowledgement and `sent` records
+/// it, and `peer_acked` raises the floor when the peer acknowledges one that was whole. No call after `new` takes memory.
+#[derive(Drop)]
+pub struct Received {
+    set: RunList,
+    records: HeapCircularBuffer<Record>,
+}
+
+impl Model for Received {
+    ghost use Rattle.std.specs.Prelude.{◌≡◌};
+    ghost use Rattle.ack_vectors.specs.Kept.{Kept};
+
+    ghost Value = { Kept };
+
+    ghost view = { λ r. record { set = r.set; records = r.records.items } };
+
+    ghost invariant = { λ r. r.records.capacity ≡ 64 };
+}
+
+// The newest record of a whole vector under the number.
+fn newest_whole(records: &HeapCircularBuffer<Record>, n: Seq48) -> Option<Record>
+    ensures { result ≡ newest_whole n records.now.items }
+{
+    let mut newest = None;
+    for record in records.iter() {
+        if record.whole && record.number == n {
+            newest = Some(*record);
+        }
+    }
+    newest
+}
+
+impl Received {
+    /// Nothing received, floor 0 and no record. `NoMemory` comes only here.
+    pub fn new(alloc: Global) -> Result<Received, NoMemory>
+        ensures { IfOk result (λ r. r ≡ fresh 0) }
+    {
+        let set = RunList::new(alloc)?;
+        let Ok(records) = HeapCircularBuffer::with_capacity(alloc, RECORDS) else {
+            return Err(NoMemory);
+        };
+        Ok(Received { set, records })
+    }
+
+    /// Forgets all that was received and every record, and sets the floor to `first`.
+    pub fn start(&mut self, first: Seq48)
+        ensures { self.new ≡ fresh first }
+    {
+        self.set.start(first);
+        self.records.clear();
+    }
+
+    /// Marks `n` as received: `BelowFloor`, `Again` or `New` as `RunList::mark` answers. Only New changes anything.
+    pub fn took(&mut self, n: Seq48) -> Marked
+        ensures kept { self.new ≡ marked_by self.old n }
+        ensures answer { result ≡ answer_to self.old.set n }
+        ensures below_floor { (result ≡ Marked.BelowFloor) ↔ ¬ IsFrom self.old.set.floor n }
+        ensures again { (result ≡ Marked.Again) ↔ (IsFrom self.old.set.floor n × IsTrue (has self.old.set.numbers n)) }
+        ensures unchanged { result ≢ Marked.New → self.new ≡ self.old }
+    {
+        self.set.mark(n)
+    }
+
+    /// The floor: lower numbers are told no more.
+    pub fn floor(&self) -> Seq48
+        ensures value { result ≡ self.now.set.floor }
+        ensures sound { IsSound self.now.set }
+    {
+        self.set.floor()
+    }
+
+    /// Puts the bytes of the vector from `ack` down to the floor in place of what `out` had: state 0 for what was
+    /// received and 3 for what was not, runs of at most 64, and of these bytes the first 253. True exactly where there
+    /// are no more (RFC 4340, section 11.4). Where `ack` is below the floor the vector has no byte, and is whole.
+    pub fn write(&self, out: &mut VectorBytes, ack: Seq48) -> bool
+        ensures bytes { out.new.items ≡ vector (has self.now.set.numbers) self.now.set.floor ack }
+        ensures whole { result ≡ is_whole (has self.now.set.numbers) self.now.set.floor ack }
+    {
+        out.clear();
+        let floor = self.set.floor();
+        let ahead = floor.distance(ack);
+        if ahead >= HALF {
+            return true;
+        }
+        put_runs(out, self.set.walk(), floor, ahead + 1)
+    }
+
+    /// Records a sent packet by its number, the number that it acknowledged and whether its vector was whole. The oldest
+    /// of 64 records is dropped for it.
+    pub fn sent(&mut self, number: Seq48, ack: Seq48, whole: bool)
+        ensures { self.new ≡ recorded self.old number ack whole }
+    {
+        self.records.push_back(Record { number, ack, whole });
+    }
+
+    /// Tells whether a whole vector was recorded under the number `n`, which the peer acknowledged. The floor then rises
+    /// to the number behind the acknowledgement of the newest such record, where it is before that.
+    pub fn peer_acked(&mut self, n: Seq48) -> bool
+        ensures kept { self.new ≡ acked self.old n }
+        ensures answer { result ≡ is_some (newest_whole n self.old.records) }
+        ensures cause { result ≡ list_any (is_whole_at n) self.old.records }
+        ensures unchanged { OnFalse result (self.new ≡ self.old) }
+    {
+        let newest = newest_whole(&self.records, n);
+        let Some(record) = newest else {
+            return false;
+        };
+        let floor = record.ack.next();
+        self.set.raise(floor);
+        true
+    }
+}

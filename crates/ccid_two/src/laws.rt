@@ -1,0 +1,32 @@
+//! What follows for CCID 2 from its rules.
+ghost use Rattle.std.specs.Prelude.{◌≡◌, ℕ, ◌<◌, ◌≤◌, List, IsTrue};
+ghost use Rattle.congestion_trait.specs.Flight.{States, is_congested};
+ghost use Rattle.congestion_trait.specs.Calls.{Call, run};
+ghost use Rattle.ccid_two.specs.Window.{State, fresh, with_report, ccid_control};
+ghost use Rattle.ccid_two.specs.Mark.{IsInOrder, told};
+
+/// After any calls from the start the window lies in 1 to 1,024 and the threshold in 2 to 1,024.
+pub fn window_stays_in_range()
+    ensures low { (calls : List Call) → 1 ≤ (run ccid_control fresh calls).window }
+    ensures high { (calls : List Call) → (run ccid_control fresh calls).window ≤ 1024 }
+    ensures threshold_low { (calls : List Call) → 2 ≤ (run ccid_control fresh calls).threshold }
+    ensures threshold_high { (calls : List Call) → (run ccid_control fresh calls).threshold ≤ 1024 }
+{}
+
+/// After any calls from the start a report lowers the window only where some entry past the recovery mark became Lost, or
+/// Reported as marked: a loss at or before the mark never halves again.
+pub fn only_losses_past_the_mark_halve()
+    ensures { (calls : List Call) (states : States) (ratio : ℕ)
+        → let state = run ccid_control fresh calls in
+        (with_report state states ratio).window < state.window → IsTrue (is_congested states state.mark state.flight) }
+{}
+
+/// One window's losses halve once: after calls that send numbers in their order and a report that shows congestion, no
+/// further report lowers the window until something is sent.
+pub fn one_mark_one_halving()
+    ensures { (calls : List Call) (states : States) (ratio : ℕ) (reports : List (States × ℕ))
+        → let state = run ccid_control fresh calls in
+        let after = with_report state states ratio in
+        IsInOrder fresh calls → IsTrue (is_congested states state.mark state.flight)
+        → after.window ≤ (told after reports).window }
+{}

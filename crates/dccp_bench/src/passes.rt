@@ -1,0 +1,105 @@
+//! What is done with each frame.
+
+use crate::frames::PSEUDO;
+use dccp_options::options;
+use dccp_packets::decode;
+use dccp_sum::check;
+
+/// One of the things that are measured.
+#[derive(Clone, Copy, Debug, PartialEq, Eq)]
+pub(crate) enum Pass {
+    /// The bytes are summed in a plain loop: the yardstick.
+    Plain,
+    /// The packet is decoded.
+    Decode,
+    /// It is decoded, and its options are listed.
+    Options,
+    /// Its checksum is checked.
+    Check,
+    /// All three.
+    All,
+}
+
+pub(crate) const PASSES: [Pass; 5] = [
+    Pass::Plain,
+    Pass::Decode,
+    Pass::Options,
+    Pass::Check,
+    Pass::All,
+];
+
+const MOST_OPTIONS: usize = 1008;
+
+impl Pass {
+    /// Its name in the figures.
+    pub(crate) fn name(self) -> &'static str {
+        match self {
+            Pass::Plain => "plain",
+            Pass::Decode => "decode",
+            Pass::Options => "decode+options",
+            Pass::Check => "check",
+            Pass::All => "decode+options+check",
+        }
+    }
+}
+
+fn plain(frame: &[u8]) -> u64 {
+    let mut sum = 0u64;
+    for byte in frame {
+        sum = sum.wrapping_add(u64::from(*byte));
+    }
+    sum
+}
+
+fn decoded(frame: &[u8]) -> u64 {
+    match decode(frame) {
+        Ok(packet) => packet.payload.len() as u64,
+        Err(_) => 0,
+    }
+}
+
+fn listed(frame: &[u8]) -> u64 {
+    let Ok(packet) = decode(frame) else {
+        return 0;
+    };
+    if packet.options.len() > MOST_OPTIONS {
+        return 0;
+    }
+    let mut places = 0u64;
+    for option in options(packet.options, false) {
+        match option {
+            Ok(option) => places = places.wrapping_add(u64::from(option.place)),
+            Err(_) => places = places.wrapping_add(1),
+        }
+    }
+    places
+}
+
+fn checked(frame: &[u8]) -> u64 {
+    if frame.len() < 8 || frame.len() > 65_535 {
+        return 0;
+    }
+    match check(&PSEUDO, frame) {
+        Ok(()) => 1,
+        Err(_) => 0,
+    }
+}
+
+fn one(pass: Pass, frame: &[u8]) -> u64 {
+    match pass {
+        Pass::Plain => plain(frame),
+        Pass::Decode => decoded(frame),
+        Pass::Options => listed(frame),
+        Pass::Check => checked(frame),
+        Pass::All => listed(frame).wrapping_add(checked(frame)),
+    }
+}
+
+/// Does it with each frame; the sum goes from round to round, so that no round can be left out.
+pub(crate) fn over(pass: Pass, frames: &[Vec<u8>], sum: u64) -> u64 {
+    let mut sum = sum;
+    for frame in frames {
+        sum = sum.wrapping_add(one(pass, frame));
+    }
+    sum
+}

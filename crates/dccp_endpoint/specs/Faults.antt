@@ -1,0 +1,96 @@
+-- What the options of a packet may be faulted for (RFC 4340, sections 5.8 and 8.5, step 8).
+use Rattle.std.specs.Prelude.{ℕ, ◌+◌, ◌-◌, Bool, true, false, not, ◌&&◌, ◌||◌, ◌==◌, nat_le, nat_lt, if◌then◌else◌, List, [], ◌∷◌, length, slice_index, Option, Some, None, Result, Ok, Err}
+use Rattle.dccp_options.specs.Grammar.{Entry}
+use Rattle.dccp_options.specs.declared.option.OptFault.{OptFault}
+use Rattle.dccp_packets.specs.declared.header.PacketType.{PacketType}
+use Rattle.dccp_packets.specs.declared.header.PacketType.TheVariants as types
+use Rattle.dccp_states.specs.declared.phase.Phase.{Phase}
+use Rattle.dccp_states.specs.declared.phase.Phase.TheVariants as phase
+use Rattle.dccp_endpoint.specs.declared.outcome.Fault.{Fault}
+
+-- an option of a type in the standard's table, of a length that the table allows; Init Cookie and what is a CCID's own are not understood (own)
+abbrev pub is_understood : ℕ → ℕ → Bool
+is_understood kind size =
+    kind == 2
+    || ((nat_le 32 kind && nat_le kind 35) && nat_le 1 size)
+    || (kind == 37 && nat_le 1 size && nat_le size 6)
+    || kind == 38 || kind == 39 || kind == 40
+    || (kind == 41 && size == 4)
+    || (kind == 42 && (size == 4 || size == 6 || size == 8))
+    || (kind == 43 && (size == 2 || size == 4))
+    || (kind == 44 && size == 4)
+
+-- a fault of Mandatory itself: Option Error with the option's bytes (own)
+abbrev pub mandatory_fault : Fault
+mandatory_fault = record { code = 5; first = 1; second = 0; third = 0 }
+
+-- Mandatory before an option that is not understood: Mandatory Error with its type and the first two bytes of its data
+abbrev pub not_understood : Entry → Fault
+not_understood entry = record { code = 6; first = entry.kind; second = slice_index entry.body 0; third = slice_index entry.body 1 }
+
+abbrev pub fault_of : Result Entry OptFault → Option Fault
+fault_of (Err _) = Some mandatory_fault
+fault_of (Ok entry) = if entry.mandatory && not (is_understood entry.kind (length entry.body)) then Some (not_understood entry) else None
+
+abbrev pub or_later : Option Fault → Option Fault → Option Fault
+or_later (Some fault) later = Some fault
+or_later None later = later
+
+-- the first fault of the options, read in order
+abbrev pub first_fault : List (Result Entry OptFault) → Option Fault
+first_fault [] = None
+first_fault (item ∷ rest) = or_later (fault_of item) (first_fault rest)
+
+-- an option of the negotiation: Change or Confirm with a feature's number
+abbrev pub is_feature_option : Result Entry OptFault → Bool
+is_feature_option (Err _) = false
+is_feature_option (Ok entry) = (nat_le 32 entry.kind && nat_le entry.kind 35) && nat_le 1 (length entry.body)
+
+abbrev pub has_feature_option : List (Result Entry OptFault) → Bool
+has_feature_option [] = false
+has_feature_option (item ∷ rest) = is_feature_option item || has_feature_option rest
+
+-- where options of the negotiation count (own): in RESPOND, PARTOPEN and OPEN on six types, and on the Response in REQUEST
+abbrev pub negotiates : Phase → Bool
+negotiates phase.Closed = false
+negotiates phase.Listen = false
+negotiates phase.Request = false
+negotiates phase.Respond = true
+negotiates phase.PartOpen = true
+negotiates phase.Open = true
+negotiates phase.CloseReq = false
+negotiates phase.Closing = false
+negotiates phase.TimeWait = false
+
+abbrev pub may_negotiate : PacketType → Bool
+may_negotiate types.Request = true
+may_negotiate types.Response = true
+may_negotiate types.Data = false
+may_negotiate types.Ack = true
+may_negotiate types.DataAck = true
+may_negotiate types.CloseReq = false
+may_negotiate types.Close = false
+may_negotiate types.Reset = false
+may_negotiate types.Sync = true
+may_negotiate types.SyncAck = true
+
+abbrev pub counts : Phase → PacketType → Bool
+counts phase.Request types.Response = true
+counts ph kind = negotiates ph && may_negotiate kind
+
+-- the types whose taking is not built yet
+abbrev pub is_unbuilt_type : PacketType → Bool
+is_unbuilt_type types.Request = false
+is_unbuilt_type types.Response = false
+is_unbuilt_type types.Data = true
+is_unbuilt_type types.Ack = false
+is_unbuilt_type types.DataAck = true
+is_unbuilt_type types.CloseReq = true
+is_unbuilt_type types.Close = true
+is_unbuilt_type types.Reset = false
+is_unbuilt_type types.Sync = false
+is_unbuilt_type types.SyncAck = false
+
+-- the packet needs what is not built yet
+abbrev pub is_unbuilt : Phase → PacketType → List (Result Entry OptFault) → Bool
+is_unbuilt ph kind options = is_unbuilt_type kind || (counts ph kind && has_feature_option options)

@@ -1,0 +1,131 @@
+//! What the options of a packet may be faulted for (RFC 4340, section 5.8).
+ghost use Rattle.std.specs.Prelude.{◌≡◌, ◌≤◌, length, slice_index};
+ghost use Rattle.dccp_options.specs.Grammar.{options_of};
+ghost use Rattle.dccp_endpoint.specs.Faults.{is_understood, fault_of, first_fault, not_understood, is_feature_option, has_feature_option, counts, negotiates, may_negotiate, is_unbuilt_type, is_unbuilt};
+ghost use Rattle.dccp_options.specs.Left.{item_of};
+
+use crate::Fault;
+use dccp_options::{Opt, OptFault, options};
+use dccp_packets::PacketType;
+use dccp_states::Phase;
+
+const OPTION_ERROR: u8 = 5;
+const MANDATORY_ERROR: u8 = 6;
+const MANDATORY: u8 = 1;
+
+// Tells whether an option of this type and so many bytes of data is understood.
+fn is_understood(kind: u8, size: usize) -> bool
+    ensures { result ≡ is_understood kind size }
+{
+    match kind {
+        2 | 38 | 39 | 40 => true,
+        32..=35 => 1 <= size,
+        37 => 1 <= size && size <= 6,
+        41 | 44 => size == 4,
+        42 => size == 4 || size == 6 || size == 8,
+        43 => size == 2 || size == 4,
+        _ => false,
+    }
+}
+
+// A byte of an option's data, or 0 where it is absent.
+fn byte_of(body: &[u8], place: usize) -> u8
+    ensures { result ≡ slice_index body.now place }
+{
+    body.get(place).copied().unwrap_or(0)
+}
+
+// What an item of the option list is faulted for.
+fn fault_of(item: &Result<Opt<'_>, OptFault>) -> Option<Fault>
+    ensures { result ≡ fault_of (item_of item.now) }
+{
+    match item {
+        Err(_) => Some(Fault {
+            code: OPTION_ERROR,
+            first: MANDATORY,
+            second: 0,
+            third: 0,
+        }),
+        Ok(option) => {
+            if option.mandatory && !is_understood(option.kind, option.body.len()) {
+                Some(Fault {
+                    code: MANDATORY_ERROR,
+                    first: option.kind,
+                    second: byte_of(option.body, 0),
+                    third: byte_of(option.body, 1),
+                })
+            } else {
+                None
+            }
+        }
+    }
+}
+
+/// The first fault of an option area, read in order, on a Data packet or on another (RFC 4340, section 8.5, step 8).
+pub(crate) fn first_fault(area: &[u8], on_data: bool) -> Option<Fault>
+    requires { length area.now ≤ 1008 }
+    ensures { result ≡ first_fault (options_of area.now on_data) }
+{
+    for item in options(area, on_data) {
+        if let Some(fault) = fault_of(&item) {
+            return Some(fault);
+        }
+    }
+    None
+}
+
+fn is_feature_option(item: &Result<Opt<'_>, OptFault>) -> bool
+    ensures { result ≡ is_feature_option (item_of item.now) }
+{
+    match item {
+        Err(_) => false,
+        Ok(option) => 32 <= option.kind && option.kind <= 35 && !option.body.is_empty(),
+    }
+}
+
+fn has_feature_option(area: &[u8], on_data: bool) -> bool
+    requires { length area.now ≤ 1008 }
+    ensures { result ≡ has_feature_option (options_of area.now on_data) }
+{
+    for item in options(area, on_data) {
+        if is_feature_option(&item) {
+            return true;
+        }
+    }
+    false
+}
+
+fn counts(phase: Phase, kind: PacketType) -> bool
+    ensures { result ≡ counts phase kind }
+{
+    match (phase, kind) {
+        (Phase::Request, PacketType::Response) => true,
+        (
+            Phase::Respond | Phase::PartOpen | Phase::Open,
+            PacketType::Request
+            | PacketType::Response
+            | PacketType::Ack
+            | PacketType::DataAck
+            | PacketType::Sync
+            | PacketType::SyncAck,
+        ) => true,
+        _ => false,
+    }
+}
+
+fn is_unbuilt_type(kind: PacketType) -> bool
+    ensures { result ≡ is_unbuilt_type kind }
+{
+    matches!(
+        kind,
+        PacketType::Data | PacketType::DataAck | PacketType::CloseReq | PacketType::Close
+    )
+}
+
+/// Tells whether taking the packet needs what is not built yet.
+pub(crate) fn is_unbuilt(phase: Phase, kind: PacketType, area: &[u8], on_data: bool) -> bool
+    requires { length area.now ≤ 1008 }
+    ensures { result ≡ is_unbuilt phase kind (options_of area.now on_data) }
+{
+    is_unbuilt_type(kind) || (counts(phase, kind) && has_feature_option(area, on_data))
+}

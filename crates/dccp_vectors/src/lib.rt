@@ -1,0 +1,6 @@
+//! Worked examples that cross crates, as tests on public calls. Their values were worked out by hand and by another
+//! implementation, and never by this one. There is nothing here but tests.
+#![tactic(auto)]
+
+#[cfg(test)]
+mod ends;

@@ -1,0 +1,68 @@
+-- The laws for each feature at each end, and for the steps of its rows.
+use Rattle.std.proofs.Common.{◌≡◌, ℕ, Bool, true, false, List, refl}
+use Rattle.feature_lists.specs.Features.{described, initial_of}
+use Rattle.feature_lists.specs.Lists.{reconciled}
+use Rattle.feature_lists.specs.declared.features.Feature.{Feature}
+use Rattle.feature_lists.specs.declared.features.Place.{Place}
+use Rattle.feature_lists.specs.declared.features.Place.TheVariants as place
+use Rattle.feature_machine.specs.declared.row.Row.{Row}
+use Rattle.feature_machine.specs.declared.stands.Role2.{Role2}
+use Rattle.feature_machine.specs.declared.stands.Role2.TheVariants as end
+use Rattle.feature_machine.specs.Sound.{IsSameRow}
+use Rattle.feature_agreement.specs.View.{Carried, Side}
+use Rattle.feature_agreement.specs.Moves.{Moves, IsReachable, negotiable}
+use Rattle.feature_agreement.specs.Rows.{RowMoves, pair_by, pair_of, row_pair, rule_at, opens_at, location_of, opposite}
+use Rattle.feature_agreement.specs.EachFeature.{agree_by, given_by, AgreesOn, IsGivenFor}
+use Rattle.feature_agreement.proofs.Reachable.{reachable_agree, reachable_given, reachable_agree_at_server, reachable_agree_at_client, reachable_given_at_server, reachable_given_at_client, reachable_after_server, reachable_after_client}
+
+agree_by_kind : (priority : Bool) (initial : ℕ) (location : Role2) (server client : Side)
+    → IsReachable (pair_by priority initial location) server client → agree_by priority location server client
+agree_by_kind true initial location server client = reachable_agree (negotiable initial reconciled) server client
+agree_by_kind false initial end.Server server client = reachable_agree_at_server initial server client
+agree_by_kind false initial end.Client server client = reachable_agree_at_client initial server client
+
+given_by_kind : (priority : Bool) (initial : ℕ) (location : Role2) (server client : Side)
+    → IsReachable (pair_by priority initial location) server client → ∥ given_by priority initial location server client ∥₁
+given_by_kind true initial location server client = reachable_given (negotiable initial reconciled) server client
+given_by_kind false initial end.Server server client = reachable_given_at_server initial server client
+given_by_kind false initial end.Client server client = reachable_given_at_client initial server client
+
+pub feature_agrees : (feature : Feature) (location : Role2) (server client : Side) → IsReachable (pair_of feature location) server client
+    → AgreesOn feature location server client
+feature_agrees feature = agree_by_kind (described feature).is_server_priority (initial_of feature)
+
+pub feature_given : (feature : Feature) (location : Role2) (server client : Side) → IsReachable (pair_of feature location) server client
+    → ∥ IsGivenFor feature location server client ∥₁
+feature_given feature = given_by_kind (described feature).is_server_priority (initial_of feature)
+
+-- the two rows of a feature are of one pair
+pub one_pair : (feature : Feature) (at : Place)
+    → pair_of feature (location_of end.Server at) ≡ pair_of feature (location_of end.Client (opposite at))
+one_pair feature place.Here = refl
+one_pair feature place.There = refl
+
+-- what a step leaves of a row tells its pair
+pub same_pair : (old new : Row) → IsSameRow old new → row_pair new ≡ row_pair old
+same_pair old new same = rw (same.role, same.feature, same.place)
+
+pub same_moves : (old new : Row) (there : List Carried) (before after : Side) → IsSameRow old new → RowMoves new there before after
+    → RowMoves old there before after
+same_moves old new there before after same moves = rw (same.role, same.feature, same.place) at moves
+
+pub server_row_steps : (row : Row) (server client after : Side) → row.role ≡ end.Server → RowMoves row client.frames server after
+    → IsReachable (row_pair row) server client → IsReachable (row_pair row) after client
+server_row_steps row server client after is moves = reachable_after_server (row_pair row) server client after (by_role row.role is moves)
+  where
+    by_role : (role : Role2) → role ≡ end.Server → Moves (rule_at role (row_pair row)) (opens_at role (row_pair row)) client.frames server after
+        → Moves (rule_at end.Server (row_pair row)) (opens_at end.Server (row_pair row)) client.frames server after
+    by_role end.Server is moves = moves
+    by_role end.Client is moves = absurd (cc is)
+
+pub client_row_steps : (row : Row) (server client after : Side) → row.role ≡ end.Client → RowMoves row server.frames client after
+    → IsReachable (row_pair row) server client → IsReachable (row_pair row) server after
+client_row_steps row server client after is moves = reachable_after_client (row_pair row) server client after (by_role row.role is moves)
+  where
+    by_role : (role : Role2) → role ≡ end.Client → Moves (rule_at role (row_pair row)) (opens_at role (row_pair row)) server.frames client after
+        → Moves (rule_at end.Client (row_pair row)) (opens_at end.Client (row_pair row)) server.frames client after
+    by_role end.Client is moves = moves
+    by_role end.Server is moves = absurd (cc is)

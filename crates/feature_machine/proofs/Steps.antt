@@ -1,0 +1,141 @@
+-- What no step changes: which row it is; and nothing at all where the row refuses.
+use Rattle.std.proofs.Common.{◌≡◌, ◌≢◌, ℕ, true, false, List, Option, Some, None, refl, ◌∙◌, ap}
+use Rattle.std.proofs.lemmas.List.{set-get_or}
+use Rattle.feature_lists.specs.Features.{described}
+use Rattle.feature_lists.specs.declared.features.Feature.{Feature}
+use Rattle.feature_lists.specs.declared.features.Place.{Place}
+use Rattle.feature_machine.specs.declared.stands.Stand.{Stand}
+use Rattle.feature_machine.specs.declared.stands.Stand.TheVariants as stand
+use Rattle.feature_machine.specs.declared.offers.Offer.TheVariants as offer
+use Rattle.feature_machine.specs.declared.row.Row.{Row}
+use Rattle.feature_machine.specs.declared.judging.Proposal.TheVariants as p
+use Rattle.feature_machine.specs.declared.judging.Confirmation.TheVariants as c
+use Rattle.feature_machine.specs.Rows.{Heard, Proposed, Confirmed, Preferred, Offered, Sending, RowEvent, Confirm, confirmation, Fatal, says, settled, row_line, row_step, heard}
+use Rattle.feature_machine.specs.declared.judging.Confirmation.{Confirmation}
+use Rattle.feature_machine.specs.declared.answers.Settling.TheVariants as settling
+use Rattle.feature_machine.specs.Answers.{settling_of}
+use Rattle.feature_machine.specs.Lists.{index_of}
+use Rattle.feature_machine.specs.Negotiating.{row_at, put, stepped, IsNegotiation}
+use Rattle.feature_machine.specs.Sound.{IsRowOf, IsSameRow, IsRefusal, IsLawful}
+use Rattle.feature_machine.proofs.Places.{put_negotiation}
+use Rattle.feature_machine.proofs.Soundness.{if_both, step_sound}
+
+line_same : (row : Row) (s : Stand) (h : Heard) → IsSameRow row (row_line row s h).row
+line_same row s (Proposed p.Invalid false) = record { role = refl; feature = refl; place = refl }
+line_same row s (Proposed p.Invalid true) = record { role = refl; feature = refl; place = refl }
+line_same row stand.Unstable (Proposed (p.Shared value) m) = record { role = refl; feature = refl; place = refl }
+line_same row stand.Unstable (Proposed p.Unshared m) = record { role = refl; feature = refl; place = refl }
+line_same row stand.Unstable (Proposed (p.Told value) m) = record { role = refl; feature = refl; place = refl }
+line_same row stand.Stable (Proposed (p.Shared value) m) = record { role = refl; feature = refl; place = refl }
+line_same row stand.Stable (Proposed p.Unshared false) = record { role = refl; feature = refl; place = refl }
+line_same row stand.Stable (Proposed p.Unshared true) = record { role = refl; feature = refl; place = refl }
+line_same row stand.Stable (Proposed (p.Told value) m) = record { role = refl; feature = refl; place = refl }
+line_same row stand.Changing (Proposed (p.Shared value) m) = record { role = refl; feature = refl; place = refl }
+line_same row stand.Changing (Proposed p.Unshared false) = record { role = refl; feature = refl; place = refl }
+line_same row stand.Changing (Proposed p.Unshared true) = record { role = refl; feature = refl; place = refl }
+line_same row stand.Changing (Proposed (p.Told value) m) = record { role = refl; feature = refl; place = refl }
+line_same row stand.Stable (Confirmed k) = record { role = refl; feature = refl; place = refl }
+line_same row stand.Unstable (Confirmed k) = record { role = refl; feature = refl; place = refl }
+line_same row stand.Changing (Confirmed c.Late) = record { role = refl; feature = refl; place = refl }
+line_same row stand.Changing (Confirmed c.Empty) =
+    if_both (λ step. IsSameRow row step.row) (described row.feature).is_required (says row (Fatal 5)) (settled row row.value) (λ required. record { role = refl; feature = refl; place = refl }) (λ other. record { role = refl; feature = refl; place = refl })
+line_same row stand.Changing (Confirmed (c.Shared value)) = record { role = refl; feature = refl; place = refl }
+line_same row stand.Changing (Confirmed c.Held) = record { role = refl; feature = refl; place = refl }
+line_same row stand.Changing (Confirmed (c.Alone value)) = record { role = refl; feature = refl; place = refl }
+line_same row stand.Changing (Confirmed (c.Told value)) = record { role = refl; feature = refl; place = refl }
+line_same row stand.Changing (Confirmed c.Wrong) = record { role = refl; feature = refl; place = refl }
+line_same row stand.Stable (Preferred wish) = record { role = refl; feature = refl; place = refl }
+line_same row stand.Changing (Preferred wish) = record { role = refl; feature = refl; place = refl }
+line_same row stand.Unstable (Preferred wish) = record { role = refl; feature = refl; place = refl }
+line_same row stand.Changing (Sending number None) = record { role = refl; feature = refl; place = refl }
+line_same row stand.Changing (Sending number (Some opened)) = record { role = refl; feature = refl; place = refl }
+line_same row stand.Unstable (Sending number o) = record { role = refl; feature = refl; place = refl }
+line_same row stand.Stable (Sending number o) = record { role = refl; feature = refl; place = refl }
+line_same row stand.Stable (Offered false offer.Plain) = record { role = refl; feature = refl; place = refl }
+line_same row stand.Stable (Offered false offer.Mandatory) = record { role = refl; feature = refl; place = refl }
+line_same row stand.Stable (Offered false offer.Nothing) = record { role = refl; feature = refl; place = refl }
+line_same row stand.Stable (Offered true offer.Plain) = record { role = refl; feature = refl; place = refl }
+line_same row stand.Stable (Offered true offer.Mandatory) = record { role = refl; feature = refl; place = refl }
+line_same row stand.Stable (Offered true offer.Nothing) = record { role = refl; feature = refl; place = refl }
+line_same row stand.Changing (Offered confirmed o) = record { role = refl; feature = refl; place = refl }
+line_same row stand.Unstable (Offered confirmed o) = record { role = refl; feature = refl; place = refl }
+
+pub step_same : (row : Row) (event : RowEvent) → IsSameRow row (row_step row event).row
+step_same row event = line_same row row.stand (heard row event)
+
+pub step_its : (feature : Feature) (place : Place) (row : Row) (event : RowEvent) → IsRowOf feature place row → IsLawful row event → IsRowOf feature place (row_step row event).row
+step_its feature place row event its lawful =
+    let same : IsSameRow row (row_step row event).row = step_same row event in
+    record { feature_is = same.feature ∙ its.feature_is; place_is = same.place ∙ its.place_is; sound = step_sound row event its.sound lawful }
+
+line_stays : (row : Row) (s : Stand) (h : Heard) → IsRefusal (row_line row s h).answer → (row_line row s h).row ≡ row
+line_stays row s (Proposed p.Invalid false) refused = absurd refused
+line_stays row s (Proposed p.Invalid true) refused = refl
+line_stays row stand.Unstable (Proposed (p.Shared value) m) refused = refl
+line_stays row stand.Unstable (Proposed p.Unshared m) refused = refl
+line_stays row stand.Unstable (Proposed (p.Told value) m) refused = refl
+line_stays row stand.Stable (Proposed (p.Shared value) m) refused = absurd refused
+line_stays row stand.Stable (Proposed p.Unshared false) refused = absurd refused
+line_stays row stand.Stable (Proposed p.Unshared true) refused = refl
+line_stays row stand.Stable (Proposed (p.Told value) m) refused = absurd refused
+line_stays row stand.Changing (Proposed (p.Shared value) m) refused = absurd refused
+line_stays row stand.Changing (Proposed p.Unshared false) refused = absurd refused
+line_stays row stand.Changing (Proposed p.Unshared true) refused = refl
+line_stays row stand.Changing (Proposed (p.Told value) m) refused = absurd refused
+line_stays row stand.Stable (Confirmed k) refused = refl
+line_stays row stand.Unstable (Confirmed k) refused = refl
+line_stays row stand.Changing (Confirmed c.Late) refused = refl
+line_stays row stand.Changing (Confirmed c.Empty) refused =
+    if_both (λ step. IsRefusal step.answer → step.row ≡ row) (described row.feature).is_required (says row (Fatal 5)) (settled row row.value) (λ required refused. refl) (λ other refused. absurd refused) refused
+line_stays row stand.Changing (Confirmed (c.Shared value)) refused = absurd refused
+line_stays row stand.Changing (Confirmed c.Held) refused = absurd refused
+line_stays row stand.Changing (Confirmed (c.Alone value)) refused = absurd refused
+line_stays row stand.Changing (Confirmed (c.Told value)) refused = absurd refused
+line_stays row stand.Changing (Confirmed c.Wrong) refused = refl
+line_stays row stand.Stable (Preferred wish) refused = absurd refused
+line_stays row stand.Changing (Preferred wish) refused = absurd refused
+line_stays row stand.Unstable (Preferred wish) refused = absurd refused
+line_stays row stand.Changing (Sending number None) refused = absurd refused
+line_stays row stand.Changing (Sending number (Some opened)) refused = absurd refused
+line_stays row stand.Unstable (Sending number o) refused = absurd refused
+line_stays row stand.Stable (Sending number o) refused = absurd refused
+line_stays row stand.Stable (Offered false offer.Plain) refused = absurd refused
+line_stays row stand.Stable (Offered false offer.Mandatory) refused = absurd refused
+line_stays row stand.Stable (Offered false offer.Nothing) refused = absurd refused
+line_stays row stand.Stable (Offered true offer.Plain) refused = absurd refused
+line_stays row stand.Stable (Offered true offer.Mandatory) refused = absurd refused
+line_stays row stand.Stable (Offered true offer.Nothing) refused = absurd refused
+line_stays row stand.Changing (Offered confirmed o) refused = absurd refused
+line_stays row stand.Unstable (Offered confirmed o) refused = absurd refused
+
+pub step_stays : (row : Row) (event : RowEvent) → IsRefusal (row_step row event).answer → (row_step row event).row ≡ row
+step_stays row event refused = line_stays row row.stand (heard row event) refused
+
+pub put_same : (rows : List Row) (feature : Feature) (place : Place) (row new : Row) → row ≡ row_at rows feature place → new ≡ row → put rows feature place new ≡ rows
+put_same rows feature place row new is same = ap (λ r. put rows feature place r) (same ∙ is) ∙ set-get_or rows (index_of feature place) _
+
+pub stepped_stays : (rows : List Row) (feature : Feature) (place : Place) (event : RowEvent) → IsRefusal (stepped rows feature place event).answer → (stepped rows feature place event).rows ≡ rows
+stepped_stays rows feature place event refused =
+    ap (λ row. put rows feature place row) (step_stays (row_at rows feature place) event refused) ∙ set-get_or rows (index_of feature place) _
+
+-- a Confirm that does not settle its row is refused
+line_refuses : (row : Row) (s : Stand) (k : Confirmation) → settling_of (row_line row s (Confirmed k)).answer ≢ settling.Settled → IsRefusal (row_line row s (Confirmed k)).answer
+line_refuses row stand.Stable k other = tt
+line_refuses row stand.Unstable k other = tt
+line_refuses row stand.Changing c.Late other = tt
+line_refuses row stand.Changing c.Empty other =
+    if_both (λ step. settling_of step.answer ≢ settling.Settled → IsRefusal step.answer) (described row.feature).is_required (says row (Fatal 5)) (settled row row.value)
+    (λ required refused. tt) (λ not_required refused. absurd (refused refl)) other
+line_refuses row stand.Changing (c.Shared value) other = absurd (other refl)
+line_refuses row stand.Changing c.Held other = absurd (other refl)
+line_refuses row stand.Changing (c.Alone value) other = absurd (other refl)
+line_refuses row stand.Changing (c.Told value) other = absurd (other refl)
+line_refuses row stand.Changing c.Wrong other = tt
+
+pub confirm_refuses : (row : Row) (body : List ℕ) (ack : Option ℕ) → settling_of (row_step row (Confirm body ack)).answer ≢ settling.Settled → IsRefusal (row_step row (Confirm body ack)).answer
+confirm_refuses row body ack other = line_refuses row row.stand (confirmation row body ack) other
+
+-- the eighteen rows stay sound
+pub stepped_negotiation : (rows : List Row) (feature : Feature) (place : Place) (event : RowEvent) → IsNegotiation rows → IsLawful (row_at rows feature place) event → IsNegotiation (stepped rows feature place event).rows
+stepped_negotiation rows feature place event n lawful =
+    put_negotiation rows feature place (row_step (row_at rows feature place) event).row n (step_its feature place (row_at rows feature place) event (n.each feature place) lawful)

@@ -1,0 +1,105 @@
+-- The eighteen rows of an end: an event is the step of its row (own).
+use Rattle.std.specs.Prelude.{◌≡◌, ◌≢◌, ℕ, Bool, true, false, List, [], length, map, filter, Option, Some, None, slice_index_or, slice_set, if◌then◌else◌}
+use Rattle.feature_lists.specs.Features.{feature_numbered, initial_of}
+use Rattle.feature_lists.specs.declared.features.Feature.{Feature}
+use Rattle.feature_lists.specs.declared.features.Feature.TheVariants as f
+use Rattle.feature_lists.specs.declared.features.Place.{Place}
+use Rattle.feature_lists.specs.declared.features.Place.TheVariants as located
+use Rattle.feature_machine.specs.declared.stands.Role2.{Role2}
+use Rattle.feature_machine.specs.declared.stands.Role2.TheVariants as role
+use Rattle.feature_machine.specs.declared.stands.Stand.{Stand}
+use Rattle.feature_machine.specs.declared.stands.Stand.TheVariants as stand
+use Rattle.feature_machine.specs.declared.stands.Held.{Held}
+use Rattle.feature_machine.specs.declared.offers.Listed.{Listed}
+use Rattle.feature_machine.specs.declared.row.Row.{Row}
+use Rattle.feature_machine.specs.Lists.{index_of, usual_listed}
+use Rattle.feature_machine.specs.Rows.{RowEvent, Change, Confirm, RowAnswer, Confirms, Ignored, Fatal, row_step}
+use Rattle.feature_machine.specs.Sound.{IsRowOf}
+
+-- a row before anything was negotiated
+abbrev pub first_row : Role2 → Listed → Row
+first_row role listed =
+    record {
+      role = role;
+      feature = listed.feature;
+      place = listed.place;
+      value = initial_of listed.feature;
+      stand = stand.Stable;
+      active = listed.wish;
+      pending = None;
+      opened = None;
+      offer = listed.offer;
+      mandatory = false;
+    }
+
+abbrev pub first_rows : Role2 → List Listed → List Row
+first_rows role lists = map (first_row role) lists
+
+-- the row of a feature at a place
+abbrev pub row_at : List Row → Feature → Place → Row
+row_at rows feature place = slice_index_or rows (index_of feature place) (first_row role.Client (usual_listed f.Ccid located.Here))
+
+-- the same rows with this one there
+abbrev pub put : List Row → Feature → Place → Row → List Row
+put rows feature place row = slice_set rows (index_of feature place) row
+
+-- there is a sound one for each feature at each place
+pub record IsNegotiation (rows : List Row) : Type 0 where
+  pub size : length rows ≡ 18
+  pub each : (feature : Feature) (place : Place) → IsRowOf feature place (row_at rows feature place)
+
+-- all rows stay but that of a feature at a place
+abbrev pub OthersStay : List Row → List Row → Feature → Place → Type 0
+OthersStay old new feature place =
+    (other : Feature) (there : Place) → index_of other there ≢ index_of feature place → row_at new other there ≡ row_at old other there
+
+pub record RowsStep : Type 0 where
+  pub rows : List Row
+  pub answer : RowAnswer
+
+-- an event is the step of its row
+abbrev pub stepped : List Row → Feature → Place → RowEvent → RowsStep
+stepped rows feature place event =
+    let step = row_step (row_at rows feature place) event in
+    record { rows = put rows feature place step.row; answer = step.answer }
+
+-- Change L and Confirm L speak of a feature at the peer, Change R and Confirm R of one at this end (RFC 4340, section 6)
+abbrev pub place_of : Bool → Place
+place_of true = located.There
+place_of false = located.Here
+
+-- a Change: of a feature that is not known it is not valid
+abbrev pub changes_known : List Row → Option Feature → Place → List ℕ → Bool → RowsStep
+changes_known rows (Some feature) place body mandatory = stepped rows feature place (Change body mandatory)
+changes_known rows None place body mandatory = record { rows = rows; answer = if mandatory then Fatal 6 else Confirms [] }
+
+abbrev pub changes : List Row → Bool → ℕ → List ℕ → Bool → RowsStep
+changes rows left number body mandatory = changes_known rows (feature_numbered number) (place_of left) body mandatory
+
+-- a Confirm: of a feature that is not known it is ignored
+abbrev pub confirms_known : List Row → Option Feature → Place → List ℕ → Option ℕ → RowsStep
+confirms_known rows (Some feature) place body ack = stepped rows feature place (Confirm body ack)
+confirms_known rows None place body ack = record { rows = rows; answer = Ignored }
+
+abbrev pub confirmed : List Row → Bool → ℕ → List ℕ → Option ℕ → RowsStep
+confirmed rows left number body ack = confirms_known rows (feature_numbered number) (place_of left) body ack
+
+-- a Change of the row is due: it is in CHANGING or UNSTABLE
+abbrev pub is_asking : Stand → Bool
+is_asking stand.Stable = false
+is_asking stand.Changing = true
+is_asking stand.Unstable = true
+
+abbrev pub is_due : Row → Bool
+is_due row = is_asking row.stand
+
+abbrev pub due_keys : List Row → List (Feature × Place)
+due_keys rows = map (λ row. (row.feature, row.place)) (filter is_due rows)
+
+-- whether the row's next Change carries Mandatory: that of a new list never does
+abbrev pub is_next_mandatory : Stand → Row → Bool
+is_next_mandatory stand.Changing row = row.mandatory
+is_next_mandatory _ row = false
+
+abbrev pub held_by : Row → Held
+held_by row = record { value = row.value; stand = row.stand }

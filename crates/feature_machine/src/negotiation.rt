@@ -1,0 +1,278 @@
+//! The eighteen rows of an end.
+ghost use Rattle.std.specs.Prelude.{◌≡◌, ◌≢◌, ◌↔◌, ◌⊎◌, ◌<◌, ℕ, true, false, IsNone, IfSome, length, slice_get, Some};
+ghost use Rattle.feature_lists.specs.Features.{described, number_of};
+ghost use Rattle.feature_lists.specs.Wishes.{is_ours, is_wish};
+ghost use Rattle.feature_lists.specs.declared.features.Feature.{Feature};
+ghost use Rattle.feature_lists.specs.declared.features.Place.{Place};
+ghost use Rattle.feature_machine.specs.Answers.{reply_of, shown, answered, Ignoring, Failing, settling_of, opening_of, is_opening};
+ghost use Rattle.feature_machine.specs.Lists.{index_of};
+ghost use Rattle.feature_machine.specs.Negotiating.{first_rows, row_at, put, OthersStay, stepped, place_of, changes, confirmed, is_due, due_keys, is_next_mandatory, held_by, IsNegotiation};
+ghost use Rattle.feature_machine.specs.Rows.{Change, Confirm, Prefers, Offers, Sends};
+ghost use Rattle.feature_machine.specs.Sound.{IsRowOf, IsRefusal};
+ghost use Rattle.feature_machine.specs.declared.stands.Stand.TheVariants.{Stable};
+
+use crate::due::Due;
+use crate::offers::Listed;
+use crate::row::{Reply, Row};
+use crate::{Answer, ConfirmOut, Held, Lists, Opening, Role2, Settling, Stand};
+use arrayvec::ArrayVec;
+use feature_lists::{Feature, Place, Wanted};
+use seq_circle::Seq48;
+use std::marker::Model;
+
+/// The negotiation of all features at one end: a row for each feature at each place. Contracts see the rows in the order of
+/// the features, Here before There.
+///
+/// `held`, `active`, `mandatory` and `due` read; `on_change` and `on_confirm` take what a newest packet carries (a number after
+/// all that were taken before: options of older packets must not be handed in, since they would bring values back that both
+/// ends have left); `prefer` and `open_offer` open a row, whose Change is then due, and `sent` tells that it went out. Each call
+/// changes the row that it names alone.
+#[derive(Clone, Copy, Debug, PartialEq, Eq)]
+pub struct Negotiation {
+    rows: [Row; 18],
+}
+
+impl Model for Negotiation {
+    ghost use Rattle.std.specs.Prelude.{List};
+    ghost use Rattle.feature_machine.specs.declared.row.Row.{Row};
+
+    ghost Value = { List Row };
+
+    ghost use Rattle.feature_machine.specs.Negotiating.{IsNegotiation};
+
+    ghost view = { λ n. n.rows };
+
+    ghost invariant = { λ n. IsNegotiation n.rows };
+
+    ghost inverse = { λ rows. record { rows = rows } };
+}
+
+// The place of a row among the eighteen.
+pub(crate) fn index_of(feature: Feature, place: Place) -> usize
+    ensures value { result ≡ index_of feature place }
+    ensures fits { result < 18 }
+{
+    let here = 2 * (usize::from(feature.number()) - 1);
+    match place {
+        Place::Here => here,
+        Place::There => here + 1,
+    }
+}
+
+// Change L and Confirm L speak of a feature at the peer.
+fn place_of(left: bool) -> Place
+    ensures { result ≡ place_of left }
+{
+    if left { Place::There } else { Place::Here }
+}
+
+// Makes the rows of what is listed.
+fn fill(rows: &mut [Row], role: Role2, listed: &[Listed])
+    requires { length rows.old ≡ length listed.now }
+    ensures { rows.new ≡ first_rows role listed.now }
+{
+    for (index, one) in listed.iter().enumerate() {
+        rows[index] = Row::first(role, one);
+    }
+}
+
+impl Negotiation {
+    /// The rows of an end before anything was negotiated: each is STABLE with its feature's initial value.
+    pub fn new(role: Role2, lists: &Lists) -> Negotiation
+        ensures rows { result ≡ first_rows role lists.now }
+        ensures sound { IsNegotiation result }
+    {
+        let listed = lists.all();
+        let mut rows = [Row::first(role, &listed[0]); 18];
+        fill(&mut rows, role, listed);
+        Negotiation { rows }
+    }
+
+    // The row at an index.
+    pub(crate) fn at(&self, index: usize) -> Row
+        requires { index < 18 }
+        ensures row { slice_get self.now index ≡ Some result }
+        ensures size { length self.now ≡ 18 }
+    {
+        self.rows[index]
+    }
+
+    fn row(&self, feature: Feature, place: Place) -> Row
+        ensures value { result ≡ row_at self.now feature place }
+        ensures its { IsRowOf feature place result }
+        ensures sound { IsNegotiation self.now }
+    {
+        self.rows[index_of(feature, place)]
+    }
+
+    fn put(&mut self, feature: Feature, place: Place, row: Row)
+        requires { IsRowOf feature place row }
+        ensures { self.new ≡ put self.old feature place row }
+    {
+        self.rows[index_of(feature, place)] = row;
+    }
+
+    fn change(&mut self, feature: Feature, place: Place, body: &[u8], mandatory: bool) -> Reply
+        ensures rows { self.new ≡ (stepped self.old feature place (Change body.now mandatory)).rows }
+        ensures reply { reply_of result ≡ (stepped self.old feature place (Change body.now mandatory)).answer }
+        ensures stays { IsRefusal (reply_of result) → self.new ≡ self.old }
+    {
+        let mut row = self.row(feature, place);
+        let reply = row.change(body, mandatory);
+        self.put(feature, place, row);
+        reply
+    }
+
+    fn confirm(
+        &mut self,
+        feature: Feature,
+        place: Place,
+        body: &[u8],
+        ack: &Option<Seq48>,
+    ) -> Settling
+        ensures rows { self.new ≡ (stepped self.old feature place (Confirm body.now ack.now)).rows }
+        ensures settling { result ≡ settling_of (stepped self.old feature place (Confirm body.now ack.now)).answer }
+        ensures stays { result ≢ Settling.Settled → self.new ≡ self.old }
+    {
+        let mut row = self.row(feature, place);
+        let settling = row.confirm(body, ack);
+        self.put(feature, place, row);
+        settling
+    }
+
+    /// The value that the end holds for a feature at a place, and where its negotiation stands.
+    pub fn held(&self, feature: Feature, place: Place) -> Held
+        ensures value { result ≡ held_by (row_at self.now feature place) }
+        ensures its { IsRowOf feature place (row_at self.now feature place) }
+        ensures sound { IsNegotiation self.now }
+    {
+        let row = self.row(feature, place);
+        Held {
+            value: row.value,
+            stand: row.stand,
+        }
+    }
+
+    /// The list or value that the row last sent, or its configured one before that; None exactly for a non-negotiable feature at
+    /// There.
+    pub fn active(&self, feature: Feature, place: Place) -> Option<Wanted>
+        ensures value { result ≡ (row_at self.now feature place).active }
+        ensures none { IsNone result ↔ (is_ours feature place ≡ false) }
+        ensures wish { IfSome result (λ wish. is_wish feature place wish ≡ true) }
+    {
+        let row = self.row(feature, place);
+        row.active
+    }
+
+    /// The rows whose Change is due: those in CHANGING or UNSTABLE, in the order of the features, Here before There.
+    pub fn due(&self) -> Due
+        ensures { result ≡ due_keys self.now }
+    {
+        Due::of(*self)
+    }
+
+    /// A Change L (`left`) or Change R of a newest packet comes, with its data behind the feature number.
+    ///
+    /// It answers the Confirm that is due, or Ignored, or Fatal for Reset 6, by the negotiation table. A Change that is not valid,
+    /// also one of an unknown feature, gets an empty Confirm, or Reset 6 behind Mandatory.
+    pub fn on_change(&mut self, left: bool, feature: u8, body: &[u8], mandatory: bool) -> Answer
+        ensures rows { self.new ≡ (changes self.old left feature body.now mandatory).rows }
+        ensures answer { shown result ≡ answered left feature (changes self.old left feature body.now mandatory).answer }
+        ensures ignored { shown result ≡ Ignoring → self.new ≡ self.old }
+        ensures fatal { shown result ≡ Failing → self.new ≡ self.old }
+        ensures others { (other : Feature) (there : Place) → (number_of other ≢ feature) ⊎ (there ≢ place_of left)
+            → row_at self.new other there ≡ row_at self.old other there }
+    {
+        let Some(known) = Feature::of(feature) else {
+            if mandatory {
+                return Answer::Fatal;
+            }
+            return Answer::Confirm(ConfirmOut {
+                left: !left,
+                feature,
+                body: ArrayVec::new(),
+            });
+        };
+        match self.change(known, place_of(left), body, mandatory) {
+            Reply::Confirm(body) => Answer::Confirm(ConfirmOut {
+                left: !left,
+                feature,
+                body,
+            }),
+            Reply::Ignored => Answer::Ignored,
+            Reply::Fatal => Answer::Fatal,
+        }
+    }
+
+    /// A Confirm L (`left`) or Confirm R of a newest packet comes, with its data behind the feature number and the packet's
+    /// acknowledgement number.
+    ///
+    /// It answers Settled, Ignored, or Fatal for Reset 5, by the negotiation table.
+    pub fn on_confirm(
+        &mut self,
+        left: bool,
+        feature: u8,
+        body: &[u8],
+        ack: Option<Seq48>,
+    ) -> Settling
+        ensures rows { self.new ≡ (confirmed self.old left feature body.now ack).rows }
+        ensures settling { result ≡ settling_of (confirmed self.old left feature body.now ack).answer }
+        ensures ignored { result ≡ Settling.Ignored → self.new ≡ self.old }
+        ensures fatal { result ≡ Settling.Fatal → self.new ≡ self.old }
+        ensures others { (other : Feature) (there : Place) → (number_of other ≢ feature) ⊎ (there ≢ place_of left)
+            → row_at self.new other there ≡ row_at self.old other there }
+    {
+        match Feature::of(feature) {
+            Some(known) => self.confirm(known, place_of(left), body, &ack),
+            None => Settling::Ignored,
+        }
+    }
+
+    /// The end wants something else for a feature at a place. Now means that the row's Change is due in this very step; Later that
+    /// a Change of the row is under way, and the new wish goes out on a later one.
+    pub fn prefer(&mut self, feature: Feature, place: Place, wish: Wanted) -> Opening
+        requires { is_wish feature place wish ≡ true }
+        ensures rows { self.new ≡ (stepped self.old feature place (Prefers wish)).rows }
+        ensures opening { result ≡ opening_of (stepped self.old feature place (Prefers wish)).answer }
+        ensures others { OthersStay self.old self.new feature place }
+    {
+        let mut row = self.row(feature, place);
+        let opening = row.prefer(wish);
+        self.put(feature, place, row);
+        opening
+    }
+
+    /// The row's offer comes up: one that was not yet made is used up. True exactly where there was one and no Confirm of the row
+    /// goes out on the same packet (`confirmed`): then the row is in CHANGING with its active list, and its Change is due.
+    pub fn open_offer(&mut self, feature: Feature, place: Place, confirmed: bool) -> bool
+        requires { (row_at self.old feature place).stand ≡ Stable }
+        ensures rows { self.new ≡ (stepped self.old feature place (Offers confirmed)).rows }
+        ensures opening { result ≡ is_opening (stepped self.old feature place (Offers confirmed)).answer }
+        ensures others { OthersStay self.old self.new feature place }
+    {
+        let mut row = self.row(feature, place);
+        let opening = row.open_offer(confirmed);
+        self.put(feature, place, row);
+        opening
+    }
+
+    /// Whether the next Change of a due row carries Mandatory: that of an offer, until a new list of the row is sent.
+    pub fn mandatory(&self, feature: Feature, place: Place) -> bool
+        requires { is_due (row_at self.now feature place) ≡ true }
+        ensures { result ≡ is_next_mandatory (row_at self.now feature place).stand (row_at self.now feature place) }
+    {
+        let row = self.row(feature, place);
+        row.stand == Stand::Changing && row.mandatory
+    }
+
+    /// A packet with the Change of a due row went out under this number.
+    pub fn sent(&mut self, feature: Feature, place: Place, number: Seq48)
+        requires { is_due (row_at self.old feature place) ≡ true }
+        ensures rows { self.new ≡ (stepped self.old feature place (Sends number)).rows }
+        ensures others { OthersStay self.old self.new feature place }
+    {
+        let mut row = self.row(feature, place);
+        row.sent(number);
+        self.put(feature, place, row);
+    }
+}

@@ -1,0 +1,564 @@
+use crate::{Answer, Held, Lists, Negotiation, Opening, Role2, Settling, Stand};
+use feature_lists::{Feature, Place, PreferFault, Wanted, wish};
+use seq_circle::Seq48;
+use std::test::Fail;
+
+const COVERAGE: u8 = 8;
+
+fn number(n: u64) -> Result<Seq48, Fail> {
+    Ok(Seq48::new(n).ok_or("below 2^48")?)
+}
+
+fn prefer(rows: &mut Negotiation, place: Place, values: &[u64]) -> Result<Opening, Fail> {
+    let Ok(wish) = wish(Feature::MinCsCov, place, values) else {
+        return Err(Fail::from("a wish"));
+    };
+    Ok(rows.prefer(Feature::MinCsCov, place, wish))
+}
+
+fn send(rows: &mut Negotiation, feature: Feature, place: Place, n: u64) -> Result<(), Fail> {
+    let number = number(n)?;
+    match rows.held(feature, place).stand {
+        Stand::Stable => Err(Fail::from("a due row")),
+        Stand::Changing => {
+            rows.sent(feature, place, number);
+            Ok(())
+        }
+        Stand::Unstable => {
+            rows.sent(feature, place, number);
+            Ok(())
+        }
+    }
+}
+
+fn open(
+    rows: &mut Negotiation,
+    feature: Feature,
+    place: Place,
+    confirmed: bool,
+) -> Result<bool, Fail> {
+    match rows.held(feature, place).stand {
+        Stand::Stable => Ok(rows.open_offer(feature, place, confirmed)),
+        Stand::Changing => Err(Fail::from("a STABLE row")),
+        Stand::Unstable => Err(Fail::from("a STABLE row")),
+    }
+}
+
+fn holds(rows: &Negotiation, feature: Feature, place: Place, value: u64, stand: Stand) -> bool {
+    rows.held(feature, place) == Held { value, stand }
+}
+
+fn confirms(answer: &Answer, left: bool, feature: u8, body: &[u8]) -> bool {
+    match answer {
+        Answer::Confirm(out) => out.left == left
+            && out.feature == feature
+            && out.body.as_slice() == body,
+        Answer::Ignored => false,
+        Answer::Fatal => false,
+    }
+}
+
+// An end whose server wants Minimum Checksum Coverage 1, else 2.
+fn coverage_server() -> Result<Negotiation, Fail> {
+    let mut lists = Lists::usual();
+    if lists.set(Feature::MinCsCov, Place::There, &[1, 2]).is_err() {
+        return Err(Fail::from("a wish"));
+    }
+    lists.plain();
+    Ok(Negotiation::new(Role2::Server, &lists))
+}
+
+fn plain_client() -> Negotiation {
+    let mut lists = Lists::usual();
+    lists.plain();
+    Negotiation::new(Role2::Client, &lists)
+}
+
+#[test]
+fn server_order_wins(rt: HostRuntime) -> Result<(), Fail> {
+    let mut lists = Lists::usual();
+    lists.plain();
+    let mut wanted = lists;
+    assert_eq!(rt; wanted.set(Feature::Ccid, Place::There, &[248, 2]), Ok(()));
+    assert_eq!(rt; lists.offer(Feature::Ccid, Place::Here, false), Ok(()));
+    let mut client = Negotiation::new(Role2::Client, &lists);
+    let mut server = Negotiation::new(Role2::Server, &wanted);
+    assert!(rt; open(&mut client, Feature::Ccid, Place::Here, false)?);
+    send(&mut client, Feature::Ccid, Place::Here, 1000)?;
+    let answer = server.on_change(true, 1, &[2, 248], false);
+    assert!(rt; confirms(&answer, false, 1, &[248, 248, 2]));
+    let settling = client.on_confirm(false, 1, &[248, 248, 2], Some(number(1000)?));
+    assert_eq!(rt; settling, Settling::Settled);
+    assert!(rt; holds(&client, Feature::Ccid, Place::Here, 248, Stand::Stable));
+    assert!(rt; holds(&server, Feature::Ccid, Place::There, 248, Stand::Stable));
+    assert!(rt;
+        !open(&mut client, Feature::Ccid, Place::Here, false)?,
+        "an offer opens once"
+    );
+    Ok(())
+}
+
+#[test]
+fn mandatory_unshared(rt: HostRuntime) -> Result<(), Fail> {
+    let mut lists = Lists::usual();
+    assert_eq!(rt;
+        lists.set(Feature::SendAckVector, Place::Here, &[0]),
+        Ok(())
+    );
+    let mut client = Negotiation::new(Role2::Client, &Lists::usual());
+    let mut server = Negotiation::new(Role2::Server, &lists);
+    assert!(rt; open(&mut client, Feature::SendAckVector, Place::There, false)?);
+    send(&mut client, Feature::SendAckVector, Place::There, 1000)?;
+    let fatal = matches!(server.on_change(false, 6, &[1], true), Answer::Fatal);
+    assert!(rt; fatal);
+    assert!(rt;
+        holds(
+            &client,
+            Feature::SendAckVector,
+            Place::There,
+            0,
+            Stand::Changing
+        )
+    );
+    assert!(rt;
+        holds(
+            &server,
+            Feature::SendAckVector,
+            Place::Here,
+            0,
+            Stand::Stable
+        )
+    );
+    Ok(())
+}
+
+#[test]
+fn invalid_value(rt: HostRuntime) {
+    let cases: [([u8; 6], u64); 3] = [
+        ([0, 0, 0, 0, 0, 31], 100),
+        ([0, 0, 0, 0, 0, 32], 32),
+        ([0x3f, 0xff, 0xff, 0xff, 0xff, 0xff], 70_368_744_177_663),
+    ];
+    for (body, value) in cases {
+        let mut server = plain_client();
+        let answer = server.on_change(true, 3, &body, false);
+        if value == 100 {
+            assert!(rt; confirms(&answer, false, 3, &[]));
+        } else {
+            assert!(rt; confirms(&answer, false, 3, &body));
+        }
+        assert!(rt;
+            holds(
+                &server,
+                Feature::SequenceWindow,
+                Place::There,
+                value,
+                Stand::Stable
+            )
+        );
+    }
+}
+
+#[test]
+fn crossing_changes(rt: HostRuntime) -> Result<(), Fail> {
+    let mut client = plain_client();
+    let mut server = coverage_server()?;
+    assert_eq!(rt; prefer(&mut client, Place::Here, &[1, 2])?, Opening::Now);
+    send(&mut client, Feature::MinCsCov, Place::Here, 1002)?;
+    let first = server.on_change(true, COVERAGE, &[1, 2], false);
+    assert!(rt; confirms(&first, false, COVERAGE, &[1, 1, 2]));
+    assert_eq!(rt; prefer(&mut server, Place::There, &[2, 1])?, Opening::Now);
+    send(&mut server, Feature::MinCsCov, Place::There, 2003)?;
+    send(&mut client, Feature::MinCsCov, Place::Here, 1003)?;
+    let second = server.on_change(true, COVERAGE, &[1, 2], false);
+    assert!(rt; confirms(&second, false, COVERAGE, &[2, 2, 1]));
+    assert_eq!(rt;
+        client.on_confirm(false, COVERAGE, &[1, 1, 2], Some(number(1002)?)),
+        Settling::Settled
+    );
+    assert!(rt; holds(&client, Feature::MinCsCov, Place::Here, 1, Stand::Stable));
+    assert!(rt; holds(&server, Feature::MinCsCov, Place::There, 2, Stand::Changing));
+    send(&mut server, Feature::MinCsCov, Place::There, 2005)?;
+    let third = client.on_change(false, COVERAGE, &[2, 1], false);
+    assert!(rt; confirms(&third, true, COVERAGE, &[2, 1, 2]));
+    assert_eq!(rt;
+        server.on_confirm(true, COVERAGE, &[2, 1, 2], Some(number(2005)?)),
+        Settling::Settled
+    );
+    assert!(rt; holds(&client, Feature::MinCsCov, Place::Here, 2, Stand::Stable));
+    assert!(rt; holds(&server, Feature::MinCsCov, Place::There, 2, Stand::Stable));
+    Ok(())
+}
+
+// The client's three Changes, of which only the last is newest when it comes.
+fn three_changes(client: &mut Negotiation) -> Result<(), Fail> {
+    prefer(client, Place::Here, &[1, 2])?;
+    send(client, Feature::MinCsCov, Place::Here, 1002)?;
+    prefer(client, Place::Here, &[2, 1])?;
+    send(client, Feature::MinCsCov, Place::Here, 1003)?;
+    prefer(client, Place::Here, &[2])?;
+    send(client, Feature::MinCsCov, Place::Here, 1004)?;
+    Ok(())
+}
+
+#[test]
+fn late_changes(rt: HostRuntime) -> Result<(), Fail> {
+    let mut client = plain_client();
+    let mut server = coverage_server()?;
+    three_changes(&mut client)?;
+    let answer = server.on_change(true, COVERAGE, &[2], false);
+    assert!(rt; confirms(&answer, false, COVERAGE, &[2, 1, 2]));
+    assert_eq!(rt;
+        client.on_confirm(false, COVERAGE, &[2, 1, 2], Some(number(1004)?)),
+        Settling::Settled
+    );
+    assert!(rt; holds(&client, Feature::MinCsCov, Place::Here, 2, Stand::Stable));
+    assert!(rt; holds(&server, Feature::MinCsCov, Place::There, 2, Stand::Stable));
+    Ok(())
+}
+
+#[test]
+fn late_confirm(rt: HostRuntime) -> Result<(), Fail> {
+    let mut client = plain_client();
+    three_changes(&mut client)?;
+    assert_eq!(rt;
+        client.on_confirm(false, COVERAGE, &[1, 1, 2], Some(number(1002)?)),
+        Settling::Ignored
+    );
+    assert!(rt; holds(&client, Feature::MinCsCov, Place::Here, 0, Stand::Changing));
+    Ok(())
+}
+
+#[test]
+fn nothing_shared(rt: HostRuntime) -> Result<(), Fail> {
+    let mut client = plain_client();
+    let mut server = coverage_server()?;
+    assert_eq!(rt; prefer(&mut client, Place::Here, &[1, 2])?, Opening::Now);
+    send(&mut client, Feature::MinCsCov, Place::Here, 1002)?;
+    let _ = server.on_change(true, COVERAGE, &[1, 2], false);
+    assert_eq!(rt; prefer(&mut server, Place::There, &[3])?, Opening::Now);
+    send(&mut server, Feature::MinCsCov, Place::There, 2003)?;
+    let answer = client.on_change(false, COVERAGE, &[3], false);
+    assert!(rt; confirms(&answer, true, COVERAGE, &[0, 1, 2]));
+    assert_eq!(rt;
+        server.on_confirm(true, COVERAGE, &[0, 1, 2], Some(number(2003)?)),
+        Settling::Fatal
+    );
+    assert!(rt; holds(&client, Feature::MinCsCov, Place::Here, 0, Stand::Changing));
+    assert!(rt; holds(&server, Feature::MinCsCov, Place::There, 1, Stand::Changing));
+    Ok(())
+}
+
+// An end that came to want coverage 1, else 2, for itself, and stands there.
+fn standing(role: Role2, stand: Stand) -> Result<Negotiation, Fail> {
+    let mut lists = Lists::usual();
+    if lists.set(Feature::MinCsCov, Place::Here, &[1, 2]).is_err() {
+        return Err(Fail::from("a wish"));
+    }
+    let mut rows = Negotiation::new(role, &lists);
+    if stand != Stand::Stable {
+        prefer(&mut rows, Place::Here, &[1, 2])?;
+        send(&mut rows, Feature::MinCsCov, Place::Here, 100)?;
+    }
+    if stand == Stand::Unstable {
+        prefer(&mut rows, Place::Here, &[3])?;
+    }
+    Ok(rows)
+}
+
+#[test]
+fn changes_by_the_table(rt: HostRuntime) -> Result<(), Fail> {
+    // The role, the stand, the Change's list, whether Mandatory, the Confirm, and the value after.
+    let cases: [(Role2, Stand, &[u8], bool, Option<&[u8]>, u64); 12] = [
+        (Role2::Client, Stand::Unstable, &[], false, Some(&[]), 0),
+        (Role2::Server, Stand::Stable, &[], true, None, 0),
+        (Role2::Client, Stand::Unstable, &[2, 1], true, None, 0),
+        (
+            Role2::Server,
+            Stand::Stable,
+            &[2, 1],
+            true,
+            Some(&[1, 1, 2]),
+            1,
+        ),
+        (
+            Role2::Client,
+            Stand::Stable,
+            &[2, 1],
+            false,
+            Some(&[2, 1, 2]),
+            2,
+        ),
+        (
+            Role2::Server,
+            Stand::Changing,
+            &[2, 1],
+            false,
+            Some(&[1, 1, 2]),
+            1,
+        ),
+        (
+            Role2::Client,
+            Stand::Changing,
+            &[9, 2, 1],
+            false,
+            Some(&[2, 1, 2]),
+            2,
+        ),
+        (
+            Role2::Server,
+            Stand::Stable,
+            &[9],
+            false,
+            Some(&[0, 1, 2]),
+            0,
+        ),
+        (
+            Role2::Client,
+            Stand::Changing,
+            &[9],
+            false,
+            Some(&[0, 1, 2]),
+            0,
+        ),
+        (Role2::Client, Stand::Stable, &[9], true, None, 0),
+        (Role2::Server, Stand::Changing, &[9], true, None, 0),
+        (Role2::Server, Stand::Unstable, &[9], true, None, 0),
+    ];
+    for (role, stand, list, mandatory, confirm, value) in cases {
+        let mut rows = standing(role, stand)?;
+        let answer = rows.on_change(false, COVERAGE, list, mandatory);
+        match confirm {
+            Some(body) => assert!(rt;
+                confirms(&answer, true, COVERAGE, body),
+                "{list:?} at {role:?} {stand:?}"
+            ),
+            None => {
+                let ignored = matches!(answer, Answer::Ignored);
+                assert_eq!(rt;
+                    ignored,
+                    stand == Stand::Unstable,
+                    "{list:?} at {role:?} {stand:?}"
+                );
+            }
+        }
+        assert!(rt; holds(&rows, Feature::MinCsCov, Place::Here, value, stand));
+    }
+    Ok(())
+}
+
+#[test]
+fn confirms_by_the_table(rt: HostRuntime) -> Result<(), Fail> {
+    // The role, the stand, the Confirm's data, the acknowledgement number or 0 for none, what it leads to, the value after.
+    let cases: [(Role2, Stand, &[u8], u64, Settling, u64); 14] = [
+        (
+            Role2::Client,
+            Stand::Stable,
+            &[2, 2, 1],
+            100,
+            Settling::Ignored,
+            0,
+        ),
+        (
+            Role2::Server,
+            Stand::Unstable,
+            &[1, 2, 1],
+            100,
+            Settling::Ignored,
+            0,
+        ),
+        (
+            Role2::Client,
+            Stand::Changing,
+            &[2, 2, 1],
+            0,
+            Settling::Ignored,
+            0,
+        ),
+        (
+            Role2::Server,
+            Stand::Changing,
+            &[1, 2, 1],
+            99,
+            Settling::Ignored,
+            0,
+        ),
+        (
+            Role2::Server,
+            Stand::Changing,
+            &[],
+            100,
+            Settling::Settled,
+            0,
+        ),
+        (
+            Role2::Client,
+            Stand::Changing,
+            &[2, 2, 1],
+            100,
+            Settling::Settled,
+            2,
+        ),
+        (
+            Role2::Server,
+            Stand::Changing,
+            &[1, 2, 1],
+            101,
+            Settling::Settled,
+            1,
+        ),
+        (
+            Role2::Client,
+            Stand::Changing,
+            &[0, 9],
+            100,
+            Settling::Settled,
+            0,
+        ),
+        (
+            Role2::Server,
+            Stand::Changing,
+            &[2],
+            100,
+            Settling::Settled,
+            2,
+        ),
+        (
+            Role2::Client,
+            Stand::Changing,
+            &[0],
+            100,
+            Settling::Settled,
+            0,
+        ),
+        (
+            Role2::Client,
+            Stand::Changing,
+            &[1, 2, 1],
+            100,
+            Settling::Fatal,
+            0,
+        ),
+        (
+            Role2::Server,
+            Stand::Changing,
+            &[2, 2, 1],
+            100,
+            Settling::Fatal,
+            0,
+        ),
+        (
+            Role2::Server,
+            Stand::Changing,
+            &[9, 9],
+            100,
+            Settling::Fatal,
+            0,
+        ),
+        (
+            Role2::Client,
+            Stand::Changing,
+            &[9],
+            100,
+            Settling::Fatal,
+            0,
+        ),
+    ];
+    for (role, stand, body, ack, settling, value) in cases {
+        let mut rows = standing(role, stand)?;
+        let ack = if ack == 0 { None } else { Some(number(ack)?) };
+        assert_eq!(rt;
+            rows.on_confirm(false, COVERAGE, body, ack),
+            settling,
+            "{body:?} at {role:?} {stand:?}"
+        );
+        let after = if settling == Settling::Settled {
+            Stand::Stable
+        } else {
+            stand
+        };
+        assert!(rt; holds(&rows, Feature::MinCsCov, Place::Here, value, after));
+    }
+    Ok(())
+}
+
+#[test]
+fn told_values_and_unknown_features(rt: HostRuntime) -> Result<(), Fail> {
+    let mut rows = plain_client();
+    assert!(rt; confirms(&rows.on_change(true, 10, &[1], false), false, 10, &[]));
+    let fatal = matches!(rows.on_change(false, 0, &[1], true), Answer::Fatal);
+    assert!(rt; fatal);
+    assert_eq!(rt; rows.on_confirm(true, 10, &[1], None), Settling::Ignored);
+    assert!(rt; confirms(&rows.on_change(true, 5, &[0, 7], false), false, 5, &[0, 7]));
+    assert!(rt; holds(&rows, Feature::AckRatio, Place::There, 7, Stand::Stable));
+    assert!(rt; confirms(&rows.on_change(true, 5, &[0, 0, 7], false), false, 5, &[]));
+    assert!(rt; confirms(&rows.on_change(false, 5, &[0, 7], false), true, 5, &[]));
+    let Ok(ratio) = wish(Feature::AckRatio, Place::Here, &[3]) else {
+        return Err(Fail::from("a wish"));
+    };
+    assert_eq!(rt;
+        rows.prefer(Feature::AckRatio, Place::Here, ratio),
+        Opening::Now
+    );
+    send(&mut rows, Feature::AckRatio, Place::Here, 7)?;
+    let mut other = rows;
+    assert_eq!(rt;
+        other.on_confirm(false, 5, &[0, 4], Some(number(7)?)),
+        Settling::Fatal
+    );
+    assert_eq!(rt;
+        rows.on_confirm(false, 5, &[0, 3], Some(number(7)?)),
+        Settling::Settled
+    );
+    assert!(rt; holds(&rows, Feature::AckRatio, Place::Here, 3, Stand::Stable));
+    let Ok(windows) = wish(Feature::Ccid, Place::Here, &[248]) else {
+        return Err(Fail::from("a wish"));
+    };
+    assert_eq!(rt;
+        rows.prefer(Feature::Ccid, Place::Here, windows),
+        Opening::Now
+    );
+    send(&mut rows, Feature::Ccid, Place::Here, 8)?;
+    assert_eq!(rt;
+        rows.on_confirm(false, 1, &[], Some(number(8)?)),
+        Settling::Fatal
+    );
+    Ok(())
+}
+
+#[test]
+fn offers_and_due_rows(rt: HostRuntime) -> Result<(), Fail> {
+    let mut lists = Lists::usual();
+    assert_eq!(rt;
+        lists.offer(Feature::AckRatio, Place::There, true),
+        Err(PreferFault::NotOurs)
+    );
+    assert_eq!(rt;
+        lists.set(Feature::AckRatio, Place::There, &[2]),
+        Err(PreferFault::NotOurs)
+    );
+    assert_eq!(rt;
+        lists.set(Feature::AckRatio, Place::There, &[]),
+        Err(PreferFault::BadList)
+    );
+    assert_eq!(rt; lists.set(Feature::MinCsCov, Place::There, &[5]), Ok(()));
+    assert_eq!(rt; lists.offer(Feature::MinCsCov, Place::There, false), Ok(()));
+    let mut rows = Negotiation::new(Role2::Server, &lists);
+    assert!(rt; rows.active(Feature::AckRatio, Place::There).is_none());
+    assert!(rt; rows.active(Feature::AckRatio, Place::Here) == Some(Wanted::Number(2)));
+    assert!(rt; open(&mut rows, Feature::MinCsCov, Place::There, false)?);
+    assert!(rt; open(&mut rows, Feature::EcnIncapable, Place::Here, false)?);
+    assert!(rt;
+        !open(&mut rows, Feature::SendAckVector, Place::There, true)?,
+        "it met a Confirm"
+    );
+    assert!(rt;
+        !open(&mut rows, Feature::Ccid, Place::Here, false)?,
+        "it was not offered"
+    );
+    let mut due = rows.due();
+    assert_eq!(rt; due.next(), Some((Feature::EcnIncapable, Place::Here)));
+    assert_eq!(rt; due.next(), Some((Feature::MinCsCov, Place::There)));
+    assert_eq!(rt; due.next(), None);
+    Ok(())
+}
