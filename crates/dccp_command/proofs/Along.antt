@@ -8,7 +8,7 @@ use Rattle.dccp_command.specs.declared.play.Play.{Play}
 use Rattle.dccp_command.specs.Lines.{lines_of}
 use Rattle.dccp_command.specs.Shown.{end_lines}
 use Rattle.dccp_command.specs.Transcript.{Verdict, Accepted, Refused, judged, Judges, Performance, onto, goes_on, performed_from, first_world, first_play, performed, transcript, is_refused, SafeThroughout}
-use Rattle.dccp_command.proofs.Leading.{Moves, Stays, Happens, Leads, Led, judged-led}
+use Rattle.dccp_command.proofs.Leading.{Moves, Stays, Happens, Led, judged-led}
 
 pub record Along (play : Play) (rest text input : List ℕ) : Type 0 where
   pub events : List Event
@@ -63,10 +63,10 @@ moved-safe before after first more (Stays none same) reached safe earlier n =
     subst (λ (events : List Event). Safe (run first_world (take n events))) (sym (append-nil first) ∙ ap (λ (events : List Event). first ++ events) (sym none)) (earlier n)
 moved-safe before after first more (Happens event one ends) reached safe earlier n =
     subst (λ (events : List Event). Safe (run first_world (take n (first ++ events)))) (sym one)
-      (⊎_elim
-        (λ front. subst (λ (events : List Event). Safe (run first_world events)) (sym front) (earlier n))
-        (λ all. subst (λ (events : List Event). Safe (run first_world events)) (ap (λ (events : List Event). first ++ events) one ∙ sym all) (subst Safe reached safe))
-        (take-snoc n first event))
+    (⊎_elim
+    (λ front. subst (λ (events : List Event). Safe (run first_world events)) (sym front) (earlier n))
+    (λ all. subst (λ (events : List Event). Safe (run first_world events)) (ap (λ (events : List Event). first ++ events) one ∙ sym all) (subst Safe reached safe))
+    (take-snoc n first event))
 
 turn-by : (play next : Play) (rest behind line text after input : List ℕ) (along : Along play rest text input) (verdict : Verdict) → judged play line ≡ verdict
     → Judges verdict text after next true → Led play line verdict → lines_of rest ≡ line ∷ lines_of behind → length rest ≡ length line + length behind → 0 < length line
@@ -84,12 +84,12 @@ turn-by play next rest behind line text after input along (Accepted more events 
     record {
       events = first ++ events;
       same =
-        along.same
-        ∙ ap (λ (lines : List (List ℕ)). onto text first (performed_from play lines)) cut
-        ∙ ap (λ (v : Verdict). onto text first (goes_on v (λ p. performed_from p (lines_of behind)))) is
-        ∙ onto-onto text more first events (performed_from further (lines_of behind))
-        ∙ ap (λ (all : List ℕ). onto all (first ++ events) (performed_from further (lines_of behind))) (sym judges.0)
-        ∙ ap (λ (p : Play). onto after (first ++ events) (performed_from p (lines_of behind))) (sym same_next);
+          along.same
+          ∙ ap (λ (lines : List (List ℕ)). onto text first (performed_from play lines)) cut
+          ∙ ap (λ (v : Verdict). onto text first (goes_on v (λ p. performed_from p (lines_of behind)))) is
+          ∙ onto-onto text more first events (performed_from further (lines_of behind))
+          ∙ ap (λ (all : List ℕ). onto all (first ++ events) (performed_from further (lines_of behind))) (sym judges.0)
+          ∙ ap (λ (p : Play). onto after (first ++ events) (performed_from p (lines_of behind))) (sym same_next);
       reached = reached;
       safe = moved-safe play.world next.world first events moves reached safe along.safe;
       counted = omega arith;
@@ -101,7 +101,7 @@ pub along-turn : (play next : Play) (rest behind line text after input : List �
     → lines_of rest ≡ line ∷ lines_of behind → rest ≡ line ++ behind → 0 < length line → Safe next.world → Along next behind after input
 along-turn play next rest behind line text after input along judges cut whole some safe =
     turn-by play next rest behind line text after input along (judged play line) refl judges (judged-led play line) cut
-      (ap length whole ∙ length-append line behind) some safe
+    (ap length whole ∙ length-append line behind) some safe
 
 -- what is known at the end
 pub record Ends (input text : List ℕ) (refused : Bool) : Type 0 where
@@ -124,9 +124,9 @@ refused-by : (play next : Play) (rest behind line text after input : List ℕ) (
 refused-by play next rest behind line text after input along (Accepted more events further) is judges cut = cc judges.2
 refused-by play next rest behind line text after input along (Refused more) is judges cut =
     let whole : performed input ≡ onto text along.events (record { text = more; events = []; is_refused = true }) =
-      along.same
-      ∙ ap (λ (lines : List (List ℕ)). onto text along.events (performed_from play lines)) cut
-      ∙ ap (λ (v : Verdict). onto text along.events (goes_on v (λ p. performed_from p (lines_of behind)))) is in
+    along.same
+    ∙ ap (λ (lines : List (List ℕ)). onto text along.events (performed_from play lines)) cut
+    ∙ ap (λ (v : Verdict). onto text along.events (goes_on v (λ p. performed_from p (lines_of behind)))) is in
     record {
       text_is = judges.0 ∙ sym (ap (λ (p : Performance). p.text) whole);
       refused_is = sym (ap (λ (p : Performance). p.is_refused) whole);

@@ -11,7 +11,7 @@ IsFirst input = lines_of input ≡ take (line_length input) input ∷ lines_of (
 
 by-test : (byte : ℕ) (rest : List ℕ) (test : Bool) → (test ≡ true → newline ≡ byte) → (0 < length rest → IsFirst rest)
     → (if test then (newline ∷ []) ∷ lines_of rest else before_line byte (lines_of rest))
-      ≡ take (if test then 1 else suc (line_length rest)) (byte ∷ rest) ∷ lines_of (drop (if test then 1 else suc (line_length rest)) (byte ∷ rest))
+    ≡ take (if test then 1 else suc (line_length rest)) (byte ∷ rest) ∷ lines_of (drop (if test then 1 else suc (line_length rest)) (byte ∷ rest))
 by-test byte rest true is behind = ap (λ (last : ℕ). (last ∷ []) ∷ lines_of rest) (is refl)
 by-test byte [] false is behind = refl
 by-test byte (next ∷ rest) false is behind = ap (before_line byte) (behind (omega arith))

@@ -1,19 +1,17 @@
 -- Where an accepted line leads: one line further, and by no event or one that took place.
-use Rattle.std.proofs.Common.{◌≡◌, refl, sym, ap, ℕ, ◌+◌, List, [], ◌∷◌, ◌++◌, length, Bool, true, false, if◌then◌else◌, nat_le, nat_lt, ◌==◌, Option, Some, None, Result, Ok, Err}
+use Rattle.std.proofs.Common.{◌≡◌, refl, sym, ap, ℕ, ◌+◌, List, [], ◌∷◌, length, Bool, true, false, if◌then◌else◌, nat_le, nat_lt, ◌==◌, Option, Some, None, Result, Ok, Err}
 use Rattle.two_ends.specs.World.{WorldState, WorldStep, happens, world_after}
 use Rattle.two_ends.specs.declared.event.Event.{Event}
-use Rattle.two_ends.specs.declared.event.Event.TheVariants as event
 use Rattle.two_ends.specs.declared.event.Seen.{Seen}
 use Rattle.two_ends.specs.declared.event.Seen.TheVariants.{Called, Received}
 use Rattle.two_ends.specs.declared.event.WorldFault.{WorldFault}
 use Rattle.two_ends.specs.declared.event.WorldFault.TheVariants as fault
-use Rattle.dccp_endpoint.specs.declared.outcome.Outcome.{Outcome}
 use Rattle.dccp_endpoint.specs.declared.outcome.Outcome.TheVariants.{Took, Dropped, Synced, WasReset, SentReset, NotBuilt}
 use Rattle.dccp_command.specs.declared.schedule.Line.{Line}
 use Rattle.dccp_command.specs.declared.schedule.Line.TheVariants as line
 use Rattle.dccp_command.specs.declared.play.Play.{Play}
 use Rattle.dccp_command.specs.Lines.{read_line, text_of}
-use Rattle.dccp_command.specs.Transcript.{Verdict, Accepted, Refused, not_built, says_nothing, says_plain, took_place, by_seen, by_step, is_built, says_event, by_line, judged, most_bytes, most_events}
+use Rattle.dccp_command.specs.Transcript.{Verdict, Accepted, Refused, not_built, took_place, by_seen, by_step, is_built, says_event, by_line, judged, most_bytes, most_events}
 
 -- the events of an accepted line, and the world that they lead to
 pub data Moves (before : WorldState) (events : List Event) (after : WorldState) : Type 0 where
@@ -62,10 +60,10 @@ step-led play piece event (Err fault.NoMemory) took = tt
 event-led : (play : Play) (piece : List ℕ) (event : Event) → Led play piece (says_event play piece event)
 event-led play piece event =
     if-led play piece (nat_lt play.events most_events)
-      (if is_built play event then by_step play piece event (happens play.world event) else not_built play) (not_built play)
-      (if-led play piece (is_built play event) (by_step play piece event (happens play.world event)) (not_built play)
-        (step-led play piece event (happens play.world event) refl) tt)
-      tt
+    (if is_built play event then by_step play piece event (happens play.world event) else not_built play) (not_built play)
+    (if-led play piece (is_built play event) (by_step play piece event (happens play.world event)) (not_built play)
+    (step-led play piece event (happens play.world event) refl) tt)
+    tt
 
 line-led : (play : Play) (piece : List ℕ) (said : Option Line) → Led play piece (by_line play piece said)
 line-led play piece None = tt
@@ -77,4 +75,4 @@ line-led play piece (Some (line.Event event)) = event-led play piece event
 pub judged-led : (play : Play) (piece : List ℕ) → Led play piece (judged play piece)
 judged-led play piece =
     if-led play piece (nat_le (play.read + length piece) most_bytes) (by_line play piece (read_line (text_of piece))) (not_built play)
-      (line-led play piece (read_line (text_of piece))) tt
+    (line-led play piece (read_line (text_of piece))) tt

@@ -3,3 +3,4 @@ pub mod Lines
 pub mod Shown
 pub mod Transcript
 pub mod Top
+pub mod Forms

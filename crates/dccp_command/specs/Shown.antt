@@ -1,5 +1,5 @@
 -- The lines that `run` writes (own).
-use Rattle.std.specs.Prelude.{ℕ, ◌++◌, List, [], ◌∷◌, codes, decimal, length, flat_map, slice_get, Option, Some, None, Result, Ok, Err}
+use Rattle.std.specs.Prelude.{ℕ, ◌++◌, List, [], ◌∷◌, codes, decimal, flat_map, slice_get, Option, Some, None, Ok, Err}
 use Rattle.hex.specs.Hex.{encode_lower}
 use Rattle.feature_lists.specs.Features.{number_of}
 use Rattle.feature_lists.specs.declared.features.Feature.{Feature}

@@ -1,14 +1,19 @@
 //! The tool's one call: what its words ask for, done over a source and a sink (own).
+//!
+//! It plays the two ends of a world as a schedule's lines say, and answers for no end itself. It opens no file, socket or
+//! clock, starts no thread, and reads and writes nothing but the source and the sink that it is lent.
 #![tactic(auto)]
 
+mod laws;
 mod lines;
 mod play;
 mod schedule;
 mod show;
+#[cfg(test)]
+mod tests;
 mod text;
 mod top;
 mod transcript;
 
-pub use crate::play::Play;
-pub use crate::schedule::{Line, read_line};
+pub use crate::laws::lines_are_their_forms;
 pub use crate::top::{Status, dccp};

@@ -4,30 +4,31 @@ ghost use Rattle.two_ends.specs.Safe.{Safe};
 ghost use Rattle.dccp_command.specs.Transcript.{first_play, judged, Judges, behind, says_plain, says_event, is_built, not_built, no_such_frame, refusal_line, by_line};
 
 use crate::lines::text_of;
+use crate::schedule::{Line, read_line};
 use crate::show::{put_event_line, put_sent_line};
 use crate::text::{put, put_number};
-use crate::{Line, read_line};
 use dccp_endpoint::{Config, Outcome, Role};
 use seq_circle::NoMemory;
 use std::alloc::Global;
 use two_ends::{Event, Seen, World, WorldFault};
 
 const MOST_BYTES: u64 = 16_777_216;
+
 const MOST_EVENTS: u32 = 16_384;
 
 /// Where a schedule stands.
 #[derive(Drop)]
-pub struct Play {
+pub(crate) struct Play {
     /// The number of the next line, from 1.
-    pub number: u64,
+    pub(crate) number: u64,
     /// How many bytes of the input stand before it.
-    pub read: u64,
+    pub(crate) read: u64,
     /// Whether a line took all offers away.
-    pub plain: bool,
+    pub(crate) plain: bool,
     /// How many events took place.
-    pub events: u32,
+    pub(crate) events: u32,
     /// The two ends.
-    pub world: World,
+    pub(crate) world: World,
 }
 
 impl Play {

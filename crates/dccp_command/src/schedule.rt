@@ -7,7 +7,7 @@ use two_ends::{Event, Side};
 
 /// What a line of a schedule says.
 #[derive(Clone, Copy, Debug, PartialEq, Eq)]
-pub enum Line {
+pub(crate) enum Line {
     /// Nothing: it is empty or a comment.
     Nothing,
     /// The ends offer no feature.
@@ -17,11 +17,12 @@ pub enum Line {
 }
 
 const LONGEST_LINE: usize = 4096;
+
 const INDICES: u64 = 1 << 47;
 
 /// What a line says, without its newline, or None exactly where it is none of the forms that are built, is longer than
 /// 4,096 bytes, or has a byte that is no text (own).
-pub fn read_line(text: &[u8]) -> Option<Line>
+pub(crate) fn read_line(text: &[u8]) -> Option<Line>
     ensures { result ≡ read_line text.now }
 {
     if text.len() <= LONGEST_LINE && is_all_text(text) {

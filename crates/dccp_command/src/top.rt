@@ -9,7 +9,8 @@ use dccp_io::{InputFault, Sink, Source, read_all, write_all};
 use std::alloc::Global;
 use std::thread::Threads;
 
-const USAGE: &[u8] = b"usage: dccp run | replay --side server|client [--plain] | campaign --first F --seeds N --events E --workers W | show\n";
+const USAGE: &[u8] =
+    b"usage: dccp run | replay --side server|client [--plain] | campaign --first F --seeds N --events E --workers W | show\n";
 
 /// How a call of the tool ended (own), numbered from 0 as the program's exit status.
 #[derive(Clone, Copy, Debug, PartialEq, Eq)]
@@ -41,8 +42,9 @@ pub fn dccp<R: Threads + Sync, S: Source, K: Sink>(
     input: &mut S,
     output: &mut K,
 ) -> Status
-    // Other words come to the usage line, whatever the sink does.
+    // Other words come to the usage line, whatever the sink does, and no byte is read.
     ensures words { (result ≡ Status.Words) ↔ (is_run words.now ≡ false) }
+    ensures unread { is_run words.now ≡ false → input.new ≡ input.old }
     ensures usage_front { is_run words.now ≡ false → HasBegun (K.taken output.old) (K.taken output.new) usage }
     ensures usage_whole { is_run words.now ≡ false → (Rose (K.faults output.old) (K.faults output.new) → ⊥)
         → (Rose (K.empty_takes output.old) (K.empty_takes output.new) → ⊥) → HasTaken (K.taken output.old) (K.taken output.new) usage }

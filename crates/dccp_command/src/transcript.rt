@@ -2,8 +2,8 @@
 ghost use Rattle.std.specs.Prelude.{◌≡◌, IfOk, OnOk};
 ghost use Rattle.dccp_command.specs.Transcript.{transcript, is_refused, SafeThroughout};
 
-use crate::Play;
 use crate::lines::first_line;
+use crate::play::Play;
 use crate::show::put_end_lines;
 use seq_circle::NoMemory;
 use std::alloc::Global;

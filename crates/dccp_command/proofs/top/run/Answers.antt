@@ -1,4 +1,4 @@
-use Rattle.std.proofs.Common.{◌≡◌, ◌∙◌, sym, subst, ◌<◌, ◌-◌, ◌^◌, arith}
+use Rattle.std.proofs.Common.{◌∙◌, subst, arith}
 use Rattle.dccp_command.specs.Transcript.{SafeThroughout}
 use Rattle.dccp_command.proofs.Ending.{read-whole}
 use Rattle.dccp_command.proofs.top.run.Goals as goal

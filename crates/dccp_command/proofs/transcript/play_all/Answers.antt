@@ -1,7 +1,6 @@
 -- The loop keeps Along; each end of it gives Ends.
 use Rattle.std.proofs.Common.{◌≡◌, ◌∙◌, sym, subst, ℕ, List, ◌++◌, length, Bool, true, false, arith}
 use Rattle.std.proofs.lemmas.Bool.Decides.{nat_tests}
-use Rattle.two_ends.specs.Safe.{Safe}
 use Rattle.dccp_command.specs.Transcript.{Judges, judged}
 use Rattle.dccp_command.specs.Shown.{end_lines}
 use Rattle.dccp_command.proofs.Along.{Along, Ends, along-start, along-turn, along-end, along-refused, no-bytes}
@@ -10,7 +9,7 @@ use Rattle.dccp_command.proofs.transcript.play_all.Goals as goal
 pub loop-rest-init : goal.loop-rest-init
 loop-rest-init c = record {
   along =
-    subst (λ (text : List ℕ). Along c.in_ok-play.play c.args.input.now text c.args.input.now) (sym c.new-text.ensures.items)
+      subst (λ (text : List ℕ). Along c.in_ok-play.play c.args.input.now text c.args.input.now) (sym c.new-text.ensures.items)
       (along-start c.in_ok-play.play c.args.input.now c.in_ok-play.ensures.start c.in_ok-play.ensures.safe);
   safe = c.in_ok-play.ensures.safe;
 }
@@ -20,7 +19,7 @@ loop-rest-preserved c =
     let accepts = subst (λ (accepted : Bool). Judges (judged c.loop-rest.play c.first_line.result.0.now) c.loop-rest.text.items c.judge.new.text.items c.judge.new.self accepted) c.if-accepted.true c.in_ok-accepted.ensures.verdict in
     record {
       along =
-        along-turn c.loop-rest.play c.judge.new.self c.loop-rest.rest.now c.first_line.result.1.now c.first_line.result.0.now c.loop-rest.text.items c.judge.new.text.items
+          along-turn c.loop-rest.play c.judge.new.self c.loop-rest.rest.now c.first_line.result.1.now c.first_line.result.0.now c.loop-rest.text.items c.judge.new.text.items
           c.args.input.now c.loop-rest.invariant.along accepts c.first_line.ensures.lines c.first_line.ensures.whole c.first_line.ensures.some c.in_ok-accepted.ensures.still_safe;
       safe = c.in_ok-accepted.ensures.still_safe;
     }
@@ -29,7 +28,7 @@ refused : (c : goal.After-drop-play-else-accepted-4) → Ends c.args.input.now c
 refused c =
     let refuses = subst (λ (accepted : Bool). Judges (judged c.loop-rest.play c.first_line.result.0.now) c.loop-rest.text.items c.judge.new.text.items c.judge.new.self accepted) c.if-accepted.false c.in_ok-accepted.ensures.verdict in
     along-refused c.loop-rest.play c.judge.new.self c.loop-rest.rest.now c.first_line.result.1.now c.first_line.result.0.now c.loop-rest.text.items c.judge.new.text.items
-      c.args.input.now c.loop-rest.invariant.along refuses c.first_line.ensures.lines
+    c.args.input.now c.loop-rest.invariant.along refuses c.first_line.ensures.lines
 
 pub returns-else-accepted-clause-text : goal.returns-else-accepted-clause-text
 returns-else-accepted-clause-text c = (refused c).text_is
