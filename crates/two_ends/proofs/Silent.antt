@@ -125,7 +125,7 @@ accepts-silent : (e : EndState) (a : Arrival) (service : Option ℕ) → IsSilen
 accepts-silent e a None = bare-silent e a 3
 accepts-silent e a (Some service) =
     if-silent (service == e.config.service) _ (resets_bare e a 8)
-      (passes-silent e (started e phase.Respond a) a (passage e phase.Respond a)) (bare-silent e a 8)
+    (passes-silent e (started e phase.Respond a) a (passage e phase.Respond a)) (bare-silent e a 8)
 
 enters-silent : (e : EndState) (a : Arrival) (how : Entrance) → IsSilent (enters e a how)
 enters-silent e a entrance.NoConnection = bare-silent e a 3
