@@ -1,3 +1,5 @@
 pub mod Silent
 pub mod Keeping
 pub mod Reaching
+pub mod Numbering
+pub mod Numbers

@@ -1,0 +1,42 @@
+-- The numbers of the frames that were sent (RFC 4340, section 7.1).
+use Rattle.std.specs.Prelude.{◌≡◌, ◌⊎◌, ℕ, ◌+◌, ◌-◌, ◌^◌, true, List, [], ◌∷◌, Option, Some, None}
+use Rattle.seq_circle.specs.Circle.{residue}
+use Rattle.dccp_packets.specs.Grammar.{Parts}
+use Rattle.dccp_endpoint.specs.Arrivals.{value_of}
+use Rattle.two_ends.specs.declared.frames.SentFrame.{SentFrame}
+use Rattle.two_ends.specs.declared.event.Side.{Side}
+use Rattle.two_ends.specs.World.{Half, WorldState, half_of}
+use Rattle.two_ends.specs.Frames.{packet_of, options_in, is_reset}
+
+-- the sequence number of a packet, and of bytes that are one
+abbrev pub packet_number : Option Parts → Option ℕ
+packet_number None = None
+packet_number (Some p) = Some (value_of p.header.number)
+
+abbrev pub number_in : List ℕ → Option ℕ
+number_in bytes = packet_number (packet_of bytes)
+
+-- A Reset without a connection: its number is none of its sender's, and it carries no option (section 8.3.1).
+pub record IsBareReset (bytes : List ℕ) : Type 0 where
+  pub packet : Parts
+  pub is_packet : packet_of bytes ≡ Some packet
+  pub is_reset : is_reset packet.header.kind ≡ true
+  pub no_options : options_in bytes ≡ []
+
+-- All frames but Resets without a connection are numbered. Of these, so many went before the list, and `count` there are with
+-- the list: each carries the next number.
+abbrev pub AreNumbered : ℕ → ℕ → List SentFrame → ℕ → Type 0
+AreNumbered iss before [] count = count ≡ before
+AreNumbered iss before (frame ∷ frames) count =
+    ((number_in frame.bytes ≡ Some (residue (iss + before))) × AreNumbered iss (before + 1) frames count)
+    ⊎ (IsBareReset frame.bytes × AreNumbered iss before frames count)
+
+-- A side's numbered frames carry ISS, ISS + 1, and so on up to GSS, in this order.
+pub record IsNumbered (half : Half) : Type 0 where
+  pub count : ℕ
+  pub in_order : AreNumbered half.end.marks.iss 0 half.frames count
+  pub up_to_greatest : half.end.marks.gss ≡ residue (half.end.marks.iss + count + (2 ^ 48 - 1))
+
+-- What each schedule keeps.
+pub record Facts (w : WorldState) : Type 0 where
+  pub numbered : (side : Side) → IsNumbered (half_of w side)
