@@ -2,4 +2,5 @@ pub mod Silent
 pub mod Keeping
 pub mod Reaching
 pub mod Numbering
+pub mod Hearing
 pub mod Numbers

@@ -1,11 +1,14 @@
 -- The numbers of the frames that were sent (RFC 4340, section 7.1).
-use Rattle.std.specs.Prelude.{◌≡◌, ◌⊎◌, ℕ, ◌+◌, ◌-◌, ◌^◌, true, List, [], ◌∷◌, Option, Some, None}
+use Rattle.std.specs.Prelude.{◌≡◌, ◌⊎◌, ℕ, ◌+◌, ◌-◌, ◌^◌, ◌<◌, ◌≤◌, Bool, true, false, List, [], ◌∷◌, Option, Some, None}
 use Rattle.seq_circle.specs.Circle.{residue}
 use Rattle.dccp_packets.specs.Grammar.{Parts}
+use Rattle.dccp_states.specs.declared.phase.Phase.{Phase}
+use Rattle.dccp_states.specs.declared.phase.Phase.TheVariants as phase
 use Rattle.dccp_endpoint.specs.Arrivals.{value_of}
+use Rattle.dccp_endpoint.specs.End.{EndState}
 use Rattle.two_ends.specs.declared.frames.SentFrame.{SentFrame}
 use Rattle.two_ends.specs.declared.event.Side.{Side}
-use Rattle.two_ends.specs.World.{Half, WorldState, half_of}
+use Rattle.two_ends.specs.World.{Half, WorldState, half_of, other}
 use Rattle.two_ends.specs.Frames.{packet_of, options_in, is_reset}
 
 -- the sequence number of a packet, and of bytes that are one
@@ -37,6 +40,38 @@ pub record IsNumbered (half : Half) : Type 0 where
   pub in_order : AreNumbered half.end.marks.iss 0 half.frames count
   pub up_to_greatest : half.end.marks.gss ≡ residue (half.end.marks.iss + count + (2 ^ 48 - 1))
 
+-- the phases in which a first number was received (section 8.1)
+abbrev pub is_live : Phase → Bool
+is_live phase.Closed = false
+is_live phase.Listen = false
+is_live phase.Request = false
+is_live phase.Respond = true
+is_live phase.PartOpen = true
+is_live phase.Open = true
+is_live phase.CloseReq = true
+is_live phase.Closing = true
+is_live phase.TimeWait = false
+
+-- no first number was received yet
+pub record IsUnset (e : EndState) : Type 0 where
+  pub not_live : is_live e.phase ≡ false
+  pub no_first : e.marks.isr ≡ 0
+  pub no_greatest : e.marks.gsr ≡ 0
+
+-- ISR and GSR are numbers of numbered frames of the other side, whose first is ISS and which has sent `count`, and the frame
+-- of ISR is not the later one.
+pub record IsHeard (iss count isr gsr : ℕ) : Type 0 where
+  pub first : ℕ
+  pub greatest : ℕ
+  pub in_order : first ≤ greatest
+  pub was_sent : greatest < count
+  pub is_first : isr ≡ residue (iss + first)
+  pub is_greatest : gsr ≡ residue (iss + greatest)
+
+abbrev pub Hears : ℕ → ℕ → EndState → Type 0
+Hears iss count e = IsUnset e ⊎ IsHeard iss count e.marks.isr e.marks.gsr
+
 -- What each schedule keeps.
 pub record Facts (w : WorldState) : Type 0 where
   pub numbered : (side : Side) → IsNumbered (half_of w side)
+  pub heard : (side : Side) → Hears (half_of w (other side)).end.marks.iss (numbered (other side)).count (half_of w side).end
