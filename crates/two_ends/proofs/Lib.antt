@@ -3,4 +3,5 @@ pub mod Keeping
 pub mod Reaching
 pub mod Numbering
 pub mod Hearing
+pub mod Resets
 pub mod Numbers

@@ -19,6 +19,7 @@ use Rattle.two_ends.specs.Frames.{packet_of}
 use Rattle.two_ends.specs.Numbered.{AreNumbered, IsNumbered, IsBareReset, Facts, Hears, is_live, number_in}
 use Rattle.two_ends.proofs.Numbering.{GoesOn, IsNext, receives-on, opens-on}
 use Rattle.two_ends.proofs.Hearing.{IsKnownPacket, known-packet, reset-packet, receives-hears, opens-hears}
+use Rattle.two_ends.proofs.Resets.{resets-move-nothing}
 
 append-next : (iss before count : ℕ) (frames : List SentFrame) (frame : SentFrame) → AreNumbered iss before frames count
     → number_in frame.bytes ≡ Some (residue (iss + count)) → AreNumbered iss before (frames ++ frame ∷ []) (count + 1)
@@ -237,6 +238,7 @@ module _ (client_iss server_iss : ℕ) where
         count = own;
         in_order = subst (λ (n : ℕ). AreNumbered n 0 half.frames own) (sym k.same_first) k.in_order;
         up_to_greatest = k.up_to_greatest ∙ ap (λ (n : ℕ). residue (n + own + (2 ^ 48 - 1))) (sym k.same_first);
+        few = few-numbered half iss own peer_iss peer k;
       }
 
   numbered-sides : (w : WorldState) → AreKept w → (side : Side) → IsNumbered (half_of w side)
@@ -250,7 +252,8 @@ module _ (client_iss server_iss : ℕ) where
   heard-sides w k Server = subst (λ (n : ℕ). Hears n k.client_count w.server.end) (sym k.client.same_first) k.server.heard
 
   kept-facts : (w : WorldState) → AreKept w → Facts w
-  kept-facts w k = record { numbered = numbered-sides w k; heard = heard-sides w k }
+  kept-facts w k =
+      record { numbered = numbered-sides w k; heard = heard-sides w k; unmoved = λ side. resets-move-nothing (half_of w side).end }
 
 start-unset : (config : Config) (r : Role) → is_live (first_phase r) ≡ false
 start-unset config role.Client = refl

@@ -5,7 +5,10 @@ use Rattle.dccp_packets.specs.Grammar.{Parts}
 use Rattle.dccp_states.specs.declared.phase.Phase.{Phase}
 use Rattle.dccp_states.specs.declared.phase.Phase.TheVariants as phase
 use Rattle.dccp_endpoint.specs.Arrivals.{value_of}
-use Rattle.dccp_endpoint.specs.End.{EndState}
+use Rattle.dccp_endpoint.specs.End.{EndState, held_of}
+use Rattle.dccp_endpoint.specs.Receiving.{receives}
+use Rattle.feature_lists.specs.declared.features.Feature.{Feature}
+use Rattle.feature_lists.specs.declared.features.Place.{Place}
 use Rattle.two_ends.specs.declared.frames.SentFrame.{SentFrame}
 use Rattle.two_ends.specs.declared.event.Side.{Side}
 use Rattle.two_ends.specs.World.{Half, WorldState, half_of, other}
@@ -39,6 +42,7 @@ pub record IsNumbered (half : Half) : Type 0 where
   pub count : ℕ
   pub in_order : AreNumbered half.end.marks.iss 0 half.frames count
   pub up_to_greatest : half.end.marks.gss ≡ residue (half.end.marks.iss + count + (2 ^ 48 - 1))
+  pub few : count < 2 ^ 47
 
 -- the phases in which a first number was received (section 8.1)
 abbrev pub is_live : Phase → Bool
@@ -71,7 +75,21 @@ pub record IsHeard (iss count isr gsr : ℕ) : Type 0 where
 abbrev pub Hears : ℕ → ℕ → EndState → Type 0
 Hears iss count e = IsUnset e ⊎ IsHeard iss count e.marks.isr e.marks.gsr
 
+-- An end keeps the numbers that it received, what it knows acknowledged and its features.
+pub record KeepsReceived (before after : EndState) : Type 0 where
+  pub first : after.marks.isr ≡ before.marks.isr
+  pub greatest : after.marks.gsr ≡ before.marks.gsr
+  pub opening : after.marks.osr ≡ before.marks.osr
+  pub acknowledged : after.marks.gar ≡ before.marks.gar
+  pub features : (feature : Feature) (place : Place) → held_of after feature place ≡ held_of before feature place
+
+-- So it does where the bytes are a Reset.
+abbrev pub ResetsMoveNothing : EndState → Type 0
+ResetsMoveNothing e = (bytes : List ℕ) (packet : Parts) → packet_of bytes ≡ Some packet → is_reset packet.header.kind ≡ true
+    → KeepsReceived e (receives e bytes).after
+
 -- What each schedule keeps.
 pub record Facts (w : WorldState) : Type 0 where
   pub numbered : (side : Side) → IsNumbered (half_of w side)
   pub heard : (side : Side) → Hears (half_of w (other side)).end.marks.iss (numbered (other side)).count (half_of w side).end
+  pub unmoved : (side : Side) → ResetsMoveNothing (half_of w side).end
