@@ -1,5 +1,5 @@
 -- An end takes the numbers that it received from numbered frames of the other side.
-use Rattle.std.proofs.Common.{◌≡◌, ◌⊎◌, inl, inr, refl, ap, sym, ◌∙◌, subst, ◌==◌, ℕ, ◌+◌, ◌-◌, ◌^◌, ◌<◌, ◌≤◌, List, [], ◌∷◌, Option, Some, None, true, false, Bool, if◌then◌else◌, Result, Ok, Err, not, ◌&&◌, arith}
+use Rattle.std.proofs.Common.{◌≡◌, inl, inr, refl, ap, sym, ◌∙◌, subst, ◌==◌, ℕ, ◌+◌, ◌^◌, ◌<◌, ◌≤◌, List, Option, Some, None, true, false, Bool, if◌then◌else◌, Result, Ok, Err, not, ◌&&◌, arith}
 use Rattle.dccp_packets.specs.declared.header.Kind.TheVariants as kind
 use Rattle.dccp_packets.specs.declared.header.Number.{Number}
 use Rattle.dccp_packets.specs.declared.header.Number.TheVariants.{Long, Short}
@@ -31,15 +31,15 @@ use Rattle.dccp_endpoint.specs.declared.passage.Passage.{Passage}
 use Rattle.dccp_endpoint.specs.declared.passage.Passage.TheVariants as passages
 use Rattle.dccp_endpoint.specs.declared.outcome.Outcome.TheVariants.{Synced, NotBuilt}
 use Rattle.dccp_endpoint.specs.Receiving.{Arrival, accepts, answers, by_fault, by_form, by_packet, by_ports, by_sum, detail_of, enters, goes_on, is_of_connection, is_open, judged, moved_to, moves, needs_more, packet_error, passage, passes, plain, raised, receives, replies, resets, resets_bare, started, syncs, takes, took, torn, with_osr}
-use Rattle.dccp_endpoint.specs.Steps.{Step, idle, next_number, sends, opens, opens_as}
+use Rattle.dccp_endpoint.specs.Steps.{Step, idle, sends, opens, opens_as}
 use Rattle.std.specs.Result.{result_ok}
 use Rattle.seq_circle.specs.Circle.{residue, is_before, later_of}
-use Rattle.dccp_packets.specs.Grammar.{Parts, code_of, packet_type, decoded}
+use Rattle.dccp_packets.specs.Grammar.{Parts, packet_type, decoded}
 use Rattle.dccp_endpoint.specs.Arrivals.{value_of}
 use Rattle.dccp_packets.specs.declared.header.Kind.{Kind}
 use Rattle.dccp_endpoint.specs.declared.outcome.Outcome.{Outcome}
 use Rattle.two_ends.specs.Frames.{is_reset, packet_of}
-use Rattle.two_ends.specs.Numbered.{IsHeard, IsUnset, Hears, is_live, packet_number}
+use Rattle.two_ends.specs.Numbered.{IsHeard, Hears, is_live, packet_number}
 
 -- the number is that of one of the first `count` frames
 pub record WasSent (iss count number : ℕ) : Type 0 where

@@ -1,5 +1,5 @@
 -- Every schedule keeps the facts.
-use Rattle.std.proofs.Common.{◌≡◌, ◌⊎◌, inl, inr, refl, ap, sym, ◌∙◌, subst, ℕ, ◌+◌, ◌-◌, ◌^◌, ◌<◌, ◌≤◌, zero, suc, List, [], ◌∷◌, ◌++◌, Option, Some, None, true, false, Bool, if◌then◌else◌, Result, Ok, Err, slice_get, length, length-append, arith}
+use Rattle.std.proofs.Common.{◌≡◌, inl, inr, refl, ap, sym, ◌∙◌, subst, ℕ, ◌+◌, ◌-◌, ◌^◌, ◌<◌, ◌≤◌, zero, suc, List, [], ◌∷◌, ◌++◌, Option, Some, None, true, false, Bool, if◌then◌else◌, Result, Ok, Err, slice_get, length, length-append, arith}
 use Rattle.seq_circle.specs.Circle.{residue}
 use Rattle.dccp_states.specs.declared.phase.Role.{Role}
 use Rattle.dccp_states.specs.declared.phase.Role.TheVariants as role
@@ -131,8 +131,8 @@ moved-kept : {Answer : Type 0} (half : Half) (step : Step Answer) (iss own peer_
     → GoesOn half.end.marks.iss half.end.marks.gss step → Hears peer_iss peer step.after → IsMoved (moved half step) iss own peer_iss peer
 moved-kept half step iss own peer_iss peer room k on h =
     let next : IsNextList iss own (moved half step).frames step.after.marks.gss =
-        kept-in-order iss own half.end.marks.gss step.after.marks.gss half.frames (length half.processed) (floor_of step.after) step.frame k.in_order
-          k.up_to_greatest (not-full half room) on.is_next in
+    kept-in-order iss own half.end.marks.gss step.after.marks.gss half.frames (length half.processed) (floor_of step.after) step.frame k.in_order
+    k.up_to_greatest (not-full half room) on.is_next in
     record {
       count = next.count;
       above = next.above;
@@ -211,21 +211,21 @@ module _ (client_iss server_iss : ℕ) where
   arrives-kept w Client index (Some frame) there k =
       server-kept w (half_receives w.server frame.bytes) k
       (λ room. moved-kept w.server (receives w.server.end frame.bytes) server_iss k.server_count client_iss k.client_count room k.server
-               (receives-on w.server.end frame.bytes)
-               (receives-hears client_iss k.client_count (few-numbered w.client client_iss k.client_count server_iss k.server_count k.client) w.server.end frame.bytes k.server.heard
-                (known-frame client_iss 0 k.client_count w.client.frames index frame k.client.in_order there)))
+      (receives-on w.server.end frame.bytes)
+      (receives-hears client_iss k.client_count (few-numbered w.client client_iss k.client_count server_iss k.server_count k.client) w.server.end frame.bytes k.server.heard
+      (known-frame client_iss 0 k.client_count w.client.frames index frame k.client.in_order there)))
   arrives-kept w Server index (Some frame) there k =
       client-kept w (half_receives w.client frame.bytes) k
       (λ room. moved-kept w.client (receives w.client.end frame.bytes) client_iss k.client_count server_iss k.server_count room k.client
-               (receives-on w.client.end frame.bytes)
-               (receives-hears server_iss k.server_count (few-numbered w.server server_iss k.server_count client_iss k.client_count k.server) w.client.end frame.bytes k.client.heard
-                (known-frame server_iss 0 k.server_count w.server.frames index frame k.server.in_order there)))
+      (receives-on w.client.end frame.bytes)
+      (receives-hears server_iss k.server_count (few-numbered w.server server_iss k.server_count client_iss k.client_count k.server) w.client.end frame.bytes k.client.heard
+      (known-frame server_iss 0 k.server_count w.server.frames index frame k.server.in_order there)))
 
   event-kept : (w : WorldState) (e : Event) → AreKept w → AreKept (world_after w (happens w e))
   event-kept w event.Open k =
       client-kept w (half_opens w.client) k
       (λ room. moved-kept w.client (opens w.client.end) client_iss k.client_count server_iss k.server_count room k.client (opens-on w.client.end)
-               (opens-hears server_iss k.server_count (few-numbered w.server server_iss k.server_count client_iss k.client_count k.server) w.client.end k.client.heard))
+      (opens-hears server_iss k.server_count (few-numbered w.server server_iss k.server_count client_iss k.client_count k.server) w.client.end k.client.heard))
   event-kept w (event.Deliver from index) k = arrives-kept w from index (slice_get (half_of w from).frames index) refl k
 
   run-kept : (w : WorldState) (events : List Event) → AreKept w → AreKept (run w events)

@@ -1,44 +1,25 @@
 -- A Reset moves at most the phase, and nothing that was received.
-use Rattle.std.proofs.Common.{◌≡◌, ◌⊎◌, inl, inr, refl, ap, sym, ◌∙◌, subst, ◌==◌, ℕ, ◌+◌, ◌-◌, ◌^◌, ◌<◌, ◌≤◌, List, [], ◌∷◌, Option, Some, None, true, false, Bool, if◌then◌else◌, Result, Ok, Err, not, ◌&&◌, arith}
+use Rattle.std.proofs.Common.{◌≡◌, refl, ap, ◌∙◌, ℕ, List, Some, true, false, Bool, Result, Ok, Err}
 use Rattle.dccp_packets.specs.declared.header.Kind.TheVariants as kind
 use Rattle.dccp_packets.specs.declared.header.Number.{Number}
 use Rattle.dccp_packets.specs.declared.header.Number.TheVariants.{Long, Short}
-use Rattle.dccp_packets.specs.declared.header.PacketType.{PacketType}
 use Rattle.dccp_packets.specs.declared.header.PacketType.TheVariants as types
 use Rattle.dccp_packets.specs.declared.reading.Malformed.{Malformed}
 use Rattle.dccp_sum.specs.Checksum.{checked}
 use Rattle.dccp_sum.specs.declared.packet_sum.SumFault.{SumFault}
 use Rattle.dccp_states.specs.Entrance.{gate}
-use Rattle.dccp_states.specs.Phases.{after}
-use Rattle.dccp_states.specs.declared.entrance.Entrance.{Entrance}
-use Rattle.dccp_states.specs.declared.entrance.Entrance.TheVariants as entrance
 use Rattle.dccp_states.specs.declared.phase.Phase.{Phase}
 use Rattle.dccp_states.specs.declared.phase.Phase.TheVariants as phase
-use Rattle.dccp_states.specs.declared.phase.Role.{Role}
-use Rattle.dccp_states.specs.declared.phase.Role.TheVariants as role
-use Rattle.dccp_states.specs.declared.reply.Reply.{Reply}
-use Rattle.dccp_states.specs.declared.reply.Reply.TheVariants as reply
 use Rattle.validity_windows.specs.Verdict.{verdict, is_ack_within}
 use Rattle.validity_windows.specs.Windows.{ack_low, ack_high}
 use Rattle.validity_windows.specs.declared.verdict.Verdict.{Verdict}
 use Rattle.validity_windows.specs.declared.verdict.Verdict.TheVariants as verdicts
-use Rattle.dccp_endpoint.specs.Arrivals.{ack_of, service_of}
 use Rattle.dccp_endpoint.specs.End.{EndState}
-use Rattle.dccp_endpoint.specs.Faults.{first_fault}
-use Rattle.dccp_endpoint.specs.Receiving as receiving
-use Rattle.dccp_endpoint.specs.declared.outcome.Fault.{Fault}
-use Rattle.dccp_endpoint.specs.declared.passage.Passage.{Passage}
-use Rattle.dccp_endpoint.specs.declared.passage.Passage.TheVariants as passages
-use Rattle.dccp_endpoint.specs.declared.outcome.Outcome.TheVariants.{Synced, NotBuilt}
-use Rattle.dccp_endpoint.specs.Receiving.{Arrival, accepts, answers, by_fault, by_form, by_packet, by_ports, by_sum, detail_of, enters, goes_on, is_of_connection, is_open, judged, moved_to, moves, needs_more, packet_error, passage, passes, plain, raised, receives, replies, resets, resets_bare, started, syncs, takes, took, torn, with_osr}
-use Rattle.dccp_endpoint.specs.Steps.{Step, idle, next_number, sends, opens, opens_as}
+use Rattle.dccp_endpoint.specs.Receiving.{Arrival, answers, by_form, by_packet, by_ports, by_sum, enters, is_of_connection, judged, syncs, torn}
 use Rattle.std.specs.Result.{result_ok}
-use Rattle.seq_circle.specs.Circle.{residue, is_before, later_of}
-use Rattle.dccp_packets.specs.Grammar.{Parts, code_of, packet_type, decoded}
-use Rattle.dccp_endpoint.specs.Arrivals.{value_of}
+use Rattle.dccp_packets.specs.Grammar.{Parts, packet_type, decoded}
 use Rattle.dccp_packets.specs.declared.header.Kind.{Kind}
-use Rattle.dccp_endpoint.specs.declared.outcome.Outcome.{Outcome}
-use Rattle.two_ends.specs.Frames.{is_reset, packet_of}
+use Rattle.two_ends.specs.Frames.{is_reset}
 use Rattle.two_ends.specs.Numbered.{KeepsReceived, ResetsMoveNothing}
 
 same : (e : EndState) → KeepsReceived e e
