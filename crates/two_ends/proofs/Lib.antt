@@ -1,3 +1,7 @@
 pub mod Silent
 pub mod Keeping
 pub mod Reaching
+pub mod Numbering
+pub mod Hearing
+pub mod Resets
+pub mod Numbers

@@ -6,3 +6,4 @@ pub mod Negotiated
 pub mod Reported
 pub mod Safe
 pub mod Reached
+pub mod Numbered

@@ -15,4 +15,4 @@ mod world;
 
 pub use crate::event::{Event, Refusal, Seen, Side, WorldFault};
 pub use crate::frames::{FrameBytes, SentFrame};
-pub use crate::world::{World, every_run_is_safe};
+pub use crate::world::{World, every_run_is_safe, every_run_numbers_its_frames};

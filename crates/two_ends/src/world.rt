@@ -1,6 +1,7 @@
 //! The world.
 ghost use Rattle.std.specs.Prelude.{◌≡◌, List};
 ghost use Rattle.two_ends.specs.World.{at_start, run};
+ghost use Rattle.two_ends.specs.Numbered.{Facts};
 ghost use Rattle.two_ends.specs.Safe.{Safe};
 ghost use Rattle.two_ends.specs.declared.event.Event.{Event};
 ghost use Rattle.dccp_endpoint.specs.declared.config.Config.{Config};
@@ -87,4 +88,12 @@ impl World {
 /// The world is safe after every list of events, from any two configurations.
 pub fn every_run_is_safe()
     ensures { (client server : Config) (events : List Event) → client.role ≡ role.Client → server.role ≡ role.Server → Safe (run (at_start client server) events) }
+{}
+
+/// After every list of events, from any two configurations, each side's frames but Resets without a connection carry its
+/// first number, the next, and so on up to its greatest number sent, in this order (RFC 4340, section 7.1). A Reset without
+/// a connection carries no option. Once an end has received a first number, that and the greatest are numbers of numbered
+/// frames of the other side, and the first is not the later one. A Reset that arrives moves none of the numbers received.
+pub fn every_run_numbers_its_frames()
+    ensures { (client server : Config) (events : List Event) → Facts (run (at_start client server) events) }
 {}
