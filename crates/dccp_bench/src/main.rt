@@ -2,7 +2,7 @@
 //! and over a full frame. One word says how many rounds; the figures go to standard error.
 //!
 //! `marks` and a number of rounds makes the calls of received numbers and of congestion control, so that what they allocate
-//! can be counted. `ratios` and a number of rounds times the writing of Ack Vectors and the taking of reports at two sizes.
+//! can be counted. `ratios` and a number of rounds times marks, the writing of Ack Vectors and the taking of reports.
 //!
 //! Nothing is claimed of what it prints.
 #![tactic(auto)]
@@ -77,6 +77,7 @@ fn main(rt: HostRuntime) -> io::Result<()> {
             println!(rt; "marks {}", sum)
         }
         Form::Ratios => {
+            ratios::marks(&rt, rounds / 64)?;
             for runs in ratios::SIZES {
                 ratios::measure(&rt, runs, rounds)?;
             }

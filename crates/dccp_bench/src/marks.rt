@@ -16,13 +16,18 @@ const PHASE: u32 = 4096;
 // Three received, one missing and 64 received.
 const REPORT: [u8; 5] = [38, 5, 0x02, 0xc0, 0x3f];
 
-// Marks a number, writes the vector down from it and records the packet; now and then the peer acknowledges that packet.
+// Marks a number twice, and sometimes the missing one before it; writes the vector down from it and records the packet. Now
+// and then the peer acknowledges that packet.
 fn mark(received: &mut Received, out: &mut VectorBytes, newest: Seq48, round: u32) -> u64 {
     let phase = round % PHASE;
     if phase == 0 {
         received.start(newest);
     }
     let _ = received.took(newest);
+    let _ = received.took(newest);
+    if round % 16 == 3 {
+        let _ = received.took(newest.sub(1));
+    }
     let whole = received.write(out, newest);
     received.sent(newest, newest, whole);
     if phase < PHASE / 2 && round % 256 == 255 && received.peer_acked(newest) {

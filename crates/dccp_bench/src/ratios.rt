@@ -1,15 +1,24 @@
-//! The writing of a vector and the taking of a report, at two sizes: what is linear takes four times as long at the larger.
+//! Marks in a full window, and the writing of a vector and the taking of a report at some sizes: what is linear takes four
+//! times as long at the second as at the first.
 
 use ack_vectors::{Received, VectorBytes};
 use congestion_trait::Flight;
 use dccp_options::{AckReport, OptWriter, options};
+use run_list::Marked;
 use seq_circle::Seq48;
 use std::alloc::Global;
 use std::io;
 use std::time::Instant;
 
-/// How many runs there are at the smaller size and at the larger one, which a vector still holds whole.
-pub(crate) const SIZES: [u32; 2] = [30, 120];
+/// How many runs there are: a vector holds the first two whole, and the last fill the window.
+pub(crate) const SIZES: [u32; 3] = [30, 120, 1023];
+
+// How many successive numbers are marked.
+const WINDOW: u32 = 2048;
+
+// The factor by which the next place follows from the one before, plus 1, where places come scattered. With one that leaves 1
+// when divided by 4, each place comes once.
+const SCATTERED: u32 = 1229;
 
 /// The lowest number.
 pub(crate) fn zero() -> Seq48 {
@@ -75,9 +84,46 @@ fn reports(flight: &mut Flight, report: &AckReport<'_>, rounds: u32) -> u64 {
     sum
 }
 
-fn told(rt: &HostRuntime, name: &str, runs: u32, start: Instant, sum: u64) -> io::Result<()> {
+// The window is filled so many times, in the order that the factor gives.
+fn fills(received: &mut Received, factor: u32, rounds: u32) -> u64 {
+    let mut sum = 0u64;
+    for _ in 0..rounds {
+        received.start(zero());
+        let mut place = 0u32;
+        for _ in 0..WINDOW {
+            place = place.wrapping_mul(factor).wrapping_add(1) % WINDOW;
+            if received.took(zero().add(u64::from(place))) == Marked::New {
+                sum = sum.wrapping_add(1);
+            }
+        }
+    }
+    sum
+}
+
+// Prints a call and its size, the nanoseconds since the start, the calls and the sum, so that none is left out.
+fn told(
+    rt: &HostRuntime,
+    call: (&str, u32),
+    start: Instant,
+    calls: u32,
+    sum: u64,
+) -> io::Result<()> {
     let spent = u64::try_from(start.elapsed(rt)?.as_nanos()).unwrap_or(u64::MAX);
-    eprintln!(rt; "{} {} {} {}", name, runs, spent, sum)
+    eprintln!(rt; "{} {} {} {} {}", call.0, call.1, spent, calls, sum)
+}
+
+/// Prints the nanoseconds of marking all numbers of a window, in order and scattered, so many times.
+pub(crate) fn marks(rt: &HostRuntime, rounds: u32) -> io::Result<()> {
+    let Ok(mut received) = Received::new(rt.alloc()) else {
+        return Err(io::Error::other("no memory"));
+    };
+    let calls = rounds.saturating_mul(WINDOW);
+    for (name, factor) in [("in-order", 1), ("scattered", SCATTERED)] {
+        let start = Instant::now(rt)?;
+        let sum = fills(&mut received, factor, rounds);
+        told(rt, (name, WINDOW), start, calls, sum)?;
+    }
+    Ok(())
 }
 
 /// Prints the nanoseconds of so many writes and of so many reports, at one size.
@@ -88,7 +134,7 @@ pub(crate) fn measure(rt: &HostRuntime, runs: u32, rounds: u32) -> io::Result<()
     let mut out = VectorBytes::new();
     let start = Instant::now(rt)?;
     let sum = writes(&received, &mut out, ack, rounds);
-    told(rt, "write", runs, start, sum)?;
+    told(rt, ("write", runs), start, rounds, sum)?;
     let mut writer = OptWriter::new();
     let _ = writer.put(false, 38, &out);
     let Some(report) = AckReport::of(ack, options(writer.bytes(), false)) else {
@@ -96,5 +142,5 @@ pub(crate) fn measure(rt: &HostRuntime, runs: u32, rounds: u32) -> io::Result<()
     };
     let start = Instant::now(rt)?;
     let sum = reports(&mut flight, &report, rounds);
-    told(rt, "report", runs, start, sum)
+    told(rt, ("report", runs), start, rounds, sum)
 }
