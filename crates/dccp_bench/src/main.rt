@@ -1,24 +1,42 @@
 //! How long it takes to read a packet (own): decoding, listing its options and checking its sum, over frames of worked runs
 //! and over a full frame. One word says how many rounds; the figures go to standard error.
 //!
+//! `marks` and a number of rounds makes the calls of received numbers and of congestion control, so that what they allocate
+//! can be counted. `ratios` and a number of rounds times marks, the writing of Ack Vectors and the taking of reports.
+//!
 //! Nothing is claimed of what it prints.
 #![tactic(auto)]
 
 mod frames;
+mod marks;
 mod passes;
+mod ratios;
 
 use crate::frames::{full, worked};
 use crate::passes::{PASSES, Pass, over};
 use std::time::Instant;
 use std::{env, io};
 
-// The rounds that the first word names, or one.
-fn rounds(rt: &HostRuntime) -> io::Result<u32> {
-    let mut words = env::args(rt)?.skip(1);
-    Ok(match words.next() {
-        Some(word) => word.parse::<u32>().unwrap_or(1),
-        None => 1,
-    })
+// What is to be done.
+#[derive(Clone, Copy, Debug, PartialEq, Eq)]
+enum Form {
+    Packets,
+    Marks,
+    Ratios,
+}
+
+// The form that the first word names, and the rounds that the last one names, or one.
+fn asked(rt: &HostRuntime) -> io::Result<(Form, u32)> {
+    let mut form = Form::Packets;
+    let mut rounds = 1;
+    for word in env::args(rt)?.skip(1) {
+        match word.as_str() {
+            "marks" => form = Form::Marks,
+            "ratios" => form = Form::Ratios,
+            text => rounds = text.parse::<u32>().unwrap_or(1),
+        }
+    }
+    Ok((form, rounds))
 }
 
 // Prints a pass and its frames, the nanoseconds and packets of all rounds, and the sum, so that none is left out.
@@ -39,13 +57,31 @@ fn measure(
     eprintln!(rt; "{} {} {} {} {}", pass.name(), name, spent, packets, sum)
 }
 
-fn main(rt: HostRuntime) -> io::Result<()> {
-    let rounds = rounds(&rt)?;
+// Reads packets so many times.
+fn packets(rt: &HostRuntime, rounds: u32) -> io::Result<()> {
     let worked = worked(rt.alloc())?;
     let full = full(rt.alloc())?;
     for pass in PASSES {
-        measure(&rt, pass, "worked", &worked, rounds)?;
-        measure(&rt, pass, "full", &full, rounds)?;
+        measure(rt, pass, "worked", &worked, rounds)?;
+        measure(rt, pass, "full", &full, rounds)?;
     }
     Ok(())
+}
+
+fn main(rt: HostRuntime) -> io::Result<()> {
+    let (form, rounds) = asked(&rt)?;
+    match form {
+        Form::Packets => packets(&rt, rounds),
+        Form::Marks => {
+            let sum = marks::all(rt.alloc(), rounds)?;
+            println!(rt; "marks {}", sum)
+        }
+        Form::Ratios => {
+            ratios::marks(&rt, rounds / 64)?;
+            for runs in ratios::SIZES {
+                ratios::measure(&rt, runs, rounds)?;
+            }
+            Ok(())
+        }
+    }
 }
