@@ -1,5 +1,5 @@
 //! The world.
-ghost use Rattle.std.specs.Prelude.{◌≡◌, List};
+ghost use Rattle.std.specs.Prelude.{◌≡◌, ◌<◌, ◌^◌, List};
 ghost use Rattle.two_ends.specs.World.{at_start, run};
 ghost use Rattle.two_ends.specs.Numbered.{Facts};
 ghost use Rattle.two_ends.specs.Safe.{Safe};
@@ -94,6 +94,7 @@ pub fn every_run_is_safe()
 /// first number, the next, and so on up to its greatest number sent, in this order (RFC 4340, section 7.1). A Reset without
 /// a connection carries no option. Once an end has received a first number, that and the greatest are numbers of numbered
 /// frames of the other side, and the first is not the later one. A Reset that arrives moves none of the numbers received.
+/// Once an end has sent a numbered frame, the greatest number that it knows acknowledged is one of its numbered frames'.
 pub fn every_run_numbers_its_frames()
-    ensures { (client server : Config) (events : List Event) → Facts (run (at_start client server) events) }
+    ensures { (client server : Config) (events : List Event) → client.iss < 2 ^ 48 → server.iss < 2 ^ 48 → Facts (run (at_start client server) events) }
 {}
