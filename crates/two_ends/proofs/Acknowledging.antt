@@ -9,8 +9,6 @@ use Rattle.dccp_sum.specs.Checksum.{checked}
 use Rattle.dccp_sum.specs.declared.packet_sum.SumFault.{SumFault}
 use Rattle.dccp_states.specs.Entrance.{gate}
 use Rattle.dccp_states.specs.Phases.{after}
-use Rattle.dccp_states.specs.declared.entrance.Entrance.{Entrance}
-use Rattle.dccp_states.specs.declared.entrance.Entrance.TheVariants as entrance
 use Rattle.dccp_states.specs.declared.phase.Phase.{Phase}
 use Rattle.dccp_states.specs.declared.phase.Phase.TheVariants as phase
 use Rattle.dccp_states.specs.declared.phase.Role.{Role}
@@ -19,26 +17,25 @@ use Rattle.dccp_states.specs.declared.reply.Reply.{Reply}
 use Rattle.dccp_states.specs.declared.reply.Reply.TheVariants as reply
 use Rattle.validity_windows.specs.declared.verdict.Verdict.{Verdict}
 use Rattle.validity_windows.specs.declared.verdict.Verdict.TheVariants as verdicts
-use Rattle.dccp_endpoint.specs.Arrivals.{ack_of, service_of}
+use Rattle.dccp_endpoint.specs.Arrivals.{ack_of}
 use Rattle.dccp_endpoint.specs.End.{EndState}
 use Rattle.dccp_endpoint.specs.Faults.{first_fault}
 use Rattle.dccp_endpoint.specs.Receiving as receiving
 use Rattle.dccp_endpoint.specs.declared.outcome.Fault.{Fault}
 use Rattle.dccp_endpoint.specs.declared.passage.Passage.{Passage}
 use Rattle.dccp_endpoint.specs.declared.passage.Passage.TheVariants as passages
-use Rattle.dccp_endpoint.specs.declared.outcome.Outcome.TheVariants.{Synced, NotBuilt}
+use Rattle.dccp_endpoint.specs.declared.outcome.Outcome.TheVariants.{NotBuilt}
 use Rattle.dccp_endpoint.specs.Receiving.{Arrival, accepts, answers, by_fault, by_form, by_packet, by_ports, by_sum, detail_of, enters, goes_on, is_of_connection, is_open, judged, moved_to, moves, needs_more, packet_error, passage, passes, plain, raised, receives, replies, resets, resets_bare, started, syncs, takes, took, torn, with_osr}
-use Rattle.dccp_endpoint.specs.Steps.{Step, idle, sends, opens, opens_as}
+use Rattle.dccp_endpoint.specs.Steps.{Step, idle, opens, opens_as}
 use Rattle.std.specs.Result.{result_ok}
 use Rattle.dccp_packets.specs.Grammar.{Parts, packet_type, decoded}
-use Rattle.dccp_endpoint.specs.Arrivals.{value_of}
 use Rattle.dccp_packets.specs.declared.header.Kind.{Kind}
 use Rattle.dccp_endpoint.specs.declared.outcome.Outcome.{Outcome}
-use Rattle.two_ends.specs.Frames.{is_reset, packet_of}
-use Rattle.std.proofs.Common.{◌≡◌, ◌⊎◌, inl, inr, refl, ap, sym, ◌∙◌, subst, ◌==◌, ℕ, ◌+◌, ◌-◌, ◌^◌, ◌<◌, ◌≤◌, List, [], ◌∷◌, Option, Some, None, true, false, Bool, if◌then◌else◌, Result, Ok, Err, not, ◌&&◌, arith}
+use Rattle.two_ends.specs.Frames.{packet_of}
+use Rattle.std.proofs.Common.{◌≡◌, ◌⊎◌, inl, inr, refl, ap, sym, ◌∙◌, subst, ◌==◌, ℕ, ◌+◌, ◌-◌, ◌^◌, ◌<◌, ◌≤◌, List, Option, Some, None, true, false, Bool, if◌then◌else◌, Result, Ok, Err, not, ◌&&◌, arith}
 use Rattle.seq_circle.specs.Circle.{residue, is_before, later_of, distance, is_within}
-use Rattle.validity_windows.specs.Windows.{ack_low, ack_high, down, sequence_low, sequence_high}
-use Rattle.validity_windows.specs.Verdict.{verdict, is_ack_within, by_window, by_greatest, by_low_end, gar_after, is_in_window, is_after_greatest, is_not_old}
+use Rattle.validity_windows.specs.Windows.{ack_low, ack_high, down}
+use Rattle.validity_windows.specs.Verdict.{verdict, is_ack_within, gar_after, is_in_window, is_after_greatest, is_not_old}
 use Rattle.validity_windows.specs.declared.marks.Marks.{Marks}
 
 -- the number is that of one of the first `own` frames, or of the first of all
@@ -126,8 +123,8 @@ rests e number _ options phase.TimeWait dead = rests-same e
 rests e number (kind.Reset ack code detail) options phase.Listen dead = rests-same e
 rests e number (kind.Request service) options phase.Listen dead =
     if-rests e (service == e.config.service) (passes e (started e phase.Respond (record { number = number; kind = kind.Request service; options = options })) (record { number = number; kind = kind.Request service; options = options }) (passage e phase.Respond (record { number = number; kind = kind.Request service; options = options })))
-      (resets_bare e (record { number = number; kind = kind.Request service; options = options }) 8)
-      (request-passes-rests e number service options (passage e phase.Respond (record { number = number; kind = kind.Request service; options = options }))) (rests-same e)
+    (resets_bare e (record { number = number; kind = kind.Request service; options = options }) 8)
+    (request-passes-rests e number service options (passage e phase.Respond (record { number = number; kind = kind.Request service; options = options }))) (rests-same e)
 rests e number _ options phase.Listen dead = rests-same e
 rests e number k options _ dead = cc dead
 
@@ -182,14 +179,14 @@ module _ (iss own : ℕ) (fits : iss < 2 ^ 48) (some : 1 ≤ own) (few : own < 2
   window-sent m (Some ack) s small within =
       sent-by (own - 100) ack (omega arith) small
       (ap (λ (low : ℕ). is_within ack low (residue (iss + own + (2 ^ 48 - 1)))) (sym (low-is m s))
-       ∙ (ap (λ (high : ℕ). is_within ack (ack_low m) high) (sym s.greatest) ∙ within))
+      ∙ (ap (λ (high : ℕ). is_within ack (ack_low m) high) (sym s.greatest) ∙ within))
 
   greatest-sent : (m : Marks) (ack : Option ℕ) → IsSound m → FitsAck ack → is_ack_within m.gar (ack_high m) ack ≡ true → IsSentAck ack
   greatest-sent m None s small within = tt
   greatest-sent m (Some ack) s small within =
       sent-by s.gar.place ack (omega (arith, s.gar.within)) small
       (ap (λ (low : ℕ). is_within ack low (residue (iss + own + (2 ^ 48 - 1)))) (sym s.gar.same)
-       ∙ (ap (λ (high : ℕ). is_within ack m.gar high) (sym s.greatest) ∙ within))
+      ∙ (ap (λ (high : ℕ). is_within ack m.gar high) (sym s.greatest) ∙ within))
 
   either-sent : (test : Bool) (x y : ℕ) → IsSent iss own x → IsSent iss own y → IsSent iss own (if test then x else y)
   either-sent true x y p q = p
@@ -249,7 +246,7 @@ module _ (iss own : ℕ) (fits : iss < 2 ^ 48) (some : 1 ≤ own) (few : own < 2
   answers-sent e a _ true within s small =
       passes-sent e (started e e.phase a) a (passage e e.phase a) s.gar
       (raised-sent e.marks.gar (packet_type a.kind) (ack_of a.kind) s.gar
-       (raisable (packet_type a.kind) (ack_of a.kind) (window-sent e.marks (ack_of a.kind) s small within)))
+      (raisable (packet_type a.kind) (ack_of a.kind) (window-sent e.marks (ack_of a.kind) s small within)))
   answers-sent e a _ false within s small = s.gar
 
   begun-sent : (e : EndState) (number : ℕ) (k : Kind) (options : List ℕ) (ph : Phase) → is_begun ph ≡ true → IsSound e.marks → FitsAck (ack_of k)
@@ -286,12 +283,12 @@ module _ (iss own : ℕ) (fits : iss < 2 ^ 48) (few : own < 2 ^ 47) where
       record {
         sent =
             begun-sent iss own fits (s.begun live) few e number k options e.phase live
-              (record { first = s.first; greatest = s.greatest; width = s.width; gar = s.gar }) small;
+            (record { first = s.first; greatest = s.greatest; width = s.width; gar = s.gar }) small;
         begins = λ later. inl live;
       }
   by-phase e number k options false dead s small =
       let same : Rests e (enters e (record { number = number; kind = k; options = options }) (gate e.phase (packet_type k))).after =
-          rests e number k options e.phase dead in
+      rests e number k options e.phase dead in
       record { sent = subst (λ (n : ℕ). IsSent iss own n) (sym same.same_gar) s.gar; begins = same.begins }
 
   form-acks : (e : EndState) (p : Parts) (number : Number) → IsReady e → FitsAck (ack_of p.header.kind) → Acks iss own e (by_form e p number).after

@@ -95,7 +95,9 @@ sync-ack-on e ack answer =
 resets-on : (e : EndState) (ack : ℕ) (fault : Fault) → GoesOn e.marks.own_w e.marks.iss e.marks.gss (resets e ack fault)
 resets-on e ack fault =
     record {
-      same_width = refl; ack_fits = ack-fits ack (fault.code ∷ detail_of fault); same_first = refl;
+      same_width = refl;
+      ack_fits = ack-fits ack (fault.code ∷ detail_of fault);
+      same_first = refl;
       is_next =
           inl (ap Some (big_number-reads_back 6 (next_number e) (kind_bytes (kind.Reset ack fault.code (detail_of fault))) (fits (e.marks.gss + 1))), refl);
     }

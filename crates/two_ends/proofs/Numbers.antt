@@ -186,7 +186,7 @@ moved-kept half step iss own peer_iss peer room k on h acks =
             sent = later-sent iss own next.count step.after.marks.gar next.above acks.sent;
             begun =
                 λ begins. later-begun iss own next.count half.end.marks.gss step.after.marks.gss (is_begun half.end.phase ≡ true) k.up_to_greatest
-                          next.up_to_greatest next.above k.begun (acks.begins begins);
+                next.up_to_greatest next.above k.begun (acks.begins begins);
           };
     }
 
@@ -267,24 +267,24 @@ module _ (client_iss server_iss : ℕ) (client_fits : client_iss < 2 ^ 48) (serv
       (receives-on w.server.end frame.bytes)
       (receives-hears client_iss k.client_count (few-numbered w.client client_iss k.client_count server_iss k.server_count k.client) w.server.end frame.bytes k.server.heard
       (known-frame client_iss 0 k.client_count w.client.frames index frame k.client.in_order there))
-               (receives-acks server_iss k.server_count server_fits (few-numbered w.server server_iss k.server_count client_iss k.client_count k.server) w.server.end frame.bytes
-               (ready w.server server_iss k.server_count client_iss k.client_count server_fits k.server) (fit-at w.client.frames index frame k.client.fit there)))
+      (receives-acks server_iss k.server_count server_fits (few-numbered w.server server_iss k.server_count client_iss k.client_count k.server) w.server.end frame.bytes
+      (ready w.server server_iss k.server_count client_iss k.client_count server_fits k.server) (fit-at w.client.frames index frame k.client.fit there)))
   arrives-kept w Server index (Some frame) there k =
       client-kept w (half_receives w.client frame.bytes) k
       (λ room. moved-kept w.client (receives w.client.end frame.bytes) client_iss k.client_count server_iss k.server_count room k.client
       (receives-on w.client.end frame.bytes)
       (receives-hears server_iss k.server_count (few-numbered w.server server_iss k.server_count client_iss k.client_count k.server) w.client.end frame.bytes k.client.heard
       (known-frame server_iss 0 k.server_count w.server.frames index frame k.server.in_order there))
-               (receives-acks client_iss k.client_count client_fits (few-numbered w.client client_iss k.client_count server_iss k.server_count k.client) w.client.end frame.bytes
-               (ready w.client client_iss k.client_count server_iss k.server_count client_fits k.client) (fit-at w.server.frames index frame k.server.fit there)))
+      (receives-acks client_iss k.client_count client_fits (few-numbered w.client client_iss k.client_count server_iss k.server_count k.client) w.client.end frame.bytes
+      (ready w.client client_iss k.client_count server_iss k.server_count client_fits k.client) (fit-at w.server.frames index frame k.server.fit there)))
 
   event-kept : (w : WorldState) (e : Event) → AreKept w → AreKept (world_after w (happens w e))
   event-kept w event.Open k =
       client-kept w (half_opens w.client) k
       (λ room. moved-kept w.client (opens w.client.end) client_iss k.client_count server_iss k.server_count room k.client (opens-on w.client.end)
       (opens-hears server_iss k.server_count (few-numbered w.server server_iss k.server_count client_iss k.client_count k.server) w.client.end k.client.heard)
-               (opens-acks client_iss k.client_count client_fits (few-numbered w.client client_iss k.client_count server_iss k.server_count k.client) w.client.end
-                (ready w.client client_iss k.client_count server_iss k.server_count client_fits k.client)))
+      (opens-acks client_iss k.client_count client_fits (few-numbered w.client client_iss k.client_count server_iss k.server_count k.client) w.client.end
+      (ready w.client client_iss k.client_count server_iss k.server_count client_fits k.client)))
   event-kept w (event.Deliver from index) k = arrives-kept w from index (slice_get (half_of w from).frames index) refl k
 
   run-kept : (w : WorldState) (events : List Event) → AreKept w → AreKept (run w events)
