@@ -4,4 +4,5 @@ pub mod Reaching
 pub mod Numbering
 pub mod Hearing
 pub mod Resets
+pub mod Acknowledging
 pub mod Numbers

@@ -1,5 +1,5 @@
 -- Every schedule keeps the facts.
-use Rattle.std.proofs.Common.{◌≡◌, inl, inr, refl, ap, sym, ◌∙◌, subst, ℕ, ◌+◌, ◌-◌, ◌^◌, ◌<◌, ◌≤◌, zero, suc, List, [], ◌∷◌, ◌++◌, Option, Some, None, true, false, Bool, if◌then◌else◌, Result, Ok, Err, slice_get, length, length-append, arith}
+use Rattle.std.proofs.Common.{◌≡◌, ◌⊎◌, inl, inr, refl, ap, sym, ◌∙◌, subst, ℕ, ◌+◌, ◌-◌, ◌^◌, ◌<◌, ◌≤◌, zero, suc, List, [], ◌∷◌, ◌++◌, Option, Some, None, true, false, Bool, if◌then◌else◌, Result, Ok, Err, slice_get, length, length-append, arith}
 use Rattle.seq_circle.specs.Circle.{residue}
 use Rattle.dccp_states.specs.declared.phase.Role.{Role}
 use Rattle.dccp_states.specs.declared.phase.Role.TheVariants as role
@@ -16,9 +16,10 @@ use Rattle.two_ends.specs.declared.event.WorldFault.{WorldFault}
 use Rattle.two_ends.specs.declared.event.WorldFault.TheVariants as fault
 use Rattle.two_ends.specs.World.{Half, WorldState, HalfStep, WorldStep, kept, moved, half_of, half_at_start, other, with_half, happens, arrives, unless_full, is_full, world_after, run, at_start, half_opens, half_receives}
 use Rattle.two_ends.specs.Frames.{packet_of}
-use Rattle.two_ends.specs.Numbered.{AreNumbered, IsNumbered, IsBareReset, Facts, Hears, is_live, number_in}
-use Rattle.two_ends.proofs.Numbering.{GoesOn, IsNext, receives-on, opens-on}
+use Rattle.two_ends.specs.Numbered.{IsAcknowledged, AreNumbered, IsNumbered, IsBareReset, Facts, Hears, is_live, number_in}
+use Rattle.two_ends.proofs.Numbering.{GoesOn, IsNext, FitsFrame, receives-on, opens-on}
 use Rattle.two_ends.proofs.Hearing.{IsKnownPacket, known-packet, reset-packet, receives-hears, opens-hears}
+use Rattle.two_ends.proofs.Acknowledging.{FitsPacket, IsSent, IsReady, Acks, is_begun, receives-acks, opens-acks}
 use Rattle.two_ends.proofs.Resets.{resets-move-nothing}
 
 append-next : (iss before count : ℕ) (frames : List SentFrame) (frame : SentFrame) → AreNumbered iss before frames count
@@ -111,6 +112,39 @@ kept-in-order iss own gss after frames processed floor (Some bytes) so up few (i
       few = longer frames (record { bytes = bytes; processed = processed; floor = floor }) few;
     }
 
+-- what each frame of a list acknowledges is a number
+abbrev pub AreFit : List SentFrame → Type 0
+AreFit [] = Unit {0}
+AreFit (frame ∷ frames) = FitsPacket (packet_of frame.bytes) × AreFit frames
+
+append-fit : (xs ys : List SentFrame) → AreFit xs → AreFit ys → AreFit (xs ++ ys)
+append-fit [] ys p q = q
+append-fit (x ∷ xs) ys p q = (p.0, append-fit xs ys p.1 q)
+
+kept-fit : (processed floor : ℕ) (frame : Option (List ℕ)) → FitsFrame frame → AreFit (kept processed floor frame)
+kept-fit processed floor None s = tt
+kept-fit processed floor (Some bytes) s = (s, tt)
+
+fit-at : (frames : List SentFrame) (index : ℕ) (frame : SentFrame) → AreFit frames → slice_get frames index ≡ Some frame → FitsPacket (packet_of frame.bytes)
+fit-at [] index frame s there = cc there
+fit-at (first ∷ frames) zero frame s there =
+    let some : Some first ≡ Some frame = there in
+    let same : first ≡ frame = cc some in
+    subst (λ (f : SentFrame). FitsPacket (packet_of f.bytes)) same s.0
+fit-at (first ∷ frames) (suc index) frame s there = fit-at frames index frame s.1 there
+
+begun-by : (iss own count gss after : ℕ) → gss ≡ residue (iss + own + (2 ^ 48 - 1)) → after ≡ residue (iss + count + (2 ^ 48 - 1)) → own ≤ count
+    → after ≡ residue (gss + 1) → 1 ≤ count
+begun-by iss own count gss after was is above next = omega arith
+
+later-begun : (iss own count gss after : ℕ) (earlier : Type 0) → gss ≡ residue (iss + own + (2 ^ 48 - 1)) → after ≡ residue (iss + count + (2 ^ 48 - 1)) → own ≤ count
+    → (earlier → 1 ≤ own) → earlier ⊎ (after ≡ residue (gss + 1)) → 1 ≤ count
+later-begun iss own count gss after earlier was is above begun (inl before) = omega (arith, begun before, above)
+later-begun iss own count gss after earlier was is above begun (inr next) = begun-by iss own count gss after was is above next
+
+later-sent : (iss own count number : ℕ) → own ≤ count → IsSent iss own number → IsSent iss count number
+later-sent iss own count number above s = record { place = s.place; within = omega (arith, s.within, above); same = s.same }
+
 -- what is kept of a side that has numbered `own` frames, where the other has numbered `peer`
 pub record IsKept (half : Half) (iss own peer_iss peer : ℕ) : Type 0 where
   pub same_first : half.end.marks.iss ≡ iss
@@ -118,6 +152,10 @@ pub record IsKept (half : Half) (iss own peer_iss peer : ℕ) : Type 0 where
   pub up_to_greatest : half.end.marks.gss ≡ residue (iss + own + (2 ^ 48 - 1))
   pub few : length half.frames < 2 ^ 47
   pub heard : Hears peer_iss peer half.end
+  pub width : half.end.marks.own_w ≡ 100
+  pub fit : AreFit half.frames
+  pub sent : IsSent iss own half.end.marks.gar
+  pub begun : is_begun half.end.phase ≡ true → 1 ≤ own
 
 pub record IsMoved (half : Half) (iss own peer_iss peer : ℕ) : Type 0 where
   pub count : ℕ
@@ -128,8 +166,8 @@ not-full : (half : Half) → is_full half ≡ false → length half.frames < 2 ^
 not-full half room = grind arith
 
 moved-kept : {Answer : Type 0} (half : Half) (step : Step Answer) (iss own peer_iss peer : ℕ) → is_full half ≡ false → IsKept half iss own peer_iss peer
-    → GoesOn half.end.marks.iss half.end.marks.gss step → Hears peer_iss peer step.after → IsMoved (moved half step) iss own peer_iss peer
-moved-kept half step iss own peer_iss peer room k on h =
+    → GoesOn half.end.marks.own_w half.end.marks.iss half.end.marks.gss step → Hears peer_iss peer step.after → Acks iss own half.end step.after → IsMoved (moved half step) iss own peer_iss peer
+moved-kept half step iss own peer_iss peer room k on h acks =
     let next : IsNextList iss own (moved half step).frames step.after.marks.gss =
     kept-in-order iss own half.end.marks.gss step.after.marks.gss half.frames (length half.processed) (floor_of step.after) step.frame k.in_order
     k.up_to_greatest (not-full half room) on.is_next in
@@ -143,6 +181,12 @@ moved-kept half step iss own peer_iss peer room k on h =
             up_to_greatest = next.up_to_greatest;
             few = next.few;
             heard = h;
+            width = on.same_width ∙ k.width;
+            fit = append-fit half.frames _ k.fit (kept-fit (length half.processed) (floor_of step.after) step.frame on.ack_fits);
+            sent = later-sent iss own next.count step.after.marks.gar next.above acks.sent;
+            begun =
+                λ begins. later-begun iss own next.count half.end.marks.gss step.after.marks.gss (is_begun half.end.phase ≡ true) k.up_to_greatest
+                next.up_to_greatest next.above k.begun (acks.begins begins);
           };
     }
 
@@ -160,12 +204,21 @@ later-kept half iss own peer_iss peer more above k =
       up_to_greatest = k.up_to_greatest;
       few = k.few;
       heard = later-hears peer_iss peer more half.end above k.heard;
+      width = k.width;
+      fit = k.fit;
+      sent = k.sent;
+      begun = k.begun;
     }
 
 few-numbered : (half : Half) (iss own peer_iss peer : ℕ) → IsKept half iss own peer_iss peer → own < 2 ^ 47
 few-numbered half iss own peer_iss peer k = omega (arith, count-below iss 0 own half.frames k.in_order, k.few)
 
-module _ (client_iss server_iss : ℕ) where
+ready : (half : Half) (iss own peer_iss peer : ℕ) (fits : iss < 2 ^ 48) (k : IsKept half iss own peer_iss peer)
+    → IsReady iss own fits (few-numbered half iss own peer_iss peer k) half.end
+ready half iss own peer_iss peer fits k =
+    record { first = k.same_first; greatest = k.up_to_greatest; width = k.width; gar = k.sent; begun = k.begun }
+
+module _ (client_iss server_iss : ℕ) (client_fits : client_iss < 2 ^ 48) (server_fits : server_iss < 2 ^ 48) where
   pub record AreKept (w : WorldState) : Type 0 where
     pub client_count : ℕ
     pub server_count : ℕ
@@ -213,19 +266,25 @@ module _ (client_iss server_iss : ℕ) where
       (λ room. moved-kept w.server (receives w.server.end frame.bytes) server_iss k.server_count client_iss k.client_count room k.server
       (receives-on w.server.end frame.bytes)
       (receives-hears client_iss k.client_count (few-numbered w.client client_iss k.client_count server_iss k.server_count k.client) w.server.end frame.bytes k.server.heard
-      (known-frame client_iss 0 k.client_count w.client.frames index frame k.client.in_order there)))
+      (known-frame client_iss 0 k.client_count w.client.frames index frame k.client.in_order there))
+      (receives-acks server_iss k.server_count server_fits (few-numbered w.server server_iss k.server_count client_iss k.client_count k.server) w.server.end frame.bytes
+      (ready w.server server_iss k.server_count client_iss k.client_count server_fits k.server) (fit-at w.client.frames index frame k.client.fit there)))
   arrives-kept w Server index (Some frame) there k =
       client-kept w (half_receives w.client frame.bytes) k
       (λ room. moved-kept w.client (receives w.client.end frame.bytes) client_iss k.client_count server_iss k.server_count room k.client
       (receives-on w.client.end frame.bytes)
       (receives-hears server_iss k.server_count (few-numbered w.server server_iss k.server_count client_iss k.client_count k.server) w.client.end frame.bytes k.client.heard
-      (known-frame server_iss 0 k.server_count w.server.frames index frame k.server.in_order there)))
+      (known-frame server_iss 0 k.server_count w.server.frames index frame k.server.in_order there))
+      (receives-acks client_iss k.client_count client_fits (few-numbered w.client client_iss k.client_count server_iss k.server_count k.client) w.client.end frame.bytes
+      (ready w.client client_iss k.client_count server_iss k.server_count client_fits k.client) (fit-at w.server.frames index frame k.server.fit there)))
 
   event-kept : (w : WorldState) (e : Event) → AreKept w → AreKept (world_after w (happens w e))
   event-kept w event.Open k =
       client-kept w (half_opens w.client) k
       (λ room. moved-kept w.client (opens w.client.end) client_iss k.client_count server_iss k.server_count room k.client (opens-on w.client.end)
-      (opens-hears server_iss k.server_count (few-numbered w.server server_iss k.server_count client_iss k.client_count k.server) w.client.end k.client.heard))
+      (opens-hears server_iss k.server_count (few-numbered w.server server_iss k.server_count client_iss k.client_count k.server) w.client.end k.client.heard)
+      (opens-acks client_iss k.client_count client_fits (few-numbered w.client client_iss k.client_count server_iss k.server_count k.client) w.client.end
+      (ready w.client client_iss k.client_count server_iss k.server_count client_fits k.client)))
   event-kept w (event.Deliver from index) k = arrives-kept w from index (slice_get (half_of w from).frames index) refl k
 
   run-kept : (w : WorldState) (events : List Event) → AreKept w → AreKept (run w events)
@@ -251,29 +310,61 @@ module _ (client_iss server_iss : ℕ) where
   heard-sides w k Client = subst (λ (n : ℕ). Hears n k.server_count w.client.end) (sym k.server.same_first) k.client.heard
   heard-sides w k Server = subst (λ (n : ℕ). Hears n k.client_count w.server.end) (sym k.client.same_first) k.server.heard
 
+  own-sent : (half : Half) (iss own : ℕ) → half.end.marks.iss ≡ iss → IsSent iss own half.end.marks.gar → 1 ≤ own
+      → IsAcknowledged half.end.marks.iss own half.end.marks.gar
+  own-sent half iss own same s some =
+      record {
+        place = s.place;
+        was_sent = omega (arith, s.within, some);
+        same = s.same ∙ ap (λ (n : ℕ). residue (n + s.place)) (sym same);
+      }
+
+  acknowledged-sides : (w : WorldState) (k : AreKept w) (side : Side) → 1 ≤ (numbered-sides w k side).count
+      → IsAcknowledged (half_of w side).end.marks.iss (numbered-sides w k side).count (half_of w side).end.marks.gar
+  unfolding numbered-sides numbered-half
+  acknowledged-sides w k Client some = own-sent w.client client_iss k.client_count k.client.same_first k.client.sent some
+  acknowledged-sides w k Server some = own-sent w.server server_iss k.server_count k.server.same_first k.server.sent some
+
   kept-facts : (w : WorldState) → AreKept w → Facts w
   kept-facts w k =
-      record { numbered = numbered-sides w k; heard = heard-sides w k; unmoved = λ side. resets-move-nothing (half_of w side).end }
+      record {
+        numbered = numbered-sides w k;
+        heard = heard-sides w k;
+        unmoved = λ side. resets-move-nothing (half_of w side).end;
+        acknowledged = acknowledged-sides w k;
+      }
+
+start-unbegun : (r : Role) → is_begun (first_phase r) ≡ true → 1 ≤ 0
+start-unbegun role.Client begun = cc begun
+start-unbegun role.Server begun = cc begun
+
+start-sent : (iss : ℕ) → iss < 2 ^ 48 → IsSent iss 0 iss
+start-sent iss fits = record { place = 0; within = omega arith; same = omega arith }
 
 start-unset : (config : Config) (r : Role) → is_live (first_phase r) ≡ false
 start-unset config role.Client = refl
 start-unset config role.Server = refl
 
-start-half : (config : Config) (peer_iss : ℕ) → IsKept (half_at_start config) config.iss 0 peer_iss 0
-start-half config peer_iss =
+start-half : (config : Config) (peer_iss : ℕ) → config.iss < 2 ^ 48 → IsKept (half_at_start config) config.iss 0 peer_iss 0
+start-half config peer_iss fits =
     record {
       same_first = refl;
       in_order = refl;
       up_to_greatest = omega arith;
       few = omega arith;
       heard = inl (record { not_live = start-unset config config.role; no_first = refl; no_greatest = refl });
+      width = refl;
+      fit = tt;
+      sent = start-sent config.iss fits;
+      begun = start-unbegun config.role;
     }
 
-start-kept : (client server : Config) → AreKept client.iss server.iss (at_start client server)
-start-kept client server =
-    record { client_count = 0; server_count = 0; client = start-half client server.iss; server = start-half server client.iss }
+start-kept : (client server : Config) (client_fits : client.iss < 2 ^ 48) (server_fits : server.iss < 2 ^ 48)
+    → AreKept client.iss server.iss client_fits server_fits (at_start client server)
+start-kept client server client_fits server_fits =
+    record { client_count = 0; server_count = 0; client = start-half client server.iss client_fits; server = start-half server client.iss server_fits }
 
-pub every-run : (client server : Config) (events : List Event) → Facts (run (at_start client server) events)
-every-run client server events =
-    kept-facts client.iss server.iss (run (at_start client server) events)
-    (run-kept client.iss server.iss (at_start client server) events (start-kept client server))
+pub every-run : (client server : Config) (events : List Event) → client.iss < 2 ^ 48 → server.iss < 2 ^ 48 → Facts (run (at_start client server) events)
+every-run client server events client_fits server_fits =
+    kept-facts client.iss server.iss client_fits server_fits (run (at_start client server) events)
+    (run-kept client.iss server.iss client_fits server_fits (at_start client server) events (start-kept client server client_fits server_fits))

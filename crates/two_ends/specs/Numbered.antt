@@ -75,6 +75,12 @@ pub record IsHeard (iss count isr gsr : ℕ) : Type 0 where
 abbrev pub Hears : ℕ → ℕ → EndState → Type 0
 Hears iss count e = IsUnset e ⊎ IsHeard iss count e.marks.isr e.marks.gsr
 
+-- GAR is the number of a numbered frame of its own side, whose first is ISS and which has sent `count`.
+pub record IsAcknowledged (iss count gar : ℕ) : Type 0 where
+  pub place : ℕ
+  pub was_sent : place < count
+  pub same : gar ≡ residue (iss + place)
+
 -- An end keeps the numbers that it received, what it knows acknowledged and its features.
 pub record KeepsReceived (before after : EndState) : Type 0 where
   pub first : after.marks.isr ≡ before.marks.isr
@@ -93,3 +99,5 @@ pub record Facts (w : WorldState) : Type 0 where
   pub numbered : (side : Side) → IsNumbered (half_of w side)
   pub heard : (side : Side) → Hears (half_of w (other side)).end.marks.iss (numbered (other side)).count (half_of w side).end
   pub unmoved : (side : Side) → ResetsMoveNothing (half_of w side).end
+  pub acknowledged : (side : Side) → 1 ≤ (numbered side).count
+      → IsAcknowledged (half_of w side).end.marks.iss (numbered side).count (half_of w side).end.marks.gar

@@ -1,5 +1,5 @@
 //! The world.
-ghost use Rattle.std.specs.Prelude.{◌≡◌, List};
+ghost use Rattle.std.specs.Prelude.{◌≡◌, ◌<◌, ◌^◌, List};
 ghost use Rattle.two_ends.specs.World.{at_start, run};
 ghost use Rattle.two_ends.specs.Numbered.{Facts};
 ghost use Rattle.two_ends.specs.Safe.{Safe};
@@ -90,10 +90,12 @@ pub fn every_run_is_safe()
     ensures { (client server : Config) (events : List Event) → client.role ≡ role.Client → server.role ≡ role.Server → Safe (run (at_start client server) events) }
 {}
 
-/// After every list of events, from any two configurations, each side's frames but Resets without a connection carry its
-/// first number, the next, and so on up to its greatest number sent, in this order (RFC 4340, section 7.1). A Reset without
-/// a connection carries no option. Once an end has received a first number, that and the greatest are numbers of numbered
-/// frames of the other side, and the first is not the later one. A Reset that arrives moves none of the numbers received.
+/// The world's facts after every list of events, from any two configurations. A side's frames, but for Resets without a
+/// connection, carry its first number, the next, and so on up to its greatest number sent, in this order (RFC 4340, section
+/// 7.1); there are fewer than 2^47. A Reset without a connection carries no option. Once an end has received a first number,
+/// that and its greatest number received are numbers of numbered frames of the other side, and the first is not the later
+/// one; once it has sent a numbered frame, the greatest number that it knows acknowledged is that of one of its own. A Reset
+/// that arrives moves neither the received numbers, nor that one, nor a feature.
 pub fn every_run_numbers_its_frames()
-    ensures { (client server : Config) (events : List Event) → Facts (run (at_start client server) events) }
+    ensures { (client server : Config) (events : List Event) → client.iss < 2 ^ 48 → server.iss < 2 ^ 48 → Facts (run (at_start client server) events) }
 {}
