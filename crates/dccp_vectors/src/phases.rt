@@ -1,0 +1,658 @@
+//! Every packet type in every phase that an end reaches by now, at both roles: the answer, the phase after and what is sent
+//! (RFC 4340, section 8.5).
+use dccp_endpoint::{Config, Endpoint, Outcome, Phase, Role, Why};
+use dccp_packets::{Outbox, PacketType, decode};
+use seq_circle::Seq48;
+use std::alloc::Global;
+use std::test::Fail;
+
+#[derive(Clone, Copy)]
+enum Answer {
+    Took,
+    Stray,
+    Synced,
+    WasReset,
+    SentReset(u8, u8),
+    NotBuilt,
+}
+
+// The packet's type, the answer, the phase after, and the type of the frame that is sent.
+type Row = (PacketType, Answer, Phase, Option<PacketType>);
+
+// A packet of each type within the windows. Those of a client carry the number 1,005 and acknowledge 2,000.
+fn from_client(packet: PacketType) -> &'static str {
+    match packet {
+        PacketType::Request => "9c401389050031e701000000000003ed0000002a",
+        PacketType::Response => "9c4013890700260f03000000000003ed00000000000007d00000002a",
+        PacketType::Data => "9c4013890400a5a805000000000003ed686921",
+        PacketType::Ack => "9c4013890600233d07000000000003ed00000000000007d0",
+        PacketType::DataAck => "9c401389060097d009000000000003ed00000000000007d0686921",
+        PacketType::CloseReq => "9c40138906001f3d0b000000000003ed00000000000007d0",
+        PacketType::Close => "9c40138906001d3d0d000000000003ed00000000000007d0",
+        PacketType::Reset => "9c401389070018390f000000000003ed00000000000007d002000000",
+        PacketType::Sync => "9c4013890600193d11000000000003ed00000000000007d0",
+        PacketType::SyncAck => "9c4013890600173d13000000000003ed00000000000007d0",
+    }
+}
+
+// Those of a server carry the number 2,005 and acknowledge 1,000.
+fn from_server(packet: PacketType) -> &'static str {
+    match packet {
+        PacketType::Request => "13899c4005002dff01000000000007d50000002a",
+        PacketType::Response => "13899c400700260f03000000000007d500000000000003e80000002a",
+        PacketType::Data => "13899c400400a1c005000000000007d5686921",
+        PacketType::Ack => "13899c400600233d07000000000007d500000000000003e8",
+        PacketType::DataAck => "13899c40060097d009000000000007d500000000000003e8686921",
+        PacketType::CloseReq => "13899c4006001f3d0b000000000007d500000000000003e8",
+        PacketType::Close => "13899c4006001d3d0d000000000007d500000000000003e8",
+        PacketType::Reset => "13899c40070018390f000000000007d500000000000003e802000000",
+        PacketType::Sync => "13899c400600193d11000000000007d500000000000003e8",
+        PacketType::SyncAck => "13899c400600173d13000000000007d500000000000003e8",
+    }
+}
+
+fn give(
+    alloc: Global,
+    end: &mut Endpoint,
+    packet: &str,
+) -> Result<(Outcome, Option<PacketType>), Fail> {
+    let bytes = hex::decode(alloc, packet)?;
+    if 2044 < bytes.len() {
+        return Err(Fail::from("no packet is longer"));
+    }
+    let mut out = Outbox::new();
+    let outcome = end.receive(&bytes, &mut out);
+    let sent = match out.frame() {
+        Some(own) => match decode(own.bytes()) {
+            Ok(frame) => Some(frame.header.kind.packet_type()),
+            Err(_) => return Err(Fail::from("what is sent is a packet")),
+        },
+        None => None,
+    };
+    Ok((outcome, sent))
+}
+
+// How an end comes to its phase: a new one, opened or not, that these packets reach.
+#[derive(Clone, Copy)]
+struct Way<'a> {
+    role: Role,
+    opens: bool,
+    packets: &'a [&'a str],
+}
+
+fn end_after(alloc: Global, way: &Way<'_>) -> Result<Endpoint, Fail> {
+    let mut end = Endpoint::new(Config::usual(way.role))?;
+    if way.opens {
+        let mut out = Outbox::new();
+        end.open(&mut out)?;
+    }
+    for packet in way.packets {
+        give(alloc, &mut end, packet)?;
+    }
+    Ok(end)
+}
+
+fn outcome_of(answer: Answer, number: u64) -> Result<Outcome, Fail> {
+    Ok(match answer {
+        Answer::Took => Outcome::Took { delivered: None },
+        Answer::Stray => Outcome::Dropped(Why::StrayReset),
+        Answer::Synced => Outcome::Synced(Seq48::new(number).ok_or("below 2^48")?),
+        Answer::WasReset => Outcome::WasReset(2),
+        Answer::SentReset(code, first) => Outcome::SentReset {
+            code,
+            detail: [first, 0, 0],
+        },
+        Answer::NotBuilt => Outcome::NotBuilt,
+    })
+}
+
+// Whether each packet gets its row's answer from an end that came this way.
+fn keeps(alloc: Global, way: &Way<'_>, rows: [Row; 10]) -> Result<bool, Fail> {
+    for (packet, answer, after, reply) in rows {
+        let mut end = end_after(alloc, way)?;
+        let (text, number) = match way.role {
+            Role::Server => (from_client(packet), 1_005),
+            Role::Client => (from_server(packet), 2_005),
+        };
+        let (outcome, sent) = give(alloc, &mut end, text)?;
+        if outcome != outcome_of(answer, number)? || end.phase() != after || sent != reply {
+            return Ok(false);
+        }
+    }
+    Ok(true)
+}
+
+// The handshake's own packets.
+const REQUEST: &str = "9c401389050031ec01000000000003e80000002a";
+
+const RESPONSE: &str = "13899c400700261403000000000007d000000000000003e80000002a";
+
+const ACK: &str = "9c4013890600234107000000000003e900000000000007d0";
+
+const SERVER_ACK: &str = "13899c400600234107000000000007d100000000000003e8";
+
+const CLIENT_RESET: &str = "9c4013890700183d0f000000000003e900000000000007d002000000";
+
+const SERVER_RESET: &str = "13899c400700183d0f000000000007d100000000000003e802000000";
+
+#[test]
+fn server_in_listen(rt: HostRuntime) -> Result<(), Fail> {
+    let rows = [
+        (
+            PacketType::Request,
+            Answer::Took,
+            Phase::Respond,
+            Some(PacketType::Response),
+        ),
+        (
+            PacketType::Response,
+            Answer::SentReset(3, 0),
+            Phase::Listen,
+            Some(PacketType::Reset),
+        ),
+        (
+            PacketType::Data,
+            Answer::SentReset(3, 0),
+            Phase::Listen,
+            Some(PacketType::Reset),
+        ),
+        (
+            PacketType::Ack,
+            Answer::SentReset(3, 0),
+            Phase::Listen,
+            Some(PacketType::Reset),
+        ),
+        (
+            PacketType::DataAck,
+            Answer::SentReset(3, 0),
+            Phase::Listen,
+            Some(PacketType::Reset),
+        ),
+        (
+            PacketType::CloseReq,
+            Answer::SentReset(3, 0),
+            Phase::Listen,
+            Some(PacketType::Reset),
+        ),
+        (
+            PacketType::Close,
+            Answer::SentReset(3, 0),
+            Phase::Listen,
+            Some(PacketType::Reset),
+        ),
+        (PacketType::Reset, Answer::Stray, Phase::Listen, None),
+        (
+            PacketType::Sync,
+            Answer::SentReset(3, 0),
+            Phase::Listen,
+            Some(PacketType::Reset),
+        ),
+        (
+            PacketType::SyncAck,
+            Answer::SentReset(3, 0),
+            Phase::Listen,
+            Some(PacketType::Reset),
+        ),
+    ];
+    let way = Way {
+        role: Role::Server,
+        opens: false,
+        packets: &[],
+    };
+    assert!(rt; keeps(rt.alloc(), &way, rows)?);
+    Ok(())
+}
+
+#[test]
+fn server_in_respond(rt: HostRuntime) -> Result<(), Fail> {
+    let rows = [
+        (
+            PacketType::Request,
+            Answer::Took,
+            Phase::Respond,
+            Some(PacketType::Response),
+        ),
+        (
+            PacketType::Response,
+            Answer::Synced,
+            Phase::Respond,
+            Some(PacketType::Sync),
+        ),
+        (
+            PacketType::Data,
+            Answer::Synced,
+            Phase::Respond,
+            Some(PacketType::Sync),
+        ),
+        (
+            PacketType::Ack,
+            Answer::Took,
+            Phase::Open,
+            Some(PacketType::Ack),
+        ),
+        (PacketType::DataAck, Answer::NotBuilt, Phase::Respond, None),
+        (
+            PacketType::CloseReq,
+            Answer::Synced,
+            Phase::Respond,
+            Some(PacketType::Sync),
+        ),
+        (PacketType::Close, Answer::NotBuilt, Phase::Respond, None),
+        (PacketType::Reset, Answer::WasReset, Phase::TimeWait, None),
+        (
+            PacketType::Sync,
+            Answer::Took,
+            Phase::Open,
+            Some(PacketType::SyncAck),
+        ),
+        (
+            PacketType::SyncAck,
+            Answer::Took,
+            Phase::Open,
+            Some(PacketType::Ack),
+        ),
+    ];
+    let way = Way {
+        role: Role::Server,
+        opens: false,
+        packets: &[REQUEST],
+    };
+    assert!(rt; keeps(rt.alloc(), &way, rows)?);
+    Ok(())
+}
+
+#[test]
+fn server_in_open(rt: HostRuntime) -> Result<(), Fail> {
+    let rows = [
+        (
+            PacketType::Request,
+            Answer::Synced,
+            Phase::Open,
+            Some(PacketType::Sync),
+        ),
+        (
+            PacketType::Response,
+            Answer::Synced,
+            Phase::Open,
+            Some(PacketType::Sync),
+        ),
+        (PacketType::Data, Answer::NotBuilt, Phase::Open, None),
+        (PacketType::Ack, Answer::Took, Phase::Open, None),
+        (PacketType::DataAck, Answer::NotBuilt, Phase::Open, None),
+        (
+            PacketType::CloseReq,
+            Answer::Synced,
+            Phase::Open,
+            Some(PacketType::Sync),
+        ),
+        (PacketType::Close, Answer::NotBuilt, Phase::Open, None),
+        (PacketType::Reset, Answer::WasReset, Phase::TimeWait, None),
+        (
+            PacketType::Sync,
+            Answer::Took,
+            Phase::Open,
+            Some(PacketType::SyncAck),
+        ),
+        (PacketType::SyncAck, Answer::Took, Phase::Open, None),
+    ];
+    let way = Way {
+        role: Role::Server,
+        opens: false,
+        packets: &[REQUEST, ACK],
+    };
+    assert!(rt; keeps(rt.alloc(), &way, rows)?);
+    Ok(())
+}
+
+#[test]
+fn server_in_time_wait(rt: HostRuntime) -> Result<(), Fail> {
+    let rows = [
+        (
+            PacketType::Request,
+            Answer::SentReset(3, 0),
+            Phase::TimeWait,
+            Some(PacketType::Reset),
+        ),
+        (
+            PacketType::Response,
+            Answer::SentReset(3, 0),
+            Phase::TimeWait,
+            Some(PacketType::Reset),
+        ),
+        (
+            PacketType::Data,
+            Answer::SentReset(3, 0),
+            Phase::TimeWait,
+            Some(PacketType::Reset),
+        ),
+        (
+            PacketType::Ack,
+            Answer::SentReset(3, 0),
+            Phase::TimeWait,
+            Some(PacketType::Reset),
+        ),
+        (
+            PacketType::DataAck,
+            Answer::SentReset(3, 0),
+            Phase::TimeWait,
+            Some(PacketType::Reset),
+        ),
+        (
+            PacketType::CloseReq,
+            Answer::SentReset(3, 0),
+            Phase::TimeWait,
+            Some(PacketType::Reset),
+        ),
+        (
+            PacketType::Close,
+            Answer::SentReset(3, 0),
+            Phase::TimeWait,
+            Some(PacketType::Reset),
+        ),
+        (PacketType::Reset, Answer::Stray, Phase::TimeWait, None),
+        (
+            PacketType::Sync,
+            Answer::SentReset(3, 0),
+            Phase::TimeWait,
+            Some(PacketType::Reset),
+        ),
+        (
+            PacketType::SyncAck,
+            Answer::SentReset(3, 0),
+            Phase::TimeWait,
+            Some(PacketType::Reset),
+        ),
+    ];
+    let way = Way {
+        role: Role::Server,
+        opens: false,
+        packets: &[REQUEST, CLIENT_RESET],
+    };
+    assert!(rt; keeps(rt.alloc(), &way, rows)?);
+    Ok(())
+}
+
+#[test]
+fn client_in_closed(rt: HostRuntime) -> Result<(), Fail> {
+    let rows = [
+        (
+            PacketType::Request,
+            Answer::SentReset(3, 0),
+            Phase::Closed,
+            Some(PacketType::Reset),
+        ),
+        (
+            PacketType::Response,
+            Answer::SentReset(3, 0),
+            Phase::Closed,
+            Some(PacketType::Reset),
+        ),
+        (
+            PacketType::Data,
+            Answer::SentReset(3, 0),
+            Phase::Closed,
+            Some(PacketType::Reset),
+        ),
+        (
+            PacketType::Ack,
+            Answer::SentReset(3, 0),
+            Phase::Closed,
+            Some(PacketType::Reset),
+        ),
+        (
+            PacketType::DataAck,
+            Answer::SentReset(3, 0),
+            Phase::Closed,
+            Some(PacketType::Reset),
+        ),
+        (
+            PacketType::CloseReq,
+            Answer::SentReset(3, 0),
+            Phase::Closed,
+            Some(PacketType::Reset),
+        ),
+        (
+            PacketType::Close,
+            Answer::SentReset(3, 0),
+            Phase::Closed,
+            Some(PacketType::Reset),
+        ),
+        (PacketType::Reset, Answer::Stray, Phase::Closed, None),
+        (
+            PacketType::Sync,
+            Answer::SentReset(3, 0),
+            Phase::Closed,
+            Some(PacketType::Reset),
+        ),
+        (
+            PacketType::SyncAck,
+            Answer::SentReset(3, 0),
+            Phase::Closed,
+            Some(PacketType::Reset),
+        ),
+    ];
+    let way = Way {
+        role: Role::Client,
+        opens: false,
+        packets: &[],
+    };
+    assert!(rt; keeps(rt.alloc(), &way, rows)?);
+    Ok(())
+}
+
+#[test]
+fn client_in_request(rt: HostRuntime) -> Result<(), Fail> {
+    let rows = [
+        (
+            PacketType::Request,
+            Answer::SentReset(4, 0),
+            Phase::Request,
+            Some(PacketType::Reset),
+        ),
+        (
+            PacketType::Response,
+            Answer::Took,
+            Phase::PartOpen,
+            Some(PacketType::Ack),
+        ),
+        (
+            PacketType::Data,
+            Answer::SentReset(4, 2),
+            Phase::Request,
+            Some(PacketType::Reset),
+        ),
+        (
+            PacketType::Ack,
+            Answer::SentReset(4, 3),
+            Phase::Request,
+            Some(PacketType::Reset),
+        ),
+        (
+            PacketType::DataAck,
+            Answer::SentReset(4, 4),
+            Phase::Request,
+            Some(PacketType::Reset),
+        ),
+        (
+            PacketType::CloseReq,
+            Answer::SentReset(4, 5),
+            Phase::Request,
+            Some(PacketType::Reset),
+        ),
+        (
+            PacketType::Close,
+            Answer::SentReset(4, 6),
+            Phase::Request,
+            Some(PacketType::Reset),
+        ),
+        (PacketType::Reset, Answer::WasReset, Phase::TimeWait, None),
+        (
+            PacketType::Sync,
+            Answer::SentReset(4, 8),
+            Phase::Request,
+            Some(PacketType::Reset),
+        ),
+        (
+            PacketType::SyncAck,
+            Answer::SentReset(4, 9),
+            Phase::Request,
+            Some(PacketType::Reset),
+        ),
+    ];
+    let way = Way {
+        role: Role::Client,
+        opens: true,
+        packets: &[],
+    };
+    assert!(rt; keeps(rt.alloc(), &way, rows)?);
+    Ok(())
+}
+
+#[test]
+fn client_in_part_open(rt: HostRuntime) -> Result<(), Fail> {
+    let rows = [
+        (
+            PacketType::Request,
+            Answer::Synced,
+            Phase::PartOpen,
+            Some(PacketType::Sync),
+        ),
+        (
+            PacketType::Response,
+            Answer::Took,
+            Phase::PartOpen,
+            Some(PacketType::Ack),
+        ),
+        (PacketType::Data, Answer::NotBuilt, Phase::PartOpen, None),
+        (PacketType::Ack, Answer::Took, Phase::Open, None),
+        (PacketType::DataAck, Answer::NotBuilt, Phase::PartOpen, None),
+        (
+            PacketType::CloseReq,
+            Answer::NotBuilt,
+            Phase::PartOpen,
+            None,
+        ),
+        (PacketType::Close, Answer::NotBuilt, Phase::PartOpen, None),
+        (PacketType::Reset, Answer::WasReset, Phase::TimeWait, None),
+        (
+            PacketType::Sync,
+            Answer::Took,
+            Phase::PartOpen,
+            Some(PacketType::SyncAck),
+        ),
+        (PacketType::SyncAck, Answer::Took, Phase::Open, None),
+    ];
+    let way = Way {
+        role: Role::Client,
+        opens: true,
+        packets: &[RESPONSE],
+    };
+    assert!(rt; keeps(rt.alloc(), &way, rows)?);
+    Ok(())
+}
+
+#[test]
+fn client_in_open(rt: HostRuntime) -> Result<(), Fail> {
+    let rows = [
+        (
+            PacketType::Request,
+            Answer::Synced,
+            Phase::Open,
+            Some(PacketType::Sync),
+        ),
+        (
+            PacketType::Response,
+            Answer::Synced,
+            Phase::Open,
+            Some(PacketType::Sync),
+        ),
+        (PacketType::Data, Answer::NotBuilt, Phase::Open, None),
+        (PacketType::Ack, Answer::Took, Phase::Open, None),
+        (PacketType::DataAck, Answer::NotBuilt, Phase::Open, None),
+        (PacketType::CloseReq, Answer::NotBuilt, Phase::Open, None),
+        (PacketType::Close, Answer::NotBuilt, Phase::Open, None),
+        (PacketType::Reset, Answer::WasReset, Phase::TimeWait, None),
+        (
+            PacketType::Sync,
+            Answer::Took,
+            Phase::Open,
+            Some(PacketType::SyncAck),
+        ),
+        (PacketType::SyncAck, Answer::Took, Phase::Open, None),
+    ];
+    let way = Way {
+        role: Role::Client,
+        opens: true,
+        packets: &[RESPONSE, SERVER_ACK],
+    };
+    assert!(rt; keeps(rt.alloc(), &way, rows)?);
+    Ok(())
+}
+
+#[test]
+fn client_in_time_wait(rt: HostRuntime) -> Result<(), Fail> {
+    let rows = [
+        (
+            PacketType::Request,
+            Answer::SentReset(3, 0),
+            Phase::TimeWait,
+            Some(PacketType::Reset),
+        ),
+        (
+            PacketType::Response,
+            Answer::SentReset(3, 0),
+            Phase::TimeWait,
+            Some(PacketType::Reset),
+        ),
+        (
+            PacketType::Data,
+            Answer::SentReset(3, 0),
+            Phase::TimeWait,
+            Some(PacketType::Reset),
+        ),
+        (
+            PacketType::Ack,
+            Answer::SentReset(3, 0),
+            Phase::TimeWait,
+            Some(PacketType::Reset),
+        ),
+        (
+            PacketType::DataAck,
+            Answer::SentReset(3, 0),
+            Phase::TimeWait,
+            Some(PacketType::Reset),
+        ),
+        (
+            PacketType::CloseReq,
+            Answer::SentReset(3, 0),
+            Phase::TimeWait,
+            Some(PacketType::Reset),
+        ),
+        (
+            PacketType::Close,
+            Answer::SentReset(3, 0),
+            Phase::TimeWait,
+            Some(PacketType::Reset),
+        ),
+        (PacketType::Reset, Answer::Stray, Phase::TimeWait, None),
+        (
+            PacketType::Sync,
+            Answer::SentReset(3, 0),
+            Phase::TimeWait,
+            Some(PacketType::Reset),
+        ),
+        (
+            PacketType::SyncAck,
+            Answer::SentReset(3, 0),
+            Phase::TimeWait,
+            Some(PacketType::Reset),
+        ),
+    ];
+    let way = Way {
+        role: Role::Client,
+        opens: true,
+        packets: &[RESPONSE, SERVER_RESET],
+    };
+    assert!(rt; keeps(rt.alloc(), &way, rows)?);
+    Ok(())
+}
