@@ -6,3 +6,5 @@
 mod ends;
 #[cfg(test)]
 mod phases;
+#[cfg(test)]
+mod world;
