@@ -1,10 +1,9 @@
 -- Every schedule leaves the world safe. No frame carries an option yet and no number is marked, so each step keeps this: all
 -- frames are silent and no number was processed. What Safe says then follows.
-use Rattle.std.proofs.Common.{◌≡◌, refl, ap, sym, ◌∙◌, subst, ℕ, zero, suc, List, [], ◌∷◌, ◌++◌, ◌||◌, Option, Some, None, true, false, Bool, if◌then◌else◌, Result, Ok, Err, IsTrue, slice_get, length, slice_index, Contains, arith, ◌<◌}
+use Rattle.std.proofs.Common.{◌≡◌, refl, ap, sym, ◌∙◌, subst, ℕ, zero, suc, List, [], ◌∷◌, ◌||◌, Option, Some, None, true, false, Bool, if◌then◌else◌, Result, Ok, Err, slice_get, length, arith}
 use Rattle.std.specs.List.{list_any}
 use Rattle.dccp_endpoint.specs.Receiving.{receives}
 use Rattle.dccp_endpoint.specs.Steps.{Step, opens}
-use Rattle.dccp_endpoint.specs.End.{EndState, floor_of}
 use Rattle.dccp_endpoint.specs.declared.config.Config.{Config}
 use Rattle.two_ends.specs.declared.frames.SentFrame.{SentFrame}
 use Rattle.two_ends.specs.declared.event.Side.{Side}
@@ -16,9 +15,9 @@ use Rattle.two_ends.specs.declared.event.WorldFault.TheVariants as fault
 use Rattle.two_ends.specs.World.{Half, WorldState, HalfStep, WorldStep, kept, moved, half_of, other, with_half, happens, arrives, unless_full, is_full, world_after, run, at_start, half_opens, half_receives}
 use Rattle.two_ends.specs.Lists.{last_shown, or_earlier}
 use Rattle.two_ends.specs.Frames.{options_in}
-use Rattle.two_ends.specs.Pairs.{Pair, Saying, Nothing, said_by, said_in, place_at, held_at}
-use Rattle.two_ends.specs.Negotiated.{Agree, AreOfOneMind, IsSettled, Given, Origin, Initial, is_change, side_changed, was_negotiated, list_said, value_said, last_list, last_value}
-use Rattle.two_ends.specs.Reported.{Once, IsOnce, Heard, Truthful, Told}
+use Rattle.two_ends.specs.Pairs.{Pair, Nothing, said_by, said_in, place_at}
+use Rattle.two_ends.specs.Negotiated.{AreOfOneMind, Initial, is_change, side_changed, was_negotiated, list_said, last_list}
+use Rattle.two_ends.specs.Reported.{Once, Truthful, Told}
 use Rattle.dccp_options.specs.Vectors.{report_of}
 use Rattle.feature_lists.specs.Features.{number_of}
 use Rattle.two_ends.specs.Safe.{Safe}

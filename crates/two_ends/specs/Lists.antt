@@ -1,5 +1,5 @@
 -- Words on lists of frames.
-use Rattle.std.specs.Prelude.{Bool, List, [], ◌∷◌, Option, Some, None}
+use Rattle.std.specs.Prelude.{List, [], ◌∷◌, Option, Some, None}
 
 -- what the last member shows that shows something
 abbrev pub or_earlier : {A : Type 0} → Option A → Option A → Option A

@@ -9,7 +9,7 @@ use Rattle.two_ends.specs.declared.frames.SentFrame.{SentFrame}
 use Rattle.two_ends.specs.declared.event.Side.{Side}
 use Rattle.two_ends.specs.declared.event.Side.TheVariants.{Client, Server}
 use Rattle.two_ends.specs.Lists.{last_shown}
-use Rattle.two_ends.specs.World.{WorldState, half_of, other}
+use Rattle.two_ends.specs.World.{WorldState, half_of}
 use Rattle.two_ends.specs.Pairs.{Pair, Saying, Nothing, Change, Confirm, held_at, said_by}
 
 abbrev pub is_change : Saying → Bool

@@ -1,5 +1,5 @@
 -- A feature at its location, as the two ends hold it and as their frames speak of it (RFC 4340, sections 6 and 6.1).
-use Rattle.std.specs.Prelude.{ℕ, ◌==◌, ◌&&◌, ◌||◌, Bool, List, [], ◌∷◌, Option, Some, None, Result, Ok, Err, if◌then◌else◌}
+use Rattle.std.specs.Prelude.{ℕ, ◌==◌, ◌||◌, Bool, List, [], ◌∷◌, Option, Some, None, Result, Ok, Err, if◌then◌else◌}
 use Rattle.dccp_options.specs.Grammar.{Entry}
 use Rattle.dccp_options.specs.declared.option.OptFault.{OptFault}
 use Rattle.feature_lists.specs.Features.{number_of}
@@ -10,7 +10,7 @@ use Rattle.dccp_endpoint.specs.End.{held_of}
 use Rattle.dccp_endpoint.specs.declared.held.Held.{Held}
 use Rattle.two_ends.specs.declared.event.Side.{Side}
 use Rattle.two_ends.specs.declared.event.Side.TheVariants.{Client, Server}
-use Rattle.two_ends.specs.World.{WorldState, half_of, other}
+use Rattle.two_ends.specs.World.{WorldState, half_of}
 use Rattle.two_ends.specs.Frames.{options_in}
 
 -- The feature at this side: the row Here of its end and the row There of the other's.

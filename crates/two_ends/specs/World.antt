@@ -5,7 +5,6 @@ use Rattle.dccp_endpoint.specs.End.{EndState, fresh, floor_of}
 use Rattle.dccp_endpoint.specs.Steps.{Step, opens}
 use Rattle.dccp_endpoint.specs.Receiving.{receives}
 use Rattle.dccp_endpoint.specs.declared.config.Config.{Config}
-use Rattle.dccp_endpoint.specs.declared.outcome.Outcome.{Outcome}
 use Rattle.dccp_endpoint.specs.declared.outcome.OpenFault.{OpenFault}
 use Rattle.two_ends.specs.declared.frames.SentFrame.{SentFrame}
 use Rattle.two_ends.specs.declared.event.Side.{Side}
@@ -14,7 +13,6 @@ use Rattle.two_ends.specs.declared.event.Event.{Event}
 use Rattle.two_ends.specs.declared.event.Event.TheVariants as event
 use Rattle.two_ends.specs.declared.event.Seen.{Seen}
 use Rattle.two_ends.specs.declared.event.Seen.TheVariants as seen
-use Rattle.two_ends.specs.declared.event.Refusal.{Refusal}
 use Rattle.two_ends.specs.declared.event.WorldFault.{WorldFault}
 use Rattle.two_ends.specs.declared.event.WorldFault.TheVariants as fault
 use Rattle.two_ends.specs.declared.event.Refusal.TheVariants as refusal

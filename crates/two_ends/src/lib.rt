@@ -8,9 +8,7 @@
 mod event;
 mod frames;
 mod half;
-mod pair;
-#[cfg(test)]
-mod tests;
+mod sides;
 mod world;
 
 pub use crate::event::{Event, Refusal, Seen, Side, WorldFault};

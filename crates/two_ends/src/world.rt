@@ -7,7 +7,7 @@ ghost use Rattle.two_ends.specs.declared.event.Event.{Event};
 ghost use Rattle.dccp_endpoint.specs.declared.config.Config.{Config};
 ghost use Rattle.dccp_states.specs.declared.phase.Role.TheVariants as role;
 
-use crate::pair::Pair;
+use crate::sides::Sides;
 use crate::{Event, Seen, SentFrame, Side, WorldFault};
 use dccp_endpoint::{Config, Endpoint};
 use seq_circle::NoMemory;
@@ -18,7 +18,7 @@ use std::marker::Model;
 /// world is safe, whatever was delivered, lost, repeated or reordered before.
 #[derive(Drop)]
 pub struct World {
-    pair: Pair,
+    sides: Sides,
 }
 
 impl Model for World {
@@ -27,9 +27,9 @@ impl Model for World {
 
     ghost Value = { WorldState };
 
-    ghost view = { λ w. w.pair };
+    ghost view = { λ w. w.sides };
 
-    ghost invariant = { λ w. Reached w.pair };
+    ghost invariant = { λ w. Reached w.sides };
 }
 
 impl World {
@@ -45,8 +45,8 @@ impl World {
         ensures start { IfOk result (λ w. w ≡ at_start client server) }
         ensures safe { IfOk result (λ w. Safe w) }
     {
-        let pair = Pair::new(alloc, client, server)?;
-        Ok(World { pair })
+        let sides = Sides::new(alloc, client, server)?;
+        Ok(World { sides })
     }
 
     /// Lets one event happen: exactly what `happens` says of it. Refusals, in this order: `NoSuchFrame` exactly where a
@@ -60,28 +60,28 @@ impl World {
         ensures err { OnErr result (self.new ≡ self.old) }
         ensures safe { Safe self.new }
     {
-        self.pair.step(event)
+        self.sides.step(event)
     }
 
     /// All frames that a side ever sent, oldest first.
     pub fn frames(&self, side: Side) -> &[SentFrame]
         ensures { result.now ≡ (half_of self.now side).frames }
     {
-        self.pair.half(side).frames()
+        self.sides.half(side).frames()
     }
 
     /// The numbers that a side processed, in order.
     pub fn processed(&self, side: Side) -> &[u64]
         ensures { result.now ≡ (half_of self.now side).processed }
     {
-        self.pair.half(side).processed()
+        self.sides.half(side).processed()
     }
 
     /// The end of a side.
     pub fn end(&self, side: Side) -> &Endpoint
         ensures { result.now ≡ (half_of self.now side).end }
     {
-        self.pair.half(side).end()
+        self.sides.half(side).end()
     }
 }
 

@@ -13,29 +13,29 @@ use std::marker::Model;
 const MOST_FRAMES: usize = (1 << 47) - 1;
 
 #[derive(Drop)]
-pub(crate) struct Pair {
+pub(crate) struct Sides {
     client: HalfWorld,
     server: HalfWorld,
 }
 
-impl Model for Pair {
+impl Model for Sides {
     ghost use Rattle.two_ends.specs.World.{WorldState};
 
     ghost Value = { WorldState };
 
-    ghost view = { λ p. record { client = p.client; server = p.server } };
+    ghost view = { λ s. record { client = s.client; server = s.server } };
 }
 
-impl Pair {
+impl Sides {
     ghost use Rattle.std.specs.Prelude.{◌≡◌, ◌↔◌, ◌⊎◌, IfOk, IfErr, OnErr, Ok, Err, slice_get, Option, Some, None};
     ghost use Rattle.two_ends.specs.World.{at_start, happens, half_of, unless_full, half_opens, arrives};
 
-    pub(crate) fn new(alloc: Global, client: Config, server: Config) -> Result<Pair, NoMemory>
-        ensures { IfOk result (λ pair. pair ≡ at_start client server) }
+    pub(crate) fn new(alloc: Global, client: Config, server: Config) -> Result<Sides, NoMemory>
+        ensures { IfOk result (λ sides. sides ≡ at_start client server) }
     {
         let client = HalfWorld::new(alloc, client)?;
         let server = HalfWorld::new(alloc, server)?;
-        Ok(Pair { client, server })
+        Ok(Sides { client, server })
     }
 
     pub(crate) fn half(&self, side: Side) -> &HalfWorld
