@@ -16,6 +16,7 @@ use Rattle.two_ends.specs.declared.event.WorldFault.{WorldFault}
 use Rattle.two_ends.specs.declared.event.WorldFault.TheVariants as fault
 use Rattle.two_ends.specs.World.{Half, WorldState, HalfStep, WorldStep, kept, moved, half_of, half_at_start, other, with_half, happens, arrives, unless_full, is_full, world_after, run, at_start, half_opens, half_receives}
 use Rattle.two_ends.specs.Frames.{packet_of}
+use Rattle.two_ends.specs.Reached.{Reached}
 use Rattle.two_ends.specs.Numbered.{IsAcknowledged, AreNumbered, IsNumbered, IsBareReset, Facts, Hears, is_live, number_in}
 use Rattle.two_ends.proofs.Numbering.{GoesOn, IsNext, FitsFrame, receives-on, opens-on}
 use Rattle.two_ends.proofs.Hearing.{IsKnownPacket, known-packet, reset-packet, receives-hears, opens-hears}
@@ -368,3 +369,6 @@ pub every-run : (client server : Config) (events : List Event) → client.iss < 
 every-run client server events client_fits server_fits =
     kept-facts client.iss server.iss client_fits server_fits (run (at_start client server) events)
     (run-kept client.iss server.iss client_fits server_fits (at_start client server) events (start-kept client server client_fits server_fits))
+
+pub reached-facts : (w : WorldState) → Reached w → Facts w
+reached-facts w r = subst Facts (sym r.same) (every-run r.client r.server r.events r.client_fits r.server_fits)

@@ -1,20 +1,30 @@
 -- One more event leads from a world that a schedule reached to another.
-use Rattle.std.proofs.Common.{◌≡◌, refl, ap, sym, ◌∙◌, subst, List, [], ◌∷◌, ◌++◌, Result, Ok, Err, IfOk, OnErr}
+use Rattle.std.proofs.Common.{◌≡◌, refl, ap, sym, ◌∙◌, subst, ◌^◌, ◌<◌, List, [], ◌∷◌, ◌++◌, Result, Ok, Err, IfOk, OnErr}
 use Rattle.dccp_endpoint.specs.declared.config.Config.{Config}
 use Rattle.dccp_states.specs.declared.phase.Role.TheVariants.{Client, Server}
 use Rattle.two_ends.specs.declared.event.Event.{Event}
 use Rattle.two_ends.specs.declared.event.Seen.{Seen}
 use Rattle.two_ends.specs.declared.event.WorldFault.{WorldFault}
-use Rattle.two_ends.specs.World.{WorldState, WorldStep, happens, world_after, run, at_start}
+use Rattle.two_ends.specs.World.{WorldState, happens, world_after, run, at_start}
 use Rattle.two_ends.specs.Reached.{Reached}
 
 pub run-snoc : (w : WorldState) (events : List Event) (event : Event) → run w (events ++ event ∷ []) ≡ world_after (run w events) (happens (run w events) event)
 run-snoc w [] event = refl
 run-snoc w (e ∷ events) event = run-snoc (world_after w (happens w e)) events event
 
-pub start-reached : (client server : Config) → client.role ≡ Client → server.role ≡ Server → (w : WorldState) → w ≡ at_start client server → Reached w
-start-reached client server is_client is_server w same =
-    record { client = client; server = server; is_client = is_client; is_server = is_server; events = []; same = same }
+pub start-reached : (client server : Config) → client.role ≡ Client → server.role ≡ Server → client.iss < 2 ^ 48 → server.iss < 2 ^ 48
+    → (w : WorldState) → w ≡ at_start client server → Reached w
+start-reached client server is_client is_server client_fits server_fits w same =
+    record {
+      client = client;
+      server = server;
+      is_client = is_client;
+      is_server = is_server;
+      client_fits = client_fits;
+      server_fits = server_fits;
+      events = [];
+      same = same;
+    }
 
 -- what `step` answers, and the world that it leaves
 abbrev pub Leaves : WorldState → Event → WorldState → Result Seen WorldFault → Type 0
@@ -34,6 +44,8 @@ step-reached old event new (Ok seen) took r =
       server = r.server;
       is_client = r.is_client;
       is_server = r.is_server;
+      client_fits = r.client_fits;
+      server_fits = r.server_fits;
       events = r.events ++ event ∷ [];
       same =
           sym (ap (world_after old) took)

@@ -15,7 +15,13 @@ use std::alloc::Global;
 use std::marker::Model;
 
 /// A client, a server, and every frame that either ever sent. [`World::step`] lets one thing happen. After each step the
-/// world is safe, whatever was delivered, lost, repeated or reordered before.
+/// world is safe and its facts hold, whatever was delivered, lost, repeated or reordered before.
+///
+/// The facts: a side's frames, but for Resets without a connection, carry its first number, the next, and so on up to its
+/// greatest number sent, in this order (RFC 4340, section 7.1); there are fewer than 2^47. A Reset without a connection
+/// carries no option. The first and the greatest number that an end received are numbers of such frames of the other side,
+/// and the first is not the later one. Once it has sent such a frame, the greatest number that it knows acknowledged is that
+/// of one of its own. A Reset that arrives moves nothing received, nothing acknowledged and no feature.
 #[derive(Drop)]
 pub struct World {
     sides: Sides,
@@ -37,14 +43,19 @@ impl World {
     ghost use Rattle.two_ends.specs.World.{at_start, happens, half_of};
     ghost use Rattle.dccp_states.specs.declared.phase.Role.TheVariants as role;
     ghost use Rattle.two_ends.specs.Safe.{Safe};
+    ghost use Rattle.two_ends.specs.Numbered.{Facts};
 
-    /// Two ends of these configurations that have sent and received nothing.
+    /// Two ends of these configurations that have sent and received nothing. The world is safe and its facts hold: no frame has a
+    /// number yet, nothing was heard, and a Reset would move nothing received.
     pub fn new(alloc: Global, client: Config, server: Config) -> Result<World, NoMemory>
         requires client { client.role ≡ role.Client }
         requires server { server.role ≡ role.Server }
         ensures start { IfOk result (λ w. w ≡ at_start client server) }
         ensures safe { IfOk result (λ w. Safe w) }
+        ensures facts { IfOk result (λ w. Facts w) }
     {
+        first_number_fits(&client);
+        first_number_fits(&server);
         let sides = Sides::new(alloc, client, server)?;
         Ok(World { sides })
     }
@@ -53,12 +64,17 @@ impl World {
     /// delivery's index is not below the number of frames of its sender, `Full` exactly where otherwise the side that
     /// would act has sent 2^47 - 1 frames, `NoMemory`. Each leaves the world unchanged: all memory that the step may
     /// need is taken before it.
+    ///
+    /// After it, refused or not, the world is safe and its facts hold: the frames of a side but Resets without a connection
+    /// carry its first number, the next, and so on; what an end heard are numbers of the other side's frames; a Reset moves
+    /// nothing received; and what an end knows acknowledged is a number of its own.
     pub fn step(&mut self, event: &Event) -> Result<Seen, WorldFault>
         ensures ok { IfOk result (λ seen. happens self.old event.now ≡ Ok (record { world = self.new; seen = seen })) }
         ensures no_such_frame { (result ≡ Err WorldFault.NoSuchFrame) ↔ (happens self.old event.now ≡ Err WorldFault.NoSuchFrame) }
         ensures full { (result ≡ Err WorldFault.Full) ↔ (happens self.old event.now ≡ Err WorldFault.Full) }
         ensures err { OnErr result (self.new ≡ self.old) }
         ensures safe { Safe self.new }
+        ensures facts { Facts self.new }
     {
         self.sides.step(event)
     }
@@ -85,17 +101,24 @@ impl World {
     }
 }
 
-/// The world is safe after every list of events, from any two configurations.
+// Contracts learn that a sequence number is below 2^48 where it is read.
+fn first_number_fits(config: &Config)
+    ensures { config.now.iss < 2 ^ 48 }
+{
+    let _ = config.iss.get();
+}
+
+/// The world is safe after every list of events, from any configurations of a client and a server.
 pub fn every_run_is_safe()
     ensures { (client server : Config) (events : List Event) → client.role ≡ role.Client → server.role ≡ role.Server → Safe (run (at_start client server) events) }
 {}
 
-/// The world's facts after every list of events, from any two configurations. A side's frames, but for Resets without a
-/// connection, carry its first number, the next, and so on up to its greatest number sent, in this order (RFC 4340, section
-/// 7.1); there are fewer than 2^47. A Reset without a connection carries no option. Once an end has received a first number,
-/// that and its greatest number received are numbers of numbered frames of the other side, and the first is not the later
-/// one; once it has sent a numbered frame, the greatest number that it knows acknowledged is that of one of its own. A Reset
-/// that arrives moves neither the received numbers, nor that one, nor a feature.
+/// The world's facts after every list of events, from any two configurations, whatever their roles. A side's frames, but
+/// for Resets without a connection, carry its first number, the next, and so on up to its greatest number sent, in this
+/// order (RFC 4340, section 7.1); there are fewer than 2^47. A Reset without a connection carries no option. Once an end has
+/// received a first number, that and its greatest number received are numbers of numbered frames of the other side, and the
+/// first is not the later one; once it has sent a numbered frame, the greatest number that it knows acknowledged is that of
+/// one of its own. A Reset that arrives moves neither the received numbers, nor that one, nor a feature.
 pub fn every_run_numbers_its_frames()
     ensures { (client server : Config) (events : List Event) → client.iss < 2 ^ 48 → server.iss < 2 ^ 48 → Facts (run (at_start client server) events) }
 {}

@@ -1,6 +1,6 @@
 -- One more event, or none.
-use Rattle.std.proofs.Common.{Ok, Err}
 use Rattle.two_ends.proofs.Keeping.{reached-safe}
+use Rattle.two_ends.proofs.Numbers.{reached-facts}
 use Rattle.two_ends.proofs.Reaching.{step-reached, leaves}
 use Rattle.two_ends.proofs.world.World.step.Goals as goal
 
@@ -9,3 +9,6 @@ invariant_of-self c = step-reached _ c.args.event.now _ c.step.result (leaves _ 
 
 pub returns-clause-safe : goal.returns-clause-safe
 returns-clause-safe c = reached-safe _ (invariant_of-self c)
+
+pub returns-clause-facts : goal.returns-clause-facts
+returns-clause-facts c = reached-facts _ (invariant_of-self c)
