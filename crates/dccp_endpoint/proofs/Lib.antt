@@ -1,2 +1,4 @@
 pub mod Frames
+pub mod Phases
 pub mod Telling
+pub mod Exactly

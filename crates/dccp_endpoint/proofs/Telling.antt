@@ -1,6 +1,12 @@
--- Each step of `receive` is what its outcome tells.
-use Rattle.std.proofs.Common.{◌≡◌, refl, ap, sym, ◌∙◌, subst, ◌==◌, ℕ, List, Option, Some, None, Bool, true, false, if◌then◌else◌, Result, Ok, Err}
-use Rattle.dccp_packets.specs.Grammar.{Parts, packet_type}
+-- Each step of `receive` is what its outcome tells, and no other step is.
+--
+-- Forward, each definition of the sixteen steps is walked through once, with the facts that led there: `Arrived` from step 1,
+-- `IsValid` from steps 3 to 6. A packet that opens or answers a Request is never out of place, since only a server waits in LISTEN
+-- and only a client in REQUEST. Back, each cause is put into the definitions from the top.
+use Rattle.std.proofs.Common.{◌≡◌, refl, ap, sym, ◌∙◌, subst, ◌==◌, ℕ, List, Option, Some, None, Bool, true, false, not, if◌then◌else◌, Result, Ok, Err}
+use Rattle.std.proofs.lemmas.Bool.{eqb-true, eqb-false}
+use Rattle.seq_circle.specs.Circle.{is_before}
+use Rattle.dccp_packets.specs.Grammar.{Parts, decoded, packet_type}
 use Rattle.dccp_packets.specs.declared.header.Kind.{Kind}
 use Rattle.dccp_packets.specs.declared.header.Kind.TheVariants as kind
 use Rattle.dccp_packets.specs.declared.header.Number.{Number}
@@ -12,148 +18,193 @@ use Rattle.dccp_sum.specs.Checksum.{checked}
 use Rattle.dccp_sum.specs.declared.packet_sum.SumFault.{SumFault}
 use Rattle.dccp_states.specs.Entrance.{gate}
 use Rattle.dccp_states.specs.Phases.{after}
+use Rattle.dccp_states.specs.Unexpected.{unexpected}
 use Rattle.dccp_states.specs.declared.entrance.Entrance.{Entrance}
 use Rattle.dccp_states.specs.declared.entrance.Entrance.TheVariants as entrance
 use Rattle.dccp_states.specs.declared.phase.Phase.{Phase}
 use Rattle.dccp_states.specs.declared.phase.Phase.TheVariants as phase
+use Rattle.dccp_states.specs.declared.phase.Role.{Role}
+use Rattle.dccp_states.specs.declared.phase.Role.TheVariants as role
 use Rattle.dccp_states.specs.declared.reply.Reply.{Reply}
 use Rattle.dccp_states.specs.declared.reply.Reply.TheVariants as reply
-use Rattle.validity_windows.specs.Verdict.{verdict, is_ack_within}
-use Rattle.validity_windows.specs.Windows.{ack_low, ack_high}
 use Rattle.validity_windows.specs.declared.verdict.Verdict.{Verdict}
 use Rattle.validity_windows.specs.declared.verdict.Verdict.TheVariants as verdicts
-use Rattle.dccp_endpoint.specs.Arrivals.{ack_of, service_of}
-use Rattle.dccp_endpoint.specs.End.{EndState}
-use Rattle.dccp_endpoint.specs.Faults.{first_fault}
-use Rattle.dccp_endpoint.specs.Receiving.{Arrival, accepts, answers, bare_number, by_fault, by_form, by_packet, by_ports, by_sum, detail_of, enters, goes_on, is_of_connection, is_open, judged, moved_to, moves, needs_more, options_in, packet_error, passage, passes, plain, raised, receives, replies, resets, resets_bare, started, syncs, takes, torn, with_osr}
-use Rattle.dccp_endpoint.specs.Steps.{Step, frame_of, next_number}
-use Rattle.dccp_endpoint.specs.Telling.{Tells, IsReset}
+use Rattle.dccp_endpoint.specs.Arrivals.{service_of}
+use Rattle.dccp_endpoint.specs.End.{EndState, IsProper, is_phase_of}
+use Rattle.dccp_endpoint.specs.Faults.{first_fault, is_unbuilt}
+use Rattle.dccp_endpoint.specs.Receiving.{Arrival, accepts, answers, by_fault, by_form, by_packet, by_ports, by_sum, enters, is_of_connection, is_other_service, judged, moves, options_in, passage, passes, raised, receives, resets_bare, started, syncs, takes}
+use Rattle.dccp_endpoint.specs.Steps.{Step}
+use Rattle.dccp_endpoint.specs.Telling.{Arrived, IsIntact, OtherType, OtherRequest, NoConnection, OtherService, NoAnswer, WrongService, Faulted, Closes, Nowhere, Unasked, OutOfWindow, OutOfPlace, IsValid, Opens, Answers, Fits, AnswersWith, InWindow, Passed, Tells, acknowledges_sent, entrance_of, verdict_of}
 use Rattle.dccp_endpoint.specs.declared.outcome.Fault.{Fault}
 use Rattle.dccp_endpoint.specs.declared.outcome.Outcome.{Outcome}
 use Rattle.dccp_endpoint.specs.declared.passage.Passage.{Passage}
 use Rattle.dccp_endpoint.specs.declared.passage.Passage.TheVariants as passages
+use Rattle.dccp_endpoint.proofs.Phases.{accept-phase, accept-type, answer-phase, answer-type, listens-server, requests-client}
 
-pub record IsTold (before : EndState) (step : Step Outcome) : Type 0 where
-  pub told : Tells before step.answer step.after step.frame
+pub record IsTold (e : EndState) (bytes : List ℕ) (step : Step Outcome) : Type 0 where
+  pub told : Tells e bytes step.answer step.after step.frame
 
--- an end that sends the frames of another, under the same next number
-record SendsAs (before e : EndState) : Type 0 where
-  next : next_number e ≡ next_number before
-  frames : (number : ℕ) (kind : Kind) → frame_of e number kind ≡ frame_of before number kind
+-- Forward.
 
-self-as : (e : EndState) → SendsAs e e
-self-as e = record { next = refl; frames = λ number kind. refl }
+-- what is left of step 7 once a packet is in its place
+in-place : (service unbuilt : Bool)
+    → (if service then passages.OtherService else if unbuilt then passages.Unbuilt else passages.Fine) ≡ passages.Misplaced → ⊥
+in-place true unbuilt is = cc is
+in-place false true is = cc is
+in-place false false is = cc is
 
-if-told : (before : EndState) (test : Bool) (x y : Step Outcome) → IsTold before x → IsTold before y → IsTold before (if test then x else y)
-if-told before true x y p q = p
-if-told before false x y p q = q
+request-in-place : (later : Bool) → unexpected role.Server phase.Respond types.Request later ≡ false
+request-in-place true = refl
+request-in-place false = refl
 
-reset-told : (before e : EndState) (ack : ℕ) (fault : Fault) → SendsAs before e → IsTold before (resets e ack fault)
-reset-told before e ack fault as_before =
-    record { told = record { number = next_number e; ack = ack; is_sent = ap Some (as_before.frames (next_number e) (kind.Reset ack fault.code (detail_of fault))) } }
+response-in-place : (later : Bool) → unexpected role.Client phase.Request types.Response later ≡ false
+response-in-place true = refl
+response-in-place false = refl
 
-bare-told : (e : EndState) (a : Arrival) (code : ℕ) → IsTold e (resets_bare e a code)
-bare-told e a code = record { told = record { number = bare_number (ack_of a.kind); ack = a.number; is_sent = refl } }
+-- a packet in its place
+placed : (e : EndState) (ph : Phase) (a : Arrival) → unexpected e.config.role ph (packet_type a.kind) (not (is_before a.number e.marks.osr)) ≡ false
+    → passage e ph a ≡ passages.Misplaced → ⊥
+placed e ph a is misplaced =
+    in-place (is_other_service e ph a.kind) (is_unbuilt ph (packet_type a.kind) (options_in a))
+    (sym (ap (λ (out : Bool). if out then passages.Misplaced else if is_other_service e ph a.kind then passages.OtherService
+    else if is_unbuilt ph (packet_type a.kind) (options_in a) then passages.Unbuilt else passages.Fine) is)
+    ∙ misplaced)
 
-sync-told : (before e : EndState) (number : ℕ) → SendsAs before e → IsTold before (syncs e number)
-sync-told before e number as_before =
-    record {
-      told = (
-        as_before.next,
-        ap (λ (next : ℕ). Some (frame_of e next (kind.Sync number))) as_before.next
-            ∙ ap Some (as_before.frames (next_number before) (kind.Sync number)),
-      );
-    }
+opens-placed : (e : EndState) (a : Arrival) → IsProper e → entrance_of e a ≡ entrance.Accept → passage e phase.Respond a ≡ passages.Misplaced → ⊥
+opens-placed e a proper is =
+    let late : Bool = not (is_before a.number e.marks.osr) in
+    let listens : e.phase ≡ phase.Listen = accept-phase e.phase (packet_type a.kind) is in
+    let server : e.config.role ≡ role.Server = listens-server e.config.role (subst (λ (p : Phase). is_phase_of p e.config.role ≡ true) listens proper.phase_fits) in
+    placed e phase.Respond a
+    (ap (λ (r : Role). unexpected r phase.Respond (packet_type a.kind) late) server
+    ∙ ap (λ (t : PacketType). unexpected role.Server phase.Respond t late) (accept-type e.phase (packet_type a.kind) is)
+    ∙ request-in-place late)
 
-replies-told : (before e : EndState) (number : ℕ) (r : Reply) → SendsAs before e → IsTold before (replies e number r)
-replies-told before e number reply.ResetClosed as_before = reset-told before e e.marks.gsr (plain 1) as_before
-replies-told before e number reply.Nothing as_before = record { told = tt }
-replies-told before e number reply.Response as_before = record { told = tt }
-replies-told before e number reply.Ack as_before = record { told = tt }
-replies-told before e number reply.Close as_before = record { told = tt }
-replies-told before e number reply.SyncAck as_before = record { told = tt }
-replies-told before e number reply.Torn as_before = record { told = tt }
+answers-placed : (e : EndState) (a : Arrival) → IsProper e → entrance_of e a ≡ entrance.InRequest → (packet_type a.kind ≡ types.Reset → ⊥)
+    → passage e e.phase a ≡ passages.Misplaced → ⊥
+answers-placed e a proper is no_reset =
+    let late : Bool = not (is_before a.number e.marks.osr) in
+    let requests : e.phase ≡ phase.Request = answer-phase e.phase (packet_type a.kind) is in
+    let client : e.config.role ≡ role.Client = requests-client e.config.role (subst (λ (p : Phase). is_phase_of p e.config.role ≡ true) requests proper.phase_fits) in
+    let response : packet_type a.kind ≡ types.Response =
+    answer-type (packet_type a.kind) (ap (λ (p : Phase). gate p (packet_type a.kind)) (sym requests) ∙ is) no_reset in
+    placed e e.phase a
+    (ap (λ (p : Phase). unexpected e.config.role p (packet_type a.kind) late) requests
+    ∙ ap (λ (r : Role). unexpected r phase.Request (packet_type a.kind) late) client
+    ∙ ap (λ (t : PacketType). unexpected role.Client phase.Request t late) response
+    ∙ response-in-place late)
 
-osr-as : (before e : EndState) (number : ℕ) (ph : Phase) (opened : Bool) → SendsAs before e → SendsAs before (record (with_osr e number opened) { phase = ph })
-osr-as before e number ph true as_before = record { next = as_before.next; frames = as_before.frames }
-osr-as before e number ph false as_before = record { next = as_before.next; frames = as_before.frames }
+moves-told : (e : EndState) (bytes : List ℕ) (a : Arrival) (entered : EndState) → Passed e bytes a entered passages.Fine → first_fault (options_in a) ≡ None
+    → (to : Phase × Reply) → after entered.phase (packet_type a.kind) ≡ to → IsTold e bytes (moves entered a to)
+moves-told e bytes a entered passed none (ph, reply.ResetClosed) same =
+    record { told = Closes a entered (record { passed = passed; no_fault = none; moved = sym (ap (moves entered a) same) }) }
+moves-told e bytes a entered passed none (ph, _) same =
+    record { told = record { packet = a; entered = entered; processed = record { passed = passed; no_fault = none; moved = sym (ap (moves entered a) same) } } }
 
-moves-told : (before e : EndState) (a : Arrival) (to : Phase × Reply) → SendsAs before e → IsTold before (moves e a to)
-moves-told before e a to as_before =
-    replies-told before (moved_to e to.0 a.number) a.number to.1 (osr-as before e a.number to.0 _ as_before)
+fault-told : (e : EndState) (bytes : List ℕ) (a : Arrival) (entered : EndState) → Passed e bytes a entered passages.Fine
+    → (fault : Option Fault) → first_fault (options_in a) ≡ fault → IsTold e bytes (by_fault entered a fault)
+fault-told e bytes a entered passed (Some fault) same = record { told = Faulted a entered fault passed same (refl, refl) (refl, refl) }
+fault-told e bytes a entered passed None same = moves-told e bytes a entered passed same (after entered.phase (packet_type a.kind)) refl
 
-fault-told : (before e : EndState) (a : Arrival) (fault : Option Fault) → SendsAs before e → IsTold before (by_fault e a fault)
-fault-told before e a (Some fault) as_before =
-    reset-told before (record e { phase = phase.Closed }) e.marks.gsr fault (record { next = as_before.next; frames = as_before.frames })
-fault-told before e a None as_before = moves-told before e a (after e.phase (packet_type a.kind)) as_before
+passes-told : (e : EndState) (bytes : List ℕ) (a : Arrival) (entered : EndState) → Arrived e bytes a → IsValid e a entered
+    → (passage e entered.phase a ≡ passages.Misplaced → IsTold e bytes (syncs entered a.number))
+    → (how : Passage) → passage e entered.phase a ≡ how → IsTold e bytes (passes e entered a how)
+passes-told e bytes a entered arrived valid misplaced passages.Misplaced same = misplaced same
+passes-told e bytes a entered arrived valid misplaced passages.OtherService same =
+    record { told = WrongService a entered (record { arrived = arrived; valid = valid; passes_so = same }) (refl, refl) (refl, refl) }
+passes-told e bytes a entered arrived valid misplaced passages.Unbuilt same =
+    record { told = (record { packet = a; entered = entered; passed = record { arrived = arrived; valid = valid; passes_so = same } }, (refl, refl)) }
+passes-told e bytes a entered arrived valid misplaced passages.Fine same =
+    fault-told e bytes a entered (record { arrived = arrived; valid = valid; passes_so = same }) (first_fault (options_in a)) refl
 
--- what needs a part that is not built was turned away before
-passes-told : (before e : EndState) (a : Arrival) (how : Passage) → SendsAs before e → IsTold before (passes before e a how)
-passes-told before e a passages.Misplaced as_before = sync-told before e a.number as_before
-passes-told before e a passages.OtherService as_before =
-    reset-told before (record e { phase = phase.Closed }) e.marks.gsr (plain 8) (record { next = as_before.next; frames = as_before.frames })
-passes-told before e a passages.Unbuilt as_before = record { told = (refl, refl) }
-passes-told before e a passages.Fine as_before = fault-told before e a (first_fault (options_in a)) as_before
+raised-told : (e : EndState) (bytes : List ℕ) (a : Arrival) → Arrived e bytes a → IsValid e a (raised e a)
+    → IsTold e bytes (passes e (raised e a) a (passage e e.phase a))
+raised-told e bytes a arrived valid =
+    passes-told e bytes a (raised e a) arrived valid
+    (λ same. record { told = (OutOfPlace a (record { arrived = arrived; valid = valid; passes_so = same }) refl refl, refl) })
+    (passage e e.phase a) refl
 
-torn-told : (e : EndState) (a : Arrival) → IsTold e (torn e a)
-torn-told e a = record { told = (refl, refl) }
+takes-told : (e : EndState) (bytes : List ℕ) (a : Arrival) → Arrived e bytes a → entrance_of e a ≡ entrance.Check → verdict_of e a ≡ verdicts.Valid
+    → (t : PacketType) → packet_type a.kind ≡ t → IsTold e bytes (takes e a t)
+takes-told e bytes a arrived check valid types.Reset same =
+    record { told = (record { packet = a; arrived = arrived; is_reset = same; is_valid = InWindow check valid; has_code = refl }, refl, refl) }
+takes-told e bytes a arrived check valid _ same = raised-told e bytes a arrived (Fits check (λ reset. cc (same, reset)) valid refl)
 
-raised-told : (e : EndState) (a : Arrival) → IsTold e (passes e (raised e a) a (passage e e.phase a))
-raised-told e a = passes-told e (raised e a) a (passage e e.phase a) (record { next = refl; frames = λ number kind. refl })
+judged-told : (e : EndState) (bytes : List ℕ) (a : Arrival) → Arrived e bytes a → entrance_of e a ≡ entrance.Check
+    → (v : Verdict) → verdict_of e a ≡ v → IsTold e bytes (judged e a v)
+judged-told e bytes a arrived check verdicts.Valid same = takes-told e bytes a arrived check same (packet_type a.kind) refl
+judged-told e bytes a arrived check (verdicts.SyncFor number) same = record { told = (OutOfWindow a arrived check same refl, refl) }
+judged-told e bytes a arrived check verdicts.Drop same =
+    record { told = (record { packet = a; arrived = arrived; is_judged = check; is_bad = same }, (refl, refl)) }
 
-takes-told : (e : EndState) (a : Arrival) (t : PacketType) → IsTold e (takes e a t)
-takes-told e a types.Reset = torn-told e a
-takes-told e a _ = raised-told e a
+answers-told : (e : EndState) (bytes : List ℕ) (a : Arrival) → IsProper e → Arrived e bytes a → entrance_of e a ≡ entrance.InRequest
+    → (t : PacketType) → packet_type a.kind ≡ t → (fits : Bool) → acknowledges_sent e a ≡ fits → IsTold e bytes (answers e a t fits)
+answers-told e bytes a proper arrived is types.Reset same true fits =
+    record { told = (record { packet = a; arrived = arrived; is_reset = same; is_valid = AnswersWith is fits; has_code = refl }, refl, refl) }
+answers-told e bytes a proper arrived is types.Reset same false fits = record { told = (Unasked a arrived is same fits, (refl, refl)) }
+answers-told e bytes a proper arrived is _ same true fits =
+    let no_reset : (packet_type a.kind ≡ types.Reset → ⊥) = λ reset. cc (same, reset) in
+    passes-told e bytes a (started e e.phase a) arrived (Answers is no_reset fits refl)
+    (λ misplaced. absurd (answers-placed e a proper is no_reset misplaced))
+    (passage e e.phase a) refl
+answers-told e bytes a proper arrived is _ same false fits =
+    record { told = NoAnswer a arrived (OtherRequest is (λ reset. cc (same, reset)) fits) (refl, refl) (refl, refl) }
 
-judged-told : (e : EndState) (a : Arrival) (v : Verdict) → IsTold e (judged e a v)
-judged-told e a verdicts.Valid = takes-told e a (packet_type a.kind)
-judged-told e a (verdicts.SyncFor number) = sync-told e e number (self-as e)
-judged-told e a verdicts.Drop = record { told = (refl, refl) }
+accept-has-service : (e : EndState) (a : Arrival) → entrance_of e a ≡ entrance.Accept → service_of a.kind ≡ None → ⊥
+accept-has-service e a is none = lacks a.kind (accept-type e.phase (packet_type a.kind) is) none where
+  lacks : (k : Kind) → packet_type k ≡ types.Request → service_of k ≡ None → ⊥
+  lacks (kind.Request service) is none = cc none
+  lacks _ is none = cc is
 
-error-told : (e : EndState) (a : Arrival) → IsTold e (packet_error e a)
-error-told e a = reset-told e e a.number _ (self-as e)
+served-told : (e : EndState) (bytes : List ℕ) (a : Arrival) → IsProper e → Arrived e bytes a → entrance_of e a ≡ entrance.Accept
+    → (service : ℕ) → service_of a.kind ≡ Some service → (ours : Bool) → (service == e.config.service) ≡ ours
+    → IsTold e bytes (if ours then passes e (started e phase.Respond a) a (passage e phase.Respond a) else resets_bare e a 8)
+served-told e bytes a proper arrived is service same true ours =
+    passes-told e bytes a (started e phase.Respond a) arrived (Opens is (same ∙ ap Some (eqb-true service e.config.service ours)) refl)
+    (λ misplaced. absurd (opens-placed e a proper is misplaced))
+    (passage e phase.Respond a) refl
+served-told e bytes a proper arrived is service same false ours =
+    record { told = OtherService a service arrived is same (eqb-false service e.config.service ours) (refl, refl) (refl, refl) }
 
-started-told : (e : EndState) (ph : Phase) (a : Arrival) → IsTold e (passes e (started e ph a) a (passage e ph a))
-started-told e ph a = passes-told e (started e ph a) a (passage e ph a) (record { next = refl; frames = λ number kind. refl })
+accepts-told : (e : EndState) (bytes : List ℕ) (a : Arrival) → IsProper e → Arrived e bytes a → entrance_of e a ≡ entrance.Accept
+    → (service : Option ℕ) → service_of a.kind ≡ service → IsTold e bytes (accepts e a service)
+accepts-told e bytes a proper arrived is None same = absurd (accept-has-service e a is same)
+accepts-told e bytes a proper arrived is (Some service) same =
+    served-told e bytes a proper arrived is service same (service == e.config.service) refl
 
-answers-told : (e : EndState) (a : Arrival) (t : PacketType) (fits : Bool) → IsTold e (answers e a t fits)
-answers-told e a types.Reset true = torn-told e a
-answers-told e a types.Reset false = record { told = (refl, refl) }
-answers-told e a _ true = started-told e e.phase a
-answers-told e a _ false = error-told e a
+enters-told : (e : EndState) (bytes : List ℕ) (a : Arrival) → IsProper e → Arrived e bytes a → (how : Entrance) → entrance_of e a ≡ how
+    → IsTold e bytes (enters e a how)
+enters-told e bytes a proper arrived entrance.NoConnection is = record { told = NoConnection a arrived is (refl, refl) (refl, refl) }
+enters-told e bytes a proper arrived entrance.Stray is = record { told = (Nowhere a arrived is, (refl, refl)) }
+enters-told e bytes a proper arrived entrance.Accept is = accepts-told e bytes a proper arrived is (service_of a.kind) refl
+enters-told e bytes a proper arrived entrance.InRequest is =
+    answers-told e bytes a proper arrived is (packet_type a.kind) refl (acknowledges_sent e a) refl
+enters-told e bytes a proper arrived entrance.PacketError is = record { told = NoAnswer a arrived (OtherType is) (refl, refl) (refl, refl) }
+enters-told e bytes a proper arrived entrance.Check is = judged-told e bytes a arrived is (verdict_of e a) refl
 
-accepts-told : (e : EndState) (a : Arrival) (service : Option ℕ) → IsTold e (accepts e a service)
-accepts-told e a None = bare-told e a 3
-accepts-told e a (Some service) =
-    if-told e (service == e.config.service) _ (resets_bare e a 8) (started-told e phase.Respond a) (bare-told e a 8)
+form-told : (e : EndState) (bytes : List ℕ) (p : Parts) → IsProper e → IsIntact e bytes p → is_of_connection e p.header ≡ true
+    → (number : Number) → p.header.number ≡ number → IsTold e bytes (by_form e p number)
+form-told e bytes p proper intact ours (Long number) same =
+    let a : Arrival = record { number = number; kind = p.header.kind; options = p.options } in
+    enters-told e bytes a proper (record { packet = p; number = number; intact = intact; is_ours = ours; is_long = same; same = refl }) (entrance_of e a) refl
+form-told e bytes p proper intact ours (Short number) same =
+    record { told = (record { packet = p; number = number; intact = intact; is_ours = ours; is_short = same }, (refl, refl)) }
 
-enters-told : (e : EndState) (a : Arrival) (how : Entrance) → IsTold e (enters e a how)
-enters-told e a entrance.NoConnection = bare-told e a 3
-enters-told e a entrance.Stray = record { told = (refl, refl) }
-enters-told e a entrance.Accept = accepts-told e a (service_of a.kind)
-enters-told e a entrance.InRequest = answers-told e a (packet_type a.kind) (is_ack_within (ack_low e.marks) (ack_high e.marks) (ack_of a.kind))
-enters-told e a entrance.PacketError = error-told e a
-enters-told e a entrance.Check = judged-told e a (verdict e.marks (packet_type a.kind) a.number (ack_of a.kind))
+ports-told : (e : EndState) (bytes : List ℕ) (p : Parts) → IsProper e → IsIntact e bytes p
+    → (ours : Bool) → is_of_connection e p.header ≡ ours → IsTold e bytes (by_ports e p ours)
+ports-told e bytes p proper intact true same = form-told e bytes p proper intact same p.header.number refl
+ports-told e bytes p proper intact false same = record { told = (record { packet = p; intact = intact; not_ours = same }, (refl, refl)) }
 
-form-told : (e : EndState) (p : Parts) (number : Number) → IsTold e (by_form e p number)
-form-told e p (Long number) =
-    enters-told e (record { number = number; kind = p.header.kind; options = p.options }) (gate e.phase (packet_type p.header.kind))
-form-told e p (Short number) = record { told = (refl, refl) }
+sum-told : (e : EndState) (bytes : List ℕ) (p : Parts) → IsProper e → decoded bytes ≡ Ok p
+    → (sum : Result (Unit {0}) SumFault) → checked e.config.pseudo_in bytes ≡ sum → IsTold e bytes (by_sum e p sum)
+sum-told e bytes p proper is (Ok tt) same =
+    ports-told e bytes p proper (record { is_packet = is; sum_fits = same }) (is_of_connection e p.header) refl
+sum-told e bytes p proper is (Err fault) same = record { told = (record { packet = p; is_packet = is; sum_fails = same }, (refl, refl)) }
 
-ports-told : (e : EndState) (p : Parts) (ours : Bool) → IsTold e (by_ports e p ours)
-ports-told e p true = form-told e p p.header.number
-ports-told e p false = record { told = (refl, refl) }
+packet-told : (e : EndState) (bytes : List ℕ) → IsProper e → (packet : Result Parts Malformed) → decoded bytes ≡ packet → IsTold e bytes (by_packet e bytes packet)
+packet-told e bytes proper (Ok p) same = sum-told e bytes p proper same (checked e.config.pseudo_in bytes) refl
+packet-told e bytes proper (Err fault) same = record { told = (same, (refl, refl)) }
 
-sum-told : (e : EndState) (p : Parts) (sum : Result (Unit {0}) SumFault) → IsTold e (by_sum e p sum)
-sum-told e p (Ok _) = ports-told e p (is_of_connection e p.header)
-sum-told e p (Err fault) = record { told = (refl, refl) }
-
-packet-told : (e : EndState) (bytes : List ℕ) (packet : Result Parts Malformed) → IsTold e (by_packet e bytes packet)
-packet-told e bytes (Ok p) = sum-told e p (checked e.config.pseudo_in bytes)
-packet-told e bytes (Err fault) = record { told = (refl, refl) }
-
-pub receives-told : (e : EndState) (bytes : List ℕ) → IsTold e (receives e bytes)
-receives-told e bytes = packet-told e bytes _
-
-pub told_of_step : (e : EndState) (bytes : List ℕ) (step : Step Outcome) → step ≡ receives e bytes → Tells e step.answer step.after step.frame
-told_of_step e bytes step same = subst (λ (s : Step Outcome). Tells e s.answer s.after s.frame) (sym same) (receives-told e bytes).told
+pub told_of_step : (e : EndState) (bytes : List ℕ) (step : Step Outcome) → IsProper e → step ≡ receives e bytes → Tells e bytes step.answer step.after step.frame
+told_of_step e bytes step proper same =
+    subst (λ (s : Step Outcome). Tells e bytes s.answer s.after s.frame) (sym same) (packet-told e bytes proper (decoded bytes) refl).told

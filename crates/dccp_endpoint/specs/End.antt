@@ -1,5 +1,5 @@
 -- The state of one end of a connection (RFC 4340, sections 7.1 and 8).
-use Rattle.std.specs.Prelude.{ℕ, ◌+◌, ◌-◌, ◌^◌, Bool, false, List, []}
+use Rattle.std.specs.Prelude.{◌≡◌, ℕ, ◌+◌, ◌-◌, ◌^◌, Bool, true, false, List, []}
 use Rattle.seq_circle.specs.Circle.{residue}
 use Rattle.feature_lists.specs.Features.{initial_of}
 use Rattle.feature_lists.specs.declared.features.Feature.{Feature}
@@ -9,8 +9,9 @@ use Rattle.dccp_endpoint.specs.declared.config.Config.{Config}
 use Rattle.dccp_states.specs.declared.phase.Role.{Role}
 use Rattle.dccp_states.specs.declared.phase.Role.TheVariants.{Client, Server}
 use Rattle.dccp_states.specs.declared.phase.Phase.{Phase}
-use Rattle.dccp_states.specs.declared.phase.Phase.TheVariants.{Closed, Listen}
+use Rattle.dccp_states.specs.declared.phase.Phase.TheVariants as phase
 use Rattle.validity_windows.specs.declared.marks.Marks.{Marks}
+use Rattle.validity_windows.specs.Windows.{InRange}
 use Rattle.dccp_endpoint.specs.declared.held.Held.{Held}
 use Rattle.dccp_endpoint.specs.declared.held.Stand.TheVariants.{Stable}
 
@@ -22,10 +23,32 @@ pub record EndState : Type 0 where
   pub opened : Bool
   pub marks : Marks
 
+-- Each phase but CLOSED, OPEN, CLOSING and TIMEWAIT belongs to one role (section 4.3).
+abbrev pub is_phase_of : Phase → Role → Bool
+is_phase_of phase.Closed _ = true
+is_phase_of phase.Listen Client = false
+is_phase_of phase.Listen Server = true
+is_phase_of phase.Request Client = true
+is_phase_of phase.Request Server = false
+is_phase_of phase.Respond Client = false
+is_phase_of phase.Respond Server = true
+is_phase_of phase.PartOpen Client = true
+is_phase_of phase.PartOpen Server = false
+is_phase_of phase.Open _ = true
+is_phase_of phase.CloseReq Client = false
+is_phase_of phase.CloseReq Server = true
+is_phase_of phase.Closing _ = true
+is_phase_of phase.TimeWait _ = true
+
+-- what holds of every end: its windows are as wide as they may be, and its phase is one of its role's
+pub record IsProper (e : EndState) : Type 0 where
+  pub widths : InRange e.marks
+  pub phase_fits : is_phase_of e.phase e.config.role ≡ true
+
 -- where each role begins (RFC 4340, section 8.1)
 abbrev pub first_phase : Role → Phase
-first_phase Client = Closed
-first_phase Server = Listen
+first_phase Client = phase.Closed
+first_phase Server = phase.Listen
 
 -- The marks of an end that has sent and received nothing: its greatest sent number is the one before its first. The
 -- windows are as wide as the feature Sequence Window says of each end (section 7.5.2).

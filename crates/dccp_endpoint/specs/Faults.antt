@@ -1,5 +1,5 @@
 -- What the options of a packet may be faulted for (RFC 4340, sections 5.8 and 8.5, step 8).
-use Rattle.std.specs.Prelude.{ℕ, ◌+◌, ◌-◌, Bool, true, false, not, ◌&&◌, ◌||◌, ◌==◌, nat_le, nat_lt, if◌then◌else◌, List, [], ◌∷◌, length, slice_index, Option, Some, None, Result, Ok, Err}
+use Rattle.std.specs.Prelude.{ℕ, Bool, true, false, not, ◌&&◌, ◌||◌, ◌==◌, nat_le, if◌then◌else◌, List, [], ◌∷◌, length, slice_index, Option, Some, None, Result, Ok, Err}
 use Rattle.dccp_options.specs.Grammar.{Entry}
 use Rattle.dccp_options.specs.declared.option.OptFault.{OptFault}
 use Rattle.dccp_packets.specs.declared.header.PacketType.{PacketType}

@@ -31,13 +31,12 @@ use Rattle.validity_windows.specs.declared.verdict.Verdict.TheVariants as verdic
 use Rattle.dccp_endpoint.specs.End.{EndState}
 use Rattle.dccp_endpoint.specs.Arrivals.{ack_of, service_of, reset_code, is_data}
 use Rattle.dccp_endpoint.specs.Faults.{first_fault, is_unbuilt}
-use Rattle.dccp_endpoint.specs.Steps.{Step, idle, header_of, frame_of, sends, next_number}
+use Rattle.dccp_endpoint.specs.Steps.{Step, idle, frame_of, sends}
 use Rattle.dccp_endpoint.specs.declared.outcome.Fault.{Fault}
 use Rattle.dccp_endpoint.specs.declared.outcome.Outcome.{Outcome}
 use Rattle.dccp_endpoint.specs.declared.outcome.Outcome.TheVariants.{Took, Dropped, Synced, WasReset, SentReset, NotBuilt}
 use Rattle.dccp_endpoint.specs.declared.passage.Passage.{Passage}
 use Rattle.dccp_endpoint.specs.declared.passage.Passage.TheVariants as passages
-use Rattle.dccp_endpoint.specs.declared.outcome.Why.{Why}
 use Rattle.dccp_endpoint.specs.declared.outcome.Why.TheVariants as why
 
 -- a packet with a long number

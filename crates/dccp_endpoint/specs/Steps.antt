@@ -1,5 +1,5 @@
 -- What an end sends, and its calls (RFC 4340, sections 7.1 and 8.1).
-use Rattle.std.specs.Prelude.{ℕ, ◌+◌, Bool, true, false, List, [], ◌∷◌, Option, Some, None, Result, Ok, Err}
+use Rattle.std.specs.Prelude.{ℕ, ◌+◌, Bool, true, false, List, [], Option, Some, None, Result, Ok, Err}
 use Rattle.seq_circle.specs.Circle.{residue}
 use Rattle.dccp_sum.specs.Checksum.{sealed}
 use Rattle.dccp_packets.specs.Grammar.{spelling}

@@ -1,5 +1,5 @@
 -- The two ends that every schedule begins with (own).
-use Rattle.std.specs.Prelude.{ℕ, List, [], ◌∷◌}
+use Rattle.std.specs.Prelude.{[], ◌∷◌}
 use Rattle.dccp_sum.specs.declared.pseudo_header.Pseudo.{Pseudo}
 use Rattle.dccp_sum.specs.declared.pseudo_header.Pseudo.TheVariants.{V4}
 use Rattle.dccp_endpoint.specs.declared.config.Config.{Config}

@@ -24,14 +24,13 @@ pub struct Endpoint {
 }
 
 impl Model for Endpoint {
-    ghost use Rattle.validity_windows.specs.Windows.{InRange};
-    ghost use Rattle.dccp_endpoint.specs.End.{EndState};
+    ghost use Rattle.dccp_endpoint.specs.End.{EndState, IsProper};
 
     ghost Value = { EndState };
 
     ghost view = { λ e. record { config = e.config; phase = e.phase; opened = e.opened; marks = e.marks } };
 
-    ghost invariant = { λ e. InRange e.marks };
+    ghost invariant = { λ e. IsProper (record { config = e.config; phase = e.phase; opened = e.opened; marks = e.marks }) };
 }
 
 impl Endpoint {
@@ -87,6 +86,7 @@ impl Endpoint {
 
     // RFC 4340, section 8.1.1.
     fn send_request(&mut self, out: &mut Outbox)
+        requires { self.old.config.role ≡ Role.Client }
         ensures { record { after = self.new; frame = out.new; answer = Ok (tt {0}) } ≡ opens_as self.old role.Client false }
     {
         self.opened = true;

@@ -99,29 +99,44 @@ impl Endpoint {
     ghost use Rattle.validity_windows.specs.declared.verdict.Verdict.TheVariants as verdicts;
     ghost use Rattle.dccp_packets.specs.declared.header.PacketType.TheVariants as types;
     ghost use Rattle.dccp_states.specs.declared.phase.Phase.TheVariants as phase;
-    ghost use Rattle.dccp_endpoint.specs.End.{EndState};
+    ghost use Rattle.dccp_endpoint.specs.End.{EndState, IsProper, is_phase_of};
     ghost use Rattle.dccp_endpoint.specs.Arrivals.{shown, ack_of, service_of, is_data};
     ghost use Rattle.dccp_endpoint.specs.Receiving.{receives, by_ports, by_form, is_of_connection, enters, accepts, answers, packet_error, judged, takes, raised, started, passage, passes, goes_on, by_fault, options_in, is_other_service, moved_to, replies, resets, resets_bare, syncs, took, arrival};
     ghost use Rattle.dccp_endpoint.specs.Steps.{sends};
-    ghost use Rattle.dccp_endpoint.specs.Telling.{Tells};
+    ghost use Rattle.dccp_endpoint.specs.Telling.{Tells, IsOnlyTold};
     ghost use Rattle.dccp_endpoint.specs.Faults.{first_fault};
     ghost use Rattle.dccp_packets.specs.declared.header.Kind.TheVariants as kind;
     ghost use Rattle.dccp_packets.specs.declared.header.Number.TheVariants.{Long};
 
-    /// Takes bytes that arrived, as RFC 4340, section 8.5 says under this profile. Bytes that are no packet, whose checksum
-    /// does not fit, whose ports are not those of the connection or whose numbers are short are dropped, in this order. The
-    /// phase decides whether the packet may enter, the windows whether its numbers are valid, its type whether it is out of
-    /// place; then its options are read, and it moves the phase and is answered. What needs a part that is not built yet is
-    /// `NotBuilt`. The outcome tells what has changed: a packet that is dropped or `NotBuilt` changes nothing and sends nothing,
-    /// a valid Reset moves the phase alone, a Sync takes the next number and acknowledges the number that `Synced` has, and a
-    /// Reset carries the code and detail that `SentReset` has.
+    /// Takes bytes that arrived, as RFC 4340, section 8.5 says under this profile, at most 2,044 of them. Bytes that are no
+    /// packet, whose checksum does not fit, whose ports are not those of the connection or whose numbers are short are
+    /// dropped, in this order. The phase decides whether the packet may enter, the windows whether its numbers are valid, its
+    /// type whether it is out of place; then its options are read, and it moves the phase and is answered. What needs a part
+    /// that is not built yet is `NotBuilt`.
+    ///
+    /// The outcome tells why it came and what has changed. A packet that is dropped or `NotBuilt` changes nothing and sends
+    /// nothing. A valid Reset moves the phase to TIMEWAIT, and nothing else. A Sync takes the next number and acknowledges the
+    /// number that `Synced` has; nothing else changes where the packet's numbers are not valid, and where it is out of place
+    /// it has raised the greatest numbers received. A Reset has the code and the detail that `SentReset` has: without a
+    /// connection (codes 3 and 8) it changes nothing, as the answer to anything but a Response in REQUEST (code 4) it takes
+    /// the next number alone, and otherwise (codes 5, 6 and 8) it closes the end and acknowledges the greatest number
+    /// received. Each of these comes exactly for its causes.
     pub fn receive(&mut self, bytes: &[u8], out: &mut Outbox) -> Outcome
         requires { length bytes.now ≤ 2044 }
         ensures step { record { after = self.new; frame = out.new; answer = result } ≡ receives self.old bytes.now }
-        ensures told { Tells self.old result self.new out.new }
+        ensures told { Tells self.old bytes.now result self.new out.new }
+        ensures exactly { IsOnlyTold self.old bytes.now (record { after = self.new; frame = out.new; answer = result }) }
     {
+        self.shows_proper();
         out.clear();
         self.take_bytes(bytes, out)
+    }
+
+    // What the type keeps of every end is known to a proof once a field was read.
+    fn shows_proper(&self)
+        ensures { IsProper self.now }
+    {
+        let _phase = self.phase;
     }
 
     // Step 1: the bytes are a packet with a fitting checksum.
@@ -189,6 +204,7 @@ impl Endpoint {
 
     // Step 3: a Request for this service opens, and for another gets Bad Service Code.
     fn accept(&mut self, packet: &Packet<'_>, number: Seq48, out: &mut Outbox) -> Outcome
+        requires server { is_phase_of phase.Respond self.old.config.role ≡ true }
         requires empty { out.old ≡ None }
         requires short { length packet.now.options.now ≤ 1008 }
         ensures { record { after = self.new; frame = out.new; answer = result } ≡ accepts self.old (arrival packet.now number) (service_of packet.now.header.kind) }
@@ -307,6 +323,7 @@ impl Endpoint {
 
     // The first packet of the peer sets the first and the greatest number received.
     fn start(&mut self, phase: Phase, packet: &Packet<'_>, number: Seq48)
+        requires { is_phase_of phase self.old.config.role ≡ true }
         ensures { self.new ≡ started self.old phase (arrival packet.now number) }
     {
         self.phase = phase;
@@ -413,6 +430,7 @@ impl Endpoint {
 
     // Steps 10 to 15: the phase, and the first number of an open connection.
     fn move_to(&mut self, phase: Phase, number: Seq48)
+        requires { is_phase_of phase self.old.config.role ≡ true }
         ensures { self.new ≡ moved_to self.old phase number }
     {
         if is_open(phase) && !is_open(self.phase) {
