@@ -135,71 +135,51 @@ const CLIENT_RESET: &str = "9c4013890700183d0f000000000003e900000000000007d00200
 
 const SERVER_RESET: &str = "13899c400700183d0f000000000007d100000000000003e802000000";
 
+// A server closes at a Request with Mandatory at its options' end, and a client at a Response for another service.
+const FAULTY_REQUEST: &str = "9c401389060030e701000000000003e80000002a00000001";
+
+const OTHER_RESPONSE: &str = "13899c400700261303000000000007d000000000000003e80000002b";
+
+// A packet without a connection gets Reset 3.
+fn lost(packet: PacketType, phase: Phase) -> Row {
+    (
+        packet,
+        Answer::SentReset(3, 0),
+        phase,
+        Some(PacketType::Reset),
+    )
+}
+
+// The rows of a phase without a connection: a Reset is stray, and only the Request may mean more.
+fn without_connection(request: Row, phase: Phase) -> [Row; 10] {
+    [
+        request,
+        lost(PacketType::Response, phase),
+        lost(PacketType::Data, phase),
+        lost(PacketType::Ack, phase),
+        lost(PacketType::DataAck, phase),
+        lost(PacketType::CloseReq, phase),
+        lost(PacketType::Close, phase),
+        (PacketType::Reset, Answer::Stray, phase, None),
+        lost(PacketType::Sync, phase),
+        lost(PacketType::SyncAck, phase),
+    ]
+}
+
 #[test]
 fn server_in_listen(rt: HostRuntime) -> Result<(), Fail> {
-    let rows = [
-        (
-            PacketType::Request,
-            Answer::Took,
-            Phase::Respond,
-            Some(PacketType::Response),
-        ),
-        (
-            PacketType::Response,
-            Answer::SentReset(3, 0),
-            Phase::Listen,
-            Some(PacketType::Reset),
-        ),
-        (
-            PacketType::Data,
-            Answer::SentReset(3, 0),
-            Phase::Listen,
-            Some(PacketType::Reset),
-        ),
-        (
-            PacketType::Ack,
-            Answer::SentReset(3, 0),
-            Phase::Listen,
-            Some(PacketType::Reset),
-        ),
-        (
-            PacketType::DataAck,
-            Answer::SentReset(3, 0),
-            Phase::Listen,
-            Some(PacketType::Reset),
-        ),
-        (
-            PacketType::CloseReq,
-            Answer::SentReset(3, 0),
-            Phase::Listen,
-            Some(PacketType::Reset),
-        ),
-        (
-            PacketType::Close,
-            Answer::SentReset(3, 0),
-            Phase::Listen,
-            Some(PacketType::Reset),
-        ),
-        (PacketType::Reset, Answer::Stray, Phase::Listen, None),
-        (
-            PacketType::Sync,
-            Answer::SentReset(3, 0),
-            Phase::Listen,
-            Some(PacketType::Reset),
-        ),
-        (
-            PacketType::SyncAck,
-            Answer::SentReset(3, 0),
-            Phase::Listen,
-            Some(PacketType::Reset),
-        ),
-    ];
     let way = Way {
         role: Role::Server,
         opens: false,
         packets: &[],
     };
-    assert!(rt; keeps(rt.alloc(), &way, rows)?);
+    let request = (
+        PacketType::Request,
+        Answer::Took,
+        Phase::Respond,
+        Some(PacketType::Response),
+    );
+    assert!(rt; keeps(rt.alloc(), &way, without_connection(request, Phase::Listen))?);
     Ok(())
 }
 
@@ -306,137 +286,43 @@ fn server_in_open(rt: HostRuntime) -> Result<(), Fail> {
 
 #[test]
 fn server_in_time_wait(rt: HostRuntime) -> Result<(), Fail> {
-    let rows = [
-        (
-            PacketType::Request,
-            Answer::SentReset(3, 0),
-            Phase::TimeWait,
-            Some(PacketType::Reset),
-        ),
-        (
-            PacketType::Response,
-            Answer::SentReset(3, 0),
-            Phase::TimeWait,
-            Some(PacketType::Reset),
-        ),
-        (
-            PacketType::Data,
-            Answer::SentReset(3, 0),
-            Phase::TimeWait,
-            Some(PacketType::Reset),
-        ),
-        (
-            PacketType::Ack,
-            Answer::SentReset(3, 0),
-            Phase::TimeWait,
-            Some(PacketType::Reset),
-        ),
-        (
-            PacketType::DataAck,
-            Answer::SentReset(3, 0),
-            Phase::TimeWait,
-            Some(PacketType::Reset),
-        ),
-        (
-            PacketType::CloseReq,
-            Answer::SentReset(3, 0),
-            Phase::TimeWait,
-            Some(PacketType::Reset),
-        ),
-        (
-            PacketType::Close,
-            Answer::SentReset(3, 0),
-            Phase::TimeWait,
-            Some(PacketType::Reset),
-        ),
-        (PacketType::Reset, Answer::Stray, Phase::TimeWait, None),
-        (
-            PacketType::Sync,
-            Answer::SentReset(3, 0),
-            Phase::TimeWait,
-            Some(PacketType::Reset),
-        ),
-        (
-            PacketType::SyncAck,
-            Answer::SentReset(3, 0),
-            Phase::TimeWait,
-            Some(PacketType::Reset),
-        ),
-    ];
     let way = Way {
         role: Role::Server,
         opens: false,
         packets: &[REQUEST, CLIENT_RESET],
     };
-    assert!(rt; keeps(rt.alloc(), &way, rows)?);
+    let request = lost(PacketType::Request, Phase::TimeWait);
+    assert!(rt;
+        keeps(
+            rt.alloc(),
+            &way,
+            without_connection(request, Phase::TimeWait)
+        )?
+    );
+    Ok(())
+}
+
+#[test]
+fn server_in_closed(rt: HostRuntime) -> Result<(), Fail> {
+    let way = Way {
+        role: Role::Server,
+        opens: false,
+        packets: &[FAULTY_REQUEST],
+    };
+    let request = lost(PacketType::Request, Phase::Closed);
+    assert!(rt; keeps(rt.alloc(), &way, without_connection(request, Phase::Closed))?);
     Ok(())
 }
 
 #[test]
 fn client_in_closed(rt: HostRuntime) -> Result<(), Fail> {
-    let rows = [
-        (
-            PacketType::Request,
-            Answer::SentReset(3, 0),
-            Phase::Closed,
-            Some(PacketType::Reset),
-        ),
-        (
-            PacketType::Response,
-            Answer::SentReset(3, 0),
-            Phase::Closed,
-            Some(PacketType::Reset),
-        ),
-        (
-            PacketType::Data,
-            Answer::SentReset(3, 0),
-            Phase::Closed,
-            Some(PacketType::Reset),
-        ),
-        (
-            PacketType::Ack,
-            Answer::SentReset(3, 0),
-            Phase::Closed,
-            Some(PacketType::Reset),
-        ),
-        (
-            PacketType::DataAck,
-            Answer::SentReset(3, 0),
-            Phase::Closed,
-            Some(PacketType::Reset),
-        ),
-        (
-            PacketType::CloseReq,
-            Answer::SentReset(3, 0),
-            Phase::Closed,
-            Some(PacketType::Reset),
-        ),
-        (
-            PacketType::Close,
-            Answer::SentReset(3, 0),
-            Phase::Closed,
-            Some(PacketType::Reset),
-        ),
-        (PacketType::Reset, Answer::Stray, Phase::Closed, None),
-        (
-            PacketType::Sync,
-            Answer::SentReset(3, 0),
-            Phase::Closed,
-            Some(PacketType::Reset),
-        ),
-        (
-            PacketType::SyncAck,
-            Answer::SentReset(3, 0),
-            Phase::Closed,
-            Some(PacketType::Reset),
-        ),
-    ];
     let way = Way {
         role: Role::Client,
         opens: false,
         packets: &[],
     };
-    assert!(rt; keeps(rt.alloc(), &way, rows)?);
+    let request = lost(PacketType::Request, Phase::Closed);
+    assert!(rt; keeps(rt.alloc(), &way, without_connection(request, Phase::Closed))?);
     Ok(())
 }
 
@@ -591,68 +477,30 @@ fn client_in_open(rt: HostRuntime) -> Result<(), Fail> {
 
 #[test]
 fn client_in_time_wait(rt: HostRuntime) -> Result<(), Fail> {
-    let rows = [
-        (
-            PacketType::Request,
-            Answer::SentReset(3, 0),
-            Phase::TimeWait,
-            Some(PacketType::Reset),
-        ),
-        (
-            PacketType::Response,
-            Answer::SentReset(3, 0),
-            Phase::TimeWait,
-            Some(PacketType::Reset),
-        ),
-        (
-            PacketType::Data,
-            Answer::SentReset(3, 0),
-            Phase::TimeWait,
-            Some(PacketType::Reset),
-        ),
-        (
-            PacketType::Ack,
-            Answer::SentReset(3, 0),
-            Phase::TimeWait,
-            Some(PacketType::Reset),
-        ),
-        (
-            PacketType::DataAck,
-            Answer::SentReset(3, 0),
-            Phase::TimeWait,
-            Some(PacketType::Reset),
-        ),
-        (
-            PacketType::CloseReq,
-            Answer::SentReset(3, 0),
-            Phase::TimeWait,
-            Some(PacketType::Reset),
-        ),
-        (
-            PacketType::Close,
-            Answer::SentReset(3, 0),
-            Phase::TimeWait,
-            Some(PacketType::Reset),
-        ),
-        (PacketType::Reset, Answer::Stray, Phase::TimeWait, None),
-        (
-            PacketType::Sync,
-            Answer::SentReset(3, 0),
-            Phase::TimeWait,
-            Some(PacketType::Reset),
-        ),
-        (
-            PacketType::SyncAck,
-            Answer::SentReset(3, 0),
-            Phase::TimeWait,
-            Some(PacketType::Reset),
-        ),
-    ];
     let way = Way {
         role: Role::Client,
         opens: true,
         packets: &[RESPONSE, SERVER_RESET],
     };
-    assert!(rt; keeps(rt.alloc(), &way, rows)?);
+    let request = lost(PacketType::Request, Phase::TimeWait);
+    assert!(rt;
+        keeps(
+            rt.alloc(),
+            &way,
+            without_connection(request, Phase::TimeWait)
+        )?
+    );
+    Ok(())
+}
+
+#[test]
+fn client_closed_again(rt: HostRuntime) -> Result<(), Fail> {
+    let way = Way {
+        role: Role::Client,
+        opens: true,
+        packets: &[OTHER_RESPONSE],
+    };
+    let request = lost(PacketType::Request, Phase::Closed);
+    assert!(rt; keeps(rt.alloc(), &way, without_connection(request, Phase::Closed))?);
     Ok(())
 }
