@@ -10,9 +10,9 @@ use Rattle.dccp_states.specs.declared.entrance.Entrance.TheVariants as entrance
 use Rattle.dccp_states.specs.declared.phase.Phase.TheVariants as phase
 use Rattle.dccp_endpoint.specs.Arrivals.{ack_of}
 use Rattle.dccp_endpoint.specs.End.{EndState}
-use Rattle.dccp_endpoint.specs.Receiving.{Arrival, accepts, answers, bare_number, by_fault, by_form, by_packet, by_ports, by_sum, enters, is_of_connection, judged, packet_error, passage, passes, plain, raised, receives, resets, resets_bare, started, syncs, takes, torn}
+use Rattle.dccp_endpoint.specs.Receiving.{Arrival, accepts, answers, bare_number, by_fault, by_form, by_packet, by_ports, by_sum, enters, is_of_connection, judged, moves, packet_error, passage, passes, plain, raised, receives, resets, resets_bare, started, syncs, takes, torn}
 use Rattle.dccp_endpoint.specs.Steps.{Step, frame_of, idle, next_number}
-use Rattle.dccp_endpoint.specs.Telling.{Arrived, IsIntact, IsNoAnswer, OtherType, OtherRequest, IsProcessed, IsReset, NoConnection, OtherService, NoAnswer, WrongService, Faulted, Closes, IsStray, Nowhere, Unasked, IsSynced, OutOfWindow, OutOfPlace, IsValid, Opens, Answers, Fits, IsValidReset, AnswersWith, InWindow, Passed, Tells, IsBare, IsCounted, IsUntouched, TellsOf, IsOnlyTold, acknowledges_sent, closed, entrance_of, packet_fault}
+use Rattle.dccp_endpoint.specs.Telling.{Arrived, IsIntact, IsNoAnswer, OtherType, OtherRequest, IsProcessed, IsReset, NoConnection, OtherService, NoAnswer, WrongService, Faulted, Closes, IsStray, Nowhere, Unasked, IsSynced, OutOfWindow, OutOfPlace, IsValid, Opens, Answers, Fits, IsValidReset, AnswersWith, InWindow, Passed, Tells, IsBare, IsCounted, IsUntouched, TellsOf, IsOnlyTold, acknowledges_in_window, closed, entrance_of, packet_fault}
 use Rattle.dccp_endpoint.specs.declared.outcome.Fault.{Fault}
 use Rattle.dccp_endpoint.specs.declared.outcome.Outcome.{Outcome}
 use Rattle.dccp_endpoint.specs.declared.outcome.Outcome.TheVariants.{Took, Dropped, Synced, WasReset, SentReset, NotBuilt}
@@ -90,7 +90,7 @@ processed-goes e bytes a entered step processed =
 -- a valid Reset
 torn-goes : (e : EndState) (a : Arrival) → packet_type a.kind ≡ types.Reset → IsValidReset e a → enters e a (entrance_of e a) ≡ torn e a
 torn-goes e a reset (AnswersWith is fits) =
-    ap (enters e a) is ∙ ap (λ (t : PacketType). answers e a t (acknowledges_sent e a)) reset ∙ ap (answers e a types.Reset) fits
+    ap (enters e a) is ∙ ap (λ (t : PacketType). answers e a t (acknowledges_in_window e a)) reset ∙ ap (answers e a types.Reset) fits
 torn-goes e a reset (InWindow is valid) = ap (enters e a) is ∙ ap (judged e a) valid ∙ ap (takes e a) reset
 
 -- a Reset that goes out
@@ -133,14 +133,15 @@ reset-goes e bytes code detail after frame (WrongService a entered passed tells 
 reset-goes e bytes code detail after frame (Faulted a entered fault passed is tells counts) =
     counted-step (closed entered) entered.marks.gsr fault code detail after frame tells counts
     ∙ sym (passed-goes e bytes a entered passages.Fine passed ∙ ap (by_fault entered a) is)
-reset-goes e bytes code detail after frame (Closes a entered processed) =
-    processed-goes e bytes a entered (step_of after frame (SentReset code detail)) processed
+reset-goes e bytes code detail after frame (Closes a entered passed none row tells counts) =
+    counted-step (closed entered) entered.marks.gsr (plain 1) code detail after frame tells counts
+    ∙ sym (passed-goes e bytes a entered passages.Fine passed ∙ ap (by_fault entered a) none ∙ ap (moves entered a) row)
 
 stray-goes : (e : EndState) (bytes : List ℕ) → IsStray e bytes → receives e bytes ≡ idle e (Dropped why.StrayReset)
 stray-goes e bytes (Nowhere a arrived is) = arrived-enters e bytes a arrived entrance.Stray is
 stray-goes e bytes (Unasked a arrived is reset wrong) =
     arrived-enters e bytes a arrived entrance.InRequest is
-    ∙ ap (λ (t : PacketType). answers e a t (acknowledges_sent e a)) reset ∙ ap (answers e a types.Reset) wrong
+    ∙ ap (λ (t : PacketType). answers e a t (acknowledges_in_window e a)) reset ∙ ap (answers e a types.Reset) wrong
 
 synced-goes : (e : EndState) (bytes : List ℕ) (number : ℕ) (after : EndState) (frame : Option (List ℕ)) → IsSynced e bytes number after
     → frame ≡ Some (frame_of e (next_number e) (kind.Sync number)) → step_of after frame (Synced number) ≡ receives e bytes

@@ -1,5 +1,5 @@
 -- Each role keeps to its phases (RFC 4340, section 4.3).
-use Rattle.std.proofs.Common.{◌≡◌, refl, ap, subst, true}
+use Rattle.std.proofs.Common.{◌≡◌, refl, ap, sym, subst, true}
 use Rattle.dccp_packets.specs.declared.header.PacketType.{PacketType}
 use Rattle.dccp_packets.specs.declared.header.PacketType.TheVariants as types
 use Rattle.dccp_states.specs.Entrance.{gate}
@@ -9,6 +9,8 @@ use Rattle.dccp_states.specs.declared.phase.Phase.{Phase}
 use Rattle.dccp_states.specs.declared.phase.Phase.TheVariants as phase
 use Rattle.dccp_states.specs.declared.phase.Role.{Role}
 use Rattle.dccp_states.specs.declared.phase.Role.TheVariants as role
+use Rattle.dccp_states.specs.declared.reply.Reply.{Reply}
+use Rattle.dccp_states.specs.declared.reply.Reply.TheVariants as reply
 use Rattle.dccp_endpoint.specs.End.{is_phase_of}
 
 -- a packet may open a connection in LISTEN alone
@@ -110,3 +112,21 @@ after-fits phase.Open _ r fits = fits
 after-fits phase.CloseReq _ r fits = fits
 after-fits phase.Closing _ r fits = fits
 after-fits phase.TimeWait _ r fits = fits
+
+-- the table closes where it answers by a Reset
+pub closing-closes : (ph : Phase) (t : PacketType) (to : Phase) → after ph t ≡ (to, reply.ResetClosed) → to ≡ phase.Closed
+closing-closes ph types.Reset to is = cc (ap (λ (row : Phase × Reply). row.1) is)
+closing-closes phase.Closed _ to is = cc (ap (λ (row : Phase × Reply). row.1) is)
+closing-closes phase.Listen _ to is = cc (ap (λ (row : Phase × Reply). row.1) is)
+closing-closes phase.Request _ to is = cc (ap (λ (row : Phase × Reply). row.1) is)
+closing-closes phase.Respond types.Close to is = sym (ap (λ (row : Phase × Reply). row.0) is)
+closing-closes phase.Respond _ to is = cc (ap (λ (row : Phase × Reply). row.1) is)
+closing-closes phase.PartOpen types.Close to is = sym (ap (λ (row : Phase × Reply). row.0) is)
+closing-closes phase.PartOpen _ to is = cc (ap (λ (row : Phase × Reply). row.1) is)
+closing-closes phase.Open types.Close to is = sym (ap (λ (row : Phase × Reply). row.0) is)
+closing-closes phase.Open _ to is = cc (ap (λ (row : Phase × Reply). row.1) is)
+closing-closes phase.CloseReq types.Close to is = sym (ap (λ (row : Phase × Reply). row.0) is)
+closing-closes phase.CloseReq _ to is = cc (ap (λ (row : Phase × Reply). row.1) is)
+closing-closes phase.Closing types.Close to is = sym (ap (λ (row : Phase × Reply). row.0) is)
+closing-closes phase.Closing _ to is = cc (ap (λ (row : Phase × Reply). row.1) is)
+closing-closes phase.TimeWait _ to is = cc (ap (λ (row : Phase × Reply). row.1) is)

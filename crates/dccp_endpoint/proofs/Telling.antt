@@ -34,12 +34,12 @@ use Rattle.dccp_endpoint.specs.End.{EndState, IsProper, is_phase_of}
 use Rattle.dccp_endpoint.specs.Faults.{first_fault, is_unbuilt}
 use Rattle.dccp_endpoint.specs.Receiving.{Arrival, accepts, answers, by_fault, by_form, by_packet, by_ports, by_sum, enters, is_of_connection, is_other_service, judged, moves, options_in, passage, passes, raised, receives, resets_bare, started, syncs, takes}
 use Rattle.dccp_endpoint.specs.Steps.{Step}
-use Rattle.dccp_endpoint.specs.Telling.{Arrived, IsIntact, OtherType, OtherRequest, NoConnection, OtherService, NoAnswer, WrongService, Faulted, Closes, Nowhere, Unasked, OutOfWindow, OutOfPlace, IsValid, Opens, Answers, Fits, AnswersWith, InWindow, Passed, Tells, acknowledges_sent, entrance_of, verdict_of}
+use Rattle.dccp_endpoint.specs.Telling.{Arrived, IsIntact, OtherType, OtherRequest, NoConnection, OtherService, NoAnswer, WrongService, Faulted, Closes, Nowhere, Unasked, OutOfWindow, OutOfPlace, IsValid, Opens, Answers, Fits, AnswersWith, InWindow, Passed, Tells, acknowledges_in_window, entrance_of, verdict_of}
 use Rattle.dccp_endpoint.specs.declared.outcome.Fault.{Fault}
 use Rattle.dccp_endpoint.specs.declared.outcome.Outcome.{Outcome}
 use Rattle.dccp_endpoint.specs.declared.passage.Passage.{Passage}
 use Rattle.dccp_endpoint.specs.declared.passage.Passage.TheVariants as passages
-use Rattle.dccp_endpoint.proofs.Phases.{accept-phase, accept-type, answer-phase, answer-type, listens-server, requests-client}
+use Rattle.dccp_endpoint.proofs.Phases.{accept-phase, accept-type, answer-phase, answer-type, listens-server, requests-client, closing-closes}
 
 pub record IsTold (e : EndState) (bytes : List ℕ) (step : Step Outcome) : Type 0 where
   pub told : Tells e bytes step.answer step.after step.frame
@@ -97,7 +97,10 @@ answers-placed e a proper is no_reset =
 moves-told : (e : EndState) (bytes : List ℕ) (a : Arrival) (entered : EndState) → Passed e bytes a entered passages.Fine → first_fault (options_in a) ≡ None
     → (to : Phase × Reply) → after entered.phase (packet_type a.kind) ≡ to → IsTold e bytes (moves entered a to)
 moves-told e bytes a entered passed none (ph, reply.ResetClosed) same =
-    record { told = Closes a entered (record { passed = passed; no_fault = none; moved = sym (ap (moves entered a) same) }) }
+    let is_closed : ph ≡ phase.Closed =
+    closing-closes entered.phase (packet_type a.kind) ph same in
+    subst (λ (p : Phase). IsTold e bytes (moves entered a (p, reply.ResetClosed))) (sym is_closed)
+    (record { told = Closes a entered passed none (same ∙ ap (λ (p : Phase). (p, reply.ResetClosed)) is_closed) (refl, refl) (refl, refl) })
 moves-told e bytes a entered passed none (ph, _) same =
     record { told = record { packet = a; entered = entered; processed = record { passed = passed; no_fault = none; moved = sym (ap (moves entered a) same) } } }
 
@@ -138,7 +141,7 @@ judged-told e bytes a arrived check verdicts.Drop same =
     record { told = (record { packet = a; arrived = arrived; is_judged = check; is_bad = same }, (refl, refl)) }
 
 answers-told : (e : EndState) (bytes : List ℕ) (a : Arrival) → IsProper e → Arrived e bytes a → entrance_of e a ≡ entrance.InRequest
-    → (t : PacketType) → packet_type a.kind ≡ t → (fits : Bool) → acknowledges_sent e a ≡ fits → IsTold e bytes (answers e a t fits)
+    → (t : PacketType) → packet_type a.kind ≡ t → (fits : Bool) → acknowledges_in_window e a ≡ fits → IsTold e bytes (answers e a t fits)
 answers-told e bytes a proper arrived is types.Reset same true fits =
     record { told = (record { packet = a; arrived = arrived; is_reset = same; is_valid = AnswersWith is fits; has_code = refl }, refl, refl) }
 answers-told e bytes a proper arrived is types.Reset same false fits = record { told = (Unasked a arrived is same fits, (refl, refl)) }
@@ -178,7 +181,7 @@ enters-told e bytes a proper arrived entrance.NoConnection is = record { told = 
 enters-told e bytes a proper arrived entrance.Stray is = record { told = (Nowhere a arrived is, (refl, refl)) }
 enters-told e bytes a proper arrived entrance.Accept is = accepts-told e bytes a proper arrived is (service_of a.kind) refl
 enters-told e bytes a proper arrived entrance.InRequest is =
-    answers-told e bytes a proper arrived is (packet_type a.kind) refl (acknowledges_sent e a) refl
+    answers-told e bytes a proper arrived is (packet_type a.kind) refl (acknowledges_in_window e a) refl
 enters-told e bytes a proper arrived entrance.PacketError is = record { told = NoAnswer a arrived (OtherType is) (refl, refl) (refl, refl) }
 enters-told e bytes a proper arrived entrance.Check is = judged-told e bytes a arrived is (verdict_of e a) refl
 

@@ -16,7 +16,7 @@ use Rattle.dccp_endpoint.specs.declared.held.Held.{Held}
 use Rattle.dccp_endpoint.specs.declared.held.Stand.TheVariants.{Stable}
 
 -- A configuration, the phase, whether it was opened, and the marks: the first and greatest numbers sent and received and
--- the widths of the windows (RFC 4340, section 7.1). Until a packet was received, isr, gsr and osr are 0.
+-- the widths of the windows (RFC 4340, section 7.1). Until isr is set, isr, gsr and osr are 0.
 pub record EndState : Type 0 where
   pub config : Config
   pub phase : Phase

@@ -5,7 +5,7 @@ use Rattle.dccp_options.specs.declared.option.OptFault.{OptFault}
 use Rattle.dccp_packets.specs.declared.header.PacketType.{PacketType}
 use Rattle.dccp_packets.specs.declared.header.PacketType.TheVariants as types
 use Rattle.dccp_states.specs.declared.phase.Phase.{Phase}
-use Rattle.dccp_states.specs.declared.phase.Phase.TheVariants as phase
+use Rattle.dccp_states.specs.declared.phase.Phase.TheVariants as phases
 use Rattle.dccp_endpoint.specs.declared.outcome.Fault.{Fault}
 
 -- an option of a type in the standard's table, of a length that the table allows; Init Cookie and what is a CCID's own are not understood (own)
@@ -52,15 +52,15 @@ has_feature_option (item ∷ rest) = is_feature_option item || has_feature_optio
 
 -- where options of the negotiation count (own): in RESPOND, PARTOPEN and OPEN on six types, and on the Response in REQUEST
 abbrev pub negotiates : Phase → Bool
-negotiates phase.Closed = false
-negotiates phase.Listen = false
-negotiates phase.Request = false
-negotiates phase.Respond = true
-negotiates phase.PartOpen = true
-negotiates phase.Open = true
-negotiates phase.CloseReq = false
-negotiates phase.Closing = false
-negotiates phase.TimeWait = false
+negotiates phases.Closed = false
+negotiates phases.Listen = false
+negotiates phases.Request = false
+negotiates phases.Respond = true
+negotiates phases.PartOpen = true
+negotiates phases.Open = true
+negotiates phases.CloseReq = false
+negotiates phases.Closing = false
+negotiates phases.TimeWait = false
 
 abbrev pub may_negotiate : PacketType → Bool
 may_negotiate types.Request = true
@@ -75,8 +75,8 @@ may_negotiate types.Sync = true
 may_negotiate types.SyncAck = true
 
 abbrev pub counts : Phase → PacketType → Bool
-counts phase.Request types.Response = true
-counts ph kind = negotiates ph && may_negotiate kind
+counts phases.Request types.Response = true
+counts phase kind = negotiates phase && may_negotiate kind
 
 -- the types whose taking is not built yet
 abbrev pub is_unbuilt_type : PacketType → Bool
@@ -93,4 +93,4 @@ is_unbuilt_type types.SyncAck = false
 
 -- the packet needs what is not built yet
 abbrev pub is_unbuilt : Phase → PacketType → List (Result Entry OptFault) → Bool
-is_unbuilt ph kind options = is_unbuilt_type kind || (counts ph kind && has_feature_option options)
+is_unbuilt phase kind options = is_unbuilt_type kind || (counts phase kind && has_feature_option options)

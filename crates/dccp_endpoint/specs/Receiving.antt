@@ -21,7 +21,7 @@ use Rattle.dccp_states.specs.Phases.{after}
 use Rattle.dccp_states.specs.declared.entrance.Entrance.{Entrance}
 use Rattle.dccp_states.specs.declared.entrance.Entrance.TheVariants as entrance
 use Rattle.dccp_states.specs.declared.phase.Phase.{Phase}
-use Rattle.dccp_states.specs.declared.phase.Phase.TheVariants as phase
+use Rattle.dccp_states.specs.declared.phase.Phase.TheVariants as phases
 use Rattle.dccp_states.specs.declared.reply.Reply.{Reply}
 use Rattle.dccp_states.specs.declared.reply.Reply.TheVariants as reply
 use Rattle.validity_windows.specs.Windows.{ack_low, ack_high}
@@ -82,22 +82,22 @@ syncs e number = sends e (kind.Sync number) (Synced number)
 
 -- steps 10 to 15: the phase moves, and the first number of an open connection is kept (OSR)
 abbrev pub is_open : Phase → Bool
-is_open phase.Open = true
-is_open phase.Closed = false
-is_open phase.Listen = false
-is_open phase.Request = false
-is_open phase.Respond = false
-is_open phase.PartOpen = false
-is_open phase.CloseReq = false
-is_open phase.Closing = false
-is_open phase.TimeWait = false
+is_open phases.Open = true
+is_open phases.Closed = false
+is_open phases.Listen = false
+is_open phases.Request = false
+is_open phases.Respond = false
+is_open phases.PartOpen = false
+is_open phases.CloseReq = false
+is_open phases.Closing = false
+is_open phases.TimeWait = false
 
 abbrev pub with_osr : EndState → ℕ → Bool → EndState
 with_osr e number true = record e { marks = record e.marks { osr = number } }
 with_osr e number false = e
 
 abbrev pub moved_to : EndState → Phase → ℕ → EndState
-moved_to e ph number = record (with_osr e number (is_open ph && not (is_open e.phase))) { phase = ph }
+moved_to e phase number = record (with_osr e number (is_open phase && not (is_open e.phase))) { phase = phase }
 
 abbrev pub replies : EndState → ℕ → Reply → Step Outcome
 replies e number reply.Nothing = idle e took
@@ -113,7 +113,7 @@ moves e a to = replies (moved_to e to.0 a.number) a.number to.1
 
 -- step 8: the first fault of the options closes the end
 abbrev pub by_fault : EndState → Arrival → Option Fault → Step Outcome
-by_fault e a (Some fault) = resets (record e { phase = phase.Closed }) e.marks.gsr fault
+by_fault e a (Some fault) = resets (record e { phase = phases.Closed }) e.marks.gsr fault
 by_fault e a None = moves e a (after e.phase (packet_type a.kind))
 
 abbrev pub options_in : Arrival → List (Result Entry OptFault)
@@ -121,21 +121,21 @@ options_in a = options_of a.options (is_data (packet_type a.kind))
 
 -- step 7: a Response for another service than was asked for
 abbrev pub is_other_service : EndState → Phase → Kind → Bool
-is_other_service e phase.Request (kind.Response ack service) = not (service == e.config.service)
+is_other_service e phases.Request (kind.Response ack service) = not (service == e.config.service)
 is_other_service e _ _ = false
 
 -- how a valid packet passes step 7, in the phase that steps 3 and 4 leave
 abbrev pub passage : EndState → Phase → Arrival → Passage
-passage e ph a =
-    if unexpected e.config.role ph (packet_type a.kind) (not (is_before a.number e.marks.osr)) then passages.Misplaced
-    else if is_other_service e ph a.kind then passages.OtherService
-    else if is_unbuilt ph (packet_type a.kind) (options_in a) then passages.Unbuilt
+passage e phase a =
+    if unexpected e.config.role phase (packet_type a.kind) (not (is_before a.number e.marks.osr)) then passages.Misplaced
+    else if is_other_service e phase a.kind then passages.OtherService
+    else if is_unbuilt phase (packet_type a.kind) (options_in a) then passages.Unbuilt
     else passages.Fine
 
 -- A packet that is out of place is answered with a Sync, and a Response for another service with Bad Service Code.
 abbrev pub goes_on : EndState → Arrival → Passage → Step Outcome
 goes_on e a passages.Misplaced = syncs e a.number
-goes_on e a passages.OtherService = resets (record e { phase = phase.Closed }) e.marks.gsr (plain 8)
+goes_on e a passages.OtherService = resets (record e { phase = phases.Closed }) e.marks.gsr (plain 8)
 goes_on e a passages.Unbuilt = idle e NotBuilt
 goes_on e a passages.Fine = by_fault e a (first_fault (options_in a))
 
@@ -156,7 +156,7 @@ raised e a = record e { marks = taken e.marks (packet_type a.kind) a.number (ack
 
 -- a valid Reset moves the phase and nothing else
 abbrev pub torn : EndState → Arrival → Step Outcome
-torn e a = idle (record e { phase = phase.TimeWait }) (WasReset (reset_code a.kind))
+torn e a = idle (record e { phase = phases.TimeWait }) (WasReset (reset_code a.kind))
 
 abbrev pub takes : EndState → Arrival → PacketType → Step Outcome
 takes e a types.Reset = torn e a
@@ -170,9 +170,9 @@ judged e a verdicts.Drop = idle e (Dropped why.BadSync)
 
 -- the first packet of the peer sets the first and the greatest number received
 abbrev pub started : EndState → Phase → Arrival → EndState
-started e ph a =
+started e phase a =
     record e {
-      phase = ph;
+      phase = phase;
       marks =
           record e.marks { isr = a.number; gsr = a.number; osr = a.number; gar = gar_after e.marks.gar (packet_type a.kind) (ack_of a.kind) };
     }
@@ -181,7 +181,7 @@ started e ph a =
 abbrev pub packet_error : EndState → Arrival → Step Outcome
 packet_error e a = resets e a.number (record { code = 4; first = code_of (packet_type a.kind); second = 0; third = 0 })
 
--- step 4: a Response or a Reset by whether it acknowledges what was sent
+-- step 4: a Response or a Reset by whether it acknowledges within the window
 abbrev pub answers : EndState → Arrival → PacketType → Bool → Step Outcome
 answers e a types.Reset true = torn e a
 answers e a types.Reset false = idle e (Dropped why.StrayReset)
@@ -191,7 +191,7 @@ answers e a _ false = packet_error e a
 -- step 3: a Request for this service opens, and for another gets Bad Service Code
 abbrev pub accepts : EndState → Arrival → Option ℕ → Step Outcome
 accepts e a None = resets_bare e a 3
-accepts e a (Some service) = if service == e.config.service then passes e (started e phase.Respond a) a (passage e phase.Respond a) else resets_bare e a 8
+accepts e a (Some service) = if service == e.config.service then passes e (started e phases.Respond a) a (passage e phases.Respond a) else resets_bare e a 8
 
 -- steps 2 to 4
 abbrev pub enters : EndState → Arrival → Entrance → Step Outcome

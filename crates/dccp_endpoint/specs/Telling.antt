@@ -10,7 +10,10 @@ use Rattle.dccp_states.specs.Entrance.{gate}
 use Rattle.dccp_states.specs.Phases.{after}
 use Rattle.dccp_states.specs.declared.entrance.Entrance.{Entrance}
 use Rattle.dccp_states.specs.declared.entrance.Entrance.TheVariants as entrance
+use Rattle.dccp_states.specs.declared.phase.Phase.{Phase}
 use Rattle.dccp_states.specs.declared.phase.Phase.TheVariants as phase
+use Rattle.dccp_states.specs.declared.reply.Reply.{Reply}
+use Rattle.dccp_states.specs.declared.reply.Reply.TheVariants as reply
 use Rattle.validity_windows.specs.Windows.{ack_low, ack_high}
 use Rattle.validity_windows.specs.Verdict.{verdict, is_ack_within}
 use Rattle.validity_windows.specs.declared.verdict.Verdict.{Verdict}
@@ -45,24 +48,24 @@ pub record Arrived (e : EndState) (bytes : List ℕ) (a : Arrival) : Type 0 wher
 abbrev pub entrance_of : EndState → Arrival → Entrance
 entrance_of e a = gate e.phase (packet_type a.kind)
 
--- its acknowledgement number, where it has one, is that of a packet that was sent
-abbrev pub acknowledges_sent : EndState → Arrival → Bool
-acknowledges_sent e a = is_ack_within (ack_low e.marks) (ack_high e.marks) (ack_of a.kind)
+-- its acknowledgement number, where it has one, lies in the window of what was sent (AWL to AWH)
+abbrev pub acknowledges_in_window : EndState → Arrival → Bool
+acknowledges_in_window e a = is_ack_within (ack_low e.marks) (ack_high e.marks) (ack_of a.kind)
 
 -- what its numbers are in the windows (steps 5 and 6)
 abbrev pub verdict_of : EndState → Arrival → Verdict
 verdict_of e a = verdict e.marks (packet_type a.kind) a.number (ack_of a.kind)
 
--- a valid Reset
+-- the numbers of a Reset are valid
 pub data IsValidReset (e : EndState) (a : Arrival) : Type 0 where
-  AnswersWith : entrance_of e a ≡ entrance.InRequest → acknowledges_sent e a ≡ true → IsValidReset e a
+  AnswersWith : entrance_of e a ≡ entrance.InRequest → acknowledges_in_window e a ≡ true → IsValidReset e a
   InWindow : entrance_of e a ≡ entrance.Check → verdict_of e a ≡ verdicts.Valid → IsValidReset e a
 
 -- Any other valid packet, and the end as steps 3, 4 and 6 leave it: a Request that opens, a Response to the Request, or a packet
 -- in the windows.
 pub data IsValid (e : EndState) (a : Arrival) (entered : EndState) : Type 0 where
   Opens : entrance_of e a ≡ entrance.Accept → service_of a.kind ≡ Some e.config.service → entered ≡ started e phase.Respond a → IsValid e a entered
-  Answers : entrance_of e a ≡ entrance.InRequest → packet_type a.kind ≢ types.Reset → acknowledges_sent e a ≡ true → entered ≡ started e e.phase a → IsValid e a entered
+  Answers : entrance_of e a ≡ entrance.InRequest → packet_type a.kind ≢ types.Reset → acknowledges_in_window e a ≡ true → entered ≡ started e e.phase a → IsValid e a entered
   Fits : entrance_of e a ≡ entrance.Check → packet_type a.kind ≢ types.Reset → verdict_of e a ≡ verdicts.Valid → entered ≡ raised e a → IsValid e a entered
 
 -- a valid packet, and how it passes step 7
@@ -89,10 +92,10 @@ pub record HasWrongSum (e : EndState) (bytes : List ℕ) (fault : SumFault) : Ty
   pub is_packet : decoded bytes ≡ Ok packet
   pub sum_fails : checked e.config.pseudo_in bytes ≡ Err fault
 
--- a Reset in CLOSED, LISTEN or TIMEWAIT, or one in REQUEST that acknowledges nothing that was sent
+-- a Reset in CLOSED, LISTEN or TIMEWAIT, or one in REQUEST whose acknowledgement number is outside the window
 pub data IsStray (e : EndState) (bytes : List ℕ) : Type 0 where
   Nowhere : (a : Arrival) → Arrived e bytes a → entrance_of e a ≡ entrance.Stray → IsStray e bytes
-  Unasked : (a : Arrival) → Arrived e bytes a → entrance_of e a ≡ entrance.InRequest → packet_type a.kind ≡ types.Reset → acknowledges_sent e a ≡ false
+  Unasked : (a : Arrival) → Arrived e bytes a → entrance_of e a ≡ entrance.InRequest → packet_type a.kind ≡ types.Reset → acknowledges_in_window e a ≡ false
       → IsStray e bytes
 
 -- a Sync or SyncAck whose numbers are not valid
@@ -130,15 +133,15 @@ abbrev pub IsBare : EndState → Arrival → ℕ → List ℕ → EndState → O
 IsBare e a code detail after frame =
     (after ≡ e) × (frame ≡ Some (frame_of e (bare_number (ack_of a.kind)) (kind.Reset a.number code detail)))
 
--- It takes the next number and acknowledges another, and only the greatest number sent changes.
+-- It takes the next number of an end and acknowledges another; from that end, only the greatest number sent changes.
 abbrev pub IsCounted : EndState → ℕ → ℕ → List ℕ → EndState → Option (List ℕ) → Type 0
 IsCounted e ack code detail after frame =
     (after ≡ counted e) × (frame ≡ Some (frame_of e (next_number e) (kind.Reset ack code detail)))
 
--- no answer to the Request: another type, or a Response that acknowledges nothing that was sent
+-- no answer to the Request: another type, or a Response whose acknowledgement number is outside the window
 pub data IsNoAnswer (e : EndState) (a : Arrival) : Type 0 where
   OtherType : entrance_of e a ≡ entrance.PacketError → IsNoAnswer e a
-  OtherRequest : entrance_of e a ≡ entrance.InRequest → packet_type a.kind ≢ types.Reset → acknowledges_sent e a ≡ false → IsNoAnswer e a
+  OtherRequest : entrance_of e a ≡ entrance.InRequest → packet_type a.kind ≢ types.Reset → acknowledges_in_window e a ≡ false → IsNoAnswer e a
 
 abbrev pub packet_fault : Arrival → Fault
 packet_fault a = record { code = 4; first = code_of (packet_type a.kind); second = 0; third = 0 }
@@ -146,11 +149,15 @@ packet_fault a = record { code = 4; first = code_of (packet_type a.kind); second
 abbrev pub closed : EndState → EndState
 closed e = record e { phase = phase.Closed }
 
--- Its options have no fault, and the table of phases moves the end and answers (steps 9 to 15).
+-- the phase after, and the reply (steps 9 to 15)
+abbrev pub row_of : EndState → Arrival → Phase × Reply
+row_of entered a = after entered.phase (packet_type a.kind)
+
+-- Its options have no fault, and the table of phases moves the end and answers.
 pub record IsProcessed (e : EndState) (bytes : List ℕ) (a : Arrival) (entered : EndState) (step : Step Outcome) : Type 0 where
   pub passed : Passed e bytes a entered passages.Fine
   pub no_fault : first_fault (options_in a) ≡ None
-  pub moved : step ≡ moves entered a (after entered.phase (packet_type a.kind))
+  pub moved : step ≡ moves entered a (row_of entered a)
 
 -- When a Reset is the answer, what it tells, and the end after it.
 pub data IsReset (e : EndState) (bytes : List ℕ) (code : ℕ) (detail : List ℕ) (after : EndState) (frame : Option (List ℕ)) : Type 0 where
@@ -169,9 +176,10 @@ pub data IsReset (e : EndState) (bytes : List ℕ) (code : ℕ) (detail : List �
   Faulted : (a : Arrival) (entered : EndState) (fault : Fault) → Passed e bytes a entered passages.Fine
       → first_fault (options_in a) ≡ Some fault → TellsOf fault code detail
       → IsCounted (closed entered) entered.marks.gsr code detail after frame → IsReset e bytes code detail after frame
-  -- step 14: Closed
-  Closes : (a : Arrival) (entered : EndState) → IsProcessed e bytes a entered (record { after = after; frame = frame; answer = SentReset code detail })
-      → IsReset e bytes code detail after frame
+  -- step 14: Closed. No packet leads here yet, since a Close needs a part that is not built.
+  Closes : (a : Arrival) (entered : EndState) → Passed e bytes a entered passages.Fine → first_fault (options_in a) ≡ None
+      → row_of entered a ≡ (phase.Closed, reply.ResetClosed) → TellsOf (plain 1) code detail
+      → IsCounted (closed entered) entered.marks.gsr code detail after frame → IsReset e bytes code detail after frame
 
 -- It passes step 7, and needs a part that is not built.
 pub record IsUnbuilt (e : EndState) (bytes : List ℕ) : Type 0 where

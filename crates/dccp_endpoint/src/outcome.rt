@@ -19,8 +19,8 @@ pub enum Why {
     Sum(SumFault),
     /// The ports are not those of the connection.
     OtherFlow,
-    /// A Reset that belongs to no connection: in CLOSED, LISTEN and TIMEWAIT, and in REQUEST where it acknowledges nothing
-    /// that was sent (RFC 4340, section 8.5, steps 2 to 4).
+    /// A Reset that belongs to no connection: in CLOSED, LISTEN and TIMEWAIT, and in REQUEST where its acknowledgement number
+    /// is outside the window (RFC 4340, section 8.5, steps 2 to 4).
     StrayReset,
     /// A packet with short numbers, which are not negotiated (RFC 4340, section 7.6.1).
     ShortOff,

@@ -5,7 +5,7 @@ use Rattle.dccp_states.specs.declared.phase.Role.{Role}
 use Rattle.dccp_states.specs.declared.phase.Role.TheVariants as role
 use Rattle.dccp_endpoint.specs.Receiving.{receives}
 use Rattle.dccp_endpoint.specs.Steps.{Step, opens}
-use Rattle.dccp_endpoint.specs.End.{EndState, first_phase, floor_of}
+use Rattle.dccp_endpoint.specs.End.{EndState, first_phase, floor_of, is_phase_of}
 use Rattle.dccp_endpoint.specs.declared.config.Config.{Config}
 use Rattle.two_ends.specs.declared.frames.SentFrame.{SentFrame}
 use Rattle.two_ends.specs.declared.event.Side.{Side}
@@ -15,31 +15,33 @@ use Rattle.two_ends.specs.declared.event.Event.TheVariants as event
 use Rattle.two_ends.specs.declared.event.WorldFault.{WorldFault}
 use Rattle.two_ends.specs.declared.event.WorldFault.TheVariants as fault
 use Rattle.two_ends.specs.World.{Half, WorldState, HalfStep, WorldStep, kept, moved, half_of, half_at_start, other, with_half, happens, arrives, unless_full, is_full, world_after, run, at_start, half_opens, half_receives}
-use Rattle.two_ends.specs.Frames.{packet_of}
+use Rattle.two_ends.specs.Frames.{packet_of, is_reset}
+use Rattle.dccp_packets.specs.declared.header.Kind.{Kind}
+use Rattle.dccp_packets.specs.declared.header.Kind.TheVariants as kind
 use Rattle.two_ends.specs.Reached.{Reached}
-use Rattle.two_ends.specs.Numbered.{IsAcknowledged, AreNumbered, IsNumbered, IsBareReset, Facts, Hears, is_live, number_in}
-use Rattle.two_ends.proofs.Numbering.{GoesOn, IsNext, FitsFrame, receives-on, opens-on}
+use Rattle.two_ends.specs.Numbered.{IsAcknowledged, AreNumbered, IsNumbered, IsNumberedFrame, IsBareReset, is_bare, Facts, Hears, is_live}
+use Rattle.two_ends.proofs.Numbering.{GoesOn, HasOwnPhase, IsNext, FitsFrame, receives-on, opens-on}
 use Rattle.two_ends.proofs.Hearing.{IsKnownPacket, known-packet, reset-packet, receives-hears, opens-hears}
 use Rattle.two_ends.proofs.Acknowledging.{FitsPacket, IsSent, IsReady, Acks, is_begun, receives-acks, opens-acks}
 use Rattle.two_ends.proofs.Resets.{resets-move-nothing}
 
-append-next : (iss before count : ℕ) (frames : List SentFrame) (frame : SentFrame) → AreNumbered iss before frames count
-    → number_in frame.bytes ≡ Some (residue (iss + count)) → AreNumbered iss before (frames ++ frame ∷ []) (count + 1)
-append-next iss before count [] frame so reads =
-    inl (reads ∙ ap (λ (n : ℕ). Some (residue (iss + n))) so, ap (λ (n : ℕ). n + 1) so)
-append-next iss before count (first ∷ frames) frame (inl next) reads = inl (next.0, append-next iss (before + 1) count frames frame next.1 reads)
-append-next iss before count (first ∷ frames) frame (inr bare) reads = inr (bare.0, append-next iss before count frames frame bare.1 reads)
+append-next : (r : Role) (iss before count : ℕ) (frames : List SentFrame) (frame : SentFrame) → AreNumbered r iss before frames count
+    → IsNumberedFrame r (residue (iss + count)) frame.bytes → AreNumbered r iss before (frames ++ frame ∷ []) (count + 1)
+append-next r iss before count [] frame so reads =
+    inl (record { not_bare = reads.not_bare; has_number = reads.has_number ∙ ap (λ (n : ℕ). Some (residue (iss + n))) so }, ap (λ (n : ℕ). n + 1) so)
+append-next r iss before count (first ∷ frames) frame (inl next) reads = inl (next.0, append-next r iss (before + 1) count frames frame next.1 reads)
+append-next r iss before count (first ∷ frames) frame (inr bare) reads = inr (bare.0, append-next r iss before count frames frame bare.1 reads)
 
-append-bare : (iss before count : ℕ) (frames : List SentFrame) (frame : SentFrame) → AreNumbered iss before frames count
-    → IsBareReset frame.bytes → AreNumbered iss before (frames ++ frame ∷ []) count
-append-bare iss before count [] frame so is = inr (is, so)
-append-bare iss before count (first ∷ frames) frame (inl next) is = inl (next.0, append-bare iss (before + 1) count frames frame next.1 is)
-append-bare iss before count (first ∷ frames) frame (inr bare) is = inr (bare.0, append-bare iss before count frames frame bare.1 is)
+append-bare : (r : Role) (iss before count : ℕ) (frames : List SentFrame) (frame : SentFrame) → AreNumbered r iss before frames count
+    → IsBareReset r frame.bytes → AreNumbered r iss before (frames ++ frame ∷ []) count
+append-bare r iss before count [] frame so is = inr (is, so)
+append-bare r iss before count (first ∷ frames) frame (inl next) is = inl (next.0, append-bare r iss (before + 1) count frames frame next.1 is)
+append-bare r iss before count (first ∷ frames) frame (inr bare) is = inr (bare.0, append-bare r iss before count frames frame bare.1 is)
 
-append-none : (iss before count : ℕ) (frames : List SentFrame) → AreNumbered iss before frames count → AreNumbered iss before (frames ++ []) count
-append-none iss before count [] so = so
-append-none iss before count (first ∷ frames) (inl next) = inl (next.0, append-none iss (before + 1) count frames next.1)
-append-none iss before count (first ∷ frames) (inr bare) = inr (bare.0, append-none iss before count frames bare.1)
+append-none : (r : Role) (iss before count : ℕ) (frames : List SentFrame) → AreNumbered r iss before frames count → AreNumbered r iss before (frames ++ []) count
+append-none r iss before count [] so = so
+append-none r iss before count (first ∷ frames) (inl next) = inl (next.0, append-none r iss (before + 1) count frames next.1)
+append-none r iss before count (first ∷ frames) (inr bare) = inr (bare.0, append-none r iss before count frames bare.1)
 
 -- the number after ISS - 1 + count
 after-greatest : (iss count gss : ℕ) → gss ≡ residue (iss + count + (2 ^ 48 - 1)) → residue (gss + 1) ≡ residue (iss + count)
@@ -49,38 +51,42 @@ next-greatest : (iss count : ℕ) → residue (iss + count) ≡ residue (iss + (
 next-greatest iss count = omega arith
 
 -- there are no more numbered frames than frames
-count-below : (iss before count : ℕ) (frames : List SentFrame) → AreNumbered iss before frames count → count ≤ before + length frames
-count-below iss before count [] so = omega (arith, so)
-count-below iss before count (frame ∷ frames) (inl next) = omega (arith, count-below iss (before + 1) count frames next.1)
-count-below iss before count (frame ∷ frames) (inr bare) = omega (arith, count-below iss before count frames bare.1)
+count-below : (r : Role) (iss before count : ℕ) (frames : List SentFrame) → AreNumbered r iss before frames count → count ≤ before + length frames
+count-below r iss before count [] so = omega (arith, so)
+count-below r iss before count (frame ∷ frames) (inl next) = omega (arith, count-below r iss (before + 1) count frames next.1)
+count-below r iss before count (frame ∷ frames) (inr bare) = omega (arith, count-below r iss before count frames bare.1)
 
-count-above : (iss before count : ℕ) (frames : List SentFrame) → AreNumbered iss before frames count → before ≤ count
-count-above iss before count [] so = omega (arith, so)
-count-above iss before count (frame ∷ frames) (inl next) = omega (arith, count-above iss (before + 1) count frames next.1)
-count-above iss before count (frame ∷ frames) (inr bare) = count-above iss before count frames bare.1
+count-above : (r : Role) (iss before count : ℕ) (frames : List SentFrame) → AreNumbered r iss before frames count → before ≤ count
+count-above r iss before count [] so = omega (arith, so)
+count-above r iss before count (frame ∷ frames) (inl next) = omega (arith, count-above r iss (before + 1) count frames next.1)
+count-above r iss before count (frame ∷ frames) (inr bare) = count-above r iss before count frames bare.1
+
+bare-reset : (r : Role) (k : Kind) → is_bare r k ≡ true → is_reset k ≡ true
+bare-reset r (kind.Reset ack code detail) is = refl
+bare-reset r _ is = cc is
 
 -- a frame that was sent has the number of its place, or is a Reset
-known-frame : (iss before count : ℕ) (frames : List SentFrame) (index : ℕ) (frame : SentFrame) → AreNumbered iss before frames count
+known-frame : (r : Role) (iss before count : ℕ) (frames : List SentFrame) (index : ℕ) (frame : SentFrame) → AreNumbered r iss before frames count
     → slice_get frames index ≡ Some frame → IsKnownPacket iss count (packet_of frame.bytes)
-known-frame iss before count [] index frame so there = cc there
-known-frame iss before count (first ∷ frames) zero frame (inl next) there =
+known-frame r iss before count [] index frame so there = cc there
+known-frame r iss before count (first ∷ frames) zero frame (inl next) there =
     let some : Some first ≡ Some frame = there in
     let same : first ≡ frame = cc some in
     subst (λ (f : SentFrame). IsKnownPacket iss count (packet_of f.bytes)) same
-    (known-packet iss count before (packet_of first.bytes) next.0 (omega (arith, count-above iss (before + 1) count frames next.1)))
-known-frame iss before count (first ∷ frames) zero frame (inr bare) there =
+    (known-packet iss count before (packet_of first.bytes) next.0.has_number (omega (arith, count-above r iss (before + 1) count frames next.1)))
+known-frame r iss before count (first ∷ frames) zero frame (inr bare) there =
     let some : Some first ≡ Some frame = there in
     let same : first ≡ frame = cc some in
     subst (λ (f : SentFrame). IsKnownPacket iss count (packet_of f.bytes)) same
-    (reset-packet iss count (packet_of first.bytes) bare.0.packet bare.0.is_packet bare.0.is_reset)
-known-frame iss before count (first ∷ frames) (suc index) frame (inl next) there = known-frame iss (before + 1) count frames index frame next.1 there
-known-frame iss before count (first ∷ frames) (suc index) frame (inr bare) there = known-frame iss before count frames index frame bare.1 there
+    (reset-packet iss count (packet_of first.bytes) bare.0.packet bare.0.is_packet (bare-reset r bare.0.packet.header.kind bare.0.is_bare))
+known-frame r iss before count (first ∷ frames) (suc index) frame (inl next) there = known-frame r iss (before + 1) count frames index frame next.1 there
+known-frame r iss before count (first ∷ frames) (suc index) frame (inr bare) there = known-frame r iss before count frames index frame bare.1 there
 
 -- a side's list after a step of it, with its greatest number sent
-pub record IsNextList (iss own : ℕ) (frames : List SentFrame) (gss : ℕ) : Type 0 where
+pub record IsNextList (r : Role) (iss own : ℕ) (frames : List SentFrame) (gss : ℕ) : Type 0 where
   pub count : ℕ
   pub above : own ≤ count
-  pub in_order : AreNumbered iss 0 frames count
+  pub in_order : AreNumbered r iss 0 frames count
   pub up_to_greatest : gss ≡ residue (iss + count + (2 ^ 48 - 1))
   pub few : length frames < 2 ^ 47
 
@@ -90,25 +96,25 @@ longer frames frame few = omega (arith, length-append frames (frame ∷ []))
 as-long : (frames : List SentFrame) → length frames < 2 ^ 47 - 1 → length (frames ++ []) < 2 ^ 47
 as-long frames few = omega (arith, length-append {A = SentFrame} frames [])
 
-kept-in-order : (iss own gss after : ℕ) (frames : List SentFrame) (processed floor : ℕ) (frame : Option (List ℕ)) → AreNumbered iss 0 frames own
-    → gss ≡ residue (iss + own + (2 ^ 48 - 1)) → length frames < 2 ^ 47 - 1 → IsNext gss after frame
-    → IsNextList iss own (frames ++ kept processed floor frame) after
-kept-in-order iss own gss after frames processed floor None so up few same =
-    record { count = own; above = omega arith; in_order = append-none iss 0 own frames so; up_to_greatest = same ∙ up; few = as-long frames few }
-kept-in-order iss own gss after frames processed floor (Some bytes) so up few (inl next) =
+kept-in-order : (r : Role) (iss own gss after : ℕ) (frames : List SentFrame) (processed floor : ℕ) (frame : Option (List ℕ)) → AreNumbered r iss 0 frames own
+    → gss ≡ residue (iss + own + (2 ^ 48 - 1)) → length frames < 2 ^ 47 - 1 → IsNext r gss after frame
+    → IsNextList r iss own (frames ++ kept processed floor frame) after
+kept-in-order r iss own gss after frames processed floor None so up few same =
+    record { count = own; above = omega arith; in_order = append-none r iss 0 own frames so; up_to_greatest = same ∙ up; few = as-long frames few }
+kept-in-order r iss own gss after frames processed floor (Some bytes) so up few (inl next) =
     let number : residue (gss + 1) ≡ residue (iss + own) = after-greatest iss own gss up in
     record {
       count = own + 1;
       above = omega arith;
-      in_order = append-next iss 0 own frames (record { bytes = bytes; processed = processed; floor = floor }) so (next.0 ∙ ap Some number);
+      in_order = append-next r iss 0 own frames (record { bytes = bytes; processed = processed; floor = floor }) so (record { not_bare = next.0.not_bare; has_number = next.0.has_number ∙ ap Some number });
       up_to_greatest = next.1 ∙ (number ∙ next-greatest iss own);
       few = longer frames (record { bytes = bytes; processed = processed; floor = floor }) few;
     }
-kept-in-order iss own gss after frames processed floor (Some bytes) so up few (inr bare) =
+kept-in-order r iss own gss after frames processed floor (Some bytes) so up few (inr bare) =
     record {
       count = own;
       above = omega arith;
-      in_order = append-bare iss 0 own frames (record { bytes = bytes; processed = processed; floor = floor }) so bare.0;
+      in_order = append-bare r iss 0 own frames (record { bytes = bytes; processed = processed; floor = floor }) so bare.0;
       up_to_greatest = bare.1 ∙ up;
       few = longer frames (record { bytes = bytes; processed = processed; floor = floor }) few;
     }
@@ -148,8 +154,9 @@ later-sent iss own count number above s = record { place = s.place; within = ome
 
 -- what is kept of a side that has numbered `own` frames, where the other has numbered `peer`
 pub record IsKept (half : Half) (iss own peer_iss peer : ℕ) : Type 0 where
+  pub phase_fits : HasOwnPhase half.end
   pub same_first : half.end.marks.iss ≡ iss
-  pub in_order : AreNumbered iss 0 half.frames own
+  pub in_order : AreNumbered half.end.config.role iss 0 half.frames own
   pub up_to_greatest : half.end.marks.gss ≡ residue (iss + own + (2 ^ 48 - 1))
   pub few : length half.frames < 2 ^ 47
   pub heard : Hears peer_iss peer half.end
@@ -167,18 +174,19 @@ not-full : (half : Half) → is_full half ≡ false → length half.frames < 2 ^
 not-full half room = grind arith
 
 moved-kept : {Answer : Type 0} (half : Half) (step : Step Answer) (iss own peer_iss peer : ℕ) → is_full half ≡ false → IsKept half iss own peer_iss peer
-    → GoesOn half.end.marks.own_w half.end.marks.iss half.end.marks.gss step → Hears peer_iss peer step.after → Acks iss own half.end step.after → IsMoved (moved half step) iss own peer_iss peer
+    → GoesOn half.end.config.role half.end.marks.own_w half.end.marks.iss half.end.marks.gss step → Hears peer_iss peer step.after → Acks iss own half.end step.after → IsMoved (moved half step) iss own peer_iss peer
 moved-kept half step iss own peer_iss peer room k on h acks =
-    let next : IsNextList iss own (moved half step).frames step.after.marks.gss =
-    kept-in-order iss own half.end.marks.gss step.after.marks.gss half.frames (length half.processed) (floor_of step.after) step.frame k.in_order
+    let next : IsNextList half.end.config.role iss own (moved half step).frames step.after.marks.gss =
+    kept-in-order half.end.config.role iss own half.end.marks.gss step.after.marks.gss half.frames (length half.processed) (floor_of step.after) step.frame k.in_order
     k.up_to_greatest (not-full half room) on.is_next in
     record {
       count = next.count;
       above = next.above;
       kept =
           record {
+            phase_fits = ap (is_phase_of step.after.phase) on.same_role ∙ on.phase_fits;
             same_first = on.same_first ∙ k.same_first;
-            in_order = next.in_order;
+            in_order = subst (λ (x : Role). AreNumbered x iss 0 (moved half step).frames next.count) (sym on.same_role) next.in_order;
             up_to_greatest = next.up_to_greatest;
             few = next.few;
             heard = h;
@@ -200,6 +208,7 @@ later-hears iss count more e above (inr h) =
 later-kept : (half : Half) (iss own peer_iss peer more : ℕ) → peer ≤ more → IsKept half iss own peer_iss peer → IsKept half iss own peer_iss more
 later-kept half iss own peer_iss peer more above k =
     record {
+      phase_fits = k.phase_fits;
       same_first = k.same_first;
       in_order = k.in_order;
       up_to_greatest = k.up_to_greatest;
@@ -212,7 +221,7 @@ later-kept half iss own peer_iss peer more above k =
     }
 
 few-numbered : (half : Half) (iss own peer_iss peer : ℕ) → IsKept half iss own peer_iss peer → own < 2 ^ 47
-few-numbered half iss own peer_iss peer k = omega (arith, count-below iss 0 own half.frames k.in_order, k.few)
+few-numbered half iss own peer_iss peer k = omega (arith, count-below half.end.config.role iss 0 own half.frames k.in_order, k.few)
 
 ready : (half : Half) (iss own peer_iss peer : ℕ) (fits : iss < 2 ^ 48) (k : IsKept half iss own peer_iss peer)
     → IsReady iss own fits (few-numbered half iss own peer_iss peer k) half.end
@@ -265,24 +274,24 @@ module _ (client_iss server_iss : ℕ) (client_fits : client_iss < 2 ^ 48) (serv
   arrives-kept w Client index (Some frame) there k =
       server-kept w (half_receives w.server frame.bytes) k
       (λ room. moved-kept w.server (receives w.server.end frame.bytes) server_iss k.server_count client_iss k.client_count room k.server
-      (receives-on w.server.end frame.bytes)
+      (receives-on w.server.end frame.bytes k.server.phase_fits)
       (receives-hears client_iss k.client_count (few-numbered w.client client_iss k.client_count server_iss k.server_count k.client) w.server.end frame.bytes k.server.heard
-      (known-frame client_iss 0 k.client_count w.client.frames index frame k.client.in_order there))
+      (known-frame w.client.end.config.role client_iss 0 k.client_count w.client.frames index frame k.client.in_order there))
       (receives-acks server_iss k.server_count server_fits (few-numbered w.server server_iss k.server_count client_iss k.client_count k.server) w.server.end frame.bytes
       (ready w.server server_iss k.server_count client_iss k.client_count server_fits k.server) (fit-at w.client.frames index frame k.client.fit there)))
   arrives-kept w Server index (Some frame) there k =
       client-kept w (half_receives w.client frame.bytes) k
       (λ room. moved-kept w.client (receives w.client.end frame.bytes) client_iss k.client_count server_iss k.server_count room k.client
-      (receives-on w.client.end frame.bytes)
+      (receives-on w.client.end frame.bytes k.client.phase_fits)
       (receives-hears server_iss k.server_count (few-numbered w.server server_iss k.server_count client_iss k.client_count k.server) w.client.end frame.bytes k.client.heard
-      (known-frame server_iss 0 k.server_count w.server.frames index frame k.server.in_order there))
+      (known-frame w.server.end.config.role server_iss 0 k.server_count w.server.frames index frame k.server.in_order there))
       (receives-acks client_iss k.client_count client_fits (few-numbered w.client client_iss k.client_count server_iss k.server_count k.client) w.client.end frame.bytes
       (ready w.client client_iss k.client_count server_iss k.server_count client_fits k.client) (fit-at w.server.frames index frame k.server.fit there)))
 
   event-kept : (w : WorldState) (e : Event) → AreKept w → AreKept (world_after w (happens w e))
   event-kept w event.Open k =
       client-kept w (half_opens w.client) k
-      (λ room. moved-kept w.client (opens w.client.end) client_iss k.client_count server_iss k.server_count room k.client (opens-on w.client.end)
+      (λ room. moved-kept w.client (opens w.client.end) client_iss k.client_count server_iss k.server_count room k.client (opens-on w.client.end k.client.phase_fits)
       (opens-hears server_iss k.server_count (few-numbered w.server server_iss k.server_count client_iss k.client_count k.server) w.client.end k.client.heard)
       (opens-acks client_iss k.client_count client_fits (few-numbered w.client client_iss k.client_count server_iss k.server_count k.client) w.client.end
       (ready w.client client_iss k.client_count server_iss k.server_count client_fits k.client)))
@@ -296,7 +305,7 @@ module _ (client_iss server_iss : ℕ) (client_fits : client_iss < 2 ^ 48) (serv
   numbered-half half iss own peer_iss peer k =
       record {
         count = own;
-        in_order = subst (λ (n : ℕ). AreNumbered n 0 half.frames own) (sym k.same_first) k.in_order;
+        in_order = subst (λ (n : ℕ). AreNumbered half.end.config.role n 0 half.frames own) (sym k.same_first) k.in_order;
         up_to_greatest = k.up_to_greatest ∙ ap (λ (n : ℕ). residue (n + own + (2 ^ 48 - 1))) (sym k.same_first);
         few = few-numbered half iss own peer_iss peer k;
       }
@@ -346,9 +355,14 @@ start-unset : (config : Config) (r : Role) → is_live (first_phase r) ≡ false
 start-unset config role.Client = refl
 start-unset config role.Server = refl
 
+start-phase : (r : Role) → is_phase_of (first_phase r) r ≡ true
+start-phase role.Client = refl
+start-phase role.Server = refl
+
 start-half : (config : Config) (peer_iss : ℕ) → config.iss < 2 ^ 48 → IsKept (half_at_start config) config.iss 0 peer_iss 0
 start-half config peer_iss fits =
     record {
+      phase_fits = start-phase config.role;
       same_first = refl;
       in_order = refl;
       up_to_greatest = omega arith;

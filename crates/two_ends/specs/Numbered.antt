@@ -1,7 +1,11 @@
 -- The numbers of the frames that were sent (RFC 4340, section 7.1).
-use Rattle.std.specs.Prelude.{◌≡◌, ◌⊎◌, ℕ, ◌+◌, ◌-◌, ◌^◌, ◌<◌, ◌≤◌, Bool, true, false, List, [], ◌∷◌, Option, Some, None}
+use Rattle.std.specs.Prelude.{◌≡◌, ◌⊎◌, ◌==◌, ◌&&◌, ◌||◌, ℕ, ◌+◌, ◌-◌, ◌^◌, ◌<◌, ◌≤◌, Bool, true, false, List, [], ◌∷◌, Option, Some, None}
 use Rattle.seq_circle.specs.Circle.{residue}
 use Rattle.dccp_packets.specs.Grammar.{Parts}
+use Rattle.dccp_packets.specs.declared.header.Kind.{Kind}
+use Rattle.dccp_packets.specs.declared.header.Kind.TheVariants as kind
+use Rattle.dccp_states.specs.declared.phase.Role.{Role}
+use Rattle.dccp_states.specs.declared.phase.Role.TheVariants.{Client, Server}
 use Rattle.dccp_states.specs.declared.phase.Phase.{Phase}
 use Rattle.dccp_states.specs.declared.phase.Phase.TheVariants as phase
 use Rattle.dccp_endpoint.specs.Arrivals.{value_of}
@@ -22,25 +26,47 @@ packet_number (Some p) = Some (value_of p.header.number)
 abbrev pub number_in : List ℕ → Option ℕ
 number_in bytes = packet_number (packet_of bytes)
 
--- A Reset without a connection: its number is none of its sender's, and it carries no option (section 8.3.1).
-pub record IsBareReset (bytes : List ℕ) : Type 0 where
+-- The code of a Reset without a connection: 3, No Connection, or a server's 8, Bad Service Code (section 8.5, steps 2 and 3). A
+-- client's 8 belongs to its connection.
+abbrev pub is_server : Role → Bool
+is_server Client = false
+is_server Server = true
+
+abbrev pub is_bare_code : Role → ℕ → Bool
+is_bare_code role code = (code == 3) || ((code == 8) && is_server role)
+
+abbrev pub is_bare : Role → Kind → Bool
+is_bare role (kind.Reset ack code detail) = is_bare_code role code
+is_bare role _ = false
+
+abbrev pub is_bare_packet : Role → Option Parts → Bool
+is_bare_packet role None = false
+is_bare_packet role (Some p) = is_bare role p.header.kind
+
+-- A Reset without a connection: its number comes from the packet that it answers, and it carries no option (section 8.3.1).
+pub record IsBareReset (role : Role) (bytes : List ℕ) : Type 0 where
   pub packet : Parts
   pub is_packet : packet_of bytes ≡ Some packet
-  pub is_reset : is_reset packet.header.kind ≡ true
+  pub is_bare : is_bare role packet.header.kind ≡ true
   pub no_options : options_in bytes ≡ []
+
+-- any other frame, with its number
+pub record IsNumberedFrame (role : Role) (number : ℕ) (bytes : List ℕ) : Type 0 where
+  pub not_bare : is_bare_packet role (packet_of bytes) ≡ false
+  pub has_number : number_in bytes ≡ Some number
 
 -- All frames but Resets without a connection are numbered. Of these, so many went before the list, and `count` there are with
 -- the list: each carries the next number.
-abbrev pub AreNumbered : ℕ → ℕ → List SentFrame → ℕ → Type 0
-AreNumbered iss before [] count = count ≡ before
-AreNumbered iss before (frame ∷ frames) count =
-    ((number_in frame.bytes ≡ Some (residue (iss + before))) × AreNumbered iss (before + 1) frames count)
-    ⊎ (IsBareReset frame.bytes × AreNumbered iss before frames count)
+abbrev pub AreNumbered : Role → ℕ → ℕ → List SentFrame → ℕ → Type 0
+AreNumbered role iss before [] count = count ≡ before
+AreNumbered role iss before (frame ∷ frames) count =
+    (IsNumberedFrame role (residue (iss + before)) frame.bytes × AreNumbered role iss (before + 1) frames count)
+    ⊎ (IsBareReset role frame.bytes × AreNumbered role iss before frames count)
 
 -- A side's numbered frames carry ISS, ISS + 1, and so on up to GSS, in this order.
 pub record IsNumbered (half : Half) : Type 0 where
   pub count : ℕ
-  pub in_order : AreNumbered half.end.marks.iss 0 half.frames count
+  pub in_order : AreNumbered half.end.config.role half.end.marks.iss 0 half.frames count
   pub up_to_greatest : half.end.marks.gss ≡ residue (half.end.marks.iss + count + (2 ^ 48 - 1))
   pub few : count < 2 ^ 47
 
@@ -56,7 +82,7 @@ is_live phase.CloseReq = true
 is_live phase.Closing = true
 is_live phase.TimeWait = false
 
--- no first number was received yet
+-- no first number was received yet, as far as the marks and the phase tell
 pub record IsUnset (e : EndState) : Type 0 where
   pub not_live : is_live e.phase ≡ false
   pub no_first : e.marks.isr ≡ 0

@@ -12,7 +12,8 @@ use Rattle.two_ends.specs.declared.event.Side.{Side}
 use Rattle.two_ends.specs.World.{Half, WorldState, half_of, other}
 use Rattle.two_ends.specs.Frames.{packet_of, options_in, is_reset}
 
--- A side sent a packet with this number that is no Reset. A Reset without a connection has a number of the other side.
+-- A side sent a packet with this number that is no Reset. The number of a Reset without a connection comes from the packet that it
+-- answers, and says nothing of its sender's.
 pub record HasSentNumber (w : WorldState) (side : Side) (n : ℕ) : Type 0 where
   pub index : ℕ
   pub frame : SentFrame

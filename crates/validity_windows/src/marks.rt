@@ -15,7 +15,7 @@ pub struct Marks {
     pub isr: Seq48,
     /// GSR, the greatest number received.
     pub gsr: Seq48,
-    /// OSR, the first number received in the open connection.
+    /// OSR, the number of the packet that opened the connection at this end; ISR before that (own).
     pub osr: Seq48,
     /// The width of the window of acknowledgement numbers: the feature Sequence Window of this end.
     pub own_w: u64,

@@ -117,10 +117,11 @@ impl Endpoint {
     /// The outcome tells why it came and what has changed. A packet that is dropped or `NotBuilt` changes nothing and sends
     /// nothing. A valid Reset moves the phase to TIMEWAIT, and nothing else. A Sync takes the next number and acknowledges the
     /// number that `Synced` has; nothing else changes where the packet's numbers are not valid, and where it is out of place
-    /// it has raised the greatest numbers received. A Reset has the code and the detail that `SentReset` has: without a
-    /// connection (codes 3 and 8) it changes nothing, as the answer to anything but a Response in REQUEST (code 4) it takes
-    /// the next number alone, and otherwise (codes 5, 6 and 8) it closes the end and acknowledges the greatest number
-    /// received. Each of these comes exactly for its causes.
+    /// it has raised the greatest numbers received. A Reset has the code and the detail that `SentReset` has. Without a
+    /// connection (codes 3 and 8) it changes nothing. In REQUEST, where the packet is neither a Reset nor a Response that
+    /// acknowledges within the window (code 4), it takes the next number, and nothing else changes. Otherwise (codes 5, 6 and
+    /// 8) the packet's numbers were taken, the end closes, and the Reset takes the next number and acknowledges the greatest
+    /// number received. Each of these comes exactly for its causes.
     pub fn receive(&mut self, bytes: &[u8], out: &mut Outbox) -> Outcome
         requires { length bytes.now ≤ 2044 }
         ensures step { record { after = self.new; frame = out.new; answer = result } ≡ receives self.old bytes.now }
@@ -223,13 +224,13 @@ impl Endpoint {
         self.go_on(how, packet, number, out)
     }
 
-    // Step 4: a Response or a Reset, by whether it acknowledges what was sent.
+    // Step 4: a Response or a Reset, by whether it acknowledges within the window.
     fn take_answer(&mut self, packet: &Packet<'_>, number: Seq48, out: &mut Outbox) -> Outcome
         requires empty { out.old ≡ None }
         requires short { length packet.now.options.now ≤ 1008 }
         ensures { record { after = self.new; frame = out.new; answer = result } ≡ answers self.old (arrival packet.now number) (packet_type packet.now.header.kind) (is_ack_within (ack_low self.old.marks) (ack_high self.old.marks) (ack_of packet.now.header.kind)) }
     {
-        let fits = self.acknowledges_sent(&packet.header.kind);
+        let fits = self.acknowledges_in_window(&packet.header.kind);
         match (packet.header.kind.packet_type(), fits) {
             (PacketType::Reset, true) => self.be_torn(&packet.header.kind),
             (PacketType::Reset, false) => Outcome::Dropped(Why::StrayReset),
@@ -239,7 +240,7 @@ impl Endpoint {
     }
 
     // Whether the acknowledgement number, where there is one, lies in the window of what was sent.
-    fn acknowledges_sent(&self, kind: &Kind) -> bool
+    fn acknowledges_in_window(&self, kind: &Kind) -> bool
         ensures { result ≡ is_ack_within (ack_low self.now.marks) (ack_high self.now.marks) (ack_of kind.now) }
     {
         let windows = self.marks.windows();
