@@ -1,4 +1,5 @@
 //! One end and the bytes that reach it.
+use crate::arriving::give;
 use dccp_endpoint::{Config, Endpoint, Outcome, Phase, Role, Why};
 use dccp_packets::{Outbox, decode};
 use dccp_sum::SumFault;
@@ -15,30 +16,19 @@ fn coverage_too_large(rt: HostRuntime) -> Result<(), Fail> {
         return Err(Fail::from("27 bytes"));
     };
     let mut server = Endpoint::new(Config::usual(Role::Server))?;
-    let mut out = Outbox::new();
-    let outcome = server.receive(&bytes, &mut out);
+    let answered = give(rt.alloc(), &mut server, text)?;
     let wanted = Outcome::Dropped(Why::Sum(SumFault::CoverageTooLarge));
-    assert_eq!(rt; outcome, wanted);
+    assert_eq!(rt; answered.outcome, wanted);
     assert_eq!(rt; server.phase(), Phase::Listen);
-    assert!(rt; out.frame().is_none());
+    assert!(rt; answered.frame.is_none());
     assert!(rt; decode(&bytes).is_ok(), "the bytes are a packet");
     Ok(())
 }
 
 // Whether an end takes a packet and sends this frame, or none where it is empty.
 fn takes(alloc: Global, end: &mut Endpoint, packet: &str, sent: &str) -> Result<bool, Fail> {
-    let bytes = hex::decode(alloc, packet)?;
-    let frame = hex::decode(alloc, sent)?;
-    if 2044 < bytes.len() {
-        return Err(Fail::from("no packet is longer"));
-    }
-    let mut out = Outbox::new();
-    let outcome = end.receive(&bytes, &mut out);
-    let is_sent = match out.frame() {
-        Some(own) => own.bytes() == frame.as_slice(),
-        None => frame.is_empty(),
-    };
-    Ok(outcome == Outcome::Took { delivered: None } && is_sent)
+    let answered = give(alloc, end, packet)?;
+    Ok(answered.outcome == Outcome::Took { delivered: None } && answered.sends(alloc, sent)?)
 }
 
 // The client's numbers pass 2^48 - 1 and go on from 0.

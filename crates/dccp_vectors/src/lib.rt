@@ -3,6 +3,10 @@
 #![tactic(auto)]
 
 #[cfg(test)]
+mod arriving;
+#[cfg(test)]
+mod causes;
+#[cfg(test)]
 mod ends;
 #[cfg(test)]
 mod phases;

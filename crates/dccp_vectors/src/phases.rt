@@ -1,7 +1,11 @@
 //! Every packet type in every phase that an end reaches by now, at both roles: the answer, the phase after and what is sent
 //! (RFC 4340, section 8.5).
-use dccp_endpoint::{Config, Endpoint, Outcome, Phase, Role, Why};
-use dccp_packets::{Outbox, PacketType, decode};
+use crate::arriving::{
+    Answered, LISTENING, OPEN_CLIENT, OPEN_SERVER, PART_OPEN, REQUEST, REQUESTING, RESPONDING,
+    RESPONSE, Way, end_after, give,
+};
+use dccp_endpoint::{Outcome, Phase, Role, Why};
+use dccp_packets::{PacketType, decode};
 use seq_circle::Seq48;
 use std::alloc::Global;
 use std::test::Fail;
@@ -51,45 +55,15 @@ fn from_server(packet: PacketType) -> &'static str {
     }
 }
 
-fn give(
-    alloc: Global,
-    end: &mut Endpoint,
-    packet: &str,
-) -> Result<(Outcome, Option<PacketType>), Fail> {
-    let bytes = hex::decode(alloc, packet)?;
-    if 2044 < bytes.len() {
-        return Err(Fail::from("no packet is longer"));
-    }
-    let mut out = Outbox::new();
-    let outcome = end.receive(&bytes, &mut out);
-    let sent = match out.frame() {
-        Some(own) => match decode(own.bytes()) {
-            Ok(frame) => Some(frame.header.kind.packet_type()),
-            Err(_) => return Err(Fail::from("what is sent is a packet")),
+// The type of the frame that was sent.
+fn type_sent(answered: &Answered) -> Result<Option<PacketType>, Fail> {
+    match &answered.frame {
+        Some(bytes) => match decode(bytes) {
+            Ok(frame) => Ok(Some(frame.header.kind.packet_type())),
+            Err(_) => Err(Fail::from("what is sent is a packet")),
         },
-        None => None,
-    };
-    Ok((outcome, sent))
-}
-
-// How an end comes to its phase: a new one, opened or not, that these packets reach.
-#[derive(Clone, Copy)]
-struct Way<'a> {
-    role: Role,
-    opens: bool,
-    packets: &'a [&'a str],
-}
-
-fn end_after(alloc: Global, way: &Way<'_>) -> Result<Endpoint, Fail> {
-    let mut end = Endpoint::new(Config::usual(way.role))?;
-    if way.opens {
-        let mut out = Outbox::new();
-        end.open(&mut out)?;
+        None => Ok(None),
     }
-    for packet in way.packets {
-        give(alloc, &mut end, packet)?;
-    }
-    Ok(end)
 }
 
 fn outcome_of(answer: Answer, number: u64) -> Result<Outcome, Fail> {
@@ -114,22 +88,14 @@ fn keeps(alloc: Global, way: &Way<'_>, rows: [Row; 10]) -> Result<bool, Fail> {
             Role::Server => (from_client(packet), 1_005),
             Role::Client => (from_server(packet), 2_005),
         };
-        let (outcome, sent) = give(alloc, &mut end, text)?;
-        if outcome != outcome_of(answer, number)? || end.phase() != after || sent != reply {
+        let answered = give(alloc, &mut end, text)?;
+        let is_answered = answered.outcome == outcome_of(answer, number)?;
+        if !is_answered || end.phase() != after || type_sent(&answered)? != reply {
             return Ok(false);
         }
     }
     Ok(true)
 }
-
-// The handshake's own packets.
-const REQUEST: &str = "9c401389050031ec01000000000003e80000002a";
-
-const RESPONSE: &str = "13899c400700261403000000000007d000000000000003e80000002a";
-
-const ACK: &str = "9c4013890600234107000000000003e900000000000007d0";
-
-const SERVER_ACK: &str = "13899c400600234107000000000007d100000000000003e8";
 
 const CLIENT_RESET: &str = "9c4013890700183d0f000000000003e900000000000007d002000000";
 
@@ -168,18 +134,19 @@ fn without_connection(request: Row, phase: Phase) -> [Row; 10] {
 
 #[test]
 fn server_in_listen(rt: HostRuntime) -> Result<(), Fail> {
-    let way = Way {
-        role: Role::Server,
-        opens: false,
-        packets: &[],
-    };
     let request = (
         PacketType::Request,
         Answer::Took,
         Phase::Respond,
         Some(PacketType::Response),
     );
-    assert!(rt; keeps(rt.alloc(), &way, without_connection(request, Phase::Listen))?);
+    assert!(rt;
+        keeps(
+            rt.alloc(),
+            &LISTENING,
+            without_connection(request, Phase::Listen)
+        )?
+    );
     Ok(())
 }
 
@@ -232,12 +199,7 @@ fn server_in_respond(rt: HostRuntime) -> Result<(), Fail> {
             Some(PacketType::Ack),
         ),
     ];
-    let way = Way {
-        role: Role::Server,
-        opens: false,
-        packets: &[REQUEST],
-    };
-    assert!(rt; keeps(rt.alloc(), &way, rows)?);
+    assert!(rt; keeps(rt.alloc(), &RESPONDING, rows)?);
     Ok(())
 }
 
@@ -275,12 +237,7 @@ fn server_in_open(rt: HostRuntime) -> Result<(), Fail> {
         ),
         (PacketType::SyncAck, Answer::Took, Phase::Open, None),
     ];
-    let way = Way {
-        role: Role::Server,
-        opens: false,
-        packets: &[REQUEST, ACK],
-    };
-    assert!(rt; keeps(rt.alloc(), &way, rows)?);
+    assert!(rt; keeps(rt.alloc(), &OPEN_SERVER, rows)?);
     Ok(())
 }
 
@@ -290,6 +247,7 @@ fn server_in_time_wait(rt: HostRuntime) -> Result<(), Fail> {
         role: Role::Server,
         opens: false,
         packets: &[REQUEST, CLIENT_RESET],
+        leads_to: Phase::TimeWait,
     };
     let request = lost(PacketType::Request, Phase::TimeWait);
     assert!(rt;
@@ -308,6 +266,7 @@ fn server_in_closed(rt: HostRuntime) -> Result<(), Fail> {
         role: Role::Server,
         opens: false,
         packets: &[FAULTY_REQUEST],
+        leads_to: Phase::Closed,
     };
     let request = lost(PacketType::Request, Phase::Closed);
     assert!(rt; keeps(rt.alloc(), &way, without_connection(request, Phase::Closed))?);
@@ -320,6 +279,7 @@ fn client_in_closed(rt: HostRuntime) -> Result<(), Fail> {
         role: Role::Client,
         opens: false,
         packets: &[],
+        leads_to: Phase::Closed,
     };
     let request = lost(PacketType::Request, Phase::Closed);
     assert!(rt; keeps(rt.alloc(), &way, without_connection(request, Phase::Closed))?);
@@ -385,12 +345,7 @@ fn client_in_request(rt: HostRuntime) -> Result<(), Fail> {
             Some(PacketType::Reset),
         ),
     ];
-    let way = Way {
-        role: Role::Client,
-        opens: true,
-        packets: &[],
-    };
-    assert!(rt; keeps(rt.alloc(), &way, rows)?);
+    assert!(rt; keeps(rt.alloc(), &REQUESTING, rows)?);
     Ok(())
 }
 
@@ -428,12 +383,7 @@ fn client_in_part_open(rt: HostRuntime) -> Result<(), Fail> {
         ),
         (PacketType::SyncAck, Answer::Took, Phase::Open, None),
     ];
-    let way = Way {
-        role: Role::Client,
-        opens: true,
-        packets: &[RESPONSE],
-    };
-    assert!(rt; keeps(rt.alloc(), &way, rows)?);
+    assert!(rt; keeps(rt.alloc(), &PART_OPEN, rows)?);
     Ok(())
 }
 
@@ -466,12 +416,7 @@ fn client_in_open(rt: HostRuntime) -> Result<(), Fail> {
         ),
         (PacketType::SyncAck, Answer::Took, Phase::Open, None),
     ];
-    let way = Way {
-        role: Role::Client,
-        opens: true,
-        packets: &[RESPONSE, SERVER_ACK],
-    };
-    assert!(rt; keeps(rt.alloc(), &way, rows)?);
+    assert!(rt; keeps(rt.alloc(), &OPEN_CLIENT, rows)?);
     Ok(())
 }
 
@@ -481,6 +426,7 @@ fn client_in_time_wait(rt: HostRuntime) -> Result<(), Fail> {
         role: Role::Client,
         opens: true,
         packets: &[RESPONSE, SERVER_RESET],
+        leads_to: Phase::TimeWait,
     };
     let request = lost(PacketType::Request, Phase::TimeWait);
     assert!(rt;
@@ -499,6 +445,7 @@ fn client_closed_again(rt: HostRuntime) -> Result<(), Fail> {
         role: Role::Client,
         opens: true,
         packets: &[OTHER_RESPONSE],
+        leads_to: Phase::Closed,
     };
     let request = lost(PacketType::Request, Phase::Closed);
     assert!(rt; keeps(rt.alloc(), &way, without_connection(request, Phase::Closed))?);

@@ -1,4 +1,5 @@
 //! Two ends over whole schedules.
+use crate::arriving::{REQUEST, RESPONSE};
 use dccp_endpoint::{Config, Outcome, Phase, Role};
 use seq_circle::Seq48;
 use std::alloc::Global;
@@ -6,10 +7,6 @@ use std::test::Fail;
 use two_ends::{Event, Refusal, Seen, Side, World, WorldFault};
 
 const TOOK: Seen = Seen::Received(Outcome::Took { delivered: None });
-
-const REQUEST: &str = "9c401389050031ec01000000000003e80000002a";
-
-const RESPONSE: &str = "13899c400700261403000000000007d000000000000003e80000002a";
 
 const SECOND_RESPONSE: &str = "13899c400700261303000000000007d100000000000003e80000002a";
 
