@@ -1,5 +1,5 @@
 -- What an outcome tells is what `receive` does: each cause is put into the definitions from the top.
-use Rattle.std.proofs.Common.{◌≡◌, refl, ap, sym, ◌∙◌, subst, ℕ, List, Option, Some, Bool, true, false, if◌then◌else◌}
+use Rattle.std.proofs.Common.{◌≡◌, refl, ap, sym, ◌∙◌, subst, ℕ, List, Option, Some, None, Bool, true, false, if◌then◌else◌}
 use Rattle.std.proofs.lemmas.Bool.{eq-eqb, ne_eqb}
 use Rattle.dccp_packets.specs.Grammar.{Parts, packet_type}
 use Rattle.dccp_packets.specs.declared.header.Kind.TheVariants as kind
@@ -8,17 +8,20 @@ use Rattle.dccp_packets.specs.declared.header.PacketType.TheVariants as types
 use Rattle.dccp_states.specs.Phases.{after}
 use Rattle.dccp_states.specs.declared.entrance.Entrance.TheVariants as entrance
 use Rattle.dccp_states.specs.declared.phase.Phase.TheVariants as phase
+use Rattle.dccp_states.specs.declared.reply.Reply.{Reply}
+use Rattle.dccp_states.specs.declared.reply.Reply.TheVariants as reply
 use Rattle.dccp_endpoint.specs.Arrivals.{ack_of}
 use Rattle.dccp_endpoint.specs.End.{EndState}
-use Rattle.dccp_endpoint.specs.Receiving.{Arrival, accepts, answers, bare_number, by_fault, by_form, by_packet, by_ports, by_sum, enters, is_of_connection, judged, moves, packet_error, passage, passes, plain, raised, receives, resets, resets_bare, started, syncs, takes, torn}
+use Rattle.dccp_endpoint.specs.Receiving.{Arrival, accepts, answers, bare_number, by_fault, by_form, by_packet, by_ports, by_sum, enters, is_of_connection, is_other_service, judged, moves, packet_error, passage, passes, plain, raised, receives, replies, resets, resets_bare, started, syncs, takes, torn}
 use Rattle.dccp_endpoint.specs.Steps.{Step, frame_of, idle, next_number}
-use Rattle.dccp_endpoint.specs.Telling.{Arrived, IsIntact, IsNoAnswer, OtherType, OtherRequest, IsProcessed, IsReset, NoConnection, OtherService, NoAnswer, WrongService, Faulted, Closes, IsStray, Nowhere, Unasked, IsSynced, OutOfWindow, OutOfPlace, IsValid, Opens, Answers, Fits, IsValidReset, AnswersWith, InWindow, Passed, Tells, IsBare, IsCounted, IsUntouched, TellsOf, IsOnlyTold, acknowledges_in_window, closed, entrance_of, packet_fault}
+use Rattle.dccp_endpoint.specs.Telling.{Arrived, Came, IsIntact, IsNoAnswer, OtherType, OtherRequest, IsRead, IsReset, NoConnection, OtherService, NoAnswer, WrongService, Faulted, Closes, IsSent, IsStray, Nowhere, Unasked, IsSynced, OutOfWindow, OutOfPlace, IsTaken, IsValid, Opens, Answers, Fits, IsValidReset, AnswersWith, InWindow, Tells, IsBare, IsCounted, IsUntouched, TellsOf, IsOnlyTold, acknowledges_in_window, closed, entrance_of, is_out_of_place, needs_unbuilt, packet_fault, reply_packet}
 use Rattle.dccp_endpoint.specs.declared.outcome.Fault.{Fault}
 use Rattle.dccp_endpoint.specs.declared.outcome.Outcome.{Outcome}
 use Rattle.dccp_endpoint.specs.declared.outcome.Outcome.TheVariants.{Took, Dropped, Synced, WasReset, SentReset, NotBuilt}
 use Rattle.dccp_endpoint.specs.declared.outcome.Why.TheVariants as why
 use Rattle.dccp_endpoint.specs.declared.passage.Passage.{Passage}
 use Rattle.dccp_endpoint.specs.declared.passage.Passage.TheVariants as passages
+use Rattle.dccp_endpoint.proofs.Passing.{Tests, of-tests, another-is, not-another, moved-is}
 
 abbrev step_of : EndState → Option (List ℕ) → Outcome → Step Outcome
 step_of after frame answer = record { after = after; frame = frame; answer = answer }
@@ -77,15 +80,43 @@ valid-goes e a entered (Fits is no_reset valid entered_so) =
     subst (λ (x : EndState). enters e a (entrance_of e a) ≡ passes e x a (passage e x.phase a)) (sym entered_so)
     (ap (enters e a) is ∙ ap (judged e a) valid ∙ takes-other e a (packet_type a.kind) no_reset)
 
-passed-goes : (e : EndState) (bytes : List ℕ) (a : Arrival) (entered : EndState) (how : Passage) → Passed e bytes a entered how
-    → receives e bytes ≡ passes e entered a how
-passed-goes e bytes a entered how passed =
-    arrived-goes e bytes a passed.arrived ∙ valid-goes e a entered passed.valid ∙ ap (passes e entered a) passed.passes_so
+came-goes : (e : EndState) (bytes : List ℕ) (a : Arrival) (entered : EndState) → Came e bytes a entered
+    → receives e bytes ≡ passes e entered a (passage e entered.phase a)
+came-goes e bytes a entered came = arrived-goes e bytes a came.arrived ∙ valid-goes e a entered came.valid
 
-processed-goes : (e : EndState) (bytes : List ℕ) (a : Arrival) (entered : EndState) (step : Step Outcome) → IsProcessed e bytes a entered step
-    → step ≡ receives e bytes
-processed-goes e bytes a entered step processed =
-    processed.moved ∙ ap (by_fault entered a) (sym processed.no_fault) ∙ sym (passed-goes e bytes a entered passages.Fine processed.passed)
+-- step 7
+tested-goes : (e : EndState) (bytes : List ℕ) (a : Arrival) (entered : EndState) (how : Passage) → Came e bytes a entered
+    → Tests how (is_out_of_place e entered a) (is_other_service e entered.phase a.kind) (needs_unbuilt entered a) → receives e bytes ≡ passes e entered a how
+tested-goes e bytes a entered how came tests =
+    came-goes e bytes a entered came
+    ∙ ap (passes e entered a) (of-tests how (is_out_of_place e entered a) (is_other_service e entered.phase a.kind) (needs_unbuilt entered a) tests)
+
+-- step 8
+read-goes : (e : EndState) (bytes : List ℕ) (a : Arrival) (entered : EndState) (fault : Option Fault) → IsRead e bytes a entered fault
+    → receives e bytes ≡ by_fault entered a fault
+read-goes e bytes a entered fault read =
+    tested-goes e bytes a entered passages.Fine read.passed.came
+    (read.passed.in_place, not-another e entered.phase a.kind read.passed.for_us, read.is_built)
+    ∙ ap (by_fault entered a) read.faulted
+
+-- steps 9 to 15
+replied-step : (e : EndState) (number : ℕ) (r : Reply) (after : EndState) (frame : Option (List ℕ)) → (r ≡ reply.ResetClosed → ⊥)
+    → IsSent e (reply_packet e number r) after frame → step_of after frame (Took None) ≡ replies e number r
+replied-step e number reply.Nothing after frame answers sent = untouched-step e after frame (Took None) sent
+replied-step e number reply.Response after frame answers (ends, frames) = same-step ends frames refl
+replied-step e number reply.Ack after frame answers (ends, frames) = same-step ends frames refl
+replied-step e number reply.Close after frame answers (ends, frames) = same-step ends frames refl
+replied-step e number reply.ResetClosed after frame answers sent = absurd (answers refl)
+replied-step e number reply.SyncAck after frame answers (ends, frames) = same-step ends frames refl
+replied-step e number reply.Torn after frame answers sent = untouched-step e after frame (Took None) sent
+
+taken-goes : (e : EndState) (bytes : List ℕ) (delivered : Option (ℕ × ℕ)) (after : EndState) (frame : Option (List ℕ)) → IsTaken e bytes delivered after frame
+    → step_of after frame (Took delivered) ≡ receives e bytes
+taken-goes e bytes delivered after frame taken =
+    ap (λ (d : Option (ℕ × ℕ)). step_of after frame (Took d)) taken.no_data
+    ∙ replied-step taken.moved taken.packet.number taken.answer after frame taken.no_reset taken.sent
+    ∙ ap (λ (m : EndState). replies m taken.packet.number taken.answer) (moved-is taken.entered taken.packet.number taken.to taken.moved taken.moves_so)
+    ∙ sym (read-goes e bytes taken.packet taken.entered None taken.read ∙ ap (moves taken.entered taken.packet) taken.row)
 
 -- a valid Reset
 torn-goes : (e : EndState) (a : Arrival) → packet_type a.kind ≡ types.Reset → IsValidReset e a → enters e a (entrance_of e a) ≡ torn e a
@@ -127,15 +158,15 @@ reset-goes e bytes code detail after frame (OtherService a service arrived is sa
 reset-goes e bytes code detail after frame (NoAnswer a arrived is tells counts) =
     counted-step e a.number (packet_fault a) code detail after frame tells counts
     ∙ sym (arrived-goes e bytes a arrived ∙ no-answer-goes e a is)
-reset-goes e bytes code detail after frame (WrongService a entered passed tells counts) =
+reset-goes e bytes code detail after frame (WrongService a entered came in_place other tells counts) =
     counted-step (closed entered) entered.marks.gsr (plain 8) code detail after frame tells counts
-    ∙ sym (passed-goes e bytes a entered passages.OtherService passed)
-reset-goes e bytes code detail after frame (Faulted a entered fault passed is tells counts) =
+    ∙ sym (tested-goes e bytes a entered passages.OtherService came (in_place, another-is e entered.phase a.kind other))
+reset-goes e bytes code detail after frame (Faulted a entered fault read tells counts) =
     counted-step (closed entered) entered.marks.gsr fault code detail after frame tells counts
-    ∙ sym (passed-goes e bytes a entered passages.Fine passed ∙ ap (by_fault entered a) is)
-reset-goes e bytes code detail after frame (Closes a entered passed none row tells counts) =
+    ∙ sym (read-goes e bytes a entered (Some fault) read)
+reset-goes e bytes code detail after frame (Closes a entered read row tells counts) =
     counted-step (closed entered) entered.marks.gsr (plain 1) code detail after frame tells counts
-    ∙ sym (passed-goes e bytes a entered passages.Fine passed ∙ ap (by_fault entered a) none ∙ ap (moves entered a) row)
+    ∙ sym (read-goes e bytes a entered None read ∙ ap (moves entered a) row)
 
 stray-goes : (e : EndState) (bytes : List ℕ) → IsStray e bytes → receives e bytes ≡ idle e (Dropped why.StrayReset)
 stray-goes e bytes (Nowhere a arrived is) = arrived-enters e bytes a arrived entrance.Stray is
@@ -147,8 +178,8 @@ synced-goes : (e : EndState) (bytes : List ℕ) (number : ℕ) (after : EndState
     → frame ≡ Some (frame_of e (next_number e) (kind.Sync number)) → step_of after frame (Synced number) ≡ receives e bytes
 synced-goes e bytes number after frame (OutOfWindow a arrived is verdict_so ends) frames =
     same-step ends frames refl ∙ sym (arrived-enters e bytes a arrived entrance.Check is ∙ ap (judged e a) verdict_so)
-synced-goes e bytes number after frame (OutOfPlace a passed same ends) frames =
-    same-step ends frames refl ∙ ap (syncs (raised e a)) same ∙ sym (passed-goes e bytes a (raised e a) passages.Misplaced passed)
+synced-goes e bytes number after frame (OutOfPlace a came out same ends) frames =
+    same-step ends frames refl ∙ ap (syncs (raised e a)) same ∙ sym (tested-goes e bytes a (raised e a) passages.Misplaced came out)
 
 -- All of it.
 pub only-told : (e : EndState) (bytes : List ℕ) (after : EndState) (frame : Option (List ℕ)) (outcome : Outcome)
@@ -171,8 +202,10 @@ only-told e bytes after frame (WasReset code) (is, ends, none) =
     same-step ends none (ap WasReset is.has_code) ∙ sym (arrived-goes e bytes is.packet is.arrived ∙ torn-goes e is.packet is.is_reset is.is_valid)
 only-told e bytes after frame (SentReset code detail) is = reset-goes e bytes code detail after frame is
 only-told e bytes after frame NotBuilt (is, untouched) =
-    untouched-step e after frame _ untouched ∙ sym (passed-goes e bytes is.packet is.entered passages.Unbuilt is.passed)
-only-told e bytes after frame (Took delivered) is = processed-goes e bytes is.packet is.entered (step_of after frame (Took delivered)) is.processed
+    untouched-step e after frame _ untouched
+    ∙ sym (tested-goes e bytes is.packet is.entered passages.Unbuilt is.passed.came
+    (is.passed.in_place, not-another e is.entered.phase is.packet.kind is.passed.for_us, is.not_built))
+only-told e bytes after frame (Took delivered) is = taken-goes e bytes delivered after frame is
 
 -- as the contract of `receive` says it
 pub exactly_told : (e : EndState) (bytes : List ℕ) (step : Step Outcome) → step ≡ receives e bytes → IsOnlyTold e bytes step

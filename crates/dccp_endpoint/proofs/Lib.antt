@@ -1,4 +1,5 @@
 pub mod Frames
 pub mod Phases
+pub mod Passing
 pub mod Telling
 pub mod Exactly

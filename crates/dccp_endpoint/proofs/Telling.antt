@@ -4,7 +4,7 @@
 -- `IsValid` from steps 3 to 6. A packet that opens or answers a Request is never out of place, since only a server waits in LISTEN
 -- and only a client in REQUEST. Back, each cause is put into the definitions from the top.
 use Rattle.std.proofs.Common.{◌≡◌, refl, ap, sym, ◌∙◌, subst, ◌==◌, ℕ, List, Option, Some, None, Bool, true, false, not, if◌then◌else◌, Result, Ok, Err}
-use Rattle.std.proofs.lemmas.Bool.{eqb-true, eqb-false}
+use Rattle.std.proofs.lemmas.Bool.{false≢true, eqb-true, eqb-false}
 use Rattle.seq_circle.specs.Circle.{is_before}
 use Rattle.dccp_packets.specs.Grammar.{Parts, decoded, packet_type}
 use Rattle.dccp_packets.specs.declared.header.Kind.{Kind}
@@ -31,27 +31,22 @@ use Rattle.validity_windows.specs.declared.verdict.Verdict.{Verdict}
 use Rattle.validity_windows.specs.declared.verdict.Verdict.TheVariants as verdicts
 use Rattle.dccp_endpoint.specs.Arrivals.{service_of}
 use Rattle.dccp_endpoint.specs.End.{EndState, IsProper, is_phase_of}
-use Rattle.dccp_endpoint.specs.Faults.{first_fault, is_unbuilt}
-use Rattle.dccp_endpoint.specs.Receiving.{Arrival, accepts, answers, by_fault, by_form, by_packet, by_ports, by_sum, enters, is_of_connection, is_other_service, judged, moves, options_in, passage, passes, raised, receives, resets_bare, started, syncs, takes}
+use Rattle.dccp_endpoint.specs.Faults.{first_fault}
+use Rattle.dccp_endpoint.specs.Receiving.{Arrival, accepts, answers, by_fault, by_form, by_packet, by_ports, by_sum, enters, is_of_connection, is_other_service, judged, moved_to, moves, options_in, passage, passes, raised, receives, resets_bare, started, syncs, takes}
 use Rattle.dccp_endpoint.specs.Steps.{Step}
-use Rattle.dccp_endpoint.specs.Telling.{Arrived, IsIntact, OtherType, OtherRequest, NoConnection, OtherService, NoAnswer, WrongService, Faulted, Closes, Nowhere, Unasked, OutOfWindow, OutOfPlace, IsValid, Opens, Answers, Fits, AnswersWith, InWindow, Passed, Tells, acknowledges_in_window, entrance_of, verdict_of}
+use Rattle.dccp_endpoint.specs.Telling.{Arrived, Came, IsIntact, IsRead, IsSent, OtherType, OtherRequest, NoConnection, OtherService, NoAnswer, WrongService, Faulted, Closes, Nowhere, Unasked, OutOfWindow, OutOfPlace, IsValid, Opens, Answers, Fits, AnswersWith, InWindow, Passed, Tells, acknowledges_in_window, entrance_of, is_out_of_place, needs_unbuilt, reply_packet, row_of, verdict_of}
 use Rattle.dccp_endpoint.specs.declared.outcome.Fault.{Fault}
 use Rattle.dccp_endpoint.specs.declared.outcome.Outcome.{Outcome}
+use Rattle.dccp_endpoint.specs.declared.outcome.Outcome.TheVariants.{Took}
 use Rattle.dccp_endpoint.specs.declared.passage.Passage.{Passage}
 use Rattle.dccp_endpoint.specs.declared.passage.Passage.TheVariants as passages
+use Rattle.dccp_endpoint.proofs.Passing.{Tests, tests-of, for-another, another-is, moved-so}
 use Rattle.dccp_endpoint.proofs.Phases.{accept-phase, accept-type, answer-phase, answer-type, listens-server, requests-client, closing-closes}
 
 pub record IsTold (e : EndState) (bytes : List ℕ) (step : Step Outcome) : Type 0 where
   pub told : Tells e bytes step.answer step.after step.frame
 
 -- Forward.
-
--- what is left of step 7 once a packet is in its place
-in-place : (service unbuilt : Bool)
-    → (if service then passages.OtherService else if unbuilt then passages.Unbuilt else passages.Fine) ≡ passages.Misplaced → ⊥
-in-place true unbuilt is = cc is
-in-place false true is = cc is
-in-place false false is = cc is
 
 request-in-place : (later : Bool) → unexpected role.Server phase.Respond types.Request later ≡ false
 request-in-place true = refl
@@ -61,71 +56,96 @@ response-in-place : (later : Bool) → unexpected role.Client phase.Request type
 response-in-place true = refl
 response-in-place false = refl
 
--- a packet in its place
-placed : (e : EndState) (ph : Phase) (a : Arrival) → unexpected e.config.role ph (packet_type a.kind) (not (is_before a.number e.marks.osr)) ≡ false
-    → passage e ph a ≡ passages.Misplaced → ⊥
-placed e ph a is misplaced =
-    in-place (is_other_service e ph a.kind) (is_unbuilt ph (packet_type a.kind) (options_in a))
-    (sym (ap (λ (out : Bool). if out then passages.Misplaced else if is_other_service e ph a.kind then passages.OtherService
-    else if is_unbuilt ph (packet_type a.kind) (options_in a) then passages.Unbuilt else passages.Fine) is)
-    ∙ misplaced)
-
-opens-placed : (e : EndState) (a : Arrival) → IsProper e → entrance_of e a ≡ entrance.Accept → passage e phase.Respond a ≡ passages.Misplaced → ⊥
-opens-placed e a proper is =
+opens-placed : (e : EndState) (a : Arrival) → IsProper e → entrance_of e a ≡ entrance.Accept → is_out_of_place e (started e phase.Respond a) a ≡ true → ⊥
+opens-placed e a proper is out =
     let late : Bool = not (is_before a.number e.marks.osr) in
     let listens : e.phase ≡ phase.Listen = accept-phase e.phase (packet_type a.kind) is in
     let server : e.config.role ≡ role.Server = listens-server e.config.role (subst (λ (p : Phase). is_phase_of p e.config.role ≡ true) listens proper.phase_fits) in
-    placed e phase.Respond a
-    (ap (λ (r : Role). unexpected r phase.Respond (packet_type a.kind) late) server
+    false≢true
+    (sym (ap (λ (r : Role). unexpected r phase.Respond (packet_type a.kind) late) server
     ∙ ap (λ (t : PacketType). unexpected role.Server phase.Respond t late) (accept-type e.phase (packet_type a.kind) is)
     ∙ request-in-place late)
+    ∙ out)
 
 answers-placed : (e : EndState) (a : Arrival) → IsProper e → entrance_of e a ≡ entrance.InRequest → (packet_type a.kind ≡ types.Reset → ⊥)
-    → passage e e.phase a ≡ passages.Misplaced → ⊥
-answers-placed e a proper is no_reset =
+    → is_out_of_place e (started e e.phase a) a ≡ true → ⊥
+answers-placed e a proper is no_reset out =
     let late : Bool = not (is_before a.number e.marks.osr) in
     let requests : e.phase ≡ phase.Request = answer-phase e.phase (packet_type a.kind) is in
     let client : e.config.role ≡ role.Client = requests-client e.config.role (subst (λ (p : Phase). is_phase_of p e.config.role ≡ true) requests proper.phase_fits) in
     let response : packet_type a.kind ≡ types.Response =
     answer-type (packet_type a.kind) (ap (λ (p : Phase). gate p (packet_type a.kind)) (sym requests) ∙ is) no_reset in
-    placed e e.phase a
-    (ap (λ (p : Phase). unexpected e.config.role p (packet_type a.kind) late) requests
+    false≢true
+    (sym (ap (λ (p : Phase). unexpected e.config.role p (packet_type a.kind) late) requests
     ∙ ap (λ (r : Role). unexpected r phase.Request (packet_type a.kind) late) client
     ∙ ap (λ (t : PacketType). unexpected role.Client phase.Request t late) response
     ∙ response-in-place late)
+    ∙ out)
 
-moves-told : (e : EndState) (bytes : List ℕ) (a : Arrival) (entered : EndState) → Passed e bytes a entered passages.Fine → first_fault (options_in a) ≡ None
-    → (to : Phase × Reply) → after entered.phase (packet_type a.kind) ≡ to → IsTold e bytes (moves entered a to)
-moves-told e bytes a entered passed none (ph, reply.ResetClosed) same =
-    let is_closed : ph ≡ phase.Closed =
-    closing-closes entered.phase (packet_type a.kind) ph same in
+taken-told : (e : EndState) (bytes : List ℕ) (a : Arrival) (entered : EndState) → IsRead e bytes a entered None → (ph : Phase) (r : Reply)
+    → row_of entered a ≡ (ph, r) → (r ≡ reply.ResetClosed → ⊥) → (after : EndState) (frame : Option (List ℕ))
+    → IsSent (moved_to entered ph a.number) (reply_packet (moved_to entered ph a.number) a.number r) after frame → Tells e bytes (Took None) after frame
+taken-told e bytes a entered read ph r row no_reset after frame sent =
+    record {
+      packet = a;
+      entered = entered;
+      read = read;
+      to = ph;
+      answer = r;
+      row = row;
+      no_reset = no_reset;
+      moved = moved_to entered ph a.number;
+      moves_so = moved-so entered a.number ph;
+      sent = sent;
+      no_data = refl;
+    }
+
+moves-told : (e : EndState) (bytes : List ℕ) (a : Arrival) (entered : EndState) → IsRead e bytes a entered None
+    → (to : Phase × Reply) → row_of entered a ≡ to → IsTold e bytes (moves entered a to)
+moves-told e bytes a entered read (ph, reply.ResetClosed) same =
+    let is_closed : ph ≡ phase.Closed = closing-closes entered.phase (packet_type a.kind) ph same in
     subst (λ (p : Phase). IsTold e bytes (moves entered a (p, reply.ResetClosed))) (sym is_closed)
-    (record { told = Closes a entered passed none (same ∙ ap (λ (p : Phase). (p, reply.ResetClosed)) is_closed) (refl, refl) (refl, refl) })
-moves-told e bytes a entered passed none (ph, _) same =
-    record { told = record { packet = a; entered = entered; processed = record { passed = passed; no_fault = none; moved = sym (ap (moves entered a) same) } } }
+    (record { told = Closes a entered read (same ∙ ap (λ (p : Phase). (p, reply.ResetClosed)) is_closed) (refl, refl) (refl, refl) })
+moves-told e bytes a entered read (ph, reply.Nothing) same = record { told = taken-told e bytes a entered read ph reply.Nothing same (λ is. cc is) _ _ (refl, refl) }
+moves-told e bytes a entered read (ph, reply.Response) same = record { told = taken-told e bytes a entered read ph reply.Response same (λ is. cc is) _ _ (refl, refl) }
+moves-told e bytes a entered read (ph, reply.Ack) same = record { told = taken-told e bytes a entered read ph reply.Ack same (λ is. cc is) _ _ (refl, refl) }
+moves-told e bytes a entered read (ph, reply.Close) same = record { told = taken-told e bytes a entered read ph reply.Close same (λ is. cc is) _ _ (refl, refl) }
+moves-told e bytes a entered read (ph, reply.SyncAck) same = record { told = taken-told e bytes a entered read ph reply.SyncAck same (λ is. cc is) _ _ (refl, refl) }
+moves-told e bytes a entered read (ph, reply.Torn) same = record { told = taken-told e bytes a entered read ph reply.Torn same (λ is. cc is) _ _ (refl, refl) }
 
-fault-told : (e : EndState) (bytes : List ℕ) (a : Arrival) (entered : EndState) → Passed e bytes a entered passages.Fine
-    → (fault : Option Fault) → first_fault (options_in a) ≡ fault → IsTold e bytes (by_fault entered a fault)
-fault-told e bytes a entered passed (Some fault) same = record { told = Faulted a entered fault passed same (refl, refl) (refl, refl) }
-fault-told e bytes a entered passed None same = moves-told e bytes a entered passed same (after entered.phase (packet_type a.kind)) refl
+fault-told : (e : EndState) (bytes : List ℕ) (a : Arrival) (entered : EndState) (fault : Option Fault) → IsRead e bytes a entered fault
+    → IsTold e bytes (by_fault entered a fault)
+fault-told e bytes a entered (Some fault) read = record { told = Faulted a entered fault read (refl, refl) (refl, refl) }
+fault-told e bytes a entered None read = moves-told e bytes a entered read (row_of entered a) refl
 
-passes-told : (e : EndState) (bytes : List ℕ) (a : Arrival) (entered : EndState) → Arrived e bytes a → IsValid e a entered
-    → (passage e entered.phase a ≡ passages.Misplaced → IsTold e bytes (syncs entered a.number))
-    → (how : Passage) → passage e entered.phase a ≡ how → IsTold e bytes (passes e entered a how)
-passes-told e bytes a entered arrived valid misplaced passages.Misplaced same = misplaced same
-passes-told e bytes a entered arrived valid misplaced passages.OtherService same =
-    record { told = WrongService a entered (record { arrived = arrived; valid = valid; passes_so = same }) (refl, refl) (refl, refl) }
-passes-told e bytes a entered arrived valid misplaced passages.Unbuilt same =
-    record { told = (record { packet = a; entered = entered; passed = record { arrived = arrived; valid = valid; passes_so = same } }, (refl, refl)) }
-passes-told e bytes a entered arrived valid misplaced passages.Fine same =
-    fault-told e bytes a entered (record { arrived = arrived; valid = valid; passes_so = same }) (first_fault (options_in a)) refl
+passed-so : (e : EndState) (bytes : List ℕ) (a : Arrival) (entered : EndState) → Came e bytes a entered → is_out_of_place e entered a ≡ false
+    → is_other_service e entered.phase a.kind ≡ false → Passed e bytes a entered
+passed-so e bytes a entered came in_place for_us =
+    record { came = came; in_place = in_place; for_us = λ other. false≢true (sym for_us ∙ another-is e entered.phase a.kind other) }
+
+how-told : (e : EndState) (bytes : List ℕ) (a : Arrival) (entered : EndState) → Came e bytes a entered
+    → (is_out_of_place e entered a ≡ true → IsTold e bytes (syncs entered a.number)) → (how : Passage)
+    → Tests how (is_out_of_place e entered a) (is_other_service e entered.phase a.kind) (needs_unbuilt entered a) → IsTold e bytes (passes e entered a how)
+how-told e bytes a entered came misplaced passages.Misplaced out = misplaced out
+how-told e bytes a entered came misplaced passages.OtherService (in_place, other) =
+    record { told = WrongService a entered came in_place (for-another e entered.phase a.kind other) (refl, refl) (refl, refl) }
+how-told e bytes a entered came misplaced passages.Unbuilt (in_place, for_us, unbuilt) =
+    record { told = (record { packet = a; entered = entered; passed = passed-so e bytes a entered came in_place for_us; not_built = unbuilt }, (refl, refl)) }
+how-told e bytes a entered came misplaced passages.Fine (in_place, for_us, built) =
+    fault-told e bytes a entered (first_fault (options_in a))
+    (record { passed = passed-so e bytes a entered came in_place for_us; is_built = built; faulted = refl })
+
+passes-told : (e : EndState) (bytes : List ℕ) (a : Arrival) (entered : EndState) → Came e bytes a entered
+    → (is_out_of_place e entered a ≡ true → IsTold e bytes (syncs entered a.number)) → IsTold e bytes (passes e entered a (passage e entered.phase a))
+passes-told e bytes a entered came misplaced =
+    how-told e bytes a entered came misplaced (passage e entered.phase a)
+    (tests-of (is_out_of_place e entered a) (is_other_service e entered.phase a.kind) (needs_unbuilt entered a))
 
 raised-told : (e : EndState) (bytes : List ℕ) (a : Arrival) → Arrived e bytes a → IsValid e a (raised e a)
     → IsTold e bytes (passes e (raised e a) a (passage e e.phase a))
 raised-told e bytes a arrived valid =
-    passes-told e bytes a (raised e a) arrived valid
-    (λ same. record { told = (OutOfPlace a (record { arrived = arrived; valid = valid; passes_so = same }) refl refl, refl) })
-    (passage e e.phase a) refl
+    passes-told e bytes a (raised e a) (record { arrived = arrived; valid = valid })
+    (λ out. record { told = (OutOfPlace a (record { arrived = arrived; valid = valid }) out refl refl, refl) })
 
 takes-told : (e : EndState) (bytes : List ℕ) (a : Arrival) → Arrived e bytes a → entrance_of e a ≡ entrance.Check → verdict_of e a ≡ verdicts.Valid
     → (t : PacketType) → packet_type a.kind ≡ t → IsTold e bytes (takes e a t)
@@ -147,9 +167,8 @@ answers-told e bytes a proper arrived is types.Reset same true fits =
 answers-told e bytes a proper arrived is types.Reset same false fits = record { told = (Unasked a arrived is same fits, (refl, refl)) }
 answers-told e bytes a proper arrived is _ same true fits =
     let no_reset : (packet_type a.kind ≡ types.Reset → ⊥) = λ reset. cc (same, reset) in
-    passes-told e bytes a (started e e.phase a) arrived (Answers is no_reset fits refl)
-    (λ misplaced. absurd (answers-placed e a proper is no_reset misplaced))
-    (passage e e.phase a) refl
+    passes-told e bytes a (started e e.phase a) (record { arrived = arrived; valid = Answers is no_reset fits refl })
+    (λ out. absurd (answers-placed e a proper is no_reset out))
 answers-told e bytes a proper arrived is _ same false fits =
     record { told = NoAnswer a arrived (OtherRequest is (λ reset. cc (same, reset)) fits) (refl, refl) (refl, refl) }
 
@@ -163,9 +182,9 @@ served-told : (e : EndState) (bytes : List ℕ) (a : Arrival) → IsProper e →
     → (service : ℕ) → service_of a.kind ≡ Some service → (ours : Bool) → (service == e.config.service) ≡ ours
     → IsTold e bytes (if ours then passes e (started e phase.Respond a) a (passage e phase.Respond a) else resets_bare e a 8)
 served-told e bytes a proper arrived is service same true ours =
-    passes-told e bytes a (started e phase.Respond a) arrived (Opens is (same ∙ ap Some (eqb-true service e.config.service ours)) refl)
-    (λ misplaced. absurd (opens-placed e a proper is misplaced))
-    (passage e phase.Respond a) refl
+    passes-told e bytes a (started e phase.Respond a)
+    (record { arrived = arrived; valid = Opens is (same ∙ ap Some (eqb-true service e.config.service ours)) refl })
+    (λ out. absurd (opens-placed e a proper is out))
 served-told e bytes a proper arrived is service same false ours =
     record { told = OtherService a service arrived is same (eqb-false service e.config.service ours) (refl, refl) (refl, refl) }
 

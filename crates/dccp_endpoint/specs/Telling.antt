@@ -1,13 +1,16 @@
 -- What each outcome of `receive` tells: when it comes, and what has changed (RFC 4340, section 8.5).
-use Rattle.std.specs.Prelude.{◌≡◌, ◌≢◌, ℕ, Bool, true, false, List, Option, Some, None, Ok, Err}
+use Rattle.std.specs.Prelude.{◌≡◌, ◌≢◌, ℕ, Bool, true, false, not, List, Option, Some, None, Ok, Err}
+use Rattle.seq_circle.specs.Circle.{is_before}
 use Rattle.dccp_sum.specs.Checksum.{checked}
 use Rattle.dccp_sum.specs.declared.packet_sum.SumFault.{SumFault}
 use Rattle.dccp_packets.specs.Grammar.{Parts, decoded, packet_type, code_of}
+use Rattle.dccp_packets.specs.declared.header.Kind.{Kind}
 use Rattle.dccp_packets.specs.declared.header.Kind.TheVariants as kind
 use Rattle.dccp_packets.specs.declared.header.Number.TheVariants.{Long, Short}
 use Rattle.dccp_packets.specs.declared.header.PacketType.TheVariants as types
 use Rattle.dccp_states.specs.Entrance.{gate}
 use Rattle.dccp_states.specs.Phases.{after}
+use Rattle.dccp_states.specs.Unexpected.{unexpected}
 use Rattle.dccp_states.specs.declared.entrance.Entrance.{Entrance}
 use Rattle.dccp_states.specs.declared.entrance.Entrance.TheVariants as entrance
 use Rattle.dccp_states.specs.declared.phase.Phase.{Phase}
@@ -20,15 +23,13 @@ use Rattle.validity_windows.specs.declared.verdict.Verdict.{Verdict}
 use Rattle.validity_windows.specs.declared.verdict.Verdict.TheVariants as verdicts
 use Rattle.dccp_endpoint.specs.Arrivals.{ack_of, service_of, reset_code}
 use Rattle.dccp_endpoint.specs.End.{EndState}
-use Rattle.dccp_endpoint.specs.Faults.{first_fault}
-use Rattle.dccp_endpoint.specs.Receiving.{Arrival, bare_number, detail_of, is_of_connection, moves, options_in, passage, plain, raised, started}
+use Rattle.dccp_endpoint.specs.Faults.{first_fault, is_unbuilt}
+use Rattle.dccp_endpoint.specs.Receiving.{Arrival, bare_number, detail_of, is_of_connection, options_in, plain, raised, started}
 use Rattle.dccp_endpoint.specs.Steps.{Step, counted, frame_of, next_number}
 use Rattle.dccp_endpoint.specs.declared.outcome.Fault.{Fault}
 use Rattle.dccp_endpoint.specs.declared.outcome.Outcome.{Outcome}
 use Rattle.dccp_endpoint.specs.declared.outcome.Outcome.TheVariants.{Took, Dropped, Synced, WasReset, SentReset, NotBuilt}
 use Rattle.dccp_endpoint.specs.declared.outcome.Why.TheVariants as why
-use Rattle.dccp_endpoint.specs.declared.passage.Passage.{Passage}
-use Rattle.dccp_endpoint.specs.declared.passage.Passage.TheVariants as passages
 
 -- the bytes are a packet whose checksum fits
 pub record IsIntact (e : EndState) (bytes : List ℕ) (packet : Parts) : Type 0 where
@@ -68,11 +69,38 @@ pub data IsValid (e : EndState) (a : Arrival) (entered : EndState) : Type 0 wher
   Answers : entrance_of e a ≡ entrance.InRequest → packet_type a.kind ≢ types.Reset → acknowledges_in_window e a ≡ true → entered ≡ started e e.phase a → IsValid e a entered
   Fits : entrance_of e a ≡ entrance.Check → packet_type a.kind ≢ types.Reset → verdict_of e a ≡ verdicts.Valid → entered ≡ raised e a → IsValid e a entered
 
--- a valid packet, and how it passes step 7
-pub record Passed (e : EndState) (bytes : List ℕ) (a : Arrival) (entered : EndState) (how : Passage) : Type 0 where
+-- a valid packet that came
+pub record Came (e : EndState) (bytes : List ℕ) (a : Arrival) (entered : EndState) : Type 0 where
   pub arrived : Arrived e bytes a
   pub valid : IsValid e a entered
-  pub passes_so : passage e entered.phase a ≡ how
+
+-- Step 7: it is out of place in the phase that the end entered. OSR is that from before the packet.
+abbrev pub is_out_of_place : EndState → EndState → Arrival → Bool
+is_out_of_place e entered a = unexpected e.config.role entered.phase (packet_type a.kind) (not (is_before a.number e.marks.osr))
+
+-- a Response, in REQUEST, for another service than was asked for
+pub record IsForAnother (e : EndState) (asking : Phase) (packet : Kind) : Type 0 where
+  pub service : ℕ
+  pub is_asking : asking ≡ phase.Request
+  pub is_response : packet_type packet ≡ types.Response
+  pub is_for : service_of packet ≡ Some service
+  pub differs : service ≢ e.config.service
+
+-- A valid packet in its place, and for the service that was asked for.
+pub record Passed (e : EndState) (bytes : List ℕ) (a : Arrival) (entered : EndState) : Type 0 where
+  pub came : Came e bytes a entered
+  pub in_place : is_out_of_place e entered a ≡ false
+  pub for_us : IsForAnother e entered.phase a.kind → ⊥
+
+-- it needs a part that is not built
+abbrev pub needs_unbuilt : EndState → Arrival → Bool
+needs_unbuilt entered a = is_unbuilt entered.phase (packet_type a.kind) (options_in a)
+
+-- It needs none, and this is the first fault of its options, if any.
+pub record IsRead (e : EndState) (bytes : List ℕ) (a : Arrival) (entered : EndState) (fault : Option Fault) : Type 0 where
+  pub passed : Passed e bytes a entered
+  pub is_built : needs_unbuilt entered a ≡ false
+  pub faulted : first_fault (options_in a) ≡ fault
 
 -- why a packet is dropped
 pub record HasWrongPorts (e : EndState) (bytes : List ℕ) : Type 0 where
@@ -113,7 +141,7 @@ IsUntouched before after frame = (after ≡ before) × (frame ≡ None)
 pub data IsSynced (e : EndState) (bytes : List ℕ) (number : ℕ) (after : EndState) : Type 0 where
   OutOfWindow : (a : Arrival) → Arrived e bytes a → entrance_of e a ≡ entrance.Check → verdict_of e a ≡ verdicts.SyncFor number
       → after ≡ counted e → IsSynced e bytes number after
-  OutOfPlace : (a : Arrival) → Passed e bytes a (raised e a) passages.Misplaced → number ≡ a.number
+  OutOfPlace : (a : Arrival) → Came e bytes a (raised e a) → is_out_of_place e (raised e a) a ≡ true → number ≡ a.number
       → after ≡ counted (raised e a) → IsSynced e bytes number after
 
 -- a valid Reset with this code
@@ -153,12 +181,6 @@ closed e = record e { phase = phase.Closed }
 abbrev pub row_of : EndState → Arrival → Phase × Reply
 row_of entered a = after entered.phase (packet_type a.kind)
 
--- Its options have no fault, and the table of phases moves the end and answers.
-pub record IsProcessed (e : EndState) (bytes : List ℕ) (a : Arrival) (entered : EndState) (step : Step Outcome) : Type 0 where
-  pub passed : Passed e bytes a entered passages.Fine
-  pub no_fault : first_fault (options_in a) ≡ None
-  pub moved : step ≡ moves entered a (row_of entered a)
-
 -- When a Reset is the answer, what it tells, and the end after it.
 pub data IsReset (e : EndState) (bytes : List ℕ) (code : ℕ) (detail : List ℕ) (after : EndState) (frame : Option (List ℕ)) : Type 0 where
   -- steps 2 and 3: No Connection, and Bad Service Code at a server
@@ -170,28 +192,59 @@ pub data IsReset (e : EndState) (bytes : List ℕ) (code : ℕ) (detail : List �
   NoAnswer : (a : Arrival) → Arrived e bytes a → IsNoAnswer e a → TellsOf (packet_fault a) code detail
       → IsCounted e a.number code detail after frame → IsReset e bytes code detail after frame
   -- step 7: Bad Service Code at a client
-  WrongService : (a : Arrival) (entered : EndState) → Passed e bytes a entered passages.OtherService → TellsOf (plain 8) code detail
+  WrongService : (a : Arrival) (entered : EndState) → Came e bytes a entered → is_out_of_place e entered a ≡ false → IsForAnother e entered.phase a.kind
+      → TellsOf (plain 8) code detail
       → IsCounted (closed entered) entered.marks.gsr code detail after frame → IsReset e bytes code detail after frame
   -- step 8: the first fault of the options
-  Faulted : (a : Arrival) (entered : EndState) (fault : Fault) → Passed e bytes a entered passages.Fine
-      → first_fault (options_in a) ≡ Some fault → TellsOf fault code detail
+  Faulted : (a : Arrival) (entered : EndState) (fault : Fault) → IsRead e bytes a entered (Some fault) → TellsOf fault code detail
       → IsCounted (closed entered) entered.marks.gsr code detail after frame → IsReset e bytes code detail after frame
   -- step 14: Closed. No packet leads here yet, since a Close needs a part that is not built.
-  Closes : (a : Arrival) (entered : EndState) → Passed e bytes a entered passages.Fine → first_fault (options_in a) ≡ None
-      → row_of entered a ≡ (phase.Closed, reply.ResetClosed) → TellsOf (plain 1) code detail
+  Closes : (a : Arrival) (entered : EndState) → IsRead e bytes a entered None → row_of entered a ≡ (phase.Closed, reply.ResetClosed)
+      → TellsOf (plain 1) code detail
       → IsCounted (closed entered) entered.marks.gsr code detail after frame → IsReset e bytes code detail after frame
 
 -- It passes step 7, and needs a part that is not built.
 pub record IsUnbuilt (e : EndState) (bytes : List ℕ) : Type 0 where
   pub packet : Arrival
   pub entered : EndState
-  pub passed : Passed e bytes packet entered passages.Unbuilt
+  pub passed : Passed e bytes packet entered
+  pub not_built : needs_unbuilt entered packet ≡ true
 
--- It was processed, and answered with anything but a Reset.
-pub record IsTaken (e : EndState) (bytes : List ℕ) (step : Step Outcome) : Type 0 where
+-- The end in the phase of its row. Where that is OPEN, and it was not, the packet's number is OSR.
+pub data IsMoved (entered : EndState) (number : ℕ) (to : Phase) (moved : EndState) : Type 0 where
+  Opened : to ≡ phase.Open → entered.phase ≢ phase.Open
+      → moved ≡ record entered { phase = to; marks = record entered.marks { osr = number } } → IsMoved entered number to moved
+  WasOpen : entered.phase ≡ phase.Open → moved ≡ record entered { phase = to } → IsMoved entered number to moved
+  StaysShut : to ≢ phase.Open → moved ≡ record entered { phase = to } → IsMoved entered number to moved
+
+-- the packet that a row answers with, if any: a SyncAck acknowledges the Sync, and all others the greatest number received
+abbrev pub reply_packet : EndState → ℕ → Reply → Option Kind
+reply_packet e number reply.Nothing = None
+reply_packet e number reply.Response = Some (kind.Response e.marks.gsr e.config.service)
+reply_packet e number reply.Ack = Some (kind.Ack (Long e.marks.gsr))
+reply_packet e number reply.Close = Some (kind.Close e.marks.gsr)
+reply_packet e number reply.ResetClosed = Some (kind.Reset e.marks.gsr 1 (detail_of (plain 1)))
+reply_packet e number reply.SyncAck = Some (kind.SyncAck number)
+reply_packet e number reply.Torn = None
+
+-- it goes out under the next number
+abbrev pub IsSent : EndState → Option Kind → EndState → Option (List ℕ) → Type 0
+IsSent e None after frame = IsUntouched e after frame
+IsSent e (Some packet) after frame = (after ≡ counted e) × (frame ≡ Some (frame_of e (next_number e) packet))
+
+-- It was taken: the table of phases moves the end and answers with anything but a Reset. No data is delivered yet.
+pub record IsTaken (e : EndState) (bytes : List ℕ) (delivered : Option (ℕ × ℕ)) (after : EndState) (frame : Option (List ℕ)) : Type 0 where
   pub packet : Arrival
   pub entered : EndState
-  pub processed : IsProcessed e bytes packet entered step
+  pub read : IsRead e bytes packet entered None
+  pub to : Phase
+  pub answer : Reply
+  pub row : row_of entered packet ≡ (to, answer)
+  pub no_reset : answer ≢ reply.ResetClosed
+  pub moved : EndState
+  pub moves_so : IsMoved entered packet.number to moved
+  pub sent : IsSent moved (reply_packet moved packet.number answer) after frame
+  pub no_data : delivered ≡ None
 
 -- All that there is to tell of each outcome.
 abbrev pub Tells : EndState → List ℕ → Outcome → EndState → Option (List ℕ) → Type 0
@@ -207,7 +260,7 @@ Tells before bytes (WasReset code) after frame =
     IsTorn before bytes code × (after ≡ record before { phase = phase.TimeWait }) × (frame ≡ None)
 Tells before bytes (SentReset code detail) after frame = IsReset before bytes code detail after frame
 Tells before bytes NotBuilt after frame = IsUnbuilt before bytes × IsUntouched before after frame
-Tells before bytes (Took delivered) after frame = IsTaken before bytes (record { after = after; frame = frame; answer = Took delivered })
+Tells before bytes (Took delivered) after frame = IsTaken before bytes delivered after frame
 
 -- Nothing else is told: a cause that holds gives this step.
 abbrev pub IsOnlyTold : EndState → List ℕ → Step Outcome → Type 0

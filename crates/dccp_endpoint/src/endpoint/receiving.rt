@@ -121,7 +121,8 @@ impl Endpoint {
     /// connection (codes 3 and 8) it changes nothing. In REQUEST, where the packet is neither a Reset nor a Response that
     /// acknowledges within the window (code 4), it takes the next number, and nothing else changes. Otherwise (codes 5, 6 and
     /// 8) the packet's numbers were taken, the end closes, and the Reset takes the next number and acknowledges the greatest
-    /// number received. Each of these comes exactly for its causes.
+    /// number received. A packet that is `Took` moves the phase and is answered by the table of phases, and no data is
+    /// delivered yet. Each of these comes exactly for its causes.
     pub fn receive(&mut self, bytes: &[u8], out: &mut Outbox) -> Outcome
         requires { length bytes.now ≤ 2044 }
         ensures step { record { after = self.new; frame = out.new; answer = result } ≡ receives self.old bytes.now }
