@@ -1,8 +1,8 @@
--- Each step of `receive` is what its outcome tells, and no other step is.
+-- Each step of `receive` is what its outcome tells.
 --
--- Forward, each definition of the sixteen steps is walked through once, with the facts that led there: `Arrived` from step 1,
--- `IsValid` from steps 3 to 6. A packet that opens or answers a Request is never out of place, since only a server waits in LISTEN
--- and only a client in REQUEST. Back, each cause is put into the definitions from the top.
+-- Each definition of the sixteen steps is walked through once, with the facts that led there: `Arrived` from step 1, `IsValid` from
+-- steps 3 to 6. A packet that opens or answers a Request is never out of place, since only a server waits in LISTEN and only a client
+-- in REQUEST.
 use Rattle.std.proofs.Common.{◌≡◌, refl, ap, sym, ◌∙◌, subst, ◌==◌, ℕ, List, Option, Some, None, Bool, true, false, not, if◌then◌else◌, Result, Ok, Err}
 use Rattle.std.proofs.lemmas.Bool.{false≢true, eqb-true, eqb-false}
 use Rattle.seq_circle.specs.Circle.{is_before}
@@ -45,8 +45,6 @@ use Rattle.dccp_endpoint.proofs.Phases.{accept-phase, accept-type, answer-phase,
 
 pub record IsTold (e : EndState) (bytes : List ℕ) (step : Step Outcome) : Type 0 where
   pub told : Tells e bytes step.answer step.after step.frame
-
--- Forward.
 
 request-in-place : (later : Bool) → unexpected role.Server phase.Respond types.Request later ≡ false
 request-in-place true = refl

@@ -26,12 +26,12 @@ packet_number (Some p) = Some (value_of p.header.number)
 abbrev pub number_in : List ℕ → Option ℕ
 number_in bytes = packet_number (packet_of bytes)
 
--- The code of a Reset without a connection: 3, No Connection, or a server's 8, Bad Service Code (section 8.5, steps 2 and 3). A
--- client's 8 belongs to its connection.
 abbrev pub is_server : Role → Bool
 is_server Client = false
 is_server Server = true
 
+-- The code of a Reset without a connection: 3, No Connection, or a server's 8, Bad Service Code (section 8.5, steps 2 and 3). A
+-- client's 8 belongs to its connection.
 abbrev pub is_bare_code : Role → ℕ → Bool
 is_bare_code role code = (code == 3) || ((code == 8) && is_server role)
 
@@ -43,7 +43,7 @@ abbrev pub is_bare_packet : Role → Option Parts → Bool
 is_bare_packet role None = false
 is_bare_packet role (Some p) = is_bare role p.header.kind
 
--- A Reset without a connection: its number comes from the packet that it answers, and it carries no option (section 8.3.1).
+-- A Reset without a connection, whose number comes from the packet that it answers (own). It carries no option.
 pub record IsBareReset (role : Role) (bytes : List ℕ) : Type 0 where
   pub packet : Parts
   pub is_packet : packet_of bytes ≡ Some packet

@@ -17,12 +17,13 @@ use std::marker::Model;
 /// A client, a server, and every frame that either ever sent. [`World::step`] lets one thing happen. After each step the
 /// world is safe and its facts hold, whatever was delivered, lost, repeated or reordered before.
 ///
-/// The facts: a side's frames, but for Resets without a connection, carry its first number, the next, and so on up to its
-/// greatest number sent, in this order (RFC 4340, section 7.1); there are fewer than 2^47. A Reset without a connection, whose
-/// code is 3 or a server's 8, carries no option. Once an end has received a first number, that and its greatest number
-/// received are numbers of such frames of the other side, and the first is not the later one. Once it has sent such a frame,
-/// GAR, the greatest acknowledgement number that it received or its first number, is the number of one of its own. A Reset that
-/// arrives moves nothing received, nothing acknowledged and no feature.
+/// The facts: a side's frames, but for Resets without a connection, carry its first number, the next, and so on up to
+/// its greatest number sent, in this order (RFC 4340, section 7.1); there are fewer than 2^47. A Reset without a
+/// connection, whose code is 3 or a server's 8, carries no option. Once an end has received a first number (in CLOSED
+/// and TIMEWAIT numbers that are 0 may mean none), that and its greatest number received are numbers of such frames of
+/// the other side, and the first is not the later one. Once it has sent such a frame, GAR, the greatest acknowledgement
+/// number that it received or its first number, is the number of one of its own. A Reset that arrives moves nothing
+/// received, nothing acknowledged and no feature.
 #[derive(Drop)]
 pub struct World {
     sides: Sides,
@@ -68,7 +69,8 @@ impl World {
     ///
     /// After it, refused or not, the world is safe and its facts hold: the frames of a side but Resets without a connection
     /// carry its first number, the next, and so on; once an end has received a first number, what it heard are numbers of
-    /// the other side's frames; once it has sent, GAR is a number of its own; and a Reset moves nothing received.
+    /// the other side's frames; once it has sent a numbered frame, GAR is the number of one; and a Reset moves nothing
+    /// received.
     pub fn step(&mut self, event: &Event) -> Result<Seen, WorldFault>
         ensures ok { IfOk result (λ seen. happens self.old event.now ≡ Ok (record { world = self.new; seen = seen })) }
         ensures no_such_frame { (result ≡ Err WorldFault.NoSuchFrame) ↔ (happens self.old event.now ≡ Err WorldFault.NoSuchFrame) }
@@ -114,12 +116,13 @@ pub fn every_run_is_safe()
     ensures { (client server : Config) (events : List Event) → client.role ≡ role.Client → server.role ≡ role.Server → Safe (run (at_start client server) events) }
 {}
 
-/// The world's facts after every list of events, from any two configurations, whatever their roles. A side's frames, but
-/// for Resets without a connection, carry its first number, the next, and so on up to its greatest number sent, in this
-/// order (RFC 4340, section 7.1); there are fewer than 2^47. A Reset without a connection, whose code is 3 or a server's 8,
-/// carries no option. Once an end has received a first number, that and its greatest number received are numbers of numbered
-/// frames of the other side, and the first is not the later one; once it has sent a numbered frame, GAR is the number of one
-/// of its own. A Reset that arrives moves neither the received numbers, nor GAR, nor a feature.
+/// The world's facts after every list of events, from any two configurations, whatever their roles, whose first numbers
+/// are below 2^48. A side's frames, but for Resets without a connection, carry its first number, the next, and so on up
+/// to its greatest number sent, in this order (RFC 4340, section 7.1); there are fewer than 2^47. A Reset without a
+/// connection, whose code is 3 or a server's 8, carries no option. Once an end has received a first number, that and
+/// its greatest number received are numbers of numbered frames of the other side, and the first is not the later one;
+/// once it has sent a numbered frame, GAR is the number of one of its own. A Reset that arrives moves neither the
+/// received numbers, nor GAR, nor a feature.
 pub fn every_run_numbers_its_frames()
     ensures { (client server : Config) (events : List Event) → client.iss < 2 ^ 48 → server.iss < 2 ^ 48 → Facts (run (at_start client server) events) }
 {}
