@@ -4,7 +4,7 @@ use dccp_packets::Outbox;
 use std::alloc::Global;
 use std::test::Fail;
 
-// The handshake's own packets.
+// The handshake's packets. This Ack of the server acknowledges the Request alone.
 pub(crate) const REQUEST: &str = "9c401389050031ec01000000000003e80000002a";
 
 pub(crate) const RESPONSE: &str = "13899c400700261403000000000007d000000000000003e80000002a";

@@ -1,5 +1,5 @@
-//! Each cause of an end's answers that its phase and the packet's type alone do not show: the answer, the phase and the
-//! numbers after it, and the frame that is sent (RFC 4340, sections 5.8, 7.5 and 8.5).
+//! Further causes of an end's answers, that its phase and the packet's type alone do not show: the answer, the phase and
+//! the numbers after it, and the frame that is sent (RFC 4340, sections 5.8, 7.5 and 8.5).
 use crate::arriving::{
     ACK, LISTENING, OPEN_CLIENT, OPEN_SERVER, PART_OPEN, REQUEST, REQUESTING, RESPONDING, RESPONSE,
     Way, end_after, give,
@@ -196,6 +196,27 @@ fn late_server() -> Start<'static> {
     }
 }
 
+// Such a server that has taken an Ack since, whose number is past that of the Ack that opened it.
+fn later_server() -> Start<'static> {
+    let packets = &[
+        REQUEST,
+        "9c40138906002310070000000000041a00000000000007d0",
+        "9c40138906002305070000000000042400000000000007d1",
+    ];
+    Start {
+        way: Way {
+            packets,
+            ..OPEN_SERVER
+        },
+        numbers: Numbers {
+            gar: 2_001,
+            gsr: 1_060,
+            osr: 1_050,
+            ..AFTER_ACK
+        },
+    }
+}
+
 fn requesting() -> Start<'static> {
     Start {
         way: REQUESTING,
@@ -228,6 +249,41 @@ fn late_client() -> Start<'static> {
             gsr: 2_050,
             osr: 2_050,
             ..AFTER_SERVER_ACK
+        },
+    }
+}
+
+fn later_client() -> Start<'static> {
+    let packets = &[
+        RESPONSE,
+        "13899c4006002310070000000000080200000000000003e8",
+        "13899c4006002305070000000000080c00000000000003e9",
+    ];
+    Start {
+        way: Way {
+            packets,
+            ..OPEN_CLIENT
+        },
+        numbers: Numbers {
+            gar: 1_001,
+            gsr: 2_060,
+            osr: 2_050,
+            ..AFTER_SERVER_ACK
+        },
+    }
+}
+
+// A client that has sent a Reset since its Request, for a Response that acknowledged 999.
+fn requesting_still() -> Start<'static> {
+    let packets = &["13899c400700261503000000000007d000000000000003e70000002a"];
+    Start {
+        way: Way {
+            packets,
+            ..REQUESTING
+        },
+        numbers: Numbers {
+            gss: 1_001,
+            ..NEW_CLIENT
         },
     }
 }
@@ -322,6 +378,46 @@ fn response_to_no_request(rt: HostRuntime) -> Result<(), Fail> {
     Ok(())
 }
 
+// Here the Request has the number 1,000 and the Reset 1,001; the Responses acknowledge 1,000, 1,001 and 1,002.
+#[test]
+fn response_after_a_reset(rt: HostRuntime) -> Result<(), Fail> {
+    let start = requesting_still();
+    let first = Answer {
+        outcome: TOOK,
+        phase: Phase::PartOpen,
+        numbers: Numbers {
+            gss: 1_002,
+            ..AFTER_RESPONSE
+        },
+        sent: "9c4013890600234007000000000003ea00000000000007d0",
+    };
+    assert!(rt; is_answered(rt.alloc(), &start, RESPONSE, &first)?);
+    let last = Answer {
+        numbers: Numbers {
+            gar: 1_001,
+            ..first.numbers
+        },
+        ..first
+    };
+    let packet = "13899c400700261303000000000007d000000000000003e90000002a";
+    assert!(rt; is_answered(rt.alloc(), &start, packet, &last)?);
+    let after = Answer {
+        outcome: Outcome::SentReset {
+            code: 4,
+            detail: [1, 0, 0],
+        },
+        phase: Phase::Request,
+        numbers: Numbers {
+            gss: 1_002,
+            ..NEW_CLIENT
+        },
+        sent: "9c4013890700163b0f000000000003ea00000000000007d004010000",
+    };
+    let packet = "13899c400700261203000000000007d000000000000003ea0000002a";
+    assert!(rt; is_answered(rt.alloc(), &start, packet, &after)?);
+    Ok(())
+}
+
 // In OPEN a Request or Response is out of place from the number on that opened the connection, and not before it. That
 // number is 1,050, and the window begins at 1,026.
 #[test]
@@ -385,6 +481,78 @@ fn response_in_open(rt: HostRuntime) -> Result<(), Fail> {
     Ok(())
 }
 
+// The same where the greatest number received, 1,060, is another than that number, 1,050. The window begins at 1,036.
+#[test]
+fn request_below_the_greatest(rt: HostRuntime) -> Result<(), Fail> {
+    let start = later_server();
+    let taken = Answer {
+        outcome: TOOK,
+        phase: Phase::Open,
+        numbers: start.numbers,
+        sent: "",
+    };
+    let packets = [
+        "9c401389050031c8010000000000040c0000002a",
+        "9c401389050031bb01000000000004190000002a",
+    ];
+    assert!(rt; are_answered(rt.alloc(), &start, &packets, &taken)?);
+    let opening = Answer {
+        outcome: Outcome::Synced(seq(1_050)?),
+        phase: Phase::Open,
+        numbers: Numbers {
+            gss: 2_002,
+            ..start.numbers
+        },
+        sent: "13899c400600190e11000000000007d2000000000000041a",
+    };
+    let packet = "9c401389050031ba010000000000041a0000002a";
+    assert!(rt; is_answered(rt.alloc(), &start, packet, &opening)?);
+    let later = Answer {
+        outcome: Outcome::Synced(seq(1_055)?),
+        sent: "13899c400600190911000000000007d2000000000000041f",
+        ..opening
+    };
+    let packet = "9c401389050031b5010000000000041f0000002a";
+    assert!(rt; is_answered(rt.alloc(), &start, packet, &later)?);
+    Ok(())
+}
+
+// Here they are 2,060 and 2,050, and the window begins at 2,036.
+#[test]
+fn response_below_the_greatest(rt: HostRuntime) -> Result<(), Fail> {
+    let start = later_client();
+    let taken = Answer {
+        outcome: TOOK,
+        phase: Phase::Open,
+        numbers: start.numbers,
+        sent: "",
+    };
+    let packets = [
+        "13899c40070025ef03000000000007f400000000000003e90000002a",
+        "13899c40070025e2030000000000080100000000000003e90000002a",
+    ];
+    assert!(rt; are_answered(rt.alloc(), &start, &packets, &taken)?);
+    let opening = Answer {
+        outcome: Outcome::Synced(seq(2_050)?),
+        phase: Phase::Open,
+        numbers: Numbers {
+            gss: 1_002,
+            ..start.numbers
+        },
+        sent: "9c4013890600190e11000000000003ea0000000000000802",
+    };
+    let packet = "13899c40070025e1030000000000080200000000000003e90000002a";
+    assert!(rt; is_answered(rt.alloc(), &start, packet, &opening)?);
+    let later = Answer {
+        outcome: Outcome::Synced(seq(2_055)?),
+        sent: "9c4013890600190911000000000003ea0000000000000807",
+        ..opening
+    };
+    let packet = "13899c40070025dc030000000000080700000000000003e90000002a";
+    assert!(rt; is_answered(rt.alloc(), &start, packet, &later)?);
+    Ok(())
+}
+
 // The Sync acknowledges the packet's number, and the packet's numbers are not taken over. The Acks acknowledge 1,999
 // and 2,002.
 #[test]
@@ -403,6 +571,93 @@ fn invalid_ack(rt: HostRuntime) -> Result<(), Fail> {
         "9c4013890600233e07000000000003ea00000000000007d2",
     ];
     assert!(rt; are_answered(rt.alloc(), &open_server(), &packets, &synced)?);
+    Ok(())
+}
+
+// The greatest number received is 1,050, and the window goes from 1,026 to 1,125.
+#[test]
+fn ack_at_the_ends_of_the_window(rt: HostRuntime) -> Result<(), Fail> {
+    let start = late_server();
+    let least = Answer {
+        outcome: TOOK,
+        phase: Phase::Open,
+        numbers: Numbers {
+            gar: 2_001,
+            ..start.numbers
+        },
+        sent: "",
+    };
+    let packet = "9c40138906002327070000000000040200000000000007d1";
+    assert!(rt; is_answered(rt.alloc(), &start, packet, &least)?);
+    let greatest = Answer {
+        numbers: Numbers {
+            gsr: 1_125,
+            ..least.numbers
+        },
+        ..least
+    };
+    let packet = "9c401389060022c4070000000000046500000000000007d1";
+    assert!(rt; is_answered(rt.alloc(), &start, packet, &greatest)?);
+    Ok(())
+}
+
+#[test]
+fn ack_outside_the_window(rt: HostRuntime) -> Result<(), Fail> {
+    let start = late_server();
+    let before = Answer {
+        outcome: Outcome::Synced(seq(1_025)?),
+        phase: Phase::Open,
+        numbers: Numbers {
+            gss: 2_002,
+            ..start.numbers
+        },
+        sent: "13899c400600192711000000000007d20000000000000401",
+    };
+    let packet = "9c40138906002328070000000000040100000000000007d1";
+    assert!(rt; is_answered(rt.alloc(), &start, packet, &before)?);
+    let after = Answer {
+        outcome: Outcome::Synced(seq(1_126)?),
+        sent: "13899c40060018c211000000000007d20000000000000466",
+        ..before
+    };
+    let packet = "9c401389060022c3070000000000046600000000000007d1";
+    assert!(rt; is_answered(rt.alloc(), &start, packet, &after)?);
+    Ok(())
+}
+
+// In PARTOPEN the Response's number, 2,000, is still the greatest received: the window begins there and ends at 2,075.
+#[test]
+fn ack_in_part_open(rt: HostRuntime) -> Result<(), Fail> {
+    let greatest = Answer {
+        outcome: TOOK,
+        phase: Phase::Open,
+        numbers: Numbers {
+            gsr: 2_075,
+            osr: 2_075,
+            ..AFTER_RESPONSE
+        },
+        sent: "",
+    };
+    let packet = "13899c40060022f7070000000000081b00000000000003e8";
+    assert!(rt; is_answered(rt.alloc(), &part_open(), packet, &greatest)?);
+    let after = Answer {
+        outcome: Outcome::Synced(seq(2_076)?),
+        phase: Phase::PartOpen,
+        numbers: Numbers {
+            gss: 1_002,
+            ..AFTER_RESPONSE
+        },
+        sent: "9c401389060018f411000000000003ea000000000000081c",
+    };
+    let packet = "13899c40060022f6070000000000081c00000000000003e8";
+    assert!(rt; is_answered(rt.alloc(), &part_open(), packet, &after)?);
+    let before = Answer {
+        outcome: Outcome::Synced(seq(1_999)?),
+        sent: "9c4013890600194111000000000003ea00000000000007cf",
+        ..after
+    };
+    let packet = "13899c400600234307000000000007cf00000000000003e8";
+    assert!(rt; is_answered(rt.alloc(), &part_open(), packet, &before)?);
     Ok(())
 }
 
@@ -462,6 +717,68 @@ fn invalid_close(rt: HostRuntime) -> Result<(), Fail> {
     Ok(())
 }
 
+// A Close and a CloseReq: first with the number 1,078, the window's end being 1,077, and then with an acknowledgement of
+// 2,002, which was not sent. That a CloseReq is out of place at a server is judged after the windows.
+#[test]
+fn close_beyond_at_a_server(rt: HostRuntime) -> Result<(), Fail> {
+    let start = heard_server();
+    let beyond = Answer {
+        outcome: Outcome::Synced(seq(1_078)?),
+        phase: Phase::Open,
+        numbers: Numbers {
+            gss: 2_002,
+            ..start.numbers
+        },
+        sent: "13899c40060018f211000000000007d20000000000000436",
+    };
+    let packets = [
+        "9c40138906001cf30d0000000000043600000000000007d1",
+        "9c40138906001ef30b0000000000043600000000000007d1",
+    ];
+    assert!(rt; are_answered(rt.alloc(), &start, &packets, &beyond)?);
+    let acknowledges_more = Answer {
+        outcome: Outcome::Synced(seq(1_003)?),
+        sent: "13899c400600193d11000000000007d200000000000003eb",
+        ..beyond
+    };
+    let packets = [
+        "9c40138906001d3d0d000000000003eb00000000000007d2",
+        "9c40138906001f3d0b000000000003eb00000000000007d2",
+    ];
+    assert!(rt; are_answered(rt.alloc(), &start, &packets, &acknowledges_more)?);
+    Ok(())
+}
+
+// Here the number is 2,077, the window's end 2,076, and the acknowledgement 1,002.
+#[test]
+fn close_beyond_at_a_client(rt: HostRuntime) -> Result<(), Fail> {
+    let beyond = Answer {
+        outcome: Outcome::Synced(seq(2_077)?),
+        phase: Phase::Open,
+        numbers: Numbers {
+            gss: 1_002,
+            ..AFTER_SERVER_ACK
+        },
+        sent: "9c401389060018f311000000000003ea000000000000081d",
+    };
+    let packets = [
+        "13899c4006001cf40d0000000000081d00000000000003e9",
+        "13899c4006001ef40b0000000000081d00000000000003e9",
+    ];
+    assert!(rt; are_answered(rt.alloc(), &open_client(), &packets, &beyond)?);
+    let acknowledges_more = Answer {
+        outcome: Outcome::Synced(seq(2_002)?),
+        sent: "9c4013890600193e11000000000003ea00000000000007d2",
+        ..beyond
+    };
+    let packets = [
+        "13899c4006001d3e0d000000000007d200000000000003ea",
+        "13899c4006001f3e0b000000000007d200000000000003ea",
+    ];
+    assert!(rt; are_answered(rt.alloc(), &open_client(), &packets, &acknowledges_more)?);
+    Ok(())
+}
+
 // A valid packet that is out of place raises the greatest numbers received.
 #[test]
 fn out_of_place_at_a_server(rt: HostRuntime) -> Result<(), Fail> {
@@ -513,7 +830,8 @@ fn out_of_place_at_a_client(rt: HostRuntime) -> Result<(), Fail> {
     Ok(())
 }
 
-// The window begins at 1,026: each of the two types has the number 1,025, and acknowledges 1,999 and 2,002.
+// The window begins at 1,026: a packet of each of the two types has the number 1,025. The packets that acknowledge 1,999
+// and 2,002 have the number 1,051.
 #[test]
 fn bad_sync(rt: HostRuntime) -> Result<(), Fail> {
     let start = late_server();
@@ -813,22 +1131,107 @@ fn fault_in_respond(rt: HostRuntime) -> Result<(), Fail> {
     Ok(())
 }
 
+// The server's answer to the Ack that opens it.
+const OPENS: Answer<'static> = Answer {
+    outcome: TOOK,
+    phase: Phase::Open,
+    numbers: AFTER_ACK,
+    sent: "13899c400600234007000000000007d100000000000003e9",
+};
+
 // The Ack that opens the server is taken alike with no vector, with one of either nonce, and with one under Mandatory.
 #[test]
 fn vector_on_the_ack(rt: HostRuntime) -> Result<(), Fail> {
-    let opens = Answer {
-        outcome: TOOK,
-        phase: Phase::Open,
-        numbers: AFTER_ACK,
-        sent: "13899c400600234007000000000007d100000000000003e9",
-    };
     let packets = [
         ACK,
         "9c4013890700fc3907000000000003e900000000000007d026030000",
         "9c4013890700fb3907000000000003e900000000000007d027030000",
         "9c40138907001e1707000000000003e900000000000007d001260300",
     ];
-    assert!(rt; are_answered(rt.alloc(), &responding(), &packets, &opens)?);
+    assert!(rt; are_answered(rt.alloc(), &responding(), &packets, &OPENS)?);
+    Ok(())
+}
+
+// It is so with every other option that is understood, under Mandatory: Slow Receiver; Data Dropped of no data and of 1
+// byte; Timestamp of 4 bytes; Timestamp Echo of 4, 6 and 8; NDP Count of 1 and 6; Elapsed Time of 2 and 4; Data Checksum
+// of 4.
+#[test]
+fn mandatory_on_the_ack(rt: HostRuntime) -> Result<(), Fail> {
+    let packets = [
+        "9c4013890700213b07000000000003e900000000000007d001020000",
+        "9c40138907001f1507000000000003e900000000000007d001280200",
+        "9c40138907001e0e07000000000003e900000000000007d001280307",
+        "9c4013890800080007000000000003e900000000000007d00129060708090a00",
+        "9c401389080007ff07000000000003e900000000000007d0012a060708090a00",
+        "9c4013890900f8ef07000000000003e900000000000007d0012a080708090a0b0c000000",
+        "9c4013890900e8e207000000000003e900000000000007d0012a0a0708090a0b0c0d0e00",
+        "9c40138907001e1107000000000003e900000000000007d001250307",
+        "9c4013890900f8f407000000000003e900000000000007d00125080708090a0b0c000000",
+        "9c4013890800140707000000000003e900000000000007d0012b040708000000",
+        "9c401389080007fe07000000000003e900000000000007d0012b060708090a00",
+        "9c401389080007fd07000000000003e900000000000007d0012c060708090a00",
+    ];
+    assert!(rt; are_answered(rt.alloc(), &responding(), &packets, &OPENS)?);
+    Ok(())
+}
+
+// Whether this Ack, with an option of another length under Mandatory, gets this Reset 6.
+fn is_faulted(alloc: Global, packet: &str, detail: [u8; 3], sent: &str) -> Result<bool, Fail> {
+    let fault = Answer {
+        outcome: Outcome::SentReset { code: 6, detail },
+        phase: Phase::Closed,
+        numbers: Numbers {
+            gss: 2_001,
+            gsr: 1_001,
+            ..AFTER_REQUEST
+        },
+        sent,
+    };
+    is_answered(alloc, &responding(), packet, &fault)
+}
+
+// Timestamp of 3 and 5 bytes, and Timestamp Echo of 3, 5, 7 and 9.
+#[test]
+fn mandatory_timestamp_of_other_lengths(rt: HostRuntime) -> Result<(), Fail> {
+    let sent = "13899c4007000d0b0f000000000007d100000000000003e906290708";
+    let packet = "9c4013890800130007000000000003e900000000000007d00129050708090000";
+    assert!(rt; is_faulted(rt.alloc(), packet, [41, 7, 8], sent)?);
+    let packet = "9c401389080006f507000000000003e900000000000007d00129070708090a0b";
+    assert!(rt; is_faulted(rt.alloc(), packet, [41, 7, 8], sent)?);
+    let sent = "13899c4007000d0a0f000000000007d100000000000003e9062a0708";
+    let packet = "9c401389080012ff07000000000003e900000000000007d0012a050708090000";
+    assert!(rt; is_faulted(rt.alloc(), packet, [42, 7, 8], sent)?);
+    let packet = "9c401389080006f407000000000003e900000000000007d0012a070708090a0b";
+    assert!(rt; is_faulted(rt.alloc(), packet, [42, 7, 8], sent)?);
+    let packet = "9c4013890900f7e207000000000003e900000000000007d0012a090708090a0b0c0d0000";
+    assert!(rt; is_faulted(rt.alloc(), packet, [42, 7, 8], sent)?);
+    let packet = "9c4013890900e7d307000000000003e900000000000007d0012a0b0708090a0b0c0d0e0f";
+    assert!(rt; is_faulted(rt.alloc(), packet, [42, 7, 8], sent)?);
+    Ok(())
+}
+
+// NDP Count of no bytes and of 7, Elapsed Time of 1, 3 and 5, and Data Checksum of 3 and 5.
+#[test]
+fn mandatory_count_of_other_lengths(rt: HostRuntime) -> Result<(), Fail> {
+    let sent = "13899c40070014170f000000000007d100000000000003e906250000";
+    let packet = "9c40138907001f1807000000000003e900000000000007d001250200";
+    assert!(rt; is_faulted(rt.alloc(), packet, [37, 0, 0], sent)?);
+    let sent = "13899c4007000d0f0f000000000007d100000000000003e906250708";
+    let packet = "9c4013890900f7e707000000000003e900000000000007d00125090708090a0b0c0d0000";
+    assert!(rt; is_faulted(rt.alloc(), packet, [37, 7, 8], sent)?);
+    let sent = "13899c4007000d110f000000000007d100000000000003e9062b0700";
+    let packet = "9c40138907001e0b07000000000003e900000000000007d0012b0307";
+    assert!(rt; is_faulted(rt.alloc(), packet, [43, 7, 0], sent)?);
+    let sent = "13899c4007000d090f000000000007d100000000000003e9062b0708";
+    let packet = "9c401389080012fe07000000000003e900000000000007d0012b050708090000";
+    assert!(rt; is_faulted(rt.alloc(), packet, [43, 7, 8], sent)?);
+    let packet = "9c401389080006f307000000000003e900000000000007d0012b070708090a0b";
+    assert!(rt; is_faulted(rt.alloc(), packet, [43, 7, 8], sent)?);
+    let sent = "13899c4007000d080f000000000007d100000000000003e9062c0708";
+    let packet = "9c401389080012fd07000000000003e900000000000007d0012c050708090000";
+    assert!(rt; is_faulted(rt.alloc(), packet, [44, 7, 8], sent)?);
+    let packet = "9c401389080006f207000000000003e900000000000007d0012c070708090a0b";
+    assert!(rt; is_faulted(rt.alloc(), packet, [44, 7, 8], sent)?);
     Ok(())
 }
 

@@ -1,4 +1,4 @@
-//! One end and the bytes that reach it.
+//! A packet whose coverage is too large, and the handshake of two ends where the client's numbers pass the circle's end.
 use crate::arriving::give;
 use dccp_endpoint::{Config, Endpoint, Outcome, Phase, Role, Why};
 use dccp_packets::{Outbox, decode};

@@ -1,5 +1,5 @@
-//! Every packet type in every phase that an end reaches by now, at both roles: the answer, the phase after and what is sent
-//! (RFC 4340, section 8.5).
+//! Every packet type in every phase that an end reaches by now, at both roles: the answer, the phase after and, of what is
+//! sent, the type (RFC 4340, section 8.5).
 use crate::arriving::{
     Answered, LISTENING, OPEN_CLIENT, OPEN_SERVER, PART_OPEN, REQUEST, REQUESTING, RESPONDING,
     RESPONSE, Way, end_after, give,
