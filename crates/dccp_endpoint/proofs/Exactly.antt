@@ -14,7 +14,7 @@ use Rattle.dccp_endpoint.specs.Arrivals.{ack_of}
 use Rattle.dccp_endpoint.specs.End.{EndState}
 use Rattle.dccp_endpoint.specs.Receiving.{Arrival, accepts, answers, bare_number, by_fault, by_form, by_packet, by_ports, by_sum, enters, is_of_connection, is_other_service, judged, moves, packet_error, passage, passes, plain, raised, receives, replies, resets, resets_bare, started, syncs, takes, torn}
 use Rattle.dccp_endpoint.specs.Steps.{Step, frame_of, idle, next_number}
-use Rattle.dccp_endpoint.specs.Telling.{Arrived, Came, IsIntact, IsNoAnswer, OtherType, OtherRequest, IsRead, IsReset, NoConnection, OtherService, NoAnswer, WrongService, Faulted, Closes, IsSent, IsStray, Nowhere, Unasked, IsSynced, OutOfWindow, OutOfPlace, IsTaken, IsValid, Opens, Answers, Fits, IsValidReset, AnswersWith, InWindow, Tells, IsBare, IsCounted, IsUntouched, TellsOf, IsOnlyTold, acknowledges_in_window, closed, entrance_of, is_out_of_place, needs_unbuilt, packet_fault, reply_packet}
+use Rattle.dccp_endpoint.specs.Telling.{Arrived, IsValidPacket, IsIntact, IsNoAnswer, OtherType, OtherRequest, IsRead, IsReset, NoConnection, OtherService, NoAnswer, WrongService, Faulted, Closes, IsSent, IsStray, WithoutConnection, OutsideWindow, IsSynced, OutOfWindow, OutOfPlace, IsTaken, IsValid, OpensConnection, ResponseToRequest, PacketInWindow, IsValidReset, ResetToRequest, ResetInWindow, Tells, IsResetWithoutConnection, IsNumberedReset, IsUntouched, HasFault, IsOnlyTold, acknowledges_in_window, closed, entrance_of, is_out_of_place, needs_unbuilt, packet_fault, reply_packet}
 use Rattle.dccp_endpoint.specs.declared.outcome.Fault.{Fault}
 use Rattle.dccp_endpoint.specs.declared.outcome.Outcome.{Outcome}
 use Rattle.dccp_endpoint.specs.declared.outcome.Outcome.TheVariants.{Took, Dropped, Synced, WasReset, SentReset, NotBuilt}
@@ -68,24 +68,24 @@ takes-other e a _ no_reset = refl
 
 valid-goes : (e : EndState) (a : Arrival) (entered : EndState) → IsValid e a entered
     → enters e a (entrance_of e a) ≡ passes e entered a (passage e entered.phase a)
-valid-goes e a entered (Opens is same entered_so) =
+valid-goes e a entered (OpensConnection is same entered_so) =
     subst (λ (x : EndState). enters e a (entrance_of e a) ≡ passes e x a (passage e x.phase a)) (sym entered_so)
     (ap (enters e a) is ∙ ap (accepts e a) same
     ∙ ap (λ (ours : Bool). if ours then passes e (started e phase.Respond a) a (passage e phase.Respond a) else resets_bare e a 8)
     (eq-eqb e.config.service e.config.service refl))
-valid-goes e a entered (Answers is no_reset fits entered_so) =
+valid-goes e a entered (ResponseToRequest is no_reset fits entered_so) =
     subst (λ (x : EndState). enters e a (entrance_of e a) ≡ passes e x a (passage e x.phase a)) (sym entered_so)
     (ap (enters e a) is ∙ ap (answers e a (packet_type a.kind)) fits ∙ answers-other e a (packet_type a.kind) no_reset)
-valid-goes e a entered (Fits is no_reset valid entered_so) =
+valid-goes e a entered (PacketInWindow is no_reset valid entered_so) =
     subst (λ (x : EndState). enters e a (entrance_of e a) ≡ passes e x a (passage e x.phase a)) (sym entered_so)
     (ap (enters e a) is ∙ ap (judged e a) valid ∙ takes-other e a (packet_type a.kind) no_reset)
 
-came-goes : (e : EndState) (bytes : List ℕ) (a : Arrival) (entered : EndState) → Came e bytes a entered
+came-goes : (e : EndState) (bytes : List ℕ) (a : Arrival) (entered : EndState) → IsValidPacket e bytes a entered
     → receives e bytes ≡ passes e entered a (passage e entered.phase a)
 came-goes e bytes a entered came = arrived-goes e bytes a came.arrived ∙ valid-goes e a entered came.valid
 
 -- step 7
-tested-goes : (e : EndState) (bytes : List ℕ) (a : Arrival) (entered : EndState) (how : Passage) → Came e bytes a entered
+tested-goes : (e : EndState) (bytes : List ℕ) (a : Arrival) (entered : EndState) (how : Passage) → IsValidPacket e bytes a entered
     → Tests how (is_out_of_place e entered a) (is_other_service e entered.phase a.kind) (needs_unbuilt entered a) → receives e bytes ≡ passes e entered a how
 tested-goes e bytes a entered how came tests =
     came-goes e bytes a entered came
@@ -120,21 +120,21 @@ taken-goes e bytes delivered after frame taken =
 
 -- a valid Reset
 torn-goes : (e : EndState) (a : Arrival) → packet_type a.kind ≡ types.Reset → IsValidReset e a → enters e a (entrance_of e a) ≡ torn e a
-torn-goes e a reset (AnswersWith is fits) =
+torn-goes e a reset (ResetToRequest is fits) =
     ap (enters e a) is ∙ ap (λ (t : PacketType). answers e a t (acknowledges_in_window e a)) reset ∙ ap (answers e a types.Reset) fits
-torn-goes e a reset (InWindow is valid) = ap (enters e a) is ∙ ap (judged e a) valid ∙ ap (takes e a) reset
+torn-goes e a reset (ResetInWindow is valid) = ap (enters e a) is ∙ ap (judged e a) valid ∙ ap (takes e a) reset
 
 -- a Reset that goes out
-bare-step : (e : EndState) (a : Arrival) (n code : ℕ) (detail : List ℕ) (after : EndState) (frame : Option (List ℕ)) → TellsOf (plain n) code detail
-    → IsBare e a code detail after frame → step_of after frame (SentReset code detail) ≡ resets_bare e a n
+bare-step : (e : EndState) (a : Arrival) (n code : ℕ) (detail : List ℕ) (after : EndState) (frame : Option (List ℕ)) → HasFault (plain n) code detail
+    → IsResetWithoutConnection e a code detail after frame → step_of after frame (SentReset code detail) ≡ resets_bare e a n
 bare-step e a n code detail after frame (codes, details) (ends, frames) =
     same-step ends
     (frames ∙ ap (λ (c : ℕ). Some (frame_of e (bare_number (ack_of a.kind)) (kind.Reset a.number c detail))) codes
     ∙ ap (λ (d : List ℕ). Some (frame_of e (bare_number (ack_of a.kind)) (kind.Reset a.number n d))) details)
     (ap (λ (c : ℕ). SentReset c detail) codes ∙ ap (SentReset n) details)
 
-counted-step : (e : EndState) (ack : ℕ) (fault : Fault) (code : ℕ) (detail : List ℕ) (after : EndState) (frame : Option (List ℕ)) → TellsOf fault code detail
-    → IsCounted e ack code detail after frame → step_of after frame (SentReset code detail) ≡ resets e ack fault
+counted-step : (e : EndState) (ack : ℕ) (fault : Fault) (code : ℕ) (detail : List ℕ) (after : EndState) (frame : Option (List ℕ)) → HasFault fault code detail
+    → IsNumberedReset e ack code detail after frame → step_of after frame (SentReset code detail) ≡ resets e ack fault
 counted-step e ack fault code detail after frame (codes, details) (ends, frames) =
     same-step ends
     (frames ∙ ap (λ (c : ℕ). Some (frame_of e (next_number e) (kind.Reset ack c detail))) codes
@@ -169,8 +169,8 @@ reset-goes e bytes code detail after frame (Closes a entered read row tells coun
     ∙ sym (read-goes e bytes a entered None read ∙ ap (moves entered a) row)
 
 stray-goes : (e : EndState) (bytes : List ℕ) → IsStray e bytes → receives e bytes ≡ idle e (Dropped why.StrayReset)
-stray-goes e bytes (Nowhere a arrived is) = arrived-enters e bytes a arrived entrance.Stray is
-stray-goes e bytes (Unasked a arrived is reset wrong) =
+stray-goes e bytes (WithoutConnection a arrived is) = arrived-enters e bytes a arrived entrance.Stray is
+stray-goes e bytes (OutsideWindow a arrived is reset wrong) =
     arrived-enters e bytes a arrived entrance.InRequest is
     ∙ ap (λ (t : PacketType). answers e a t (acknowledges_in_window e a)) reset ∙ ap (answers e a types.Reset) wrong
 

@@ -7,7 +7,7 @@ use Rattle.dccp_states.specs.declared.phase.Phase.{Phase}
 use Rattle.dccp_states.specs.declared.phase.Phase.TheVariants as phase
 use Rattle.dccp_endpoint.specs.End.{EndState}
 use Rattle.dccp_endpoint.specs.Receiving.{is_open, is_other_service, moved_to, with_osr}
-use Rattle.dccp_endpoint.specs.Telling.{IsForAnother, IsMoved, Opened, WasOpen, StaysShut}
+use Rattle.dccp_endpoint.specs.Telling.{IsForAnother, IsMoved, BecomesOpen, WasOpen, NotOpen}
 use Rattle.dccp_endpoint.specs.declared.passage.Passage.{Passage}
 use Rattle.dccp_endpoint.specs.declared.passage.Passage.TheVariants as passages
 
@@ -77,19 +77,19 @@ and-not false = refl
 moved-by : (entered : EndState) (number : ℕ) (ph : Phase) (opens was : Bool) → is_open ph ≡ opens → is_open entered.phase ≡ was
     → IsMoved entered number ph (record (with_osr entered number (opens && not was)) { phase = ph })
 moved-by entered number ph true true opens was = WasOpen (open-is entered.phase was) refl
-moved-by entered number ph true false opens was = Opened (open-is ph opens) (shut-is entered.phase was) refl
-moved-by entered number ph false was opens so = StaysShut (shut-is ph opens) refl
+moved-by entered number ph true false opens was = BecomesOpen (open-is ph opens) (shut-is entered.phase was) refl
+moved-by entered number ph false was opens so = NotOpen (shut-is ph opens) refl
 
 pub moved-so : (entered : EndState) (number : ℕ) (ph : Phase) → IsMoved entered number ph (moved_to entered ph number)
 moved-so entered number ph = moved-by entered number ph (is_open ph) (is_open entered.phase) refl refl
 
 pub moved-is : (entered : EndState) (number : ℕ) (ph : Phase) (moved : EndState) → IsMoved entered number ph moved → moved ≡ moved_to entered ph number
-moved-is entered number ph moved (Opened opens was same) =
+moved-is entered number ph moved (BecomesOpen opens was same) =
     same ∙ sym (ap (λ (b : Bool). record (with_osr entered number b) { phase = ph })
     (ap (λ (x : Bool). x && not (is_open entered.phase)) (ap is_open opens) ∙ ap not (is-shut entered.phase was)))
 moved-is entered number ph moved (WasOpen was same) =
     same ∙ sym (ap (λ (b : Bool). record (with_osr entered number b) { phase = ph })
     (ap (λ (x : Bool). is_open ph && not x) (ap is_open was) ∙ and-not (is_open ph)))
-moved-is entered number ph moved (StaysShut shut same) =
+moved-is entered number ph moved (NotOpen shut same) =
     same ∙ sym (ap (λ (b : Bool). record (with_osr entered number b) { phase = ph })
     (ap (λ (x : Bool). x && not (is_open entered.phase)) (is-shut ph shut)))

@@ -34,7 +34,7 @@ use Rattle.dccp_endpoint.specs.End.{EndState, IsProper, is_phase_of}
 use Rattle.dccp_endpoint.specs.Faults.{first_fault}
 use Rattle.dccp_endpoint.specs.Receiving.{Arrival, accepts, answers, by_fault, by_form, by_packet, by_ports, by_sum, enters, is_of_connection, is_other_service, judged, moved_to, moves, options_in, passage, passes, raised, receives, resets_bare, started, syncs, takes}
 use Rattle.dccp_endpoint.specs.Steps.{Step}
-use Rattle.dccp_endpoint.specs.Telling.{Arrived, Came, IsIntact, IsRead, IsSent, OtherType, OtherRequest, NoConnection, OtherService, NoAnswer, WrongService, Faulted, Closes, Nowhere, Unasked, OutOfWindow, OutOfPlace, IsValid, Opens, Answers, Fits, AnswersWith, InWindow, Passed, Tells, acknowledges_in_window, entrance_of, is_out_of_place, needs_unbuilt, reply_packet, row_of, verdict_of}
+use Rattle.dccp_endpoint.specs.Telling.{Arrived, IsValidPacket, IsIntact, IsRead, IsSent, OtherType, OtherRequest, NoConnection, OtherService, NoAnswer, WrongService, Faulted, Closes, WithoutConnection, OutsideWindow, OutOfWindow, OutOfPlace, IsValid, OpensConnection, ResponseToRequest, PacketInWindow, ResetToRequest, ResetInWindow, Passed, Tells, acknowledges_in_window, entrance_of, is_out_of_place, needs_unbuilt, reply_packet, row_of, verdict_of}
 use Rattle.dccp_endpoint.specs.declared.outcome.Fault.{Fault}
 use Rattle.dccp_endpoint.specs.declared.outcome.Outcome.{Outcome}
 use Rattle.dccp_endpoint.specs.declared.outcome.Outcome.TheVariants.{Took}
@@ -116,12 +116,12 @@ fault-told : (e : EndState) (bytes : List ℕ) (a : Arrival) (entered : EndState
 fault-told e bytes a entered (Some fault) read = record { told = Faulted a entered fault read (refl, refl) (refl, refl) }
 fault-told e bytes a entered None read = moves-told e bytes a entered read (row_of entered a) refl
 
-passed-so : (e : EndState) (bytes : List ℕ) (a : Arrival) (entered : EndState) → Came e bytes a entered → is_out_of_place e entered a ≡ false
+passed-so : (e : EndState) (bytes : List ℕ) (a : Arrival) (entered : EndState) → IsValidPacket e bytes a entered → is_out_of_place e entered a ≡ false
     → is_other_service e entered.phase a.kind ≡ false → Passed e bytes a entered
 passed-so e bytes a entered came in_place for_us =
     record { came = came; in_place = in_place; for_us = λ other. false≢true (sym for_us ∙ another-is e entered.phase a.kind other) }
 
-how-told : (e : EndState) (bytes : List ℕ) (a : Arrival) (entered : EndState) → Came e bytes a entered
+how-told : (e : EndState) (bytes : List ℕ) (a : Arrival) (entered : EndState) → IsValidPacket e bytes a entered
     → (is_out_of_place e entered a ≡ true → IsTold e bytes (syncs entered a.number)) → (how : Passage)
     → Tests how (is_out_of_place e entered a) (is_other_service e entered.phase a.kind) (needs_unbuilt entered a) → IsTold e bytes (passes e entered a how)
 how-told e bytes a entered came misplaced passages.Misplaced out = misplaced out
@@ -133,7 +133,7 @@ how-told e bytes a entered came misplaced passages.Fine (in_place, for_us, built
     fault-told e bytes a entered (first_fault (options_in a))
     (record { passed = passed-so e bytes a entered came in_place for_us; is_built = built; faulted = refl })
 
-passes-told : (e : EndState) (bytes : List ℕ) (a : Arrival) (entered : EndState) → Came e bytes a entered
+passes-told : (e : EndState) (bytes : List ℕ) (a : Arrival) (entered : EndState) → IsValidPacket e bytes a entered
     → (is_out_of_place e entered a ≡ true → IsTold e bytes (syncs entered a.number)) → IsTold e bytes (passes e entered a (passage e entered.phase a))
 passes-told e bytes a entered came misplaced =
     how-told e bytes a entered came misplaced (passage e entered.phase a)
@@ -148,8 +148,8 @@ raised-told e bytes a arrived valid =
 takes-told : (e : EndState) (bytes : List ℕ) (a : Arrival) → Arrived e bytes a → entrance_of e a ≡ entrance.Check → verdict_of e a ≡ verdicts.Valid
     → (t : PacketType) → packet_type a.kind ≡ t → IsTold e bytes (takes e a t)
 takes-told e bytes a arrived check valid types.Reset same =
-    record { told = (record { packet = a; arrived = arrived; is_reset = same; is_valid = InWindow check valid; has_code = refl }, refl, refl) }
-takes-told e bytes a arrived check valid _ same = raised-told e bytes a arrived (Fits check (λ reset. cc (same, reset)) valid refl)
+    record { told = (record { packet = a; arrived = arrived; is_reset = same; is_valid = ResetInWindow check valid; has_code = refl }, refl, refl) }
+takes-told e bytes a arrived check valid _ same = raised-told e bytes a arrived (PacketInWindow check (λ reset. cc (same, reset)) valid refl)
 
 judged-told : (e : EndState) (bytes : List ℕ) (a : Arrival) → Arrived e bytes a → entrance_of e a ≡ entrance.Check
     → (v : Verdict) → verdict_of e a ≡ v → IsTold e bytes (judged e a v)
@@ -161,11 +161,11 @@ judged-told e bytes a arrived check verdicts.Drop same =
 answers-told : (e : EndState) (bytes : List ℕ) (a : Arrival) → IsProper e → Arrived e bytes a → entrance_of e a ≡ entrance.InRequest
     → (t : PacketType) → packet_type a.kind ≡ t → (fits : Bool) → acknowledges_in_window e a ≡ fits → IsTold e bytes (answers e a t fits)
 answers-told e bytes a proper arrived is types.Reset same true fits =
-    record { told = (record { packet = a; arrived = arrived; is_reset = same; is_valid = AnswersWith is fits; has_code = refl }, refl, refl) }
-answers-told e bytes a proper arrived is types.Reset same false fits = record { told = (Unasked a arrived is same fits, (refl, refl)) }
+    record { told = (record { packet = a; arrived = arrived; is_reset = same; is_valid = ResetToRequest is fits; has_code = refl }, refl, refl) }
+answers-told e bytes a proper arrived is types.Reset same false fits = record { told = (OutsideWindow a arrived is same fits, (refl, refl)) }
 answers-told e bytes a proper arrived is _ same true fits =
     let no_reset : (packet_type a.kind ≡ types.Reset → ⊥) = λ reset. cc (same, reset) in
-    passes-told e bytes a (started e e.phase a) (record { arrived = arrived; valid = Answers is no_reset fits refl })
+    passes-told e bytes a (started e e.phase a) (record { arrived = arrived; valid = ResponseToRequest is no_reset fits refl })
     (λ out. absurd (answers-placed e a proper is no_reset out))
 answers-told e bytes a proper arrived is _ same false fits =
     record { told = NoAnswer a arrived (OtherRequest is (λ reset. cc (same, reset)) fits) (refl, refl) (refl, refl) }
@@ -181,7 +181,7 @@ served-told : (e : EndState) (bytes : List ℕ) (a : Arrival) → IsProper e →
     → IsTold e bytes (if ours then passes e (started e phase.Respond a) a (passage e phase.Respond a) else resets_bare e a 8)
 served-told e bytes a proper arrived is service same true ours =
     passes-told e bytes a (started e phase.Respond a)
-    (record { arrived = arrived; valid = Opens is (same ∙ ap Some (eqb-true service e.config.service ours)) refl })
+    (record { arrived = arrived; valid = OpensConnection is (same ∙ ap Some (eqb-true service e.config.service ours)) refl })
     (λ out. absurd (opens-placed e a proper is out))
 served-told e bytes a proper arrived is service same false ours =
     record { told = OtherService a service arrived is same (eqb-false service e.config.service ours) (refl, refl) (refl, refl) }
@@ -195,7 +195,7 @@ accepts-told e bytes a proper arrived is (Some service) same =
 enters-told : (e : EndState) (bytes : List ℕ) (a : Arrival) → IsProper e → Arrived e bytes a → (how : Entrance) → entrance_of e a ≡ how
     → IsTold e bytes (enters e a how)
 enters-told e bytes a proper arrived entrance.NoConnection is = record { told = NoConnection a arrived is (refl, refl) (refl, refl) }
-enters-told e bytes a proper arrived entrance.Stray is = record { told = (Nowhere a arrived is, (refl, refl)) }
+enters-told e bytes a proper arrived entrance.Stray is = record { told = (WithoutConnection a arrived is, (refl, refl)) }
 enters-told e bytes a proper arrived entrance.Accept is = accepts-told e bytes a proper arrived is (service_of a.kind) refl
 enters-told e bytes a proper arrived entrance.InRequest is =
     answers-told e bytes a proper arrived is (packet_type a.kind) refl (acknowledges_in_window e a) refl

@@ -59,18 +59,18 @@ verdict_of e a = verdict e.marks (packet_type a.kind) a.number (ack_of a.kind)
 
 -- the numbers of a Reset are valid
 pub data IsValidReset (e : EndState) (a : Arrival) : Type 0 where
-  AnswersWith : entrance_of e a ≡ entrance.InRequest → acknowledges_in_window e a ≡ true → IsValidReset e a
-  InWindow : entrance_of e a ≡ entrance.Check → verdict_of e a ≡ verdicts.Valid → IsValidReset e a
+  ResetToRequest : entrance_of e a ≡ entrance.InRequest → acknowledges_in_window e a ≡ true → IsValidReset e a
+  ResetInWindow : entrance_of e a ≡ entrance.Check → verdict_of e a ≡ verdicts.Valid → IsValidReset e a
 
 -- Any other valid packet, and the end as steps 3, 4 and 6 leave it: a Request that opens, a Response to the Request, or a packet
 -- in the windows.
 pub data IsValid (e : EndState) (a : Arrival) (entered : EndState) : Type 0 where
-  Opens : entrance_of e a ≡ entrance.Accept → service_of a.kind ≡ Some e.config.service → entered ≡ started e phase.Respond a → IsValid e a entered
-  Answers : entrance_of e a ≡ entrance.InRequest → packet_type a.kind ≢ types.Reset → acknowledges_in_window e a ≡ true → entered ≡ started e e.phase a → IsValid e a entered
-  Fits : entrance_of e a ≡ entrance.Check → packet_type a.kind ≢ types.Reset → verdict_of e a ≡ verdicts.Valid → entered ≡ raised e a → IsValid e a entered
+  OpensConnection : entrance_of e a ≡ entrance.Accept → service_of a.kind ≡ Some e.config.service → entered ≡ started e phase.Respond a → IsValid e a entered
+  ResponseToRequest : entrance_of e a ≡ entrance.InRequest → packet_type a.kind ≢ types.Reset → acknowledges_in_window e a ≡ true → entered ≡ started e e.phase a → IsValid e a entered
+  PacketInWindow : entrance_of e a ≡ entrance.Check → packet_type a.kind ≢ types.Reset → verdict_of e a ≡ verdicts.Valid → entered ≡ raised e a → IsValid e a entered
 
--- a valid packet that came
-pub record Came (e : EndState) (bytes : List ℕ) (a : Arrival) (entered : EndState) : Type 0 where
+-- the bytes are a valid packet, other than a Reset
+pub record IsValidPacket (e : EndState) (bytes : List ℕ) (a : Arrival) (entered : EndState) : Type 0 where
   pub arrived : Arrived e bytes a
   pub valid : IsValid e a entered
 
@@ -88,7 +88,7 @@ pub record IsForAnother (e : EndState) (asking : Phase) (packet : Kind) : Type 0
 
 -- A valid packet in its place, and for the service that was asked for.
 pub record Passed (e : EndState) (bytes : List ℕ) (a : Arrival) (entered : EndState) : Type 0 where
-  pub came : Came e bytes a entered
+  pub came : IsValidPacket e bytes a entered
   pub in_place : is_out_of_place e entered a ≡ false
   pub for_us : IsForAnother e entered.phase a.kind → ⊥
 
@@ -122,8 +122,8 @@ pub record HasWrongSum (e : EndState) (bytes : List ℕ) (fault : SumFault) : Ty
 
 -- a Reset in CLOSED, LISTEN or TIMEWAIT, or one in REQUEST whose acknowledgement number is outside the window
 pub data IsStray (e : EndState) (bytes : List ℕ) : Type 0 where
-  Nowhere : (a : Arrival) → Arrived e bytes a → entrance_of e a ≡ entrance.Stray → IsStray e bytes
-  Unasked : (a : Arrival) → Arrived e bytes a → entrance_of e a ≡ entrance.InRequest → packet_type a.kind ≡ types.Reset → acknowledges_in_window e a ≡ false
+  WithoutConnection : (a : Arrival) → Arrived e bytes a → entrance_of e a ≡ entrance.Stray → IsStray e bytes
+  OutsideWindow : (a : Arrival) → Arrived e bytes a → entrance_of e a ≡ entrance.InRequest → packet_type a.kind ≡ types.Reset → acknowledges_in_window e a ≡ false
       → IsStray e bytes
 
 -- a Sync or SyncAck whose numbers are not valid
@@ -141,7 +141,7 @@ IsUntouched before after frame = (after ≡ before) × (frame ≡ None)
 pub data IsSynced (e : EndState) (bytes : List ℕ) (number : ℕ) (after : EndState) : Type 0 where
   OutOfWindow : (a : Arrival) → Arrived e bytes a → entrance_of e a ≡ entrance.Check → verdict_of e a ≡ verdicts.SyncFor number
       → after ≡ counted e → IsSynced e bytes number after
-  OutOfPlace : (a : Arrival) → Came e bytes a (raised e a) → is_out_of_place e (raised e a) a ≡ true → number ≡ a.number
+  OutOfPlace : (a : Arrival) → IsValidPacket e bytes a (raised e a) → is_out_of_place e (raised e a) a ≡ true → number ≡ a.number
       → after ≡ counted (raised e a) → IsSynced e bytes number after
 
 -- a valid Reset with this code
@@ -153,17 +153,17 @@ pub record IsTorn (e : EndState) (bytes : List ℕ) (code : ℕ) : Type 0 where
   pub has_code : code ≡ reset_code packet.kind
 
 -- a Reset tells of this fault
-abbrev pub TellsOf : Fault → ℕ → List ℕ → Type 0
-TellsOf fault code detail = (code ≡ fault.code) × (detail ≡ detail_of fault)
+abbrev pub HasFault : Fault → ℕ → List ℕ → Type 0
+HasFault fault code detail = (code ≡ fault.code) × (detail ≡ detail_of fault)
 
 -- It goes out without a connection: its numbers come from the packet, and the end stays as it is.
-abbrev pub IsBare : EndState → Arrival → ℕ → List ℕ → EndState → Option (List ℕ) → Type 0
-IsBare e a code detail after frame =
+abbrev pub IsResetWithoutConnection : EndState → Arrival → ℕ → List ℕ → EndState → Option (List ℕ) → Type 0
+IsResetWithoutConnection e a code detail after frame =
     (after ≡ e) × (frame ≡ Some (frame_of e (bare_number (ack_of a.kind)) (kind.Reset a.number code detail)))
 
 -- It takes the next number of an end and acknowledges another; from that end, only the greatest number sent changes.
-abbrev pub IsCounted : EndState → ℕ → ℕ → List ℕ → EndState → Option (List ℕ) → Type 0
-IsCounted e ack code detail after frame =
+abbrev pub IsNumberedReset : EndState → ℕ → ℕ → List ℕ → EndState → Option (List ℕ) → Type 0
+IsNumberedReset e ack code detail after frame =
     (after ≡ counted e) × (frame ≡ Some (frame_of e (next_number e) (kind.Reset ack code detail)))
 
 -- no answer to the Request: another type, or a Response whose acknowledgement number is outside the window
@@ -184,24 +184,24 @@ row_of entered a = after entered.phase (packet_type a.kind)
 -- When a Reset is the answer, what it tells, and the end after it.
 pub data IsReset (e : EndState) (bytes : List ℕ) (code : ℕ) (detail : List ℕ) (after : EndState) (frame : Option (List ℕ)) : Type 0 where
   -- steps 2 and 3: No Connection, and Bad Service Code at a server
-  NoConnection : (a : Arrival) → Arrived e bytes a → entrance_of e a ≡ entrance.NoConnection → TellsOf (plain 3) code detail
-      → IsBare e a code detail after frame → IsReset e bytes code detail after frame
+  NoConnection : (a : Arrival) → Arrived e bytes a → entrance_of e a ≡ entrance.NoConnection → HasFault (plain 3) code detail
+      → IsResetWithoutConnection e a code detail after frame → IsReset e bytes code detail after frame
   OtherService : (a : Arrival) (service : ℕ) → Arrived e bytes a → entrance_of e a ≡ entrance.Accept → service_of a.kind ≡ Some service
-      → service ≢ e.config.service → TellsOf (plain 8) code detail → IsBare e a code detail after frame → IsReset e bytes code detail after frame
+      → service ≢ e.config.service → HasFault (plain 8) code detail → IsResetWithoutConnection e a code detail after frame → IsReset e bytes code detail after frame
   -- step 4: Packet Error, with the packet's type
-  NoAnswer : (a : Arrival) → Arrived e bytes a → IsNoAnswer e a → TellsOf (packet_fault a) code detail
-      → IsCounted e a.number code detail after frame → IsReset e bytes code detail after frame
+  NoAnswer : (a : Arrival) → Arrived e bytes a → IsNoAnswer e a → HasFault (packet_fault a) code detail
+      → IsNumberedReset e a.number code detail after frame → IsReset e bytes code detail after frame
   -- step 7: Bad Service Code at a client
-  WrongService : (a : Arrival) (entered : EndState) → Came e bytes a entered → is_out_of_place e entered a ≡ false → IsForAnother e entered.phase a.kind
-      → TellsOf (plain 8) code detail
-      → IsCounted (closed entered) entered.marks.gsr code detail after frame → IsReset e bytes code detail after frame
+  WrongService : (a : Arrival) (entered : EndState) → IsValidPacket e bytes a entered → is_out_of_place e entered a ≡ false → IsForAnother e entered.phase a.kind
+      → HasFault (plain 8) code detail
+      → IsNumberedReset (closed entered) entered.marks.gsr code detail after frame → IsReset e bytes code detail after frame
   -- step 8: the first fault of the options
-  Faulted : (a : Arrival) (entered : EndState) (fault : Fault) → IsRead e bytes a entered (Some fault) → TellsOf fault code detail
-      → IsCounted (closed entered) entered.marks.gsr code detail after frame → IsReset e bytes code detail after frame
+  Faulted : (a : Arrival) (entered : EndState) (fault : Fault) → IsRead e bytes a entered (Some fault) → HasFault fault code detail
+      → IsNumberedReset (closed entered) entered.marks.gsr code detail after frame → IsReset e bytes code detail after frame
   -- step 14: Closed. No packet leads here yet, since a Close needs a part that is not built.
   Closes : (a : Arrival) (entered : EndState) → IsRead e bytes a entered None → row_of entered a ≡ (phase.Closed, reply.ResetClosed)
-      → TellsOf (plain 1) code detail
-      → IsCounted (closed entered) entered.marks.gsr code detail after frame → IsReset e bytes code detail after frame
+      → HasFault (plain 1) code detail
+      → IsNumberedReset (closed entered) entered.marks.gsr code detail after frame → IsReset e bytes code detail after frame
 
 -- It passes step 7, and needs a part that is not built.
 pub record IsUnbuilt (e : EndState) (bytes : List ℕ) : Type 0 where
@@ -212,10 +212,10 @@ pub record IsUnbuilt (e : EndState) (bytes : List ℕ) : Type 0 where
 
 -- The end in the phase of its row. Where that is OPEN, and it was not, the packet's number is OSR.
 pub data IsMoved (entered : EndState) (number : ℕ) (to : Phase) (moved : EndState) : Type 0 where
-  Opened : to ≡ phase.Open → entered.phase ≢ phase.Open
+  BecomesOpen : to ≡ phase.Open → entered.phase ≢ phase.Open
       → moved ≡ record entered { phase = to; marks = record entered.marks { osr = number } } → IsMoved entered number to moved
   WasOpen : entered.phase ≡ phase.Open → moved ≡ record entered { phase = to } → IsMoved entered number to moved
-  StaysShut : to ≢ phase.Open → moved ≡ record entered { phase = to } → IsMoved entered number to moved
+  NotOpen : to ≢ phase.Open → moved ≡ record entered { phase = to } → IsMoved entered number to moved
 
 -- the packet that a row answers with, if any: a SyncAck acknowledges the Sync, and all others the greatest number received
 abbrev pub reply_packet : EndState → ℕ → Reply → Option Kind

@@ -36,6 +36,7 @@ use Rattle.dccp_options.specs.Grammar.{Entry}
 use Rattle.dccp_options.specs.declared.option.OptFault.{OptFault}
 use Rattle.seq_circle.specs.Circle.{is_before}
 use Rattle.dccp_packets.specs.declared.header.Kind.{Kind}
+use Rattle.dccp_endpoint.proofs.Passing.{Tests, tests-of, for-another}
 use Rattle.dccp_endpoint.proofs.Phases.{accept-phase, after-fits, accept-fits, listens-server, requests-client}
 use Rattle.dccp_endpoint.specs.Receiving as receiving
 use Rattle.dccp_endpoint.specs.declared.outcome.Fault.{Fault}
@@ -142,25 +143,14 @@ first-numbered r [] = tt
 first-numbered r (item ∷ rest) = either-numbered r (fault_of item) (first_fault rest) (item-numbered r item) (first-numbered r rest)
 
 -- a Response for another service comes to a client alone
-is-other : (out service unbuilt : Bool)
-    → (if out then passages.Misplaced else if service then passages.OtherService else if unbuilt then passages.Unbuilt else passages.Fine) ≡ passages.OtherService
-    → service ≡ true
-is-other true service unbuilt is = cc is
-is-other false true unbuilt is = refl
-is-other false false true is = cc is
-is-other false false false is = cc is
-
-other-in-request : (e : EndState) (ph : Phase) (k : Kind) → is_other_service e ph k ≡ true → ph ≡ phase.Request
-other-in-request e phase.Request k is = refl
-other-in-request e _ k is = cc is
-
 other-at-client : (e : EndState) (ph : Phase) (a : Arrival) → is_phase_of ph e.config.role ≡ true → passage e ph a ≡ passages.OtherService
     → is_server e.config.role ≡ false
 other-at-client e ph a own is =
-    let other : is_other_service e ph a.kind ≡ true =
-    is-other (unexpected e.config.role ph (packet_type a.kind) (not (is_before a.number e.marks.osr))) (is_other_service e ph a.kind)
-    (is_unbuilt ph (packet_type a.kind) (receiving.options_in a)) is in
-    let requests : ph ≡ phase.Request = other-in-request e ph a.kind other in
+    let out : Bool = unexpected e.config.role ph (packet_type a.kind) (not (is_before a.number e.marks.osr)) in
+    let other : Bool = is_other_service e ph a.kind in
+    let unbuilt : Bool = is_unbuilt ph (packet_type a.kind) (receiving.options_in a) in
+    let tested : Tests passages.OtherService out other unbuilt = subst (λ (how : Passage). Tests how out other unbuilt) is (tests-of out other unbuilt) in
+    let requests : ph ≡ phase.Request = (for-another e ph a.kind tested.1).is_asking in
     ap is_server (requests-client e.config.role (subst (λ (p : Phase). is_phase_of p e.config.role ≡ true) requests own))
 
 if-on : {Answer : Type 0} (r : Role) (width iss gss : ℕ) (test : Bool) (x y : Step Answer) → GoesOn r width iss gss x → GoesOn r width iss gss y
