@@ -9,43 +9,57 @@ use Rattle.dccp_packets.specs.declared.header.Number.TheVariants.{Long, Short}
 use Rattle.dccp_packets.specs.declared.header.Kind.{Kind}
 use Rattle.dccp_packets.specs.declared.header.Kind.TheVariants.{Request, Response, Data, Ack, DataAck, CloseReq, Close, Reset, Sync, SyncAck}
 use Rattle.dccp_packets.specs.declared.header.Header.{Header}
-use Rattle.dccp_packets.specs.Grammar.{KindFits, Fits, is_long, has_forms, is_valid, packet_type, fixed_length, header_length, number_bytes, kind_bytes, header_bytes, padded}
+use Rattle.dccp_packets.specs.Grammar.{KindFits, is_long, has_forms, is_valid, packet_type, fixed_length, header_length, number_bytes, kind_bytes, header_bytes, padded}
+use Rattle.dccp_packets.specs.Widths.{HasDetail}
 
 -- the numbers of a valid header have a form of its type
 pub forms_of_valid : (h : Header) → IsTrue (is_valid h) → has_forms (is_long h.number) h.kind ≡ true
 forms_of_valid h valid = (and_parts (nat_lt h.ccval 16 && nat_lt h.cscov 16) (has_forms (is_long h.number) h.kind) valid).1
 
+-- a Reset that fits has its detail
+pub detail_of_fits : (kind : Kind) → KindFits kind → HasDetail kind
+detail_of_fits (Request service) fits = tt
+detail_of_fits (Response ack service) fits = tt
+detail_of_fits Data fits = tt
+detail_of_fits (Ack ack) fits = tt
+detail_of_fits (DataAck ack) fits = tt
+detail_of_fits (CloseReq ack) fits = tt
+detail_of_fits (Close ack) fits = tt
+detail_of_fits (Reset ack code detail) fits = fits.2
+detail_of_fits (Sync ack) fits = tt
+detail_of_fits (SyncAck ack) fits = tt
+
 -- what follows the nine common bytes
-length-numbers : (number : Number) (kind : Kind) → KindFits kind → has_forms (is_long number) kind ≡ true → 9 + length (number_bytes number ++ kind_bytes kind) ≡ fixed_length (is_long number) (packet_type kind)
-length-numbers (Long n) (Request service) fits form = refl
-length-numbers (Long n) (Response ack service) fits form = refl
-length-numbers (Long n) Data fits form = refl
-length-numbers (Long n) (Ack (Long ack)) fits form = refl
-length-numbers (Long n) (Ack (Short ack)) fits form = absurd (false≢true form)
-length-numbers (Long n) (DataAck (Long ack)) fits form = refl
-length-numbers (Long n) (DataAck (Short ack)) fits form = absurd (false≢true form)
-length-numbers (Long n) (CloseReq ack) fits form = refl
-length-numbers (Long n) (Close ack) fits form = refl
-length-numbers (Long n) (Reset ack code detail) fits form = let three : length detail ≡ 3 = fits.2 in omega (arith, three)
-length-numbers (Long n) (Sync ack) fits form = refl
-length-numbers (Long n) (SyncAck ack) fits form = refl
-length-numbers (Short n) (Request service) fits form = absurd (false≢true form)
-length-numbers (Short n) (Response ack service) fits form = absurd (false≢true form)
-length-numbers (Short n) Data fits form = refl
-length-numbers (Short n) (Ack (Long ack)) fits form = absurd (false≢true form)
-length-numbers (Short n) (Ack (Short ack)) fits form = refl
-length-numbers (Short n) (DataAck (Long ack)) fits form = absurd (false≢true form)
-length-numbers (Short n) (DataAck (Short ack)) fits form = refl
-length-numbers (Short n) (CloseReq ack) fits form = absurd (false≢true form)
-length-numbers (Short n) (Close ack) fits form = absurd (false≢true form)
-length-numbers (Short n) (Reset ack code detail) fits form = absurd (false≢true form)
-length-numbers (Short n) (Sync ack) fits form = absurd (false≢true form)
-length-numbers (Short n) (SyncAck ack) fits form = absurd (false≢true form)
+length-numbers : (number : Number) (kind : Kind) → HasDetail kind → has_forms (is_long number) kind ≡ true → 9 + length (number_bytes number ++ kind_bytes kind) ≡ fixed_length (is_long number) (packet_type kind)
+length-numbers (Long n) (Request service) detailed form = refl
+length-numbers (Long n) (Response ack service) detailed form = refl
+length-numbers (Long n) Data detailed form = refl
+length-numbers (Long n) (Ack (Long ack)) detailed form = refl
+length-numbers (Long n) (Ack (Short ack)) detailed form = absurd (false≢true form)
+length-numbers (Long n) (DataAck (Long ack)) detailed form = refl
+length-numbers (Long n) (DataAck (Short ack)) detailed form = absurd (false≢true form)
+length-numbers (Long n) (CloseReq ack) detailed form = refl
+length-numbers (Long n) (Close ack) detailed form = refl
+length-numbers (Long n) (Reset ack code detail) detailed form = let three : length detail ≡ 3 = detailed in omega (arith, three)
+length-numbers (Long n) (Sync ack) detailed form = refl
+length-numbers (Long n) (SyncAck ack) detailed form = refl
+length-numbers (Short n) (Request service) detailed form = absurd (false≢true form)
+length-numbers (Short n) (Response ack service) detailed form = absurd (false≢true form)
+length-numbers (Short n) Data detailed form = refl
+length-numbers (Short n) (Ack (Long ack)) detailed form = absurd (false≢true form)
+length-numbers (Short n) (Ack (Short ack)) detailed form = refl
+length-numbers (Short n) (DataAck (Long ack)) detailed form = absurd (false≢true form)
+length-numbers (Short n) (DataAck (Short ack)) detailed form = refl
+length-numbers (Short n) (CloseReq ack) detailed form = absurd (false≢true form)
+length-numbers (Short n) (Close ack) detailed form = absurd (false≢true form)
+length-numbers (Short n) (Reset ack code detail) detailed form = absurd (false≢true form)
+length-numbers (Short n) (Sync ack) detailed form = absurd (false≢true form)
+length-numbers (Short n) (SyncAck ack) detailed form = absurd (false≢true form)
 
 -- a header is spelled with as many bytes as its type and form have
-pub length-header_bytes : (h : Header) (words : ℕ) → Fits h → IsTrue (is_valid h) → length (header_bytes h words) ≡ header_length h
-length-header_bytes h words fits valid =
-    let numbers = length-numbers h.number h.kind fits.kind (forms_of_valid h valid) in omega (arith, numbers)
+pub length-header_bytes : (h : Header) (words : ℕ) → HasDetail h.kind → IsTrue (is_valid h) → length (header_bytes h words) ≡ header_length h
+length-header_bytes h words detailed valid =
+    let numbers = length-numbers h.number h.kind detailed (forms_of_valid h valid) in omega (arith, numbers)
 
 -- options are filled up to whole words
 pub padded_words : (options : List ℕ) → length (padded options) % 4 ≡ 0

@@ -1,3 +1,4 @@
 pub mod Grammar
 pub mod Lending
 pub mod Table
+pub mod Widths

@@ -4,6 +4,7 @@ ghost use Rattle.dccp_packets.specs.declared.header.Header.{Header};
 ghost use Rattle.dccp_packets.specs.declared.header.PacketType.{PacketType};
 ghost use Rattle.dccp_packets.specs.Grammar.{type_code, type_of, data_offset, fixed_length, has_long_numbers, has_form, decoded, spelling, padded, header_length, is_valid, Fits};
 ghost use Rattle.dccp_packets.specs.Table.{IsPacket, AreBytes, HasZeros};
+ghost use Rattle.dccp_packets.specs.Widths.{in_widths, HasDetail};
 
 use crate::Malformed;
 
@@ -12,6 +13,15 @@ use crate::Malformed;
 pub fn what_is_spelled_is_read()
     ensures { (h : Header) (options payload : List ℕ) → Fits h → IsTrue (is_valid h) → header_length h + length (padded options) ≤ 1020
         → decoded (spelling h options payload) ≡ Ok (record { header = h; options = padded options; payload = payload }) }
+{}
+
+/// What is spelled is read again also where numbers are too large for their fields: each is cut to the width of its field
+/// (`read`), which keeps a header whose fields fit (`kept`). So whatever needs only the type, the options or the data, or
+/// numbers that are below 2^48 anyway, needs no premise on the other fields (RFC 4340, section 5; the widths of section 5.1).
+pub fn what_is_spelled_is_read_in_widths()
+    ensures read { (h : Header) (options payload : List ℕ) → HasDetail h.kind → IsTrue (is_valid h) → header_length h + length (padded options) ≤ 1020
+        → decoded (spelling h options payload) ≡ Ok (record { header = in_widths h; options = padded options; payload = payload }) }
+    ensures kept { (h : Header) → Fits h → in_widths h ≡ h }
 {}
 
 /// Reading finds exactly the packets of the table of RFC 4340, section 5: what is read is in it, and what is in it is

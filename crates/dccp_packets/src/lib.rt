@@ -16,7 +16,7 @@ pub use crate::frame::{Frame, Outbox};
 pub use crate::header::{Header, Kind, Number, PacketType};
 pub use crate::laws::{
     one_spelling_has_no_reserved_bit, the_first_fault_is_answered, what_is_read_is_the_table,
-    what_is_spelled_is_read,
+    what_is_spelled_is_read, what_is_spelled_is_read_in_widths,
 };
 pub use crate::reading::{Malformed, Packet, decode};
 pub use crate::writing::{OptionsTooLong, encode};
