@@ -1,5 +1,5 @@
 -- Circular numbers: 48-bit sequence numbers and their 24-bit short forms (RFC 4340, sections 3.1, 7.1 and 7.6).
-use Rattle.std.specs.Prelude.{◌≡◌, ℕ, ◌+◌, ◌-◌, ◌*◌, ◌/◌, ◌%◌, ◌^◌, ◌<◌, ◌≤◌, Bool, ◌&&◌, nat_lt, nat_le, if◌then◌else◌}
+use Rattle.std.specs.Prelude.{ℕ, ◌+◌, ◌-◌, ◌*◌, ◌/◌, ◌%◌, ◌^◌, ◌<◌, ◌≤◌, Bool, ◌&&◌, nat_lt, nat_le, if◌then◌else◌}
 
 -- the sequence number that a whole number stands for
 abbrev pub residue : ℕ → ℕ
@@ -8,6 +8,10 @@ residue n = n % 2 ^ 48
 -- how many steps lead from one number up to another
 abbrev pub distance : ℕ → ℕ → ℕ
 distance from to = residue (to + 2 ^ 48 - from)
+
+-- the number that lies so many steps down from another
+abbrev pub down : ℕ → ℕ → ℕ
+down number steps = residue (number + (2 ^ 48 - residue steps))
 
 -- the other lies ahead, by less than half the circle
 abbrev pub IsBefore : ℕ → ℕ → Type 0
@@ -20,6 +24,18 @@ is_before a b = nat_lt 0 (distance a b) && nat_lt (distance a b) (2 ^ 47)
 -- the later of two numbers
 abbrev pub later_of : ℕ → ℕ → ℕ
 later_of a b = if is_before a b then b else a
+
+-- low <= n: the number is the low end, or lies ahead of it by less than half the circle (RFC 4340, section 3.1)
+abbrev pub IsFrom : ℕ → ℕ → Type 0
+IsFrom low n = distance low n < 2 ^ 47
+
+-- the same, as a test
+abbrev pub is_from : ℕ → ℕ → Bool
+is_from low n = nat_lt (distance low n) (2 ^ 47)
+
+-- the upper end of an interval that has none: the last number that the low end is before
+abbrev pub open_end : ℕ → ℕ
+open_end low = residue (low + (2 ^ 47 - 1))
 
 -- walking up from the low end, the number comes no later than the high end
 abbrev pub IsWithin : ℕ → ℕ → ℕ → Type 0

@@ -1,6 +1,6 @@
 //! 48-bit sequence numbers.
 ghost use Rattle.std.specs.Prelude.{◌≡◌, ℕ, ◌+◌, ◌-◌, ◌*◌, ◌%◌, ◌^◌, ◌<◌, ◌≤◌, IsSome, IfSome, IsTrue, ◌↔◌};
-ghost use Rattle.seq_circle.specs.Circle.{residue, distance, IsBefore, is_before, later_of, IsWithin, is_within};
+ghost use Rattle.seq_circle.specs.Circle.{residue, distance, down, IsBefore, is_before, later_of, IsFrom, is_from, open_end, IsWithin, is_within};
 
 use std::marker::Model;
 
@@ -55,7 +55,7 @@ impl Seq48 {
         self.add(1)
     }
 
-    /// `n` steps up the circle.
+    /// `n` steps up the circle, for any `n`: 2^48 steps lead back to this number.
     pub fn add(self, n: u64) -> Seq48
         ensures { result ≡ residue (self + n) }
     {
@@ -64,9 +64,9 @@ impl Seq48 {
         }
     }
 
-    /// `n` steps down the circle.
+    /// `n` steps down the circle, for any `n`: 2^48 steps lead back to this number.
     pub fn sub(self, n: u64) -> Seq48
-        ensures { result ≡ residue (self + (2 ^ 48 - residue n)) }
+        ensures { result ≡ down self n }
     {
         Seq48 {
             number: (self.number + (SIZE - n % SIZE)) % SIZE,
@@ -95,6 +95,24 @@ impl Seq48 {
         ensures { result ≡ later_of self other }
     {
         if self.before(other) { other } else { self }
+    }
+
+    /// Tells whether this number is `low` or lies ahead of it by less than half the circle: it lies in the interval that
+    /// begins at `low` and has no upper end (RFC 4340, section 3.1). Of two numbers exactly half the circle apart neither is
+    /// before the other, and neither is from the other.
+    pub fn is_from(self, low: Seq48) -> bool
+        ensures value { result ≡ is_from low self }
+        ensures meaning { IsTrue result ↔ IsFrom low self }
+    {
+        low.distance(self) < HALF
+    }
+
+    /// The upper end of the interval that begins at this number and has no upper end: 2^47 - 1 steps up, so that `is_from`
+    /// and `within` tell the same.
+    pub fn open_end(self) -> Seq48
+        ensures { result ≡ open_end self }
+    {
+        self.add(HALF - 1)
     }
 
     /// Tells whether this number lies in the interval that begins at `lo` and goes up to `hi`, both included.

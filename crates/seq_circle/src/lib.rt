@@ -12,6 +12,9 @@ mod short;
 mod tests;
 
 pub use crate::circle::Seq48;
-pub use crate::laws::{before_is_the_order_of_counts, extension_finds_the_number};
+pub use crate::laws::{
+    before_is_the_order_of_counts, down_is_the_way_back, extension_finds_the_number,
+    from_is_the_order_of_counts, numbers_count_packets,
+};
 pub use crate::memory::NoMemory;
 pub use crate::short::{Seq24, extend};

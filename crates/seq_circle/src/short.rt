@@ -60,7 +60,9 @@ fn is_ahead(a: u32, b: u32) -> bool
     0 < ahead && ahead < HALF
 }
 
-/// The 48-bit number near `reference` whose low 24 bits are `s`, by the three cases of RFC 4340, section 7.6.
+/// The 48-bit number near `reference` whose low 24 bits are `s`, by the three cases of RFC 4340, section 7.6. It is the
+/// number that was cut where that is fewer than 2^23 from the reference, in either direction
+/// (`extension_finds_the_number`).
 pub fn extend(s: Seq24, reference: Seq48) -> Seq48
     ensures { result ≡ extended s reference }
 {

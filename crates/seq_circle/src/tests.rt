@@ -34,6 +34,12 @@ fn round_the_circle(rt: HostRuntime) -> Result<(), Fail> {
     assert!(rt; !first.before(last));
     assert!(rt; !first.before(half), "half a circle ahead is not before");
     assert_eq!(rt; last.max_of(first), first);
+    assert_eq!(rt; last.add(281_474_976_710_656), last, "once round");
+    assert_eq!(rt;
+        first.sub(281_474_976_710_657),
+        last,
+        "once round and a step"
+    );
     assert!(rt; last.within(last.sub(3), first));
     assert!(rt; !first.next().within(last.sub(3), first));
     assert_eq!(rt; Seq48::new(281_474_976_710_656), None);
@@ -42,5 +48,22 @@ fn round_the_circle(rt: HostRuntime) -> Result<(), Fail> {
         Seq24::new(16_777_215).ok_or("below 2^24")?.get(),
         16_777_215
     );
+    Ok(())
+}
+
+#[test]
+fn intervals_with_no_upper_end(rt: HostRuntime) -> Result<(), Fail> {
+    let last = Seq48::new(281_474_976_710_655).ok_or("below 2^48")?;
+    let first = Seq48::new(0).ok_or("below 2^48")?;
+    let half = Seq48::new(140_737_488_355_328).ok_or("below 2^48")?;
+    assert!(rt; first.is_from(first));
+    assert!(rt; first.is_from(last), "over the circle's end");
+    assert!(rt; !last.is_from(first));
+    assert!(rt; !half.is_from(first), "half a circle ahead");
+    assert!(rt; !first.is_from(half), "and half a circle behind");
+    assert!(rt; half.is_from(first.next()));
+    assert_eq!(rt; first.open_end().get(), 140_737_488_355_327);
+    assert_eq!(rt; last.open_end().get(), 140_737_488_355_326);
+    assert!(rt; first.open_end().is_from(first));
     Ok(())
 }
