@@ -4,7 +4,7 @@ use Rattle.std.proofs.lemmas.Bool.{true≢false, false≢true, ltb-true, lt-ltb,
 use Rattle.dccp_packets.specs.declared.header.PacketType.{PacketType}
 use Rattle.dccp_packets.specs.declared.reading.Malformed.{Malformed}
 use Rattle.dccp_packets.specs.declared.reading.Malformed.TheVariants.{Short, ReservedType, OffsetSmall, OffsetLarge, ShortNumbers}
-use Rattle.dccp_packets.specs.Grammar.{Parts, type_of, has_form, fixed_length, data_offset, type_code, has_long_numbers, parts_of, decoded_as, decoded_by, decoded}
+use Rattle.dccp_packets.specs.Grammar.{Parts, type_of, has_form, fixed_length, data_offset_bytes, type_code, has_long_numbers, parts_of, decoded_as, decoded_by, decoded}
 use Rattle.dccp_packets.proofs.TableLemmas.{type_none}
 
 -- the place of an answer in the order
@@ -42,7 +42,7 @@ abbrev form_left : PacketType → Bool → List ℕ → Result Parts Malformed
 form_left kind long bytes = if not (has_form long kind) then Err ShortNumbers else Ok (parts_of kind long bytes)
 
 abbrev large_left : PacketType → Bool → List ℕ → Result Parts Malformed
-large_left kind long bytes = if nat_lt (length bytes) (data_offset bytes) then Err OffsetLarge else form_left kind long bytes
+large_left kind long bytes = if nat_lt (length bytes) (data_offset_bytes bytes) then Err OffsetLarge else form_left kind long bytes
 
 form_rank : (kind : PacketType) (long : Bool) (bytes : List ℕ) → 4 ≤ rank (form_left kind long bytes)
 form_rank kind long bytes = rank_at (not (has_form long kind)) ShortNumbers (Ok (parts_of kind long bytes)) 4 (omega arith) (omega arith)
@@ -50,12 +50,12 @@ form_rank kind long bytes = rank_at (not (has_form long kind)) ShortNumbers (Ok 
 large_rank : (kind : PacketType) (long : Bool) (bytes : List ℕ) → 3 ≤ rank (large_left kind long bytes)
 large_rank kind long bytes =
     let next = form_rank kind long bytes in
-    rank_at (nat_lt (length bytes) (data_offset bytes)) OffsetLarge (form_left kind long bytes) 3 (omega arith) (omega (arith, next))
+    rank_at (nat_lt (length bytes) (data_offset_bytes bytes)) OffsetLarge (form_left kind long bytes) 3 (omega arith) (omega (arith, next))
 
 small_rank : (kind : PacketType) (long : Bool) (bytes : List ℕ) → 2 ≤ rank (decoded_as kind long bytes)
 small_rank kind long bytes =
     let next = large_rank kind long bytes in
-    rank_at (nat_lt (data_offset bytes) (fixed_length long kind)) OffsetSmall (large_left kind long bytes) 2 (omega arith) (omega (arith, next))
+    rank_at (nat_lt (data_offset_bytes bytes) (fixed_length long kind)) OffsetSmall (large_left kind long bytes) 2 (omega arith) (omega (arith, next))
 
 type_rank : (t : Option PacketType) (bytes : List ℕ) → 1 ≤ rank (decoded_by t bytes)
 type_rank None bytes = omega arith
@@ -102,10 +102,10 @@ to_kind : (bytes : List ℕ) (kind : PacketType) → 12 ≤ length bytes → typ
 to_kind bytes kind enough typed = to_type bytes enough ∙ ap (λ t. decoded_by t bytes) typed
 
 pub small_fault : (bytes : List ℕ) (kind : PacketType) → 12 ≤ length bytes → type_of (type_code bytes) ≡ Some kind
-    → (decoded bytes ≡ Err OffsetSmall) ↔ (data_offset bytes < fixed_length (has_long_numbers bytes) kind)
+    → (decoded bytes ≡ Err OffsetSmall) ↔ (data_offset_bytes bytes < fixed_length (has_long_numbers bytes) kind)
 small_fault bytes kind enough typed =
     let long = has_long_numbers bytes in
-    let offset = data_offset bytes in
+    let offset = data_offset_bytes bytes in
     let size = fixed_length long kind in
     let reach = to_kind bytes kind enough typed in
     let next = large_rank kind long bytes in (
@@ -113,32 +113,32 @@ small_fault bytes kind enough typed =
       (λ h. reach ∙ refused_by (nat_lt offset size) OffsetSmall (large_left kind long bytes) (lt-ltb offset size h)),
     )
 
-to_large : (bytes : List ℕ) (kind : PacketType) → 12 ≤ length bytes → type_of (type_code bytes) ≡ Some kind → fixed_length (has_long_numbers bytes) kind ≤ data_offset bytes
+to_large : (bytes : List ℕ) (kind : PacketType) → 12 ≤ length bytes → type_of (type_code bytes) ≡ Some kind → fixed_length (has_long_numbers bytes) kind ≤ data_offset_bytes bytes
     → decoded bytes ≡ large_left kind (has_long_numbers bytes) bytes
 to_large bytes kind enough typed above =
     let long = has_long_numbers bytes in
     to_kind bytes kind enough typed
-    ∙ passed_by (nat_lt (data_offset bytes) (fixed_length long kind)) OffsetSmall (large_left kind long bytes) (le-ltb (data_offset bytes) (fixed_length long kind) above)
+    ∙ passed_by (nat_lt (data_offset_bytes bytes) (fixed_length long kind)) OffsetSmall (large_left kind long bytes) (le-ltb (data_offset_bytes bytes) (fixed_length long kind) above)
 
-pub large_fault : (bytes : List ℕ) (kind : PacketType) → 12 ≤ length bytes → type_of (type_code bytes) ≡ Some kind → fixed_length (has_long_numbers bytes) kind ≤ data_offset bytes
-    → (decoded bytes ≡ Err OffsetLarge) ↔ (length bytes < data_offset bytes)
+pub large_fault : (bytes : List ℕ) (kind : PacketType) → 12 ≤ length bytes → type_of (type_code bytes) ≡ Some kind → fixed_length (has_long_numbers bytes) kind ≤ data_offset_bytes bytes
+    → (decoded bytes ≡ Err OffsetLarge) ↔ (length bytes < data_offset_bytes bytes)
 large_fault bytes kind enough typed above =
     let long = has_long_numbers bytes in
-    let test = nat_lt (length bytes) (data_offset bytes) in
+    let test = nat_lt (length bytes) (data_offset_bytes bytes) in
     let reach = to_large bytes kind enough typed above in
     let next = form_rank kind long bytes in (
-      (λ h. ltb-true (length bytes) (data_offset bytes) (refused_at test OffsetLarge (form_left kind long bytes) (omega (arith, next)) (sym reach ∙ h))),
-      (λ h. reach ∙ refused_by test OffsetLarge (form_left kind long bytes) (lt-ltb (length bytes) (data_offset bytes) h)),
+      (λ h. ltb-true (length bytes) (data_offset_bytes bytes) (refused_at test OffsetLarge (form_left kind long bytes) (omega (arith, next)) (sym reach ∙ h))),
+      (λ h. reach ∙ refused_by test OffsetLarge (form_left kind long bytes) (lt-ltb (length bytes) (data_offset_bytes bytes) h)),
     )
 
-pub form_fault : (bytes : List ℕ) (kind : PacketType) → 12 ≤ length bytes → type_of (type_code bytes) ≡ Some kind → fixed_length (has_long_numbers bytes) kind ≤ data_offset bytes
-    → data_offset bytes ≤ length bytes → (decoded bytes ≡ Err ShortNumbers) ↔ (has_form (has_long_numbers bytes) kind ≡ false)
+pub form_fault : (bytes : List ℕ) (kind : PacketType) → 12 ≤ length bytes → type_of (type_code bytes) ≡ Some kind → fixed_length (has_long_numbers bytes) kind ≤ data_offset_bytes bytes
+    → data_offset_bytes bytes ≤ length bytes → (decoded bytes ≡ Err ShortNumbers) ↔ (has_form (has_long_numbers bytes) kind ≡ false)
 form_fault bytes kind enough typed above within =
     let long = has_long_numbers bytes in
     let form = has_form long kind in
     let read : Result Parts Malformed = Ok (parts_of kind long bytes) in
     let reach = to_large bytes kind enough typed above
-    ∙ passed_by (nat_lt (length bytes) (data_offset bytes)) OffsetLarge (form_left kind long bytes) (le-ltb (length bytes) (data_offset bytes) within) in (
+    ∙ passed_by (nat_lt (length bytes) (data_offset_bytes bytes)) OffsetLarge (form_left kind long bytes) (le-ltb (length bytes) (data_offset_bytes bytes) within) in (
       (λ h. not-true form (refused_at (not form) ShortNumbers read (omega arith) (sym reach ∙ h))),
       (λ h. reach ∙ refused_by (not form) ShortNumbers read (not_from_false form h)),
     )

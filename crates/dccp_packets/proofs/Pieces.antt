@@ -6,7 +6,7 @@ use Rattle.dccp_packets.specs.declared.header.Number.{Number}
 use Rattle.dccp_packets.specs.declared.header.Kind.{Kind}
 use Rattle.dccp_packets.specs.declared.header.Kind.TheVariants.{Response, Reset}
 use Rattle.dccp_packets.specs.declared.header.Header.{Header}
-use Rattle.dccp_packets.specs.Grammar.{Parts, type_of, has_form, fixed_length, data_offset, type_code, has_long_numbers, parts_of, decoded}
+use Rattle.dccp_packets.specs.Grammar.{Parts, type_of, has_form, fixed_length, data_offset_bytes, type_code, has_long_numbers, parts_of, decoded}
 
 pub same_response : {a b s t : ℕ} → a ≡ b → s ≡ t → Response a s ≡ Response b t
 same_response {a} {b} {s} {t} ack service = ap (λ x. Response x s) ack ∙ ap (Response b) service
@@ -29,9 +29,9 @@ same_parts header options payload = cc
 
 -- where none of the five faults holds, the parts are read
 pub decoded_ok : (kind : PacketType) (long : Bool) (bytes : List ℕ) → 12 ≤ length bytes → type_of (type_code bytes) ≡ Some kind → has_long_numbers bytes ≡ long
-    → fixed_length long kind ≤ data_offset bytes → data_offset bytes ≤ length bytes → has_form long kind ≡ true → decoded bytes ≡ Ok (parts_of kind long bytes)
+    → fixed_length long kind ≤ data_offset_bytes bytes → data_offset_bytes bytes ≤ length bytes → has_form long kind ≡ true → decoded bytes ≡ Ok (parts_of kind long bytes)
 decoded_ok kind long bytes enough typed x above within form =
     let e1 = le-ltb (length bytes) 12 enough in
-    let e2 = le-ltb (data_offset bytes) (fixed_length long kind) above in
-    let e3 = le-ltb (length bytes) (data_offset bytes) within in
+    let e2 = le-ltb (data_offset_bytes bytes) (fixed_length long kind) above in
+    let e3 = le-ltb (length bytes) (data_offset_bytes bytes) within in
     rw (e1, typed, x, e2, e3, form) refl

@@ -11,14 +11,14 @@ use Rattle.dccp_packets.specs.declared.header.Number.TheVariants.{Long, Short}
 use Rattle.dccp_packets.specs.declared.header.Kind.{Kind}
 use Rattle.dccp_packets.specs.declared.header.Kind.TheVariants.{Request, Response, Data, Ack, DataAck, CloseReq, Close, Reset, Sync, SyncAck}
 use Rattle.dccp_packets.specs.declared.header.Header.{Header}
-use Rattle.dccp_packets.specs.Grammar.{NumberFits, KindFits, Fits, type_of, code_of, is_long, has_form, has_forms, is_valid, packet_type, header_length, number_at, data_offset, number_of, kind_of, header_of, decoded, number_bytes, kind_bytes, common_bytes, header_bytes, padded, spelling}
+use Rattle.dccp_packets.specs.Grammar.{NumberFits, KindFits, Fits, type_of, code_of, is_long, has_form, has_forms, is_valid, packet_type, header_length, number_at, data_offset_bytes, number_in, kind_of, header_of, decoded, number_bytes, kind_bytes, common_bytes, header_bytes, padded, spelling}
 use Rattle.dccp_packets.specs.Widths.{number_in_width, kind_in_widths, in_widths, HasDetail}
 use Rattle.dccp_packets.proofs.Pieces.{same_response, same_reset, same_header, same_parts, decoded_ok}
 use Rattle.dccp_packets.proofs.Lengths.{forms_of_valid, detail_of_fits, length-header_bytes, shortest, offset_in_words}
 
 -- the sequence number, behind the common bytes
 number_again : (number : Number) (kind_part : List ℕ) (h : Header) (words : ℕ) (rest : List ℕ)
-    → number_of (is_long number) (common_bytes h words ++ ((number_bytes number ++ kind_part) ++ rest)) ≡ number_in_width number
+    → number_in (is_long number) (common_bytes h words ++ ((number_bytes number ++ kind_part) ++ rest)) ≡ number_in_width number
 number_again (Long n) kind_part h words rest = ap Long (big_from-bytes 6 n (kind_part ++ rest))
 number_again (Short n) kind_part h words rest = ap Short (big_from-bytes 3 n (kind_part ++ rest))
 
@@ -106,7 +106,7 @@ header_again h words rest detailed valid =
     let ccval : (16 * h.ccval + h.cscov) / 16 ≡ h.ccval = omega (arith, low, cover) in
     let cscov : (16 * h.ccval + h.cscov) % 16 ≡ h.cscov = omega (arith, low, cover) in
     let checksum : number_at 6 2 bytes ≡ h.checksum % 2 ^ 16 = big_from-bytes 2 h.checksum (drop 8 bytes) in
-    let number : number_of (is_long h.number) bytes ≡ number_in_width h.number =
+    let number : number_in (is_long h.number) bytes ≡ number_in_width h.number =
     number_again h.number (kind_bytes h.kind) h words rest in
     let kind : kind_of (packet_type h.kind) (is_long h.number) bytes ≡ kind_in_widths h.kind =
     kind_again h.number h.kind detailed (forms_of_valid h valid) h words rest in
@@ -121,15 +121,15 @@ reads_in_widths h o d detailed valid room =
     let words = (fixed + filled) / 4 in
     let bytes = spelling h o d in
     let enough = shortest (is_long h.number) (packet_type h.kind) in
-    let offset : data_offset bytes ≡ fixed + filled = offset_in_words h o in
+    let offset : data_offset_bytes bytes ≡ fixed + filled = offset_in_words h o in
     let front = length-header_bytes h words detailed valid in
     let all : length bytes ≡ length (header_bytes h words) + length (padded o ++ d) = length-append (header_bytes h words) (padded o ++ d) in
     let behind = length-append (padded o) d in
     let after : drop fixed bytes ≡ padded o ++ d = drop_at (header_bytes h words) (padded o ++ d) fixed front in
     let header = header_again h words (padded o ++ d) detailed valid in
-    let options : slice_range bytes fixed (data_offset bytes) ≡ padded o =
+    let options : slice_range bytes fixed (data_offset_bytes bytes) ≡ padded o =
     ap (λ n. take (n - fixed) (drop fixed bytes)) offset ∙ ap (take (fixed + filled - fixed)) after ∙ take_at (padded o) d (fixed + filled - fixed) (omega arith) in
-    let payload : drop (data_offset bytes) bytes ≡ d =
+    let payload : drop (data_offset_bytes bytes) bytes ≡ d =
     ap (λ n. drop n bytes) offset ∙ sym (drop-drop filled fixed bytes) ∙ ap (drop filled) after ∙ drop_at (padded o) d filled refl in
     decoded_ok (packet_type h.kind) (is_long h.number) bytes
     (omega (arith, all, front, enough))

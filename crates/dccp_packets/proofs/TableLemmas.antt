@@ -11,7 +11,7 @@ use Rattle.dccp_packets.specs.declared.header.Kind.TheVariants.{Request, Respons
 use Rattle.dccp_packets.specs.declared.header.Header.{Header}
 use Rattle.dccp_packets.specs.declared.reading.Malformed.{Malformed}
 use Rattle.dccp_packets.specs.declared.reading.Malformed.TheVariants as faults
-use Rattle.dccp_packets.specs.Grammar.{Parts, type_of, code_of, is_long, has_form, packet_type, fixed_length, number_at, data_offset, type_code, has_long_numbers, number_of, kind_of, parts_of, decoded_as, decoded_by, decoded}
+use Rattle.dccp_packets.specs.Grammar.{Parts, type_of, code_of, is_long, has_form, packet_type, fixed_length, number_at, data_offset_bytes, type_code, has_long_numbers, number_in, kind_of, parts_of, decoded_as, decoded_by, decoded}
 use Rattle.dccp_packets.specs.Table.{HasType, IsRow, IsPacket}
 use Rattle.dccp_packets.proofs.Pieces.{same_response, same_reset, same_header, same_parts, decoded_ok}
 use Rattle.dccp_packets.proofs.Lengths.{shortest}
@@ -22,7 +22,7 @@ pub record Reads (number : Number) (kind : Kind) (bytes : List ℕ) (size : ℕ)
   pub x : has_long_numbers bytes ≡ is_long number
   pub size_is : size ≡ fixed_length (is_long number) (packet_type kind)
   pub form : has_form (is_long number) (packet_type kind) ≡ true
-  pub number_is : number_of (is_long number) bytes ≡ number
+  pub number_is : number_in (is_long number) bytes ≡ number
   pub kind_is : kind_of (packet_type kind) (is_long number) bytes ≡ kind
 
 code_read : (code x : ℕ) (bytes : List ℕ) → code < 16 → x < 2 → HasType code x bytes → type_code bytes ≡ code
@@ -97,9 +97,9 @@ table_read h o d bytes packet =
     let ccval : slice_index bytes 5 / 16 ≡ h.ccval = omega (arith, nibbles, nibble) in
     let cscov : slice_index bytes 5 % 16 ≡ h.cscov = omega (arith, nibbles, nibble) in
     let header = same_header (sym packet.from) (sym packet.to) ccval cscov (sym packet.checksum) row.number_is row.kind_is in
-    let options : slice_range bytes size (data_offset bytes) ≡ o =
-    ap (take (data_offset bytes - size)) after ∙ take_at o d (data_offset bytes - size) (omega (arith, offset, fixed)) in
-    let payload : drop (data_offset bytes) bytes ≡ d =
+    let options : slice_range bytes size (data_offset_bytes bytes) ≡ o =
+    ap (take (data_offset_bytes bytes - size)) after ∙ take_at o d (data_offset_bytes bytes - size) (omega (arith, offset, fixed)) in
+    let payload : drop (data_offset_bytes bytes) bytes ≡ d =
     ap (λ n. drop n bytes) (offset ∙ ap (λ n. n + length o) fixed) ∙ sym (drop-drop (length o) size bytes) ∙ ap (drop (length o)) after ∙ drop_at o d (length o) refl in
     decoded_ok kind long bytes (omega (arith, all, fixed, enough)) row.typed row.x (omega (arith, offset, fixed)) (omega (arith, offset, fixed, all, behind)) row.form
     ∙ ap Ok (same_parts header options payload)
@@ -121,8 +121,8 @@ known_type (Some kind) bytes h = (kind, refl, h)
 -- what reading has found where it answers a packet
 record Found (kind : PacketType) (bytes : List ℕ) (p : Parts) : Type 0 where
   typed : type_of (type_code bytes) ≡ Some kind
-  above : fixed_length (has_long_numbers bytes) kind ≤ data_offset bytes
-  within : data_offset bytes ≤ length bytes
+  above : fixed_length (has_long_numbers bytes) kind ≤ data_offset_bytes bytes
+  within : data_offset_bytes bytes ≤ length bytes
   form : has_form (has_long_numbers bytes) kind ≡ true
   parts_are : parts_of kind (has_long_numbers bytes) bytes ≡ p
 
@@ -142,14 +142,14 @@ found bytes p h =
     let long = has_long_numbers bytes in
     let typed = known_type (type_of (type_code bytes)) bytes (past (nat_lt (length bytes) 12) faults.Short h).1 in
     let kind = typed.0 in
-    let small = past (nat_lt (data_offset bytes) (fixed_length long kind)) faults.OffsetSmall typed.2 in
-    let large = past (nat_lt (length bytes) (data_offset bytes)) faults.OffsetLarge small.1 in
+    let small = past (nat_lt (data_offset_bytes bytes) (fixed_length long kind)) faults.OffsetSmall typed.2 in
+    let large = past (nat_lt (length bytes) (data_offset_bytes bytes)) faults.OffsetLarge small.1 in
     let form = past (not (has_form long kind)) faults.ShortNumbers large.1 in (
       kind,
       record {
         typed = typed.1;
-        above = ltb-false (data_offset bytes) (fixed_length long kind) small.0;
-        within = ltb-false (length bytes) (data_offset bytes) large.0;
+        above = ltb-false (data_offset_bytes bytes) (fixed_length long kind) small.0;
+        within = ltb-false (length bytes) (data_offset_bytes bytes) large.0;
         form = not-false (has_form long kind) form.0;
         parts_are = ok_same form.1;
       },
@@ -206,7 +206,7 @@ type_found kind bytes h =
     (slice_index bytes 8 / 32, omega (arith, code, x))
 
 row_found : (kind : PacketType) (long : Bool) (b : List ℕ) → HasType (code_of kind) (if long then 1 else 0) b → has_form long kind ≡ true
-    → IsRow (number_of long b) (kind_of kind long b) b (fixed_length long kind)
+    → IsRow (number_in long b) (kind_of kind long b) b (fixed_length long kind)
 row_found types.Request true b has form = (has, refl, refl, refl)
 row_found types.Response true b has form = (has, refl, refl, refl, refl)
 row_found types.Data true b has form = (has, refl, refl)
@@ -229,13 +229,13 @@ row_found types.Sync false b has form = absurd (false≢true form)
 row_found types.SyncAck false b has form = absurd (false≢true form)
 
 -- what is read is in the table
-read_packet : (kind : PacketType) (bytes : List ℕ) → type_of (type_code bytes) ≡ Some kind → fixed_length (has_long_numbers bytes) kind ≤ data_offset bytes
-    → data_offset bytes ≤ length bytes → has_form (has_long_numbers bytes) kind ≡ true
+read_packet : (kind : PacketType) (bytes : List ℕ) → type_of (type_code bytes) ≡ Some kind → fixed_length (has_long_numbers bytes) kind ≤ data_offset_bytes bytes
+    → data_offset_bytes bytes ≤ length bytes → has_form (has_long_numbers bytes) kind ≡ true
     → let p = parts_of kind (has_long_numbers bytes) bytes in IsPacket p.header p.options p.payload bytes
 read_packet kind bytes typed above within form =
     let long = has_long_numbers bytes in
     let size = fixed_length long kind in
-    let offset = data_offset bytes in
+    let offset = data_offset_bytes bytes in
     let front : length (take size bytes) ≡ size = length-take-le size bytes (omega (arith, above, within)) in
     let left = length-drop size bytes in
     let area : length (take (offset - size) (drop size bytes)) ≡ offset - size = length-take-le (offset - size) (drop size bytes) (omega (arith, left, within)) in
@@ -252,7 +252,7 @@ read_packet kind bytes typed above within form =
       nibbles = omega arith;
       nibble = omega arith;
       checksum = refl;
-      row = subst (λ n. IsRow (number_of long bytes) (kind_of kind long bytes) bytes n) (sym front) (row_found kind long bytes (type_found kind bytes typed) form);
+      row = subst (λ n. IsRow (number_in long bytes) (kind_of kind long bytes) bytes n) (sym front) (row_found kind long bytes (type_found kind bytes typed) form);
     }
 
 pub read_table : (h : Header) (o d bytes : List ℕ) → decoded bytes ≡ Ok (record { header = h; options = o; payload = d }) → IsPacket h o d bytes

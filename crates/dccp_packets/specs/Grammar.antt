@@ -125,8 +125,8 @@ abbrev pub number_at : ℕ → ℕ → List ℕ → ℕ
 number_at place count bytes = big_number count (drop place bytes)
 
 -- where the options end; byte 4 counts it in words of 32 bits (RFC 4340, section 5.1)
-abbrev pub data_offset : List ℕ → ℕ
-data_offset bytes = 4 * slice_index bytes 4
+abbrev pub data_offset_bytes : List ℕ → ℕ
+data_offset_bytes bytes = 4 * slice_index bytes 4
 
 -- three reserved bits, four of the type, one of X (RFC 4340, section 5.1)
 abbrev pub type_code : List ℕ → ℕ
@@ -136,23 +136,23 @@ abbrev pub has_long_numbers : List ℕ → Bool
 has_long_numbers bytes = slice_index bytes 8 % 2 == 1
 
 -- the sequence number: 48 bits behind a reserved byte, or 24 (RFC 4340, section 5.1)
-abbrev pub number_of : Bool → List ℕ → Number
-number_of long bytes = if long then Long (number_at 10 6 bytes) else Short (number_at 9 3 bytes)
+abbrev pub number_in : Bool → List ℕ → Number
+number_in long bytes = if long then Long (number_at 10 6 bytes) else Short (number_at 9 3 bytes)
 
 -- the acknowledgement number: 48 bits behind two reserved bytes, or 24 behind one (RFC 4340, section 5.1)
 abbrev pub long_ack : List ℕ → ℕ
 long_ack bytes = number_at 18 6 bytes
 
-abbrev pub ack_of : Bool → List ℕ → Number
-ack_of long bytes = if long then Long (long_ack bytes) else Short (number_at 13 3 bytes)
+abbrev pub ack_in : Bool → List ℕ → Number
+ack_in long bytes = if long then Long (long_ack bytes) else Short (number_at 13 3 bytes)
 
 -- what a type alone carries (RFC 4340, sections 5.2 to 5.7)
 abbrev pub kind_of : PacketType → Bool → List ℕ → Kind
 kind_of types.Request long bytes = Request (number_at 16 4 bytes)
 kind_of types.Response long bytes = Response (long_ack bytes) (number_at 24 4 bytes)
 kind_of types.Data long bytes = Data
-kind_of types.Ack long bytes = Ack (ack_of long bytes)
-kind_of types.DataAck long bytes = DataAck (ack_of long bytes)
+kind_of types.Ack long bytes = Ack (ack_in long bytes)
+kind_of types.DataAck long bytes = DataAck (ack_in long bytes)
 kind_of types.CloseReq long bytes = CloseReq (long_ack bytes)
 kind_of types.Close long bytes = Close (long_ack bytes)
 kind_of types.Reset long bytes = Reset (long_ack bytes) (slice_index bytes 24) (slice_range bytes 25 28)
@@ -166,7 +166,7 @@ header_of kind long bytes = record {
   ccval = slice_index bytes 5 / 16;
   cscov = slice_index bytes 5 % 16;
   checksum = number_at 6 2 bytes;
-  number = number_of long bytes;
+  number = number_in long bytes;
   kind = kind_of kind long bytes;
 }
 
@@ -179,15 +179,15 @@ pub record Parts : Type 0 where
 abbrev pub parts_of : PacketType → Bool → List ℕ → Parts
 parts_of kind long bytes = record {
   header = header_of kind long bytes;
-  options = slice_range bytes (fixed_length long kind) (data_offset bytes);
-  payload = drop (data_offset bytes) bytes;
+  options = slice_range bytes (fixed_length long kind) (data_offset_bytes bytes);
+  payload = drop (data_offset_bytes bytes) bytes;
 }
 
 -- a packet whose type is known
 abbrev pub decoded_as : PacketType → Bool → List ℕ → Result Parts Malformed
 decoded_as kind long bytes =
-    if nat_lt (data_offset bytes) (fixed_length long kind) then Err faults.OffsetSmall
-    else if nat_lt (length bytes) (data_offset bytes) then Err faults.OffsetLarge
+    if nat_lt (data_offset_bytes bytes) (fixed_length long kind) then Err faults.OffsetSmall
+    else if nat_lt (length bytes) (data_offset_bytes bytes) then Err faults.OffsetLarge
     else if not (has_form long kind) then Err faults.ShortNumbers
     else Ok (parts_of kind long bytes)
 

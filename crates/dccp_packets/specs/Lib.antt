@@ -1,4 +1,6 @@
 pub mod Grammar
+pub mod Kinds
 pub mod Lending
+pub mod ResetCodes
 pub mod Table
 pub mod Widths

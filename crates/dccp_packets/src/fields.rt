@@ -1,7 +1,7 @@
 //! The places of the fields, and their readers (RFC 4340, section 5).
 ghost use Rattle.std.specs.Prelude.{◌≡◌, ◌+◌, ◌*◌, ◌/◌, ◌%◌, ◌^◌, ◌<◌, ◌≤◌, IsTrue, length, slice_index};
 ghost use Rattle.dccp_packets.specs.declared.header.PacketType.TheVariants as types;
-ghost use Rattle.dccp_packets.specs.Grammar.{data_offset, type_code, has_long_numbers, long_ack, number_of, ack_of, kind_of, header_of, fixed_length, number_at};
+ghost use Rattle.dccp_packets.specs.Grammar.{data_offset_bytes, type_code, has_long_numbers, long_ack, number_in, ack_in, kind_of, header_of, fixed_length, number_at};
 
 use crate::{Header, Kind, Number, PacketType};
 use byteorder::{BigEndian, ByteOrder};
@@ -37,17 +37,18 @@ const RESET_CODE: usize = 24;
 const RESET_DETAIL: usize = 25;
 
 // CCVal and CsCov, and the code of the type, are numbers of four bits.
-const NIBBLE: u8 = 16;
+pub(crate) const NIBBLE: u8 = 16;
 
 // X is the lowest bit of its byte, below the type.
-const X: u8 = 2;
+pub(crate) const X: u8 = 2;
 
-const WORD: usize = 4;
+// The Data Offset counts words of 32 bits.
+pub(crate) const WORD: usize = 4;
 
 // The place where the options end and the data begin.
-pub(crate) fn data_offset(bytes: &[u8]) -> usize
+pub(crate) fn data_offset_bytes(bytes: &[u8]) -> usize
     requires { 12 ≤ length bytes.now }
-    ensures value { result ≡ data_offset bytes.now }
+    ensures value { result ≡ data_offset_bytes bytes.now }
 {
     usize::from(bytes[DATA_OFFSET]) * WORD
 }
@@ -90,7 +91,7 @@ fn short_at(bytes: &[u8], place: usize) -> Seq24
 
 fn number(long: bool, bytes: &[u8]) -> Number
     requires { fixed_length long types.Data ≤ length bytes.now }
-    ensures { result ≡ number_of long bytes.now }
+    ensures { result ≡ number_in long bytes.now }
 {
     if long {
         Number::Long(long_at(bytes, LONG_NUMBER))
@@ -101,7 +102,7 @@ fn number(long: bool, bytes: &[u8]) -> Number
 
 fn ack(long: bool, bytes: &[u8]) -> Number
     requires { fixed_length long types.Ack ≤ length bytes.now }
-    ensures { result ≡ ack_of long bytes.now }
+    ensures { result ≡ ack_in long bytes.now }
 {
     if long {
         Number::Long(long_at(bytes, LONG_ACK))

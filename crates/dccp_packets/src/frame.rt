@@ -7,12 +7,12 @@ use std::marker::Model;
 
 /// The most bytes of a frame: 1,020 of header and options, which is all that a Data Offset counts (RFC 4340, section
 /// 5.1), and 1,024 of data (own).
-pub(crate) const FRAME_SIZE: usize = 2044;
+pub const MOST_FRAME_BYTES: usize = 2044;
 
-/// A packet's bytes, at most 2,044 of them, in the value itself. Contracts see the list of bytes.
+/// A packet's bytes, at most `MOST_FRAME_BYTES` of them, in the value itself. Contracts see the list of bytes.
 #[derive(Debug, Drop)]
 pub struct Frame {
-    bytes: ArrayVec<u8, FRAME_SIZE>,
+    bytes: ArrayVec<u8, MOST_FRAME_BYTES>,
 }
 
 impl Model for Frame {
@@ -35,12 +35,12 @@ impl Frame {
         }
     }
 
-    /// A frame of these bytes, or None exactly where there are more than 2,044.
+    /// A frame of these bytes, or None exactly where there are more than `MOST_FRAME_BYTES`, 2,044.
     pub fn of(bytes: &[u8]) -> Option<Frame>
         ensures made { IsSome result ↔ (length bytes.now ≤ 2044) }
         ensures value { IfSome result (λ f. f ≡ bytes.now) }
     {
-        if FRAME_SIZE < bytes.len() {
+        if MOST_FRAME_BYTES < bytes.len() {
             return None;
         }
         let mut frame = Frame::new();

@@ -2,6 +2,7 @@
 ghost use Rattle.std.specs.Prelude.{◌≡◌, ◌<◌, ◌^◌, length};
 ghost use Rattle.dccp_packets.specs.Grammar.{type_of, code_of, fixed_length, has_form, packet_type, is_long, has_forms, is_valid, header_length, NumberFits, KindFits, Fits};
 
+use crate::fields::NIBBLE;
 use seq_circle::{Seq24, Seq48};
 
 /// The ten packet types (RFC 4340, section 5.1), in the order of their codes 0 to 9.
@@ -252,7 +253,7 @@ impl Header {
     pub fn valid(&self) -> bool
         ensures { result ≡ is_valid self.now }
     {
-        self.ccval < 16 && self.cscov < 16 && self.kind.has_forms(self.number.is_long())
+        self.ccval < NIBBLE && self.cscov < NIBBLE && self.kind.has_forms(self.number.is_long())
     }
 
     pub(crate) fn known_to_fit(&self)

@@ -2,7 +2,7 @@
 ghost use Rattle.std.specs.Prelude.{◌≡◌, ℕ, ◌+◌, ◌<◌, ◌≤◌, ◌↔◌, false, List, length, IsTrue};
 ghost use Rattle.dccp_packets.specs.declared.header.Header.{Header};
 ghost use Rattle.dccp_packets.specs.declared.header.PacketType.{PacketType};
-ghost use Rattle.dccp_packets.specs.Grammar.{type_code, type_of, data_offset, fixed_length, has_long_numbers, has_form, decoded, spelling, padded, header_length, is_valid, Fits};
+ghost use Rattle.dccp_packets.specs.Grammar.{type_code, type_of, data_offset_bytes, fixed_length, has_long_numbers, has_form, decoded, spelling, padded, header_length, is_valid, Fits};
 ghost use Rattle.dccp_packets.specs.Table.{IsPacket, AreBytes, HasZeros};
 ghost use Rattle.dccp_packets.specs.Widths.{in_widths, HasDetail};
 
@@ -38,12 +38,12 @@ pub fn the_first_fault_is_answered()
     ensures short { (bytes : List ℕ) → (decoded bytes ≡ Err Malformed.Short) ↔ (length bytes < 12) }
     ensures reserved_type { (bytes : List ℕ) → 12 ≤ length bytes → (decoded bytes ≡ Err Malformed.ReservedType) ↔ (10 ≤ type_code bytes) }
     ensures offset_small { (bytes : List ℕ) (kind : PacketType) → 12 ≤ length bytes → type_of (type_code bytes) ≡ Some kind
-        → (decoded bytes ≡ Err Malformed.OffsetSmall) ↔ (data_offset bytes < fixed_length (has_long_numbers bytes) kind) }
+        → (decoded bytes ≡ Err Malformed.OffsetSmall) ↔ (data_offset_bytes bytes < fixed_length (has_long_numbers bytes) kind) }
     ensures offset_large { (bytes : List ℕ) (kind : PacketType) → 12 ≤ length bytes → type_of (type_code bytes) ≡ Some kind
-        → fixed_length (has_long_numbers bytes) kind ≤ data_offset bytes
-        → (decoded bytes ≡ Err Malformed.OffsetLarge) ↔ (length bytes < data_offset bytes) }
+        → fixed_length (has_long_numbers bytes) kind ≤ data_offset_bytes bytes
+        → (decoded bytes ≡ Err Malformed.OffsetLarge) ↔ (length bytes < data_offset_bytes bytes) }
     ensures short_numbers { (bytes : List ℕ) (kind : PacketType) → 12 ≤ length bytes → type_of (type_code bytes) ≡ Some kind
-        → fixed_length (has_long_numbers bytes) kind ≤ data_offset bytes → data_offset bytes ≤ length bytes
+        → fixed_length (has_long_numbers bytes) kind ≤ data_offset_bytes bytes → data_offset_bytes bytes ≤ length bytes
         → (decoded bytes ≡ Err Malformed.ShortNumbers) ↔ (has_form (has_long_numbers bytes) kind ≡ false) }
 {}
 

@@ -6,17 +6,20 @@
 mod fields;
 mod frame;
 mod header;
+mod kinds;
 mod laws;
 mod reading;
+mod reset_code;
 #[cfg(test)]
 mod tests;
 mod writing;
 
-pub use crate::frame::{Frame, Outbox};
+pub use crate::frame::{Frame, MOST_FRAME_BYTES, Outbox};
 pub use crate::header::{Header, Kind, Number, PacketType};
 pub use crate::laws::{
     one_spelling_has_no_reserved_bit, the_first_fault_is_answered, what_is_read_is_the_table,
     what_is_spelled_is_read, what_is_spelled_is_read_in_widths,
 };
 pub use crate::reading::{Malformed, Packet, decode};
+pub use crate::reset_code::ResetCode;
 pub use crate::writing::{OptionsTooLong, encode};

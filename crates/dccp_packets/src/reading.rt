@@ -51,7 +51,7 @@ pub fn decode(bytes: &[u8]) -> Result<Packet<'_>, Malformed>
     };
     let long = fields::has_long_numbers(bytes);
     let fixed = packet_type.fixed_length(long);
-    let offset = fields::data_offset(bytes);
+    let offset = fields::data_offset_bytes(bytes);
     if offset < fixed {
         return Err(Malformed::OffsetSmall);
     }

@@ -1,5 +1,6 @@
 use crate::{
-    Frame, Header, Kind, Malformed, Number, OptionsTooLong, Outbox, PacketType, decode, encode,
+    Frame, Header, Kind, MOST_FRAME_BYTES, Malformed, Number, OptionsTooLong, Outbox, PacketType,
+    ResetCode, decode, encode,
 };
 use seq_circle::Seq48;
 use std::test::Fail;
@@ -7,8 +8,9 @@ use std::test::Fail;
 // A Request from port 40000 to 5001 with number 1000 and service 42.
 const REQUEST: &str = "9c401389050031ec01000000000003e80000002a";
 
-// Frames of worked runs of both ends, of every type but CloseReq, with options, with data and with short numbers.
-const FRAMES: [&str; 34] = [
+// Frames of worked runs of both ends, and a CloseReq, a short Data and a short DataAck written by hand: every type in every
+// form, with options and with data.
+const FRAMES: [&str; 37] = [
     "9c401389050031ec01000000000003e80000002a",
     "13899c400700261403000000000007d000000000000003e80000002a",
     "9c4013890600234107000000000003e900000000000007d0",
@@ -43,6 +45,9 @@ const FRAMES: [&str; 34] = [
     "13899c400700193a0f000000000007d200000000000003ea01000000",
     "9c40138904002647060003ea000007d1",
     "13899c400600173e13000000000007d200000000000003ea",
+    "13899c4006001f3c0b000000000007d300000000000003eb",
+    "13899c4003308b4e040007d3a1b2",
+    "9c4013890500f937080003eb000007d326030000010203",
 ];
 
 fn fault_of(bytes: &[u8]) -> Option<Malformed> {
@@ -101,6 +106,127 @@ fn fields_of_a_request(rt: HostRuntime) -> Result<(), Fail> {
     Ok(())
 }
 
+// A frame, its type, and its acknowledgement number, Service Code and Reset Code as they stand in it.
+const FIELDS: [(&str, PacketType, Option<u64>, Option<u32>, u8); 10] = [
+    (
+        "9c401389050031ec01000000000003e80000002a",
+        PacketType::Request,
+        None,
+        Some(42),
+        0,
+    ),
+    (
+        "13899c400700261403000000000007d000000000000003e80000002a",
+        PacketType::Response,
+        Some(1000),
+        Some(42),
+        0,
+    ),
+    (
+        "13899c4003308b4e040007d3a1b2",
+        PacketType::Data,
+        None,
+        None,
+        0,
+    ),
+    (
+        "9c40138904002647060003ea000007d1",
+        PacketType::Ack,
+        Some(2001),
+        None,
+        0,
+    ),
+    (
+        "9c4013890700503609000000000003ea00000000000007d126030000aa",
+        PacketType::DataAck,
+        Some(2001),
+        None,
+        0,
+    ),
+    (
+        "13899c4006001f3c0b000000000007d300000000000003eb",
+        PacketType::CloseReq,
+        Some(1003),
+        None,
+        0,
+    ),
+    (
+        "9c40138906001d3f0d000000000003ea00000000000007d1",
+        PacketType::Close,
+        Some(2001),
+        None,
+        0,
+    ),
+    (
+        "9c4013890700163b0f000000000003e900000000000007d004020000",
+        PacketType::Reset,
+        Some(2000),
+        None,
+        4,
+    ),
+    (
+        "13899c400600194111000000000007d100000000000003e8",
+        PacketType::Sync,
+        Some(1000),
+        None,
+        0,
+    ),
+    (
+        "13899c400600173e13000000000007d200000000000003ea",
+        PacketType::SyncAck,
+        Some(1002),
+        None,
+        0,
+    ),
+];
+
+#[test]
+fn what_types_carry(rt: HostRuntime) -> Result<(), Fail> {
+    for (text, packet_type, ack, service, code) in FIELDS {
+        let bytes = hex::decode(rt.alloc(), text)?;
+        let Ok(packet) = decode(&bytes) else {
+            return Err(Fail::from("a frame of its type"));
+        };
+        let kind = &packet.header.kind;
+        assert_eq!(rt; kind.packet_type(), packet_type, "{text}");
+        assert_eq!(rt; kind.ack().map(Seq48::get), ack, "{text}");
+        assert_eq!(rt; packet_type.has_ack(), ack.is_some(), "{text}");
+        assert_eq!(rt; kind.service(), service, "{text}");
+        assert_eq!(rt; kind.reset_code(), code, "{text}");
+        assert_eq!(rt;
+            packet_type.is_data(),
+            packet_type == PacketType::Data,
+            "{text}"
+        );
+    }
+    Ok(())
+}
+
+#[test]
+fn reset_codes_by_number(rt: HostRuntime) {
+    // RFC 4340, section 5.6, in the order of its list.
+    let codes = [
+        ResetCode::Unspecified,
+        ResetCode::Closed,
+        ResetCode::Aborted,
+        ResetCode::NoConnection,
+        ResetCode::PacketError,
+        ResetCode::OptionError,
+        ResetCode::MandatoryError,
+        ResetCode::ConnectionRefused,
+        ResetCode::BadServiceCode,
+        ResetCode::TooBusy,
+        ResetCode::BadInitCookie,
+        ResetCode::AggressionPenalty,
+    ];
+    for (number, code) in (0u8..12).zip(codes) {
+        assert_eq!(rt; code.number(), number);
+        assert_eq!(rt; ResetCode::of(number), Some(code));
+    }
+    assert_eq!(rt; ResetCode::of(12), None);
+    assert_eq!(rt; ResetCode::of(255), None);
+}
+
 #[test]
 fn frames_are_written_again(rt: HostRuntime) -> Result<(), Fail> {
     for text in FRAMES {
@@ -156,6 +282,7 @@ fn options_that_do_not_fit(rt: HostRuntime) -> Result<(), Fail> {
         Ok(())
     );
     assert_eq!(rt; out.bytes().len(), 2044);
+    assert_eq!(rt; MOST_FRAME_BYTES, 2044);
     let Ok(again) = decode(out.bytes()) else {
         return Err(Fail::from("what was written"));
     };

@@ -3,6 +3,7 @@ ghost use Rattle.std.specs.Prelude.{◌≡◌, ◌+◌, ◌*◌, ◌/◌, ◌%�
 ghost use Rattle.byteorder.specs.Endian.{big_bytes};
 ghost use Rattle.dccp_packets.specs.Grammar.{is_valid, Fits, decoded, header_length, type_byte, number_bytes, long_ack_bytes, ack_bytes, kind_bytes, common_bytes, header_bytes, padded, spelling};
 
+use crate::fields::{NIBBLE, WORD, X};
 use crate::header::detail_has_three;
 use crate::{Frame, Header, Kind, Number};
 use byteorder::{BigEndian, ByteOrder};
@@ -13,21 +14,15 @@ use seq_circle::{Seq24, Seq48};
 #[derive(Clone, Copy, Debug, PartialEq, Eq)]
 pub struct OptionsTooLong;
 
-const WORD: usize = 4;
-
-const NIBBLE: u8 = 16;
-
-// X is the lowest bit of its byte, below the type.
-const X: u8 = 2;
-
 const RESERVED: u8 = 0;
 
 // 255 words, the most that a Data Offset counts, in bytes.
 const LONGEST_HEADER: usize = 1020;
 
 /// Writes the packet into `out`, in place of what was there: the header, the options filled with zeros up to four bytes,
-/// and the data. Reserved bits are zero, and the checksum is the header's (RFC 4340, section 5). OptionsTooLong comes
-/// exactly where the fixed part and the padded options pass 1,020 bytes, and `out` is then unchanged.
+/// and the data. The header must be valid (`Header::valid`), and the data at most 1,024 bytes. Reserved bits are zero, and
+/// the checksum is the header's (RFC 4340, section 5). OptionsTooLong comes exactly where the fixed part and the padded
+/// options pass 1,020 bytes, and `out` is then unchanged.
 pub fn encode(
     header: &Header,
     options: &[u8],
