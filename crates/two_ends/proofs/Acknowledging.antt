@@ -33,8 +33,8 @@ use Rattle.dccp_packets.specs.declared.header.Kind.{Kind}
 use Rattle.dccp_endpoint.specs.declared.outcome.Outcome.{Outcome}
 use Rattle.two_ends.specs.Frames.{packet_of}
 use Rattle.std.proofs.Common.{◌≡◌, ◌⊎◌, inl, inr, refl, ap, sym, ◌∙◌, subst, ◌==◌, ℕ, ◌+◌, ◌-◌, ◌^◌, ◌<◌, ◌≤◌, List, Option, Some, None, true, false, Bool, if◌then◌else◌, Result, Ok, Err, not, ◌&&◌, arith}
-use Rattle.seq_circle.specs.Circle.{residue, is_before, later_of, distance, is_within}
-use Rattle.validity_windows.specs.Windows.{ack_low, ack_high, down}
+use Rattle.seq_circle.specs.Circle.{residue, is_before, later_of, distance, is_within, down}
+use Rattle.validity_windows.specs.Windows.{ack_low, ack_high}
 use Rattle.validity_windows.specs.Verdict.{verdict, is_ack_within, gar_after, is_in_window, is_after_greatest, is_not_old}
 use Rattle.validity_windows.specs.declared.marks.Marks.{Marks}
 

@@ -1,2 +1,4 @@
-pub mod Windows
+pub mod Beginning
 pub mod Verdict
+pub mod Whole
+pub mod Windows

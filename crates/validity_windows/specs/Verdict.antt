@@ -1,25 +1,12 @@
 -- Which numbers are valid, by a packet's type (RFC 4340, section 7.5.3), and what a valid packet raises.
-use Rattle.std.specs.Prelude.{ℕ, ◌+◌, ◌-◌, ◌^◌, Bool, true, false, ◌&&◌, Option, Some, None, if◌then◌else◌}
-use Rattle.seq_circle.specs.Circle.{residue, later_of, is_within}
+use Rattle.std.specs.Prelude.{ℕ, ◌+◌, Bool, true, ◌&&◌, Option, Some, None, if◌then◌else◌}
+use Rattle.seq_circle.specs.Circle.{residue, later_of, open_end, is_within}
 use Rattle.dccp_packets.specs.declared.header.PacketType.{PacketType}
 use Rattle.dccp_packets.specs.declared.header.PacketType.TheVariants as types
 use Rattle.validity_windows.specs.declared.marks.Marks.{Marks}
 use Rattle.validity_windows.specs.declared.verdict.Verdict.{Verdict}
 use Rattle.validity_windows.specs.declared.verdict.Verdict.TheVariants.{Valid, SyncFor, Drop}
 use Rattle.validity_windows.specs.Windows.{sequence_low, sequence_high, ack_low, ack_high}
-
--- the types with an acknowledgement number (section 5.1)
-abbrev pub has_ack : PacketType → Bool
-has_ack types.Request = false
-has_ack types.Response = true
-has_ack types.Data = false
-has_ack types.Ack = true
-has_ack types.DataAck = true
-has_ack types.CloseReq = true
-has_ack types.Close = true
-has_ack types.Reset = true
-has_ack types.Sync = true
-has_ack types.SyncAck = true
 
 -- low <= ack <= high, where there is an acknowledgement number
 abbrev pub is_ack_within : ℕ → ℕ → Option ℕ → Bool
@@ -34,11 +21,11 @@ is_in_window m number = is_within number (sequence_low m) (sequence_high m)
 abbrev pub is_after_greatest : Marks → ℕ → Bool
 is_after_greatest m number = is_within number (residue (m.gsr + 1)) (sequence_high m)
 
--- SWL <= number, with no upper end: in the half of the circle from SWL on
+-- SWL <= number, in the interval that has no upper end
 abbrev pub is_not_old : Marks → ℕ → Bool
-is_not_old m number = is_within number (sequence_low m) (residue (sequence_low m + (2 ^ 47 - 1)))
+is_not_old m number = is_within number (sequence_low m) (open_end (sequence_low m))
 
--- the three rules
+-- The three rules: both windows; after GSR, and from GAR on; and from SWL on.
 abbrev pub by_window : Marks → ℕ → Option ℕ → Verdict
 by_window m number ack =
     if is_in_window m number && is_ack_within (ack_low m) (ack_high m) ack then Valid else SyncFor number
@@ -63,7 +50,7 @@ verdict m types.Reset number ack = by_greatest m number ack m.gsr
 verdict m types.Sync number ack = by_low_end m number ack
 verdict m types.SyncAck number ack = by_low_end m number ack
 
--- the greatest acknowledgement number received; a Sync's does not count (section 7.5.1)
+-- the greatest acknowledgement number received; a Sync's does not count (section 7.1)
 abbrev pub gar_after : ℕ → PacketType → Option ℕ → ℕ
 gar_after gar types.Sync ack = gar
 gar_after gar kind None = gar

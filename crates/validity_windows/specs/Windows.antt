@@ -1,6 +1,6 @@
 -- The windows that valid sequence and acknowledgement numbers lie in (RFC 4340, section 7.5.1).
-use Rattle.std.specs.Prelude.{ℕ, ◌+◌, ◌-◌, ◌*◌, ◌/◌, ◌^◌, ◌<◌, ◌≤◌}
-use Rattle.seq_circle.specs.Circle.{residue, later_of}
+use Rattle.std.specs.Prelude.{ℕ, ◌+◌, ◌*◌, ◌/◌, ◌^◌, ◌<◌, ◌≤◌}
+use Rattle.seq_circle.specs.Circle.{residue, later_of, down}
 use Rattle.validity_windows.specs.declared.marks.Marks.{Marks}
 use Rattle.validity_windows.specs.declared.marks.Windows.{Windows}
 
@@ -10,10 +10,6 @@ pub record InRange (m : Marks) : Type 0 where
   pub own_most : m.own_w < 2 ^ 46
   pub peer_least : 32 ≤ m.peer_w
   pub peer_most : m.peer_w < 2 ^ 46
-
--- so many steps down the circle
-abbrev pub down : ℕ → ℕ → ℕ
-down number steps = residue (number + (2 ^ 48 - residue steps))
 
 -- SWL = max(GSR + 1 - floor(W/4), ISR)
 abbrev pub sequence_low : Marks → ℕ

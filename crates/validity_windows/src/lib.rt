@@ -10,6 +10,9 @@ mod marks;
 mod tests;
 mod verdict;
 
-pub use crate::laws::windows_are_intervals_of_counts;
+pub use crate::laws::{
+    marks_stay_sound, sound_marks_are_whole_numbers, verdicts_are_those_of_whole_numbers,
+    windows_are_intervals_of_counts,
+};
 pub use crate::marks::{Marks, Windows};
 pub use crate::verdict::Verdict;

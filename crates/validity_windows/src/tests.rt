@@ -1,6 +1,6 @@
 ghost use Rattle.std.specs.Prelude.{◌≡◌, ◌≢◌, true, IfOk};
 ghost use Rattle.validity_windows.specs.Windows.{InRange};
-ghost use Rattle.validity_windows.specs.Verdict.{has_ack};
+ghost use Rattle.dccp_packets.specs.Kinds.{has_ack};
 
 use crate::{Marks, Verdict, Windows};
 use dccp_packets::PacketType;
@@ -40,6 +40,22 @@ fn marks_at_the_wrap() -> Result<Marks, Fail>
         osr: seq(2001)?,
         own_w: 100,
         peer_w: 100,
+    })
+}
+
+// Marks with windows of two widths, of which the peer's is no multiple of four.
+fn uneven_marks() -> Result<Marks, Fail>
+    ensures { IfOk result InRange }
+{
+    Ok(Marks {
+        iss: seq(1000)?,
+        gss: seq(1500)?,
+        gar: seq(1450)?,
+        isr: seq(2000)?,
+        gsr: seq(3000)?,
+        osr: seq(2001)?,
+        own_w: 210,
+        peer_w: 101,
     })
 }
 
@@ -181,5 +197,70 @@ fn what_a_packet_raises(rt: HostRuntime) -> Result<(), Fail> {
     assert_eq!(rt; (marks.gsr.get(), marks.gar.get()), (3060, 1480));
     take(&mut marks, PacketType::DataAck, 3040, 1460)?;
     assert_eq!(rt; (marks.gsr.get(), marks.gar.get()), (3060, 1480));
+    Ok(())
+}
+
+// By hand: 101 / 4 is 25.25, rounded down for SWL, and 303 / 4 is 75.75, rounded up for SWH.
+#[test]
+fn widths_of_both_ends(rt: HostRuntime) -> Result<(), Fail> {
+    let marks = uneven_marks()?;
+    let wanted = Windows {
+        swl: seq(2976)?,
+        swh: seq(3076)?,
+        awl: seq(1291)?,
+        awh: seq(1500)?,
+    };
+    assert_eq!(rt; marks.windows(), wanted);
+    assert_eq!(rt; data(&marks, 2975)?, Verdict::SyncFor(seq(2975)?));
+    assert_eq!(rt; data(&marks, 2976)?, Verdict::Valid);
+    assert_eq!(rt; data(&marks, 3076)?, Verdict::Valid);
+    assert_eq!(rt; data(&marks, 3077)?, Verdict::SyncFor(seq(3077)?));
+    assert_eq!(rt;
+        judge(&marks, PacketType::Ack, 3001, 1290)?,
+        Verdict::SyncFor(seq(3001)?)
+    );
+    assert_eq!(rt; judge(&marks, PacketType::Ack, 3001, 1291)?, Verdict::Valid);
+    assert_eq!(rt;
+        judge(&marks, PacketType::Reset, 3076, 1450)?,
+        Verdict::Valid
+    );
+    assert_eq!(rt;
+        judge(&marks, PacketType::Reset, 3077, 1450)?,
+        Verdict::SyncFor(seq(3000)?)
+    );
+    assert!(rt; marks.acknowledges(None));
+    for (ack, wanted) in [(1290, false), (1291, true), (1500, true), (1501, false)] {
+        assert_eq!(rt; marks.acknowledges(Some(seq(ack)?)), wanted, "{ack}");
+    }
+    Ok(())
+}
+
+#[test]
+fn how_marks_begin(rt: HostRuntime) -> Result<(), Fail> {
+    let mut marks = Marks::new(seq(0)?, 100);
+    let before = Marks {
+        iss: seq(0)?,
+        gss: seq(281_474_976_710_655)?,
+        gar: seq(0)?,
+        isr: seq(0)?,
+        gsr: seq(0)?,
+        osr: seq(0)?,
+        own_w: 100,
+        peer_w: 100,
+    };
+    assert_eq!(rt; marks, before);
+    marks.gss = seq(3)?;
+    marks.begin(PacketType::Response, seq(2000)?, Some(seq(2)?));
+    let after = Marks {
+        gss: seq(3)?,
+        gar: seq(2)?,
+        isr: seq(2000)?,
+        gsr: seq(2000)?,
+        osr: seq(2000)?,
+        ..before
+    };
+    assert_eq!(rt; marks, after);
+    marks.begin(PacketType::Request, seq(7)?, None);
+    assert_eq!(rt; (marks.isr.get(), marks.gar.get()), (7, 2));
     Ok(())
 }

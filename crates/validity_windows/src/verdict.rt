@@ -1,7 +1,8 @@
 //! The verdict on a packet's numbers.
 ghost use Rattle.std.specs.Prelude.{◌≡◌, ◌≢◌, is_some};
-ghost use Rattle.validity_windows.specs.Windows.{InRange, windows};
-ghost use Rattle.validity_windows.specs.Verdict.{has_ack, is_ack_within, is_in_window, is_after_greatest, is_not_old, by_window, by_greatest, by_low_end, verdict, gar_after, taken};
+ghost use Rattle.validity_windows.specs.Windows.{InRange, windows, ack_low, ack_high};
+ghost use Rattle.dccp_packets.specs.Kinds.{has_ack};
+ghost use Rattle.validity_windows.specs.Verdict.{is_ack_within, is_in_window, is_after_greatest, is_not_old, by_window, by_greatest, by_low_end, verdict, gar_after, taken};
 
 use crate::{Marks, Windows};
 use dccp_packets::PacketType;
@@ -28,10 +29,21 @@ fn is_ack_within(ack: Option<Seq48>, low: Seq48, high: Seq48) -> bool
     }
 }
 
+// The greatest acknowledgement number received, this packet's included; that of a Sync does not count.
+pub(crate) fn gar_after(gar: Seq48, kind: PacketType, ack: Option<Seq48>) -> Seq48
+    ensures { result ≡ gar_after gar kind ack }
+{
+    match (kind, ack) {
+        (PacketType::Sync, _) | (_, None) => gar,
+        (_, Some(ack)) => gar.max_of(ack),
+    }
+}
+
 impl Marks {
     /// The windows of valid numbers (RFC 4340, section 7.5.1), with W the width `peer_w` and W' the width `own_w`: SWL is
     /// the later of GSR + 1 - floor(W/4) and ISR, SWH is GSR + ceil(3W/4), AWL is the later of GSS + 1 - W' and ISS, and
-    /// AWH is GSS.
+    /// AWH is GSS. Both widths lie in 32 to 2^46 - 1. Before the first packet was sent AWL is ISS and AWH is ISS - 1, so
+    /// that every acknowledgement number is in the window: judge no packet before that (own).
     pub fn windows(&self) -> Windows
         requires { InRange self.now }
         ensures { result ≡ windows self.now }
@@ -78,18 +90,39 @@ impl Marks {
         ensures { result ≡ by_low_end self.now number ack }
     {
         let windows = self.windows();
-        let half = windows.swl.add((1 << 47) - 1);
-        if number.within(windows.swl, half) && is_ack_within(ack, windows.awl, windows.awh) {
+        if number.within(windows.swl, windows.swl.open_end())
+            && is_ack_within(ack, windows.awl, windows.awh)
+        {
             Verdict::Valid
         } else {
             Verdict::Drop
         }
     }
 
-    /// The verdict on a packet of this type with these numbers (RFC 4340, section 7.5.3). Data, acknowledgements and the
-    /// opening types lie in both windows; Close, CloseReq and Reset come after GSR and acknowledge nothing older than
-    /// GAR; Sync and SyncAck may come from beyond the window. What is not valid is answered by a Sync, but Sync and
-    /// SyncAck are dropped.
+    /// Tells whether an acknowledgement number, where there is one, is of a packet that this end sent lately: it lies in AWL to
+    /// AWH (RFC 4340, section 7.5.1). An end in REQUEST asks this of a Response or Reset, since the peer's numbers are not
+    /// known yet. The widths are in range, and at least one packet was sent.
+    pub fn acknowledges(&self, ack: Option<Seq48>) -> bool
+        requires { InRange self.now }
+        ensures { result ≡ is_ack_within (ack_low self.now) (ack_high self.now) ack }
+    {
+        let windows = self.windows();
+        is_ack_within(ack, windows.awl, windows.awh)
+    }
+
+    /// The verdict on a packet of this type with these numbers (RFC 4340, section 7.5.3). The widths are in range, `ack` is
+    /// there exactly for the types that have an acknowledgement number (`PacketType::has_ack`), and at least one packet was
+    /// sent and one received, this one perhaps.
+    ///
+    /// | Types | Valid where | Otherwise |
+    /// |---|---|---|
+    /// | Request, Response, Data, Ack, DataAck | SWL to SWH, acknowledging AWL to AWH | SyncFor the packet's number |
+    /// | CloseReq, Close | after GSR and up to SWH, acknowledging GAR to AWH | SyncFor the packet's number |
+    /// | Reset | the same | SyncFor GSR |
+    /// | Sync, SyncAck | from SWL on, less than half the circle, acknowledging AWL to AWH | Drop |
+    ///
+    /// A packet without an acknowledgement number is judged by its number alone. For sound marks the intervals are those of
+    /// whole numbers, wherever the circle's end lies (`verdicts_are_those_of_whole_numbers`).
     pub fn check(&self, kind: PacketType, number: Seq48, ack: Option<Seq48>) -> Verdict
         requires in_range { InRange self.now }
         requires ack { is_some ack ≡ has_ack kind }
@@ -107,9 +140,9 @@ impl Marks {
         }
     }
 
-    /// Takes the numbers of a valid packet: GSR becomes the later of itself and the number, and GAR the later of itself
-    /// and the acknowledgement number, unless the packet is a Sync (RFC 4340, section 7.5.1). A Reset is never taken
-    /// (own): it moves neither.
+    /// Takes the numbers of a packet that `check` calls Valid: GSR becomes the later of itself and the number, and GAR the
+    /// later of itself and the acknowledgement number, unless the packet is a Sync (RFC 4340, section 7.1). A Reset is never
+    /// taken (own): it moves neither. The conditions of `check` hold here too.
     pub fn take(&mut self, kind: PacketType, number: Seq48, ack: Option<Seq48>)
         requires in_range { InRange self.old }
         requires ack { is_some ack ≡ has_ack kind }
@@ -118,10 +151,6 @@ impl Marks {
         ensures { self.new ≡ taken self.old kind number ack }
     {
         self.gsr = self.gsr.max_of(number);
-        if kind != PacketType::Sync {
-            if let Some(ack) = ack {
-                self.gar = self.gar.max_of(ack);
-            }
-        }
+        self.gar = gar_after(self.gar, kind, ack);
     }
 }
