@@ -5,15 +5,15 @@ use Rattle.std.specs.Prelude.{ℕ, ◌+◌, ◌-◌, ◌*◌, ◌%◌, List, len
 abbrev pub coverage_field : List ℕ → ℕ
 coverage_field bytes = slice_index bytes 5 % 16
 
--- the field Data Offset: byte 4, in words of four bytes (RFC 4340, section 5.1)
-abbrev pub data_offset : List ℕ → ℕ
-data_offset bytes = slice_index bytes 4
+-- the field Data Offset: byte 4, which counts words of four bytes (RFC 4340, section 5.1)
+abbrev pub data_offset_words : List ℕ → ℕ
+data_offset_words bytes = slice_index bytes 4
 
 -- all of the packet for 0, otherwise header and options and the first words of the data
 abbrev pub coverage : List ℕ → ℕ
 coverage bytes =
     if coverage_field bytes == 0 then length bytes
-    else 4 * data_offset bytes + 4 * (coverage_field bytes - 1)
+    else 4 * data_offset_words bytes + 4 * (coverage_field bytes - 1)
 
 -- the same, where the packet is that long
 abbrev pub covered : List ℕ → Option ℕ

@@ -9,6 +9,21 @@ use crate::pseudo_header::add_pseudo_header;
 use crate::words::{add_words, fold};
 use byteorder::{BigEndian, ByteOrder};
 
+// The places of the fields (RFC 4340, section 5.1).
+const DATA_OFFSET: usize = 4;
+
+const COVERAGE: usize = 5;
+
+const CHECKSUM: usize = 6;
+
+const AFTER_CHECKSUM: usize = 8;
+
+// CsCov is a number of four bits.
+const NIBBLE: u8 = 16;
+
+// Data Offset and CsCov count words of 32 bits.
+const WORD: usize = 4;
+
 /// Why a packet's checksum was refused.
 #[derive(Clone, Copy, Debug, PartialEq, Eq)]
 pub enum SumFault {
@@ -20,16 +35,16 @@ pub enum SumFault {
 
 /// How many bytes of the packet its checksum covers, from its start: all of them where the field CsCov is 0, otherwise
 /// header and options and `4 * (CsCov - 1)` bytes of the data. None exactly where that passes the packet's end
-/// (RFC 4340, section 9.2).
+/// (RFC 4340, section 9.2). The packet has at least 8 bytes, so that its first fields are there.
 pub fn covered(bytes: &[u8]) -> Option<usize>
     requires { 8 ≤ length bytes.now }
     ensures { result ≡ covered bytes.now }
 {
-    let coverage = usize::from(bytes[5] % 16);
+    let coverage = usize::from(bytes[COVERAGE] % NIBBLE);
     if coverage == 0 {
         return Some(bytes.len());
     }
-    let covered = 4 * usize::from(bytes[4]) + 4 * (coverage - 1);
+    let covered = WORD * usize::from(bytes[DATA_OFFSET]) + WORD * (coverage - 1);
     if covered <= bytes.len() {
         Some(covered)
     } else {
@@ -44,16 +59,16 @@ fn add_covered(start: u64, bytes: &[u8], covered: usize) -> u64
     requires room { start + 2 ^ 31 * length bytes.now < 2 ^ 64 }
     ensures { IsSameSum result (start + word_sum (take covered (with_checksum 0 bytes.now))) }
 {
-    if covered < 8 {
-        return add_words(start, &bytes[..covered.min(6)]);
+    if covered < AFTER_CHECKSUM {
+        return add_words(start, &bytes[..covered.min(CHECKSUM)]);
     }
-    let before = add_words(start, &bytes[..6]);
-    add_words(before, &bytes[8..covered])
+    let before = add_words(start, &bytes[..CHECKSUM]);
+    add_words(before, &bytes[AFTER_CHECKSUM..covered])
 }
 
 /// The checksum of a packet whose first `covered` bytes it covers: the complement of the ones' complement sum over the
 /// pseudo-header and these bytes, with the checksum's own bytes 6 and 7 taken as zero and an odd last byte followed by
-/// zero (RFC 4340, section 9; RFC 1071, section 1).
+/// zero (RFC 4340, section 9; RFC 1071, section 1). The packet has 8 to 65,535 bytes, and `covered` is at most its length.
 pub fn checksum(pseudo: &Pseudo, bytes: &[u8], covered: usize) -> u16
     requires low { 8 ≤ length bytes.now }
     requires high { length bytes.now ≤ 65535 }
@@ -73,7 +88,7 @@ fn is_same(a: u16, b: u16) -> bool
 
 /// Checks a packet's checksum. Refused are, in this order: a coverage that passes the packet's end, exactly where
 /// `covered` answers None; and a checksum in bytes 6 and 7 that is not that of the packet, where the two spellings of
-/// zero, 0000 and ffff, count as equal (RFC 4340, section 9.1).
+/// zero, 0000 and ffff, count as equal (RFC 4340, section 9.1). The packet has 8 to 65,535 bytes.
 pub fn check(pseudo: &Pseudo, bytes: &[u8]) -> Result<(), SumFault>
     requires low { 8 ≤ length bytes.now }
     requires high { length bytes.now ≤ 65535 }
@@ -85,7 +100,7 @@ pub fn check(pseudo: &Pseudo, bytes: &[u8]) -> Result<(), SumFault>
     let Some(covered) = covered(bytes) else {
         return Err(SumFault::CoverageTooLarge);
     };
-    let stated = BigEndian::read_u16(&bytes[6..]);
+    let stated = BigEndian::read_u16(&bytes[CHECKSUM..]);
     if is_same(stated, checksum(pseudo, bytes, covered)) {
         Ok(())
     } else {
@@ -98,11 +113,11 @@ fn write_checksum(bytes: &mut [u8], sum: u16)
     requires { 8 ≤ length bytes.old }
     ensures { bytes.new ≡ with_checksum sum bytes.old }
 {
-    BigEndian::write_u16(&mut bytes[6..], sum);
+    BigEndian::write_u16(&mut bytes[CHECKSUM..], sum);
 }
 
 /// Writes a packet's checksum into its bytes 6 and 7 and answers true; `check` then accepts the packet. Where `covered`
-/// answers None it changes nothing and answers false.
+/// answers None it changes nothing and answers false. The packet has 8 to 65,535 bytes.
 pub fn seal(pseudo: &Pseudo, bytes: &mut [u8]) -> bool
     requires low { 8 ≤ length bytes.old }
     requires high { length bytes.old ≤ 65535 }

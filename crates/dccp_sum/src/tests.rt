@@ -89,6 +89,45 @@ fn partial_coverage(rt: HostRuntime) -> Result<(), Fail> {
     Ok(())
 }
 
+// The same packet, sealed for each coverage: what lies outside may change, and what lies inside may not.
+#[test]
+fn partly_covered_packets_are_accepted(rt: HostRuntime) {
+    let ack = [
+        0x9c, 0x40, 0x13, 0x89, 0x06, 0x00, 0x00, 0x00, 0x07, 0x00, 0x00, 0x00, 0x00, 0x00, 0x03,
+        0xe9, 0x00, 0x00, 0x00, 0x00, 0x00, 0x00, 0x07, 0xd0, 0xaa, 0xbb, 0xcc, 0xdd, 0xee,
+    ];
+    let last = ack.len() - 1;
+    for (coverage, high, low, last_is_covered) in [
+        (0, 0xbd, 0xa1, true),
+        (1, 0x23, 0x3b, false),
+        (2, 0xab, 0xa0, false),
+    ] {
+        let mut sealed = ack;
+        sealed[5] = coverage;
+        assert!(rt; seal(&TO_SERVER, &mut sealed));
+        assert_eq!(rt;
+            (sealed[6], sealed[7]),
+            (high, low),
+            "with CsCov {coverage}"
+        );
+        assert_eq!(rt; check(&TO_SERVER, &sealed), Ok(()), "with CsCov {coverage}");
+        let mut changed = sealed;
+        changed[last] = 0;
+        assert_eq!(rt;
+            check(&TO_SERVER, &changed).is_ok(),
+            !last_is_covered,
+            "with CsCov {coverage}"
+        );
+        let mut changed = sealed;
+        changed[23] = 0xd1;
+        assert_eq!(rt;
+            check(&TO_SERVER, &changed),
+            Err(SumFault::Wrong),
+            "with CsCov {coverage}"
+        );
+    }
+}
+
 #[test]
 fn coverage_too_large(rt: HostRuntime) {
     let mut request = [

@@ -108,3 +108,7 @@ whole_gar_after gar kind (Some ack) = max gar ack
 
 abbrev pub whole_taken : Marks → PacketType → ℕ → Option ℕ → Marks
 whole_taken w kind n ack = record w { gsr = max w.gsr n; gar = whole_gar_after w.gar kind ack }
+
+-- the first packet received, as a whole number
+abbrev pub whole_begun : Marks → PacketType → ℕ → Option ℕ → Marks
+whole_begun w kind n ack = record w { isr = n; gsr = n; osr = n; gar = whole_gar_after w.gar kind ack }

@@ -6,8 +6,8 @@ ghost use Rattle.validity_windows.specs.declared.marks.Marks.{Marks};
 ghost use Rattle.validity_windows.specs.declared.verdict.Verdict.TheVariants as verdicts;
 ghost use Rattle.validity_windows.specs.Windows.{InRange, sequence_low, sequence_high, ack_low, ack_high};
 ghost use Rattle.validity_windows.specs.Verdict.{verdict, taken};
-ghost use Rattle.validity_windows.specs.Beginning.{IsSound, AreNumbers, new_marks};
-ghost use Rattle.validity_windows.specs.Whole.{residues, IsWhole, unrolled, residue_of, HasValidNumbers, refusal, IsAckOfTurn, whole_taken};
+ghost use Rattle.validity_windows.specs.Beginning.{IsSound, AreNumbers, new_marks, begun};
+ghost use Rattle.validity_windows.specs.Whole.{residues, IsWhole, unrolled, residue_of, HasValidNumbers, refusal, IsAckOfTurn, AckLies, whole_ack_low, whole_taken, whole_begun};
 
 /// Where each end used fewer than 2^47 numbers since its first, the windows are intervals of whole numbers, for every
 /// number of the circle: counted on from the first within one turn, just those between the two ends lie in a window (RFC
@@ -53,12 +53,16 @@ pub fn sound_marks_are_whole_numbers()
 {}
 
 /// What a valid packet raises is the maximum of whole numbers, where its number is one of the first 2^47 of its sender
-/// (`raised`), and the marks are whole ones again (`taken`). So sound marks stay so. They are sound from the first packet
-/// sent on (`sent`).
+/// (`raised`), and the marks are whole ones again (`taken`). The first packet received does the same where it acknowledges
+/// AWL to AWH (`begun`, `first`). So sound marks stay so, and they are sound from the first packet sent on (`sent`).
 pub fn marks_stay_sound()
     ensures raised { (w : Marks) (kind : PacketType) (n : ℕ) (ack : Option ℕ) → IsWhole w → w.isr ≤ n → n < w.isr + 2 ^ 47
         → HasValidNumbers w kind n ack → taken (residues w) kind (residue n) (residue_of ack) ≡ residues (whole_taken w kind n ack) }
     ensures taken { (w : Marks) (kind : PacketType) (n : ℕ) (ack : Option ℕ) → IsWhole w → w.isr ≤ n → n < w.isr + 2 ^ 47
         → HasValidNumbers w kind n ack → IsWhole (whole_taken w kind n ack) }
+    ensures begun { (w : Marks) (kind : PacketType) (n : ℕ) (ack : Option ℕ) → IsWhole w → AckLies (whole_ack_low w) w.gss ack
+        → begun (residues w) kind (residue n) (residue_of ack) ≡ residues (whole_begun w kind n ack) }
+    ensures first { (w : Marks) (kind : PacketType) (n : ℕ) (ack : Option ℕ) → IsWhole w → AckLies (whole_ack_low w) w.gss ack
+        → IsWhole (whole_begun w kind n ack) }
     ensures sent { (iss width : ℕ) → iss < 2 ^ 48 → IsSound (record (new_marks iss width) { gss = iss }) }
 {}

@@ -3,8 +3,8 @@ use Rattle.std.proofs.Common.{arith}
 use Rattle.dccp_sum.proofs.Sums.{same-short, same-long}
 use Rattle.dccp_sum.proofs.packet_sum.add_covered.Goals as goal
 
-pub returns-then-covered-lt8 : goal.returns-then-covered-lt8
-returns-then-covered-lt8 c =
+pub returns-then-covered-lt-AFTER_CHECKSUM : goal.returns-then-covered-lt-AFTER_CHECKSUM
+returns-then-covered-lt-AFTER_CHECKSUM c =
     same-short c.args.bytes.now c.args.covered c.min.result c.args.start c.add_words.result c.requires.whole (omega arith) (omega arith) c.add_words.ensures.value
 
 pub returns : goal.returns
