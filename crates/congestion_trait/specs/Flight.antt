@@ -1,7 +1,8 @@
 -- The flight list of a sender, and what a report makes of it (RFC 4341, section 5; the three standings are own).
-use Rattle.std.specs.Prelude.{ℕ, ◌+◌, Bool, true, false, not, ◌&&◌, ◌||◌, ◌==◌, nat_le, List, [], ◌∷◌, ◌++◌, map, count_by, Contains, Option, Some, None, if◌then◌else◌}
+use Rattle.std.specs.Prelude.{ℕ, ◌+◌, Bool, true, false, not, ◌&&◌, ◌||◌, nat_le, List, [], ◌∷◌, ◌++◌, map, count_by, Contains, Option, Some, None, if◌then◌else◌}
 use Rattle.circular_buffer.specs.Buffer.{keep_last}
 use Rattle.seq_circle.specs.Circle.{is_before}
+pub use Rattle.dccp_options.specs.Vectors.{is_unmarked, is_marked, is_received}
 use Rattle.congestion_trait.specs.declared.flight.Entry.{Entry}
 use Rattle.congestion_trait.specs.declared.flight.Standing.{Standing}
 use Rattle.congestion_trait.specs.declared.flight.Standing.TheVariants.{Out, Reported, Lost}
@@ -31,20 +32,6 @@ reported_count entries = count_by (λ entry. is_reported entry.standing) entries
 -- a number that is sent stands at the end, Out; at most the last 2,048 entries are kept (own)
 abbrev pub sent : List Entry → ℕ → List Entry
 sent entries number = keep_last 2048 (entries ++ record { number = number; standing = Out } ∷ [])
-
--- state 0: received, without a mark (RFC 4340, section 11.4)
-abbrev pub is_unmarked : Option ℕ → Bool
-is_unmarked None = false
-is_unmarked (Some state) = state == 0
-
--- state 1: received, ECN marked
-abbrev pub is_marked : Option ℕ → Bool
-is_marked None = false
-is_marked (Some state) = state == 1
-
--- received, marked or not
-abbrev pub is_received : Option ℕ → Bool
-is_received state = is_unmarked state || is_marked state
 
 -- an entry whose number was received is Reported
 abbrev pub reported : States → Entry → Entry

@@ -1,11 +1,12 @@
 -- What a writer of options writes, the list of options reads.
-use Rattle.std.proofs.Common.{◌≡◌, ℕ, zero, suc, ◌+◌, ◌-◌, ◌≤◌, Bool, true, false, nat_le, List, [], ◌∷◌, ◌++◌, length, take, drop, map, replicate, Some, Ok, refl, ap, sym, ◌∙◌, arith, append_assoc, append-nil, length-append, All}
+use Rattle.std.proofs.Common.{◌≡◌, ℕ, zero, suc, ◌+◌, ◌-◌, ◌≤◌, Bool, true, false, nat_le, List, [], ◌∷◌, ◌++◌, length, take, drop, map, replicate, Some, None, Ok, inl, inr, refl, ap, sym, ◌∙◌, arith, append_assoc, append-nil, length-append, All}
 use Rattle.std.proofs.lemmas.Grind.{common_steps}
 use Rattle.std.proofs.lemmas.List.Elements.{All-tail}
 use Rattle.std.proofs.Math.Seq.{take-append_seam, drop-append_seam}
-use Rattle.dccp_options.specs.Grammar.{RawOption, raw_options, option_body, bytes_after, is_one_byte, entries, entry_then, part_of, options_of}
+use Rattle.dccp_options.specs.Grammar.{Entry, RawOption, raw_options, raw_then, counted_body, option_body, bytes_after, is_one_byte, entries, entry_then, part_of, options_of}
 use Rattle.dccp_options.specs.Grammar.Part.{Listed}
-use Rattle.dccp_options.specs.Written.{Item, IsWritable, mark, spelled, written, entries_at}
+use Rattle.dccp_options.specs.Listing.{IsCut}
+use Rattle.dccp_options.specs.Written.{Item, IsWritable, mark, spelled, written, entries_at, item_at}
 use Rattle.dccp_options.proofs.RawOptions.{raw_options-first}
 
 -- a type from 32 on has a length
@@ -107,3 +108,58 @@ written-more (first ∷ rest) item =
     let bytes = spelled first.mandatory first.kind first.body in
     ap (λ xs. bytes ++ xs) (written-more rest item)
     ∙ sym (append_assoc bytes (written rest) (spelled item.mandatory item.kind item.body))
+
+-- the entries of options are the options, in their order
+pub items-entries_at : (place : ℕ) (items : List Item) → map item_at (entries_at place items) ≡ items
+items-entries_at place [] = refl
+items-entries_at place (item ∷ rest) =
+    ap (λ items. item ∷ items) (items-entries_at (place + length (spelled item.mandatory item.kind item.body)) rest)
+
+pub said-entries_at : (place : ℕ) (items : List Item)
+    → map {B = ℕ × List ℕ} (λ (entry : Entry). (entry.kind, entry.body)) (entries_at place items) ≡ map {B = ℕ × List ℕ} (λ (item : Item). (item.kind, item.body)) items
+said-entries_at place [] = refl
+said-entries_at place (item ∷ rest) =
+    ap (λ said. (item.kind, item.body) ∷ said) (said-entries_at (place + length (spelled item.mandatory item.kind item.body)) rest)
+
+-- an option whose length is wrong is none
+pub option_body-cut : (kind : ℕ) (rest : List ℕ) → 32 ≤ kind → IsCut rest → option_body kind rest ≡ None
+option_body-cut kind [] h cut = let one : is_one_byte kind ≡ false = has_length kind h in rw one refl
+option_body-cut kind (count ∷ rest) h cut =
+    let one : is_one_byte kind ≡ false = has_length kind h in
+    rw one (counted_body-cut count rest cut)
+  where
+    counted_body-cut : (count : ℕ) (rest : List ℕ) → IsCut (count ∷ rest) → counted_body (count ∷ rest) ≡ None
+    counted_body-cut count rest (inl short) = let two : nat_le 2 count ≡ false = grind arith in rw two refl
+    counted_body-cut count rest (inr beyond) =
+        let two : nat_le 2 count ≡ true = grind arith in
+        let fits : nat_le (count - 2) (length rest) ≡ false = grind arith in
+        rw (two, fits) refl
+
+-- the options that were written are listed, whatever stands behind them
+pub entries-before : (place : ℕ) (items : List Item) (more : List ℕ) → All (λ item. IsWritable item) items
+    → entries false (raw_options place 0 (written items ++ more))
+    ≡ map Ok (entries_at place items) ++ entries false (raw_options (place + length (written items)) 0 more)
+entries-before place [] more _ = ap (λ at. entries false (raw_options at 0 more)) (omega arith)
+entries-before place (item ∷ rest) more all =
+    let here = spelled item.mandatory item.kind item.body in
+    let first : IsWritable item = all 0 item (omega arith) in
+    let others = All-tail (λ i. IsWritable i) item rest all in
+    let at : place + length here + length (written rest) ≡ place + length (here ++ written rest) =
+    omega (arith, length-append here (written rest)) in
+    ap (λ b. entries false (raw_options place 0 b)) (append_assoc here (written rest) more)
+    ∙ entries-spelled place item.kind item.mandatory item.body (written rest ++ more) first.has_length
+    ∙ ap (λ xs. Ok (record { place = place + length (mark item.mandatory); mandatory = item.mandatory; kind = item.kind; body = item.body }) ∷ xs)
+    (entries-before (place + length here) rest more others
+    ∙ ap (λ p. map Ok (entries_at (place + length here) rest) ++ entries false (raw_options p 0 more)) at)
+
+-- one whose length is wrong ends the list as the area's end does
+pub options_of-cut : (items : List Item) (kind : ℕ) (rest : List ℕ) → All IsWritable items → 32 ≤ kind → IsCut rest
+    → options_of (written items ++ kind ∷ rest) false ≡ options_of (written items) false
+options_of-cut items kind rest all h cut =
+    let none = option_body-cut kind rest h cut in
+    let place = length (written items) in
+    let ends : raw_options (0 + place) 0 (kind ∷ rest) ≡ [] =
+    ap (λ found. raw_then (0 + place) kind found (λ skip. raw_options (0 + place + 1) skip rest)) none in
+    entries-before 0 items (kind ∷ rest) all
+    ∙ ap (λ raws. map Ok (entries_at 0 items) ++ entries false raws) ends
+    ∙ sym (ap (λ b. options_of b false) (sym (append-nil (written items))) ∙ entries-before 0 items [] all)

@@ -1,5 +1,7 @@
 -- The options of a packet, as its option area lists them (RFC 4340, section 5.8).
-use Rattle.std.specs.Prelude.{ℕ, zero, suc, ◌+◌, ◌-◌, Bool, true, false, not, ◌&&◌, ◌||◌, ◌==◌, nat_lt, nat_le, List, [], ◌∷◌, length, take, filter, Option, Some, None, Result, Ok, Err, if◌then◌else◌}
+use Rattle.std.specs.Prelude.{ℕ, zero, suc, ◌+◌, ◌-◌, Bool, true, false, not, ◌&&◌, ◌==◌, nat_le, List, [], ◌∷◌, length, take, filter, Option, Some, None, Result, Ok, Err, if◌then◌else◌}
+use Rattle.dccp_options.specs.Kinds.{padding, mandatory}
+pub use Rattle.dccp_options.specs.Kinds.{is_one_byte, is_ignored_on_data}
 use Rattle.dccp_options.specs.declared.option.OptFault.{OptFault}
 use Rattle.dccp_options.specs.declared.option.OptFault.TheVariants.{MandatoryAtEnd, MandatoryTwice}
 
@@ -15,10 +17,6 @@ pub record RawOption : Type 0 where
   pub place : ℕ
   pub kind : ℕ
   pub body : List ℕ
-
--- types 0 to 31 are one byte; all others are type, length and data (RFC 4340, section 5.8)
-abbrev pub is_one_byte : ℕ → Bool
-is_one_byte kind = nat_lt kind 32
 
 -- what follows the type byte: the length, which counts the type and itself too, and the data; none where the length is
 -- below 2 or beyond the area (RFC 4340, section 5.8)
@@ -48,17 +46,6 @@ raw_options place (suc skip) (_ ∷ rest) = raw_options (place + 1) skip rest
 raw_options place zero (kind ∷ rest) =
     raw_then place kind (option_body kind rest) (λ skip. raw_options (place + 1) skip rest)
 
--- the types that Data packets ignore: Mandatory, Change and Confirm, Init Cookie, Ack Vector, Data Dropped and Elapsed
--- Time (RFC 4340, section 5.8, table 3)
-abbrev pub is_ignored_on_data : ℕ → Bool
-is_ignored_on_data kind =
-    kind == 1
-    || kind == 32 || kind == 33 || kind == 34 || kind == 35
-    || kind == 36
-    || kind == 38 || kind == 39
-    || kind == 40
-    || kind == 43
-
 -- the options that count on the packet: all, or on Data those that Data packets do not ignore
 abbrev pub counted_options : Bool → List RawOption → List RawOption
 counted_options false raws = raws
@@ -71,7 +58,7 @@ pub data Part : Type 0 where
   Listed : Part
 
 abbrev pub part_of : ℕ → Part
-part_of kind = if kind == 0 then Padding else if kind == 1 then Mandatory else Listed
+part_of kind = if kind == padding then Padding else if kind == mandatory then Mandatory else Listed
 
 -- an option, with its mark, and what stands behind it. Padding is left out, and takes a mark before it away; Mandatory
 -- marks the next option, and twice in a row is a fault, which ends the list (RFC 4340, sections 5.8.1 and 5.8.2)

@@ -1,4 +1,5 @@
 pub mod Grammar
+pub mod Kinds
 pub mod Left
 pub mod Listing
 pub mod Vectors

@@ -1,10 +1,11 @@
 -- What the Ack Vectors of a packet report (RFC 4340, section 11.4).
-use Rattle.std.specs.Prelude.{ℕ, ◌+◌, ◌-◌, ◌/◌, ◌%◌, ◌^◌, Bool, ◌||◌, ◌==◌, nat_lt, List, [], ◌∷◌, ◌++◌, replicate, Option, Some, None, Result, Ok, Err, slice_get, if◌then◌else◌}
+use Rattle.std.specs.Prelude.{ℕ, ◌+◌, ◌-◌, ◌/◌, ◌%◌, ◌^◌, Bool, false, ◌||◌, ◌==◌, nat_lt, List, [], ◌∷◌, ◌++◌, replicate, Option, Some, None, Result, Ok, Err, slice_get, if◌then◌else◌}
 use Rattle.std.specs.List.{concat}
 use Rattle.seq_circle.specs.Circle.{residue, distance}
 use Rattle.dccp_options.specs.declared.option.OptFault.{OptFault}
 use Rattle.dccp_options.specs.declared.report.Run.{Run}
 use Rattle.dccp_options.specs.Grammar.{Entry}
+use Rattle.dccp_options.specs.Kinds.{ack_vector_0, ack_vector_1}
 
 -- an acknowledgement number and the bytes of the vectors that go down from it
 pub record Report : Type 0 where
@@ -13,7 +14,7 @@ pub record Report : Type 0 where
 
 -- the types of Ack Vectors, with nonce 0 and 1 (RFC 4340, section 11.4)
 abbrev pub is_ack_vector : ℕ → Bool
-is_ack_vector kind = kind == 38 || kind == 39
+is_ack_vector kind = kind == ack_vector_0 || kind == ack_vector_1
 
 -- the vector that an item of the list is, if it is one
 abbrev pub vector_of : Result Entry OptFault → List (List ℕ)
@@ -58,6 +59,20 @@ state_at ack bytes n = slice_get (states bytes) (distance n ack)
 -- the state that a packet with this acknowledgement number and these options reports of a number
 abbrev pub reported : ℕ → List (Result Entry OptFault) → ℕ → Option ℕ
 reported ack items n = state_at ack (vector_bytes items) n
+
+-- state 0: received, without a mark (RFC 4340, section 11.4)
+abbrev pub is_unmarked : Option ℕ → Bool
+is_unmarked None = false
+is_unmarked (Some state) = state == 0
+
+-- state 1: received, ECN marked
+abbrev pub is_marked : Option ℕ → Bool
+is_marked None = false
+is_marked (Some state) = state == 1
+
+-- received, marked or not
+abbrev pub is_received : Option ℕ → Bool
+is_received state = is_unmarked state || is_marked state
 
 -- the runs of the bytes, one a byte, each with its highest number, from this number downwards
 abbrev pub runs_of : ℕ → List ℕ → List Run

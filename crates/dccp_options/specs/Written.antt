@@ -1,6 +1,7 @@
 -- What a writer of options writes (RFC 4340, section 5.8).
-use Rattle.std.specs.Prelude.{ℕ, ◌+◌, ◌≤◌, ◌<◌, Bool, true, false, List, [], ◌∷◌, ◌++◌, length}
+use Rattle.std.specs.Prelude.{ℕ, ◌+◌, ◌≤◌, ◌<◌, Bool, true, false, if◌then◌else◌, List, [], ◌∷◌, ◌++◌, length}
 use Rattle.dccp_options.specs.Grammar.{Entry}
+use Rattle.dccp_options.specs.Vectors.{is_ack_vector}
 
 -- an option to be written
 pub record Item : Type 0 where
@@ -39,3 +40,12 @@ entries_at place (item ∷ rest) =
       body = item.body;
     }
     ∷ entries_at (place + length (spelled item.mandatory item.kind item.body)) rest
+
+-- the option that an entry is, wherever it stands
+abbrev pub item_at : Entry → Item
+item_at entry = record { mandatory = entry.mandatory; kind = entry.kind; body = entry.body }
+
+-- the data of the Ack Vectors among options to be written, in their order
+abbrev pub item_vectors : List Item → List (List ℕ)
+item_vectors [] = []
+item_vectors (item ∷ rest) = (if is_ack_vector item.kind then item.body ∷ [] else []) ++ item_vectors rest

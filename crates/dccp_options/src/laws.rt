@@ -1,12 +1,12 @@
 //! What ties the list of options to what was written, and the runs of a report to its states.
-ghost use Rattle.std.specs.Prelude.{◌≡◌, ℕ, ◌+◌, ◌^◌, ◌<◌, ◌≤◌, List, [], ◌∷◌, ◌++◌, length, replicate, map, Bool, false, Some, Result, Ok, IsTrue, IsFalse};
+ghost use Rattle.std.specs.Prelude.{◌≡◌, ℕ, ◌+◌, ◌^◌, ◌<◌, ◌≤◌, List, [], ◌∷◌, ◌++◌, length, replicate, map, Bool, false, Some, None, Result, Ok, IsTrue, IsFalse};
 ghost use Rattle.std.specs.List.{All, Contains};
 ghost use Rattle.dccp_options.specs.declared.report.Run.{Run};
 ghost use Rattle.dccp_options.specs.declared.option.OptFault.{OptFault};
 ghost use Rattle.dccp_options.specs.Grammar.{Entry, options_of};
-ghost use Rattle.dccp_options.specs.Listing.{IsListed};
-ghost use Rattle.dccp_options.specs.Vectors.{is_ack_vector, states, reported, state_at, runs_of, is_in_run, state_in};
-ghost use Rattle.dccp_options.specs.Written.{Item, IsWritable, spelled, written, entries_at};
+ghost use Rattle.dccp_options.specs.Listing.{IsListed, IsCut};
+ghost use Rattle.dccp_options.specs.Vectors.{is_ack_vector, states, reported, state_at, report_of, joined_report, runs_of, is_in_run, state_in};
+ghost use Rattle.dccp_options.specs.Written.{Item, IsWritable, spelled, written, entries_at, item_at, item_vectors};
 
 /// The list of an area is the one that goes by the first byte of what is left: Padding, Mandatory, another option of one
 /// byte, an option with a length, or one whose length is wrong; and an area has no other list (RFC 4340, section 5.8).
@@ -23,6 +23,36 @@ pub fn written_options_are_listed()
         → options_of (written items ++ replicate zeros 0) false ≡ map Ok (entries_at 0 items) }
     ensures one_more { (items : List Item) (item : Item)
         → written (items ++ item ∷ []) ≡ written items ++ spelled item.mandatory item.kind item.body }
+{}
+
+/// The entries of options that were written are those options, in their order: each with its mark, its type and its data.
+pub fn entries_keep_what_was_written()
+    ensures items { (place : ℕ) (items : List Item) → map item_at (entries_at place items) ≡ items }
+    ensures said { (place : ℕ) (items : List Item)
+        → map {B = ℕ × List ℕ} (λ (entry : Entry). (entry.kind, entry.body)) (entries_at place items)
+        ≡ map {B = ℕ × List ℕ} (λ (item : Item). (item.kind, item.body)) items }
+{}
+
+/// An option whose length is below 2 or beyond the area ends the list just as the area's end does: what stands before it
+/// is listed, and nothing tells of it (RFC 4340, section 5.8).
+pub fn a_cut_option_ends_the_list()
+    ensures { (items : List Item) (kind : ℕ) (rest : List ℕ) → All IsWritable items → 32 ≤ kind → IsCut rest
+        → options_of (written items ++ kind ∷ rest) false ≡ options_of (written items) false }
+{}
+
+/// What a packet reports whose options were written, with any zeros behind them: the Ack Vectors among them, one behind
+/// the other; one vector and options of other types give just that vector, and without one there is no report (RFC 4340,
+/// section 11.4).
+pub fn a_report_is_what_was_written()
+    ensures every { (ack zeros : ℕ) (items : List Item) → All IsWritable items
+        → report_of ack (options_of (written items ++ replicate zeros 0) false) ≡ joined_report ack (item_vectors items) }
+    ensures one { (ack zeros : ℕ) (vector : Item) (others : List Item) → All IsWritable (vector ∷ others)
+        → IsTrue (is_ack_vector vector.kind) → All (λ item. IsFalse (is_ack_vector item.kind)) others
+        → report_of ack (options_of (written (vector ∷ others) ++ replicate zeros 0) false)
+        ≡ Some (record { ack = ack; bytes = vector.body }) }
+    ensures none { (ack zeros : ℕ) (items : List Item) → All IsWritable items
+        → All (λ item. IsFalse (is_ack_vector item.kind)) items
+        → report_of ack (options_of (written items ++ replicate zeros 0) false) ≡ None }
 {}
 
 /// Where one Ack Vector was written first, and options of other types behind it, a packet with these options reports of

@@ -6,7 +6,7 @@
 
 mod cursor;
 mod joined;
-mod kinds;
+pub mod kinds;
 mod laws;
 mod list;
 mod option;
@@ -16,7 +16,8 @@ mod tests;
 mod writer;
 
 pub use crate::laws::{
-    a_written_vector_is_reported, an_area_has_one_list, runs_give_the_states,
+    a_cut_option_ends_the_list, a_report_is_what_was_written, a_written_vector_is_reported,
+    an_area_has_one_list, entries_keep_what_was_written, runs_give_the_states,
     vectors_continue_each_other, written_options_are_listed,
 };
 pub use crate::list::{OptList, options};

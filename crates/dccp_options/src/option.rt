@@ -1,4 +1,8 @@
 //! An option of a packet, and what can be wrong with a list of them.
+ghost use Rattle.std.specs.Prelude.{◌≡◌, length};
+ghost use Rattle.dccp_options.specs.Kinds as spec;
+
+use crate::kinds::is_understood;
 
 /// An option of a packet's option area (RFC 4340, section 5.8).
 #[derive(Clone, Copy, Debug, PartialEq, Eq)]
@@ -11,6 +15,16 @@ pub struct Opt<'a> {
     pub kind: u8,
     /// The option's data, without its type and length.
     pub body: &'a [u8],
+}
+
+impl<'a> Opt<'a> {
+    /// Tells whether the standard's table has the option's type with its length (RFC 4340, section 5.8, table 3). Init
+    /// Cookie, and types from 128 on, which are a CCID's own, are not understood (own).
+    pub fn is_understood(&self) -> bool
+        ensures { result ≡ spec.is_understood self.now.kind (length self.now.body.now) }
+    {
+        is_understood(self.kind, self.body.len())
+    }
 }
 
 /// What makes a list of options wrong; both are about Mandatory (RFC 4340, section 5.8.2).

@@ -1,5 +1,6 @@
 ghost use Rattle.std.specs.Prelude.{◌≤◌, length};
 
+use crate::kinds::{ACK_VECTOR_0, CHANGE_L};
 use crate::{AckReport, Opt, OptFault, OptFull, OptWriter, options};
 use seq_circle::Seq48;
 use std::test::Fail;
@@ -154,6 +155,54 @@ fn every_kind_at_every_length(rt: HostRuntime) -> Result<(), Fail> {
     Ok(())
 }
 
+// The types of RFC 4340, section 5.8, table 3, that are understood, each with its shortest and longest length, the type
+// and the length counted, and whether only even lengths are.
+const LENGTHS: [(u8, u8, usize, usize, bool); 10] = [
+    (0, 2, 1, 1, false),
+    (32, 33, 3, 255, false),
+    (34, 35, 3, 255, false),
+    (37, 37, 3, 8, false),
+    (38, 39, 2, 255, false),
+    (40, 40, 2, 255, false),
+    (41, 41, 6, 6, false),
+    (42, 42, 6, 10, true),
+    (43, 43, 4, 6, true),
+    (44, 44, 6, 6, false),
+];
+
+// Whether an option of this type and length is understood.
+fn is_in_table(kind: u8, length: usize) -> bool {
+    for (first, last, shortest, longest, even) in LENGTHS {
+        if first <= kind && kind <= last {
+            return shortest <= length && length <= longest && (!even || length % 2 == 0);
+        }
+    }
+    false
+}
+
+#[test]
+fn understood_types_and_lengths(rt: HostRuntime) -> Result<(), Fail> {
+    let data = [0; 253];
+    for kind in 0..=255u8 {
+        let most = if kind < 32 { 0 } else { 253 };
+        for size in 0..=most {
+            let option = Opt {
+                place: 0,
+                mandatory: true,
+                kind,
+                body: data.get(..size).ok_or("at most 253 bytes")?,
+            };
+            let length = if kind < 32 { 1 } else { size + 2 };
+            assert_eq!(rt;
+                option.is_understood(),
+                is_in_table(kind, length),
+                "type {kind} of length {length}"
+            );
+        }
+    }
+    Ok(())
+}
+
 #[test]
 fn options_beyond_the_area(rt: HostRuntime) -> Result<(), Fail> {
     assert_eq!(rt;
@@ -187,8 +236,10 @@ fn options_beyond_the_area(rt: HostRuntime) -> Result<(), Fail> {
 #[test]
 fn written_and_read(rt: HostRuntime) -> Result<(), Fail> {
     let mut writer = OptWriter::new();
-    writer.put(false, 38, &[0x05]).map_err(|_| "room")?;
-    writer.put(true, 32, &[6, 1]).map_err(|_| "room")?;
+    writer
+        .put(false, ACK_VECTOR_0, &[0x05])
+        .map_err(|_| "room")?;
+    writer.put(true, CHANGE_L, &[6, 1]).map_err(|_| "room")?;
     assert_eq!(rt; writer.bytes(), [38, 3, 0x05, 1, 32, 4, 6, 1].as_slice());
     let mut list = options(writer.bytes(), false);
     assert_eq!(rt;

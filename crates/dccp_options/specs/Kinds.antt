@@ -1,0 +1,95 @@
+-- The types of options, by name, and what the table of the standard says of each (RFC 4340, section 5.8, table 3).
+use Rattle.std.specs.Prelude.{ℕ, ◌+◌, Bool, not, ◌&&◌, ◌||◌, ◌==◌, nat_lt, nat_le, if◌then◌else◌}
+
+abbrev pub padding : ℕ
+padding = 0
+
+abbrev pub mandatory : ℕ
+mandatory = 1
+
+abbrev pub slow_receiver : ℕ
+slow_receiver = 2
+
+abbrev pub change_l : ℕ
+change_l = 32
+
+abbrev pub confirm_l : ℕ
+confirm_l = 33
+
+abbrev pub change_r : ℕ
+change_r = 34
+
+abbrev pub confirm_r : ℕ
+confirm_r = 35
+
+abbrev pub init_cookie : ℕ
+init_cookie = 36
+
+abbrev pub ndp_count : ℕ
+ndp_count = 37
+
+abbrev pub ack_vector_0 : ℕ
+ack_vector_0 = 38
+
+abbrev pub ack_vector_1 : ℕ
+ack_vector_1 = 39
+
+abbrev pub data_dropped : ℕ
+data_dropped = 40
+
+abbrev pub timestamp : ℕ
+timestamp = 41
+
+abbrev pub timestamp_echo : ℕ
+timestamp_echo = 42
+
+abbrev pub elapsed_time : ℕ
+elapsed_time = 43
+
+abbrev pub data_checksum : ℕ
+data_checksum = 44
+
+-- types 128 to 255 belong to the congestion control of a direction
+abbrev pub is_ccid_specific : ℕ → Bool
+is_ccid_specific kind = nat_le 128 kind
+
+-- types 0 to 31 are one byte; all others are type, length and data
+abbrev pub is_one_byte : ℕ → Bool
+is_one_byte kind = nat_lt kind 32
+
+-- an option's length by its type and the bytes of its data: the type and the length count too
+abbrev pub length_of : ℕ → ℕ → ℕ
+length_of kind size = if is_one_byte kind then 1 else size + 2
+
+-- the type stands in the table, with this length
+abbrev pub is_permitted : ℕ → ℕ → Bool
+is_permitted kind count =
+    (kind == padding && count == 1)
+    || (kind == mandatory && count == 1)
+    || (kind == slow_receiver && count == 1)
+    || ((kind == change_l || kind == confirm_l) && nat_le 3 count)
+    || ((kind == change_r || kind == confirm_r) && nat_le 3 count)
+    || (kind == init_cookie && nat_le 2 count)
+    || (kind == ndp_count && (nat_le 3 count && nat_le count 8))
+    || ((kind == ack_vector_0 || kind == ack_vector_1) && nat_le 2 count)
+    || (kind == data_dropped && nat_le 2 count)
+    || (kind == timestamp && count == 6)
+    || (kind == timestamp_echo && (count == 6 || count == 8 || count == 10))
+    || (kind == elapsed_time && (count == 4 || count == 6))
+    || (kind == data_checksum && count == 6)
+    || (is_ccid_specific kind && nat_le 2 count)
+
+-- an option is understood where the table has it with its length; Init Cookie and what is a CCID's own are not (own)
+abbrev pub is_understood : ℕ → ℕ → Bool
+is_understood kind size =
+    is_permitted kind (length_of kind size) && (not (kind == init_cookie) && not (is_ccid_specific kind))
+
+-- the types that Data packets ignore: Mandatory, Change and Confirm, Init Cookie, Ack Vector, Data Dropped and Elapsed Time
+abbrev pub is_ignored_on_data : ℕ → Bool
+is_ignored_on_data kind =
+    kind == mandatory
+    || kind == change_l || kind == confirm_l || kind == change_r || kind == confirm_r
+    || kind == init_cookie
+    || kind == ack_vector_0 || kind == ack_vector_1
+    || kind == data_dropped
+    || kind == elapsed_time
