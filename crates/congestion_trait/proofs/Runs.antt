@@ -1,8 +1,8 @@
 -- The runs of a report and its list of states say the same.
-use Rattle.std.proofs.Common.{◌≡◌, ℕ, zero, suc, ◌+◌, ◌-◌, ◌^◌, List, [], ◌∷◌, ◌++◌, Some, cond, ltb, replicate, slice_get, refl, sym, ◌∙◌, ap, arith}
+use Rattle.std.proofs.Common.{◌≡◌, ℕ, zero, suc, ◌+◌, ◌-◌, List, [], ◌∷◌, ◌++◌, Some, cond, ltb, replicate, slice_get, refl, sym, ◌∙◌, ap, arith}
 use Rattle.std.proofs.Math.Nat.{sub-zero}
 use Rattle.std.proofs.lemmas.Bool.Decides.{nat_tests}
-use Rattle.seq_circle.specs.Circle.{residue}
+use Rattle.seq_circle.specs.Circle.{down}
 use Rattle.dccp_options.specs.declared.report.Run.{Run}
 use Rattle.dccp_options.specs.Vectors.{states, runs_of, state_of, run_length}
 use Rattle.congestion_trait.specs.Walk.{run_state, IsAt}
@@ -17,7 +17,7 @@ slice_get-replicate (suc n) x ys (suc place) = let before = slice_get-replicate 
 pub run_state-runs_of : (bytes : List ℕ) (hi place : ℕ) → run_state (runs_of hi bytes) place ≡ slice_get (states bytes) place
 run_state-runs_of [] hi place = refl
 run_state-runs_of (byte ∷ rest) hi place =
-    let next = residue (hi + (2 ^ 48 - run_length byte)) in
+    let next = down hi (run_length byte) in
     ap (λ other. cond (ltb place (run_length byte)) (Some (state_of byte)) other) (run_state-runs_of rest next (place - run_length byte))
     ∙ sym (slice_get-replicate (run_length byte) (state_of byte) (states rest) place)
 

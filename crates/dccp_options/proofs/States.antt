@@ -4,7 +4,7 @@ use Rattle.std.specs.List.{Contains}
 use Prim.Native.Nat.compare
 use Rattle.std.proofs.lemmas.List.{length-replicate}
 use Rattle.std.proofs.lemmas.Grind.{common_steps}
-use Rattle.seq_circle.specs.Circle.{residue, distance}
+use Rattle.seq_circle.specs.Circle.{distance, down}
 use Rattle.dccp_options.specs.declared.report.Run.{Run}
 use Rattle.dccp_options.specs.Vectors.{state_of, run_length, states, state_at, runs_of, is_in_run, state_in}
 
@@ -41,7 +41,7 @@ slice_get-run (suc count) state (suc i) rest =
 
 -- how far a number lies below the next run
 pub distance-below : (n hi count : ℕ) → n < 2 ^ 48 → hi < 2 ^ 48 → count ≤ 64 → count ≤ distance n hi
-    → distance n (residue (hi + (2 ^ 48 - count))) ≡ distance n hi - count
+    → distance n (down hi count) ≡ distance n hi - count
 distance-below n hi count fits_n fits_hi small far = omega arith
 
 -- two choices are one where they are so past the test
@@ -55,7 +55,7 @@ pub state_at-runs : (ack : ℕ) (bytes : List ℕ) (n : ℕ) → ack < 2 ^ 48 �
 state_at-runs ack [] n fits_ack fits_n = refl
 state_at-runs ack (byte ∷ rest) n fits_ack fits_n =
     let count = run_length byte in
-    let below = residue (ack + (2 ^ 48 - count)) in
+    let below = down ack count in
     slice_get-run count (state_of byte) (distance n ack) (states rest)
     ∙ if_same (nat_lt (distance n ack) count) (Some (state_of byte)) (slice_get (states rest) (distance n ack - count))
     (state_in (runs_of below rest) n)
@@ -76,8 +76,8 @@ length-states-le (byte ∷ rest) = omega (arith, length-states byte rest, length
 
 -- how far a number lies below a run, where the runs behind it do not go round the circle
 pub distance-above : (n hi count : ℕ) → n < 2 ^ 48 → hi < 2 ^ 48 → count ≤ 64
-    → distance n (residue (hi + (2 ^ 48 - count))) + count < 2 ^ 48
-    → distance n hi ≡ distance n (residue (hi + (2 ^ 48 - count))) + count
+    → distance n (down hi count) + count < 2 ^ 48
+    → distance n hi ≡ distance n (down hi count) + count
 distance-above n hi count fits_n fits_hi small near = omega arith
 
 -- a number of a run, whichever it is, lies within the bytes, which give it the run's state
@@ -94,7 +94,7 @@ run-gives zero ack n (byte ∷ rest) other fits_ack fits_n few inside here =
     (rw here at at, omega (arith, length-states byte rest))
 run-gives (suc k) ack n (byte ∷ rest) other fits_ack fits_n few inside here =
     let count = run_length byte in
-    let below = residue (ack + (2 ^ 48 - count)) in
+    let below = down ack count in
     let whole = length-states byte rest in
     let later = run-gives k below n rest other (omega arith) fits_n (omega arith) (omega arith) here in
     let up : distance n ack ≡ distance n below + count =

@@ -1,7 +1,7 @@
 -- What the Ack Vectors of a packet report (RFC 4340, section 11.4).
-use Rattle.std.specs.Prelude.{ℕ, ◌+◌, ◌-◌, ◌/◌, ◌%◌, ◌^◌, Bool, false, ◌||◌, ◌==◌, nat_lt, List, [], ◌∷◌, ◌++◌, replicate, Option, Some, None, Result, Ok, Err, slice_get, if◌then◌else◌}
+use Rattle.std.specs.Prelude.{ℕ, ◌+◌, ◌/◌, ◌%◌, Bool, false, ◌||◌, ◌==◌, nat_lt, List, [], ◌∷◌, ◌++◌, replicate, Option, Some, None, Result, Ok, Err, slice_get, if◌then◌else◌}
 use Rattle.std.specs.List.{concat}
-use Rattle.seq_circle.specs.Circle.{residue, distance}
+use Rattle.seq_circle.specs.Circle.{distance, down}
 use Rattle.dccp_options.specs.declared.option.OptFault.{OptFault}
 use Rattle.dccp_options.specs.declared.report.Run.{Run}
 use Rattle.dccp_options.specs.Grammar.{Entry}
@@ -79,7 +79,7 @@ abbrev pub runs_of : ℕ → List ℕ → List Run
 runs_of hi [] = []
 runs_of hi (byte ∷ rest) =
     record { hi = hi; count = run_length byte; state = state_of byte }
-    ∷ runs_of (residue (hi + (2 ^ 48 - run_length byte))) rest
+    ∷ runs_of (down hi (run_length byte)) rest
 
 -- the number is one of the run's
 abbrev pub is_in_run : Run → ℕ → Bool

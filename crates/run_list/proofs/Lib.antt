@@ -5,3 +5,5 @@ pub mod At
 pub mod Kept
 pub mod Found
 pub mod Sets
+pub mod Floors
+pub mod StretchFacts

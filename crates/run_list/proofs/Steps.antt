@@ -1,10 +1,11 @@
 -- One step down the circle, as it looks from the floor.
 use Rattle.std.proofs.Common.{◌≡◌, ℕ, ◌+◌, ◌-◌, ◌^◌, ◌<◌, ◌≤◌, arith}
+use Rattle.seq_circle.specs.Circle as circle
 use Rattle.seq_circle.specs.Circle.{residue, distance}
 
 -- the number right below
 abbrev pub down : ℕ → ℕ
-down n = residue (n + (2 ^ 48 - 1))
+down n = circle.down n 1
 
 pub down_fits : (n : ℕ) → down n < 2 ^ 48
 down_fits n = omega arith

@@ -1,7 +1,8 @@
 -- A set of sequence numbers with a floor (own): its numbers are distinct and none lies below the floor.
-use Rattle.std.specs.Prelude.{ℕ, ◌+◌, ◌-◌, ◌^◌, ◌<◌, ◌==◌, nat_lt, Bool, List, [], ◌∷◌, filter, if◌then◌else◌}
+use Rattle.std.specs.Prelude.{ℕ, ◌^◌, ◌<◌, ◌==◌, nat_lt, Bool, List, [], ◌∷◌, filter, if◌then◌else◌}
 use Rattle.std.specs.List.{list_any}
-use Rattle.seq_circle.specs.Circle.{residue, distance, is_before}
+use Rattle.seq_circle.specs.Circle.{distance, down, is_before}
+pub use Rattle.seq_circle.specs.Circle.{IsFrom, is_from}
 use Rattle.run_list.specs.declared.answers.Marked.{Marked}
 use Rattle.run_list.specs.declared.answers.Marked.TheVariants.{New, Again, BelowFloor}
 
@@ -9,14 +10,6 @@ use Rattle.run_list.specs.declared.answers.Marked.TheVariants.{New, Again, Below
 pub record MarkedSet : Type 0 where
   pub floor : ℕ
   pub numbers : List ℕ
-
--- the number is the low one, or lies ahead of it by less than half the circle (RFC 4340, section 3.1)
-abbrev pub IsFrom : ℕ → ℕ → Type 0
-IsFrom low n = distance low n < 2 ^ 47
-
--- the same, as a test
-abbrev pub is_from : ℕ → ℕ → Bool
-is_from low n = nat_lt (distance low n) (2 ^ 47)
 
 -- the list has the number
 abbrev pub has : List ℕ → ℕ → Bool
@@ -43,7 +36,7 @@ raised set to =
 
 -- the lowest floor under which a number is kept: 2,047 below it (own)
 abbrev pub floor_under : ℕ → ℕ
-floor_under n = residue (n + (2 ^ 48 - 2047))
+floor_under n = down n 2047
 
 -- the numbers with one more, each at its place
 abbrev pub with_number : ℕ → ℕ → List ℕ → List ℕ

@@ -1,13 +1,13 @@
 -- Runs as they are kept: from the newest down, with a gap between any two.
 use Rattle.std.specs.Prelude.{◌≡◌, ℕ, ◌+◌, ◌-◌, ◌^◌, ◌<◌, ◌≤◌, List, [], ◌∷◌, ◌++◌, zero, suc, false}
-use Rattle.seq_circle.specs.Circle.{residue, distance}
+use Rattle.seq_circle.specs.Circle.{distance, down}
 use Rattle.run_list.specs.declared.walking.Stretch.{Stretch}
 use Rattle.run_list.specs.MarkedSet.{has, with_number}
 
 -- so many numbers, from one down
 abbrev pub downwards : ℕ → ℕ → List ℕ
 downwards zero hi = []
-downwards (suc count) hi = hi ∷ downwards count (residue (hi + (2 ^ 48 - 1)))
+downwards (suc count) hi = hi ∷ downwards count (down hi 1)
 
 -- the numbers of the runs, in their order
 abbrev pub numbers_of : List Stretch → List ℕ

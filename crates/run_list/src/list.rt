@@ -11,9 +11,6 @@ use seq_circle::{NoMemory, Seq48};
 use std::alloc::Global;
 use std::marker::Model;
 
-// Half the circle: a number that far ahead of the floor, or farther, lies below it.
-const HALF: u64 = 1 << 47;
-
 // How far below a marked number its floor may lie.
 const REACH: u64 = 2_047;
 
@@ -73,10 +70,10 @@ impl RunList {
         ensures again { (result ≡ Marked.Again) ↔ (IsFrom self.old.floor n × IsTrue (has self.old.numbers n)) }
         ensures unchanged { result ≢ Marked.New → self.new ≡ self.old }
     {
-        let place = self.floor.distance(n);
-        if place >= HALF {
+        if !n.is_from(self.floor) {
             return Marked::BelowFloor;
         }
+        let place = self.floor.distance(n);
         if place > REACH {
             self.raise(n.sub(REACH));
         }

@@ -1,4 +1,5 @@
 use Rattle.std.proofs.Common.{◌≡◌, ℕ, ◌<◌, ◌≤◌, ◌^◌, false, ◌∙◌, sym, ap, arith, rules}
+use Rattle.std.proofs.lemmas.Bool.{ltb-true}
 use Rattle.seq_circle.specs.Circle.{distance}
 use Rattle.run_list.specs.MarkedSet.{MarkedSet, IsSound, has, raised, floor_under}
 use Rattle.run_list.proofs.Laid.{falling_numbers}
@@ -14,6 +15,8 @@ returns-clause-set c =
     } in
     let fits : c.args.n < 2 ^ 48 = search rules in
     let floor : c.self.inside.floor ≡ c.args.self.now.floor = ap (λ (s : MarkedSet). s.floor) c.self.view_is in
+    let ahead : distance c.args.self.now.floor c.args.n < 2 ^ 47 =
+    rw floor at (ltb-true (distance c.self.inside.floor c.args.n) (2 ^ 47) (sym c.if-not-is_from.ensures.value)) in
     let place : c.distance-place.result ≡ distance c.args.self.now.floor c.args.n = c.distance-place.ensures.value ∙ ap (λ (f : ℕ). distance f c.args.n) floor in
     elim c.if-place-gt-REACH.branch [
       | then-place-gt-REACH w ↦
@@ -21,7 +24,7 @@ returns-clause-set c =
           let set_is : c.if-place-gt-REACH.self ≡ raised c.args.self.now (floor_under c.args.n) = w.self-is ∙ w.raise.ensures ∙ ap (λ (t : ℕ). raised c.args.self.now t) w.sub.ensures in
           let absent : has (raised c.args.self.now (floor_under c.args.n)).numbers c.args.n ≡ false =
           raised_absent c.args.self.now (floor_under c.args.n) c.args.n (far_absent c.args.self.now c.args.n sound (omega arith)) in
-          c.join.ensures.set ∙ rw (set_is, absent) (sym (marked-far c.args.self.now c.args.n sound fits (omega arith) (omega arith)))
+          c.join.ensures.set ∙ rw (set_is, absent) (sym (marked-far c.args.self.now c.args.n sound fits (omega arith) ahead))
       | else-place-gt-REACH w ↦
           let near : c.distance-place.result ≤ 2047 = w.if-place-gt-REACH.false in
           c.join.ensures.set ∙ rw w.self-is (sym (marked-near c.args.self.now c.args.n sound.floor_fits fits (omega arith)))
@@ -34,6 +37,8 @@ returns-clause-answer c =
       falling = falling_numbers c.self.inside.floor 2048 c.self.inside.runs.items c.self.invariant.0 c.self.invariant.1;
     } in
     let floor : c.self.inside.floor ≡ c.args.self.now.floor = ap (λ (s : MarkedSet). s.floor) c.self.view_is in
+    let ahead : distance c.args.self.now.floor c.args.n < 2 ^ 47 =
+    rw floor at (ltb-true (distance c.self.inside.floor c.args.n) (2 ^ 47) (sym c.if-not-is_from.ensures.value)) in
     let place : c.distance-place.result ≡ distance c.args.self.now.floor c.args.n = c.distance-place.ensures.value ∙ ap (λ (f : ℕ). distance f c.args.n) floor in
     elim c.if-place-gt-REACH.branch [
       | then-place-gt-REACH w ↦
@@ -41,7 +46,7 @@ returns-clause-answer c =
           let set_is : c.if-place-gt-REACH.self ≡ raised c.args.self.now (floor_under c.args.n) = w.self-is ∙ w.raise.ensures ∙ ap (λ (t : ℕ). raised c.args.self.now t) w.sub.ensures in
           let absent : has (raised c.args.self.now (floor_under c.args.n)).numbers c.args.n ≡ false =
           raised_absent c.args.self.now (floor_under c.args.n) c.args.n (far_absent c.args.self.now c.args.n sound (omega arith)) in
-          c.join.ensures.answer ∙ rw (set_is, absent) (sym (answer_to-far c.args.self.now c.args.n sound (omega arith) (omega arith)))
+          c.join.ensures.answer ∙ rw (set_is, absent) (sym (answer_to-far c.args.self.now c.args.n sound (omega arith) ahead))
       | else-place-gt-REACH w ↦
           let near : c.distance-place.result ≤ 2047 = w.if-place-gt-REACH.false in
           c.join.ensures.answer ∙ rw w.self-is (sym (answer_to-near c.args.self.now c.args.n (omega arith)))
