@@ -1,3 +1,4 @@
 pub mod Allowed
 pub mod FirstShared
 pub mod Given
+mod Numbered

@@ -1,6 +1,11 @@
 //! The features and where they stand.
 ghost use Rattle.std.specs.Prelude.{◌≡◌, ℕ, ◌+◌, ◌<◌, ◌≤◌, IsSome, IfSome, ◌↔◌};
-ghost use Rattle.feature_lists.specs.Features.{number_of, feature_numbered, initial_of};
+ghost use Rattle.feature_lists.specs.Features.{described, number_of, feature_numbered, initial_of, is_permitted, usual_values};
+
+// What Sequence Window may be: Wmin and Wmax of RFC 4340, section 7.5.2, 2^46 - 1 being the second.
+const NARROWEST_WINDOW: u64 = 32;
+
+const WIDEST_WINDOW: u64 = 70_368_744_177_663;
 
 /// A feature of DCCP, numbered 1 to 9 in this order (RFC 4340, section 6.4).
 #[derive(Clone, Copy, Debug, PartialEq, Eq)]
@@ -35,6 +40,19 @@ pub enum Place {
 }
 
 impl Feature {
+    /// The nine features, in the order of their numbers.
+    pub const ALL: [Feature; 9] = [
+        Feature::Ccid,
+        Feature::ShortSeqnos,
+        Feature::SequenceWindow,
+        Feature::EcnIncapable,
+        Feature::AckRatio,
+        Feature::SendAckVector,
+        Feature::SendNdpCount,
+        Feature::MinCsCov,
+        Feature::CheckDataChecksum,
+    ];
+
     /// The feature numbered `n`, or None exactly where `n` is not 1 to 9.
     pub fn of(n: u8) -> Option<Feature>
         ensures value { result ≡ feature_numbered n }
@@ -70,6 +88,74 @@ impl Feature {
             Feature::SendNdpCount => 7,
             Feature::MinCsCov => 8,
             Feature::CheckDataChecksum => 9,
+        }
+    }
+
+    /// Whether the feature is server-priority, so that its value is the reconciliation of two lists (RFC 4340, section 6.3.1).
+    /// Any other is non-negotiable: its value is what its location tells (section 6.3.2).
+    pub fn is_server_priority(self) -> bool
+        ensures { result ≡ (described self).is_server_priority }
+    {
+        !matches!(self, Feature::SequenceWindow | Feature::AckRatio)
+    }
+
+    /// The length of one value in bytes: 6 for Sequence Window, 2 for Ack Ratio, and 1 for each other (RFC 4340, section 6.4).
+    pub fn width(self) -> usize
+        ensures { result ≡ (described self).width }
+    {
+        match self {
+            Feature::SequenceWindow => 6,
+            Feature::AckRatio => 2,
+            _ => 1,
+        }
+    }
+
+    /// Whether every end has to understand the feature (RFC 4340, section 6.4).
+    pub fn is_required(self) -> bool
+        ensures { result ≡ (described self).is_required }
+    {
+        matches!(
+            self,
+            Feature::Ccid | Feature::ShortSeqnos | Feature::SequenceWindow
+        )
+    }
+
+    /// Whether the value is permitted for the feature at this place (own): our ends wish for no other. What is told of a
+    /// non-negotiable feature at the peer has the range of Here.
+    pub fn is_permitted(self, place: Place, value: u64) -> bool
+        ensures { result ≡ is_permitted self place value }
+    {
+        match (self, place) {
+            (Feature::Ccid, _) => value == 2 || value == 248,
+            (Feature::ShortSeqnos, _) => value == 0,
+            (Feature::SequenceWindow, _) => { NARROWEST_WINDOW <= value && value <= WIDEST_WINDOW }
+            (Feature::EcnIncapable, Place::Here) => value == 1,
+            (Feature::EcnIncapable, Place::There) => value <= 1,
+            (Feature::AckRatio, _) => value <= 65_535,
+            (Feature::SendAckVector, _) => value <= 1,
+            (Feature::SendNdpCount, _) => value == 0,
+            (Feature::MinCsCov, _) => value <= 15,
+            (Feature::CheckDataChecksum, _) => value == 0,
+        }
+    }
+
+    /// The values that an end wishes for the feature at this place where it was told no others (own), best first. For a
+    /// non-negotiable feature at There they are those of Here, and no wish.
+    pub fn usual_values(self, place: Place) -> &'static [u64]
+        ensures { result.now ≡ usual_values self place }
+    {
+        match (self, place) {
+            (Feature::Ccid, _) => &[2, 248],
+            (Feature::ShortSeqnos, _) => &[0],
+            (Feature::SequenceWindow, _) => &[100],
+            (Feature::EcnIncapable, Place::Here) => &[1],
+            (Feature::EcnIncapable, Place::There) => &[1, 0],
+            (Feature::AckRatio, _) => &[2],
+            (Feature::SendAckVector, Place::Here) => &[1, 0],
+            (Feature::SendAckVector, Place::There) => &[1],
+            (Feature::SendNdpCount, _) => &[0],
+            (Feature::MinCsCov, _) => &[0],
+            (Feature::CheckDataChecksum, _) => &[0],
         }
     }
 }

@@ -1,5 +1,7 @@
 //! What reconciliation and wishes mean, apart from how they are found.
-ghost use Rattle.std.specs.Prelude.{◌≡◌, ℕ, List, ◌↔◌, Some, None, Ok, true};
+ghost use Rattle.std.specs.Prelude.{◌≡◌, ℕ, ◌-◌, List, length, slice_get, ◌↔◌, Some, None, Ok, true};
+ghost use Rattle.feature_lists.specs.Features.{number_of, feature_numbered};
+ghost use Rattle.feature_lists.specs.declared.features.TheConstants.Feature.{ALL};
 ghost use Rattle.feature_lists.specs.Lists.{reconciled, IsFirstShared, SharesNothing};
 ghost use Rattle.feature_lists.specs.Wishes.{is_allowed, IsAllowed, is_wish, wish_of};
 ghost use Rattle.feature_lists.specs.declared.features.Feature.{Feature};
@@ -23,4 +25,13 @@ pub fn allowed_lists()
 pub fn wishes_are_given()
     ensures { (feature : Feature) (place : Place) (wanted : Wanted) → (is_wish feature place wanted ≡ true)
         ↔ ((values : List ℕ) × (wish_of feature place values ≡ Ok wanted)) }
+{}
+
+/// A number names at most one feature, and each feature is found by its number. `Feature::ALL` has the nine in the order of
+/// their numbers.
+pub fn numbers_name_features()
+    ensures found { (feature : Feature) → feature_numbered (number_of feature) ≡ Some feature }
+    ensures number { (number : ℕ) (feature : Feature) → feature_numbered number ≡ Some feature → number_of feature ≡ number }
+    ensures size { length ALL ≡ 9 }
+    ensures order { (feature : Feature) → slice_get ALL (number_of feature - 1) ≡ Some feature }
 {}

@@ -13,7 +13,9 @@ mod tests;
 mod wishes;
 
 pub use crate::features::{Feature, Place, initial};
-pub use crate::laws::{allowed_lists, reconciliation_is_the_first_shared, wishes_are_given};
+pub use crate::laws::{
+    allowed_lists, numbers_name_features, reconciliation_is_the_first_shared, wishes_are_given,
+};
 pub use crate::prefs::Prefs;
 pub use crate::reconciliation::reconcile;
 pub use crate::wishes::{PreferFault, Wanted, usual, wish};

@@ -1,22 +1,10 @@
 use crate::{Feature, Place, PreferFault, Wanted, initial, reconcile, usual, wish};
 use std::test::Fail;
 
-const FEATURES: [Feature; 9] = [
-    Feature::Ccid,
-    Feature::ShortSeqnos,
-    Feature::SequenceWindow,
-    Feature::EcnIncapable,
-    Feature::AckRatio,
-    Feature::SendAckVector,
-    Feature::SendNdpCount,
-    Feature::MinCsCov,
-    Feature::CheckDataChecksum,
-];
-
 #[test]
 fn features_in_order(rt: HostRuntime) -> Result<(), Fail> {
     let initials = [2, 0, 100, 0, 2, 0, 0, 0, 0];
-    for (number, (feature, value)) in (1..10).zip(FEATURES.iter().zip(initials.iter())) {
+    for (number, (feature, value)) in (1..10).zip(Feature::ALL.iter().zip(initials.iter())) {
         assert_eq!(rt; feature.number(), number);
         assert_eq!(rt; Feature::of(number), Some(*feature));
         assert_eq!(rt; initial(*feature), *value, "of {feature:?}");
@@ -24,6 +12,31 @@ fn features_in_order(rt: HostRuntime) -> Result<(), Fail> {
     assert_eq!(rt; Feature::of(0), None);
     assert_eq!(rt; Feature::of(10), None);
     Ok(())
+}
+
+#[test]
+fn the_table_of_features(rt: HostRuntime) {
+    // Whether it is server-priority, a value's bytes, and whether it is required (RFC 4340, section 6.4).
+    let cases = [
+        (Feature::Ccid, true, 1, true),
+        (Feature::ShortSeqnos, true, 1, true),
+        (Feature::SequenceWindow, false, 6, true),
+        (Feature::EcnIncapable, true, 1, false),
+        (Feature::AckRatio, false, 2, false),
+        (Feature::SendAckVector, true, 1, false),
+        (Feature::SendNdpCount, true, 1, false),
+        (Feature::MinCsCov, true, 1, false),
+        (Feature::CheckDataChecksum, true, 1, false),
+    ];
+    for (feature, server_priority, width, required) in cases {
+        assert_eq!(rt;
+            feature.is_server_priority(),
+            server_priority,
+            "of {feature:?}"
+        );
+        assert_eq!(rt; feature.width(), width, "of {feature:?}");
+        assert_eq!(rt; feature.is_required(), required, "of {feature:?}");
+    }
 }
 
 #[test]
@@ -55,6 +68,14 @@ fn permitted_edges(rt: HostRuntime) -> Result<(), Fail> {
         (Feature::CheckDataChecksum, Place::There, 0, 1),
     ];
     for (feature, place, good, bad) in cases {
+        assert!(rt;
+            feature.is_permitted(place, good),
+            "{good} of {feature:?} {place:?}"
+        );
+        assert!(rt;
+            !feature.is_permitted(place, bad),
+            "{bad} of {feature:?} {place:?}"
+        );
         assert!(rt;
             wish(feature, place, &[good]).is_ok(),
             "{good} of {feature:?} {place:?}"
@@ -147,6 +168,11 @@ fn usual_lists(rt: HostRuntime) -> Result<(), Fail> {
         let same = wish(feature, place, values) == Ok(usual);
         assert!(rt; same, "of {feature:?} {place:?}");
     }
+    // What is usual of a non-negotiable feature at the peer is no wish.
+    assert_eq!(rt;
+        Feature::SequenceWindow.usual_values(Place::There),
+        [100].as_slice()
+    );
     assert_eq!(rt; usual(Feature::SequenceWindow, Place::There), None);
     assert_eq!(rt; usual(Feature::AckRatio, Place::There), None);
     let Wanted::List(list) = usual(Feature::Ccid, Place::Here).ok_or("a usual wish")? else {

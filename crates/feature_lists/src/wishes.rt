@@ -30,31 +30,6 @@ pub enum PreferFault {
     NotOurs = 3,
 }
 
-// Tells whether the value of the feature is a list's reconciliation, and not its location's to tell.
-fn is_server_priority(feature: Feature) -> bool
-    ensures { result ≡ (described feature).is_server_priority }
-{
-    !matches!(feature, Feature::SequenceWindow | Feature::AckRatio)
-}
-
-// Tells whether an end's list for the feature at this place may have the value.
-fn is_permitted(feature: Feature, place: Place, value: u64) -> bool
-    ensures { result ≡ is_permitted feature place value }
-{
-    match (feature, place) {
-        (Feature::Ccid, _) => value == 2 || value == 248,
-        (Feature::ShortSeqnos, _) => value == 0,
-        (Feature::SequenceWindow, _) => 32 <= value && value <= 70_368_744_177_663,
-        (Feature::EcnIncapable, Place::Here) => value == 1,
-        (Feature::EcnIncapable, Place::There) => value <= 1,
-        (Feature::AckRatio, _) => value <= 65_535,
-        (Feature::SendAckVector, _) => value <= 1,
-        (Feature::SendNdpCount, _) => value == 0,
-        (Feature::MinCsCov, _) => value <= 15,
-        (Feature::CheckDataChecksum, _) => value == 0,
-    }
-}
-
 fn is_distinct(values: &[u64]) -> bool
     ensures { result ≡ is_distinct values.now }
 {
@@ -71,7 +46,7 @@ fn is_distinct(values: &[u64]) -> bool
 fn is_counted(feature: Feature, count: usize) -> bool
     ensures { result ≡ is_counted feature count }
 {
-    1 <= count && count <= MOST_ENTRIES && (is_server_priority(feature) || count == 1)
+    1 <= count && count <= MOST_ENTRIES && (feature.is_server_priority() || count == 1)
 }
 
 fn are_permitted(feature: Feature, place: Place, values: &[u64]) -> bool
@@ -79,7 +54,7 @@ fn are_permitted(feature: Feature, place: Place, values: &[u64]) -> bool
 {
     values
         .iter()
-        .all(|value| is_permitted(feature, place, *value))
+        .all(|value| feature.is_permitted(place, *value))
 }
 
 fn is_allowed(feature: Feature, place: Place, values: &[u64]) -> bool
@@ -93,7 +68,7 @@ fn is_allowed(feature: Feature, place: Place, values: &[u64]) -> bool
 fn is_ours(feature: Feature, place: Place) -> bool
     ensures { result ≡ is_ours feature place }
 {
-    place == Place::Here || is_server_priority(feature)
+    place == Place::Here || feature.is_server_priority()
 }
 
 /// The wish for these values of the feature at this place, best first (own).
@@ -113,28 +88,10 @@ pub fn wish(feature: Feature, place: Place, values: &[u64]) -> Result<Wanted, Pr
         Err(PreferFault::BadList)
     } else if !is_ours(feature, place) {
         Err(PreferFault::NotOurs)
-    } else if is_server_priority(feature) {
+    } else if feature.is_server_priority() {
         Ok(Wanted::List(Prefs::of(values)))
     } else {
         Ok(Wanted::Number(values[0]))
-    }
-}
-
-fn usual_values(feature: Feature, place: Place) -> &'static [u64]
-    ensures { result.now ≡ usual_values feature place }
-{
-    match (feature, place) {
-        (Feature::Ccid, _) => &[2, 248],
-        (Feature::ShortSeqnos, _) => &[0],
-        (Feature::SequenceWindow, _) => &[100],
-        (Feature::EcnIncapable, Place::Here) => &[1],
-        (Feature::EcnIncapable, Place::There) => &[1, 0],
-        (Feature::AckRatio, _) => &[2],
-        (Feature::SendAckVector, Place::Here) => &[1, 0],
-        (Feature::SendAckVector, Place::There) => &[1],
-        (Feature::SendNdpCount, _) => &[0],
-        (Feature::MinCsCov, _) => &[0],
-        (Feature::CheckDataChecksum, _) => &[0],
     }
 }
 
@@ -144,5 +101,5 @@ pub fn usual(feature: Feature, place: Place) -> Option<Wanted>
     ensures made { IsSome result ↔ (is_ours feature place ≡ true) }
     ensures wish { IfSome result (λ wanted. is_wish feature place wanted ≡ true) }
 {
-    wish(feature, place, usual_values(feature, place)).ok()
+    wish(feature, place, feature.usual_values(place)).ok()
 }

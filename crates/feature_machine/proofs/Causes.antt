@@ -4,14 +4,12 @@ use Rattle.seq_circle.specs.Circle.{IsBefore, is_before}
 use Rattle.feature_lists.specs.Features.{described}
 use Rattle.feature_machine.specs.declared.stands.Stand.{Stand}
 use Rattle.feature_machine.specs.declared.stands.Stand.TheVariants as stand
-use Rattle.feature_machine.specs.declared.offers.Offer.TheVariants as offer
 use Rattle.feature_machine.specs.declared.row.Row.{Row}
 use Rattle.feature_machine.specs.declared.judging.Proposal.{Proposal}
 use Rattle.feature_machine.specs.declared.judging.Proposal.TheVariants as p
 use Rattle.feature_machine.specs.declared.judging.Confirmation.{Confirmation}
 use Rattle.feature_machine.specs.declared.judging.Confirmation.TheVariants as c
-use Rattle.feature_machine.specs.Rows.{Heard, Proposed, Confirmed, Preferred, Offered, Sending, Confirm, Ignored, Settled, Fatal, Opens, says, settled, row_line, row_step, answers_opening, confirmation, timely_confirmation}
-use Rattle.feature_machine.proofs.Soundness.{if_both}
+use Rattle.feature_machine.specs.Rows.{Proposed, Confirmed, Confirm, Ignored, Fatal, says, settled, row_line, row_step, answers_opening, confirmation, timely_confirmation}
 
 abbrev ChangeFails : Stand → Proposal → Type 0
 ChangeFails s k = (k ≡ p.Invalid) ⊎ ((s ≢ stand.Unstable) × (k ≡ p.Unshared))
@@ -61,84 +59,6 @@ confirm_causes row stand.Changing c.Held = (λ e. cc, λ h. absurd (neither row 
 confirm_causes row stand.Changing (c.Alone value) = (λ e. cc, λ h. absurd (neither row (c.Alone value) (λ w. cc) (λ w. cc) h.1))
 confirm_causes row stand.Changing (c.Told value) = (λ e. cc, λ h. absurd (neither row (c.Told value) (λ w. cc) (λ w. cc) h.1))
 confirm_causes row stand.Changing c.Wrong = (λ e. (refl, inl refl), λ h. refl)
-
-pub line_opens : (row : Row) (s : Stand) (h : Heard) → (row_line row s h).answer ≡ Opens → (row_line row s h).row.opened ≡ None
-line_opens row s (Proposed p.Invalid false) e = cc
-line_opens row s (Proposed p.Invalid true) e = cc
-line_opens row stand.Unstable (Proposed (p.Shared value) m) e = cc
-line_opens row stand.Unstable (Proposed p.Unshared m) e = cc
-line_opens row stand.Unstable (Proposed (p.Told value) m) e = cc
-line_opens row stand.Stable (Proposed (p.Shared value) m) e = cc
-line_opens row stand.Stable (Proposed p.Unshared false) e = cc
-line_opens row stand.Stable (Proposed p.Unshared true) e = cc
-line_opens row stand.Stable (Proposed (p.Told value) m) e = cc
-line_opens row stand.Changing (Proposed (p.Shared value) m) e = cc
-line_opens row stand.Changing (Proposed p.Unshared false) e = cc
-line_opens row stand.Changing (Proposed p.Unshared true) e = cc
-line_opens row stand.Changing (Proposed (p.Told value) m) e = cc
-line_opens row stand.Stable (Confirmed k) e = cc
-line_opens row stand.Unstable (Confirmed k) e = cc
-line_opens row stand.Changing (Confirmed c.Late) e = cc
-line_opens row stand.Changing (Confirmed c.Empty) e = if_both (λ step. step.answer ≡ Opens → step.row.opened ≡ None) (described row.feature).is_required (says row (Fatal 5)) (settled row row.value) (λ r w. cc) (λ r w. cc) e
-line_opens row stand.Changing (Confirmed (c.Shared value)) e = cc
-line_opens row stand.Changing (Confirmed c.Held) e = cc
-line_opens row stand.Changing (Confirmed (c.Alone value)) e = cc
-line_opens row stand.Changing (Confirmed (c.Told value)) e = cc
-line_opens row stand.Changing (Confirmed c.Wrong) e = cc
-line_opens row stand.Stable (Preferred wish) e = refl
-line_opens row stand.Changing (Preferred wish) e = cc
-line_opens row stand.Unstable (Preferred wish) e = cc
-line_opens row stand.Changing (Sending number None) e = cc
-line_opens row stand.Changing (Sending number (Some opened)) e = cc
-line_opens row stand.Unstable (Sending number o) e = cc
-line_opens row stand.Stable (Sending number o) e = cc
-line_opens row stand.Stable (Offered false offer.Plain) e = refl
-line_opens row stand.Stable (Offered false offer.Mandatory) e = refl
-line_opens row stand.Stable (Offered false offer.Nothing) e = cc
-line_opens row stand.Stable (Offered true offer.Plain) e = cc
-line_opens row stand.Stable (Offered true offer.Mandatory) e = cc
-line_opens row stand.Stable (Offered true offer.Nothing) e = cc
-line_opens row stand.Changing (Offered confirmed o) e = cc
-line_opens row stand.Unstable (Offered confirmed o) e = cc
-
-pub line_settles : (row : Row) (s : Stand) (h : Heard) → (row_line row s h).answer ≡ Settled → (row_line row s h).row.opened ≡ row.opened
-line_settles row s (Proposed p.Invalid false) e = refl
-line_settles row s (Proposed p.Invalid true) e = refl
-line_settles row stand.Unstable (Proposed (p.Shared value) m) e = refl
-line_settles row stand.Unstable (Proposed p.Unshared m) e = refl
-line_settles row stand.Unstable (Proposed (p.Told value) m) e = refl
-line_settles row stand.Stable (Proposed (p.Shared value) m) e = refl
-line_settles row stand.Stable (Proposed p.Unshared false) e = refl
-line_settles row stand.Stable (Proposed p.Unshared true) e = refl
-line_settles row stand.Stable (Proposed (p.Told value) m) e = refl
-line_settles row stand.Changing (Proposed (p.Shared value) m) e = refl
-line_settles row stand.Changing (Proposed p.Unshared false) e = refl
-line_settles row stand.Changing (Proposed p.Unshared true) e = refl
-line_settles row stand.Changing (Proposed (p.Told value) m) e = refl
-line_settles row stand.Stable (Confirmed k) e = refl
-line_settles row stand.Unstable (Confirmed k) e = refl
-line_settles row stand.Changing (Confirmed c.Late) e = refl
-line_settles row stand.Changing (Confirmed c.Empty) e = if_both (λ step. step.answer ≡ Settled → step.row.opened ≡ row.opened) (described row.feature).is_required (says row (Fatal 5)) (settled row row.value) (λ r w. refl) (λ r w. refl) e
-line_settles row stand.Changing (Confirmed (c.Shared value)) e = refl
-line_settles row stand.Changing (Confirmed c.Held) e = refl
-line_settles row stand.Changing (Confirmed (c.Alone value)) e = refl
-line_settles row stand.Changing (Confirmed (c.Told value)) e = refl
-line_settles row stand.Changing (Confirmed c.Wrong) e = refl
-line_settles row stand.Stable (Preferred wish) e = cc
-line_settles row stand.Changing (Preferred wish) e = refl
-line_settles row stand.Unstable (Preferred wish) e = refl
-line_settles row stand.Changing (Sending number None) e = cc
-line_settles row stand.Changing (Sending number (Some opened)) e = cc
-line_settles row stand.Unstable (Sending number o) e = cc
-line_settles row stand.Stable (Sending number o) e = cc
-line_settles row stand.Stable (Offered false offer.Plain) e = cc
-line_settles row stand.Stable (Offered false offer.Mandatory) e = cc
-line_settles row stand.Stable (Offered false offer.Nothing) e = refl
-line_settles row stand.Stable (Offered true offer.Plain) e = refl
-line_settles row stand.Stable (Offered true offer.Mandatory) e = refl
-line_settles row stand.Stable (Offered true offer.Nothing) e = refl
-line_settles row stand.Changing (Offered confirmed o) e = refl
-line_settles row stand.Unstable (Offered confirmed o) e = refl
 
 pub no_number : (opened : Option ℕ) → answers_opening opened None ≡ false
 no_number None = refl

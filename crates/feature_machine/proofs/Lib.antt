@@ -1,6 +1,9 @@
 pub mod Asking
 pub mod Causes
+pub mod DueRows
 pub mod Listing
+pub mod Openings
 pub mod Places
 pub mod Soundness
 pub mod Steps
+pub mod Turning

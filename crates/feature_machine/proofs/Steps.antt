@@ -1,16 +1,14 @@
 -- What no step changes: which row it is; and nothing at all where the row refuses.
-use Rattle.std.proofs.Common.{◌≡◌, ◌≢◌, ℕ, true, false, List, Option, Some, None, refl, ◌∙◌, ap}
+use Rattle.std.proofs.Common.{◌≡◌, ◌≢◌, ℕ, List, Option, refl, ◌∙◌, ap, arith}
 use Rattle.std.proofs.lemmas.List.{set-get_or}
 use Rattle.feature_lists.specs.Features.{described}
 use Rattle.feature_lists.specs.declared.features.Feature.{Feature}
 use Rattle.feature_lists.specs.declared.features.Place.{Place}
 use Rattle.feature_machine.specs.declared.stands.Stand.{Stand}
 use Rattle.feature_machine.specs.declared.stands.Stand.TheVariants as stand
-use Rattle.feature_machine.specs.declared.offers.Offer.TheVariants as offer
 use Rattle.feature_machine.specs.declared.row.Row.{Row}
-use Rattle.feature_machine.specs.declared.judging.Proposal.TheVariants as p
 use Rattle.feature_machine.specs.declared.judging.Confirmation.TheVariants as c
-use Rattle.feature_machine.specs.Rows.{Heard, Proposed, Confirmed, Preferred, Offered, Sending, RowEvent, Confirm, confirmation, Fatal, says, settled, row_line, row_step, heard}
+use Rattle.feature_machine.specs.Rows.{Heard, Confirmed, RowEvent, Confirm, confirmation, Fatal, says, settled, row_line, row_step, heard}
 use Rattle.feature_machine.specs.declared.judging.Confirmation.{Confirmation}
 use Rattle.feature_machine.specs.declared.answers.Settling.TheVariants as settling
 use Rattle.feature_machine.specs.Answers.{settling_of}
@@ -21,44 +19,7 @@ use Rattle.feature_machine.proofs.Places.{put_negotiation}
 use Rattle.feature_machine.proofs.Soundness.{if_both, step_sound}
 
 line_same : (row : Row) (s : Stand) (h : Heard) → IsSameRow row (row_line row s h).row
-line_same row s (Proposed p.Invalid false) = record { role = refl; feature = refl; place = refl }
-line_same row s (Proposed p.Invalid true) = record { role = refl; feature = refl; place = refl }
-line_same row stand.Unstable (Proposed (p.Shared value) m) = record { role = refl; feature = refl; place = refl }
-line_same row stand.Unstable (Proposed p.Unshared m) = record { role = refl; feature = refl; place = refl }
-line_same row stand.Unstable (Proposed (p.Told value) m) = record { role = refl; feature = refl; place = refl }
-line_same row stand.Stable (Proposed (p.Shared value) m) = record { role = refl; feature = refl; place = refl }
-line_same row stand.Stable (Proposed p.Unshared false) = record { role = refl; feature = refl; place = refl }
-line_same row stand.Stable (Proposed p.Unshared true) = record { role = refl; feature = refl; place = refl }
-line_same row stand.Stable (Proposed (p.Told value) m) = record { role = refl; feature = refl; place = refl }
-line_same row stand.Changing (Proposed (p.Shared value) m) = record { role = refl; feature = refl; place = refl }
-line_same row stand.Changing (Proposed p.Unshared false) = record { role = refl; feature = refl; place = refl }
-line_same row stand.Changing (Proposed p.Unshared true) = record { role = refl; feature = refl; place = refl }
-line_same row stand.Changing (Proposed (p.Told value) m) = record { role = refl; feature = refl; place = refl }
-line_same row stand.Stable (Confirmed k) = record { role = refl; feature = refl; place = refl }
-line_same row stand.Unstable (Confirmed k) = record { role = refl; feature = refl; place = refl }
-line_same row stand.Changing (Confirmed c.Late) = record { role = refl; feature = refl; place = refl }
-line_same row stand.Changing (Confirmed c.Empty) =
-    if_both (λ step. IsSameRow row step.row) (described row.feature).is_required (says row (Fatal 5)) (settled row row.value) (λ required. record { role = refl; feature = refl; place = refl }) (λ other. record { role = refl; feature = refl; place = refl })
-line_same row stand.Changing (Confirmed (c.Shared value)) = record { role = refl; feature = refl; place = refl }
-line_same row stand.Changing (Confirmed c.Held) = record { role = refl; feature = refl; place = refl }
-line_same row stand.Changing (Confirmed (c.Alone value)) = record { role = refl; feature = refl; place = refl }
-line_same row stand.Changing (Confirmed (c.Told value)) = record { role = refl; feature = refl; place = refl }
-line_same row stand.Changing (Confirmed c.Wrong) = record { role = refl; feature = refl; place = refl }
-line_same row stand.Stable (Preferred wish) = record { role = refl; feature = refl; place = refl }
-line_same row stand.Changing (Preferred wish) = record { role = refl; feature = refl; place = refl }
-line_same row stand.Unstable (Preferred wish) = record { role = refl; feature = refl; place = refl }
-line_same row stand.Changing (Sending number None) = record { role = refl; feature = refl; place = refl }
-line_same row stand.Changing (Sending number (Some opened)) = record { role = refl; feature = refl; place = refl }
-line_same row stand.Unstable (Sending number o) = record { role = refl; feature = refl; place = refl }
-line_same row stand.Stable (Sending number o) = record { role = refl; feature = refl; place = refl }
-line_same row stand.Stable (Offered false offer.Plain) = record { role = refl; feature = refl; place = refl }
-line_same row stand.Stable (Offered false offer.Mandatory) = record { role = refl; feature = refl; place = refl }
-line_same row stand.Stable (Offered false offer.Nothing) = record { role = refl; feature = refl; place = refl }
-line_same row stand.Stable (Offered true offer.Plain) = record { role = refl; feature = refl; place = refl }
-line_same row stand.Stable (Offered true offer.Mandatory) = record { role = refl; feature = refl; place = refl }
-line_same row stand.Stable (Offered true offer.Nothing) = record { role = refl; feature = refl; place = refl }
-line_same row stand.Changing (Offered confirmed o) = record { role = refl; feature = refl; place = refl }
-line_same row stand.Unstable (Offered confirmed o) = record { role = refl; feature = refl; place = refl }
+line_same row s h = record { role = grind arith; feature = grind arith; place = grind arith }
 
 pub step_same : (row : Row) (event : RowEvent) → IsSameRow row (row_step row event).row
 step_same row event = line_same row row.stand (heard row event)
@@ -68,45 +29,9 @@ step_its feature place row event its lawful =
     let same : IsSameRow row (row_step row event).row = step_same row event in
     record { feature_is = same.feature ∙ its.feature_is; place_is = same.place ∙ its.place_is; sound = step_sound row event its.sound lawful }
 
+-- what a Change or a Confirm is refused leaves the row; nothing else is refused
 line_stays : (row : Row) (s : Stand) (h : Heard) → IsRefusal (row_line row s h).answer → (row_line row s h).row ≡ row
-line_stays row s (Proposed p.Invalid false) refused = absurd refused
-line_stays row s (Proposed p.Invalid true) refused = refl
-line_stays row stand.Unstable (Proposed (p.Shared value) m) refused = refl
-line_stays row stand.Unstable (Proposed p.Unshared m) refused = refl
-line_stays row stand.Unstable (Proposed (p.Told value) m) refused = refl
-line_stays row stand.Stable (Proposed (p.Shared value) m) refused = absurd refused
-line_stays row stand.Stable (Proposed p.Unshared false) refused = absurd refused
-line_stays row stand.Stable (Proposed p.Unshared true) refused = refl
-line_stays row stand.Stable (Proposed (p.Told value) m) refused = absurd refused
-line_stays row stand.Changing (Proposed (p.Shared value) m) refused = absurd refused
-line_stays row stand.Changing (Proposed p.Unshared false) refused = absurd refused
-line_stays row stand.Changing (Proposed p.Unshared true) refused = refl
-line_stays row stand.Changing (Proposed (p.Told value) m) refused = absurd refused
-line_stays row stand.Stable (Confirmed k) refused = refl
-line_stays row stand.Unstable (Confirmed k) refused = refl
-line_stays row stand.Changing (Confirmed c.Late) refused = refl
-line_stays row stand.Changing (Confirmed c.Empty) refused =
-    if_both (λ step. IsRefusal step.answer → step.row ≡ row) (described row.feature).is_required (says row (Fatal 5)) (settled row row.value) (λ required refused. refl) (λ other refused. absurd refused) refused
-line_stays row stand.Changing (Confirmed (c.Shared value)) refused = absurd refused
-line_stays row stand.Changing (Confirmed c.Held) refused = absurd refused
-line_stays row stand.Changing (Confirmed (c.Alone value)) refused = absurd refused
-line_stays row stand.Changing (Confirmed (c.Told value)) refused = absurd refused
-line_stays row stand.Changing (Confirmed c.Wrong) refused = refl
-line_stays row stand.Stable (Preferred wish) refused = absurd refused
-line_stays row stand.Changing (Preferred wish) refused = absurd refused
-line_stays row stand.Unstable (Preferred wish) refused = absurd refused
-line_stays row stand.Changing (Sending number None) refused = absurd refused
-line_stays row stand.Changing (Sending number (Some opened)) refused = absurd refused
-line_stays row stand.Unstable (Sending number o) refused = absurd refused
-line_stays row stand.Stable (Sending number o) refused = absurd refused
-line_stays row stand.Stable (Offered false offer.Plain) refused = absurd refused
-line_stays row stand.Stable (Offered false offer.Mandatory) refused = absurd refused
-line_stays row stand.Stable (Offered false offer.Nothing) refused = absurd refused
-line_stays row stand.Stable (Offered true offer.Plain) refused = absurd refused
-line_stays row stand.Stable (Offered true offer.Mandatory) refused = absurd refused
-line_stays row stand.Stable (Offered true offer.Nothing) refused = absurd refused
-line_stays row stand.Changing (Offered confirmed o) refused = absurd refused
-line_stays row stand.Unstable (Offered confirmed o) refused = absurd refused
+line_stays row s h refused = grind arith
 
 pub step_stays : (row : Row) (event : RowEvent) → IsRefusal (row_step row event).answer → (row_step row event).row ≡ row
 step_stays row event refused = line_stays row row.stand (heard row event) refused

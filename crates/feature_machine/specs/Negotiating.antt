@@ -1,5 +1,5 @@
 -- The eighteen rows of an end: an event is the step of its row (own).
-use Rattle.std.specs.Prelude.{◌≡◌, ◌≢◌, ℕ, Bool, true, false, List, [], length, map, filter, Option, Some, None, slice_index_or, slice_set, if◌then◌else◌}
+use Rattle.std.specs.Prelude.{◌≡◌, ◌≢◌, ℕ, Bool, true, false, List, [], ◌∷◌, length, map, filter, Option, Some, None, slice_index_or, slice_set, if◌then◌else◌}
 use Rattle.feature_lists.specs.Features.{feature_numbered, initial_of}
 use Rattle.feature_lists.specs.declared.features.Feature.{Feature}
 use Rattle.feature_lists.specs.declared.features.Feature.TheVariants as f
@@ -48,6 +48,11 @@ pub record IsNegotiation (rows : List Row) : Type 0 where
   pub size : length rows ≡ 18
   pub each : (feature : Feature) (place : Place) → IsRowOf feature place (row_at rows feature place)
 
+-- and all are of one end
+pub record AreRowsOf (role : Role2) (rows : List Row) : Type 0 where
+  pub sound : IsNegotiation rows
+  pub roles : (feature : Feature) (place : Place) → (row_at rows feature place).role ≡ role
+
 -- all rows stay but that of a feature at a place
 abbrev pub OthersStay : List Row → List Row → Feature → Place → Type 0
 OthersStay old new feature place =
@@ -93,8 +98,32 @@ is_asking stand.Unstable = true
 abbrev pub is_due : Row → Bool
 is_due row = is_asking row.stand
 
+-- the rows that ask, by feature and place
 abbrev pub due_keys : List Row → List (Feature × Place)
 due_keys rows = map (λ row. (row.feature, row.place)) (filter is_due rows)
+
+-- all features at all places, by features, Here before There
+abbrev pub every_place : List (Feature × Place)
+every_place =
+    (f.Ccid, located.Here)
+    ∷ (f.Ccid, located.There)
+    ∷ (f.ShortSeqnos, located.Here)
+    ∷ (f.ShortSeqnos, located.There)
+    ∷ (f.SequenceWindow, located.Here)
+    ∷ (f.SequenceWindow, located.There)
+    ∷ (f.EcnIncapable, located.Here)
+    ∷ (f.EcnIncapable, located.There)
+    ∷ (f.AckRatio, located.Here)
+    ∷ (f.AckRatio, located.There)
+    ∷ (f.SendAckVector, located.Here)
+    ∷ (f.SendAckVector, located.There)
+    ∷ (f.SendNdpCount, located.Here)
+    ∷ (f.SendNdpCount, located.There)
+    ∷ (f.MinCsCov, located.Here)
+    ∷ (f.MinCsCov, located.There)
+    ∷ (f.CheckDataChecksum, located.Here)
+    ∷ (f.CheckDataChecksum, located.There)
+    ∷ []
 
 -- whether the row's next Change carries Mandatory: that of a new list never does
 abbrev pub is_next_mandatory : Stand → Row → Bool

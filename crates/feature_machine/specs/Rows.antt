@@ -96,7 +96,8 @@ proposal row body =
     else if tells_value row body then p.Told (big_number (width row) body)
     else p.Invalid
 
--- the acknowledgement number reaches the row's last opening
+-- The acknowledgement number reaches the row's last opening: there is one, and it is not before the opening's. (So one at just
+-- half the circle from it does; no end can meet that, whose acknowledgement window is narrower.)
 abbrev pub answers_opening : Option ℕ → Option ℕ → Bool
 answers_opening (Some opened) (Some ack) = not (is_before ack opened)
 answers_opening _ _ = false

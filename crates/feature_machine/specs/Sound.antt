@@ -11,7 +11,7 @@ use Rattle.feature_machine.specs.declared.offers.Offer.TheVariants as offer
 use Rattle.feature_machine.specs.declared.row.Row.{Row}
 use Rattle.feature_machine.specs.declared.judging.Proposal.{Proposal}
 use Rattle.feature_machine.specs.declared.judging.Proposal.TheVariants as p
-use Rattle.feature_machine.specs.Rows.{RowAnswer, Ignored, Fatal, RowEvent, Prefers}
+use Rattle.feature_machine.specs.Rows.{RowAnswer, Ignored, Fatal, RowEvent, Confirm, Prefers, Sends, answers_opening}
 
 -- a value that a row may hold: the initial one, or one that is permitted
 abbrev pub is_lawful : Feature → Place → ℕ → Bool
@@ -50,6 +50,16 @@ IsLawfulProposal row _ = Unit {0}
 abbrev pub IsLawful : Row → RowEvent → Type 0
 IsLawful row (Prefers wish) = is_wish row.feature row.place wish ≡ true
 IsLawful row _ = Unit {0}
+
+-- the event is a Confirm that acknowledges the packet of the row's last opening, or a later one
+abbrev pub IsItsConfirm : Row → RowEvent → Type 0
+IsItsConfirm row (Confirm body ack) = answers_opening row.opened ack ≡ true
+IsItsConfirm row _ = ⊥
+
+-- the event is the sending of the row's Change
+abbrev pub IsSending : RowEvent → Type 0
+IsSending (Sends number) = Unit {0}
+IsSending _ = ⊥
 
 -- a row of this feature at this place
 pub record IsRowOf (feature : Feature) (place : Place) (row : Row) : Type 0 where

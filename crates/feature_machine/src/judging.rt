@@ -44,23 +44,6 @@ pub enum Confirmation {
     Wrong,
 }
 
-pub(crate) fn is_server_priority(feature: Feature) -> bool
-    ensures { result ≡ (described feature).is_server_priority }
-{
-    !matches!(feature, Feature::SequenceWindow | Feature::AckRatio)
-}
-
-// The bytes of one value.
-fn width(feature: Feature) -> usize
-    ensures { result ≡ (described feature).width }
-{
-    match feature {
-        Feature::SequenceWindow => 6,
-        Feature::AckRatio => 2,
-        _ => 1,
-    }
-}
-
 fn number_of_bytes(feature: Feature, bytes: &[u8]) -> u64
     requires { length bytes.now ≡ (described feature).width }
     ensures { result ≡ big_number (described feature).width bytes.now }
@@ -120,14 +103,14 @@ impl Row {
         ensures value { result ≡ proposal self.now body.now }
         ensures lawful { IsLawfulProposal self.now result }
     {
-        if is_server_priority(self.feature) {
+        if self.feature.is_server_priority() {
             return self.list_proposal(body);
         }
-        if self.place == Place::Here || body.len() != width(self.feature) {
+        if self.place == Place::Here || body.len() != self.feature.width() {
             return Proposal::Invalid;
         }
         let value = number_of_bytes(self.feature, body);
-        if is_in_range(self.feature, value) {
+        if self.feature.is_permitted(self.place, value) {
             Proposal::Told(value)
         } else {
             Proposal::Invalid
@@ -168,7 +151,7 @@ impl Row {
     fn number_confirmation(&self, body: &[u8]) -> Confirmation
         ensures { result ≡ number_confirmation self.now body.now }
     {
-        if body.len() != width(self.feature) {
+        if body.len() != self.feature.width() {
             return Confirmation::Wrong;
         }
         let value = number_of_bytes(self.feature, body);
@@ -185,7 +168,7 @@ impl Row {
         match body {
             [] => Confirmation::Empty,
             [value, list @ ..] => {
-                if is_server_priority(self.feature) {
+                if self.feature.is_server_priority() {
                     self.list_confirmation(*value, list)
                 } else {
                     self.number_confirmation(body)
@@ -213,16 +196,5 @@ impl Row {
             (Some(opened), Some(ack)) => !ack.before(*opened),
             _ => false,
         }
-    }
-}
-
-// Tells whether the value of a non-negotiable feature is permitted at its location.
-fn is_in_range(feature: Feature, value: u64) -> bool
-    requires { (described feature).is_server_priority ≡ false }
-    ensures { result ≡ (described feature).permitted_there value }
-{
-    match feature {
-        Feature::SequenceWindow => 32 <= value && value <= 70_368_744_177_663,
-        _ => value <= 65_535,
     }
 }

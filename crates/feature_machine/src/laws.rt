@@ -6,8 +6,8 @@ ghost use Rattle.feature_lists.specs.declared.features.Feature.{Feature};
 ghost use Rattle.feature_lists.specs.declared.features.Place.{Place};
 ghost use Rattle.feature_machine.specs.Lists.{index_of};
 ghost use Rattle.feature_machine.specs.Negotiating.{row_at, put, stepped, OthersStay, IsNegotiation};
-ghost use Rattle.feature_machine.specs.Rows.{RowEvent, Change, Confirm, Offers, Settled, Ignored, Fatal, Opens, row_step, says, proposal, confirmation, reconciled_by};
-ghost use Rattle.feature_machine.specs.Sound.{IsSound, IsLawful, IsSameRow, IsRefusal};
+ghost use Rattle.feature_machine.specs.Rows.{RowEvent, Change, Confirm, Sends, Settled, Ignored, Fatal, Opens, row_step, says, proposal, confirmation, reconciled_by};
+ghost use Rattle.feature_machine.specs.Sound.{IsSound, IsLawful, IsItsConfirm, IsSending, IsSameRow, IsRefusal};
 ghost use Rattle.feature_machine.specs.declared.judging.Confirmation.TheVariants.{Empty, Wrong};
 ghost use Rattle.feature_machine.specs.declared.judging.Proposal.TheVariants.{Invalid, Unshared};
 ghost use Rattle.feature_machine.specs.declared.row.Row.{Row};
@@ -27,7 +27,8 @@ pub fn rows_stay_sound()
 {}
 
 /// A row in CHANGING passes over a Confirm without an acknowledgement number, one that acknowledges a packet from before its last
-/// opening, and any that comes before the Change of that opening was sent.
+/// opening, and any that comes before the Change of that opening was sent. A number is before the opening's where its distance to it
+/// is less than half the circle; at just half the circle it is not.
 pub fn late_confirms_are_ignored()
     ensures without { (row : Row) (body : List ℕ) → row.stand ≡ Changing → row_step row (Confirm body None) ≡ says row Ignored }
     ensures before { (row : Row) (body : List ℕ) (opened ack : ℕ) → row.stand ≡ Changing → row.opened ≡ Some opened
@@ -52,10 +53,34 @@ pub fn causes_of_resets()
         ⊎ ((confirmation row body ack ≡ Empty) × ((described row.feature).is_required ≡ true)))) }
 {}
 
-/// An opening has no number until its Change is sent, and a row that settles keeps the number of its last opening.
+/// An opening has no number until its Change is sent; the first packet that carries it gives the number. It stays until the next
+/// opening, by a preference or an offer in STABLE, or by the new list of an UNSTABLE row: a Change sent again, a Change of the
+/// peer, a Confirm, a wish that waits and whatever is refused all leave it.
 pub fn openings_keep_their_number()
     ensures opens { (row : Row) (event : RowEvent) → (row_step row event).answer ≡ Opens → (row_step row event).row.opened ≡ None }
     ensures settles { (row : Row) (event : RowEvent) → (row_step row event).answer ≡ Settled → (row_step row event).row.opened ≡ row.opened }
+    ensures keeps { (row : Row) (event : RowEvent) → (row_step row event).answer ≢ Opens → ¬ IsSending event
+        → (row_step row event).row.opened ≡ row.opened }
+    ensures first { (row : Row) (number : ℕ) → row.stand ≡ Changing → row.opened ≡ None
+        → (row_step row (Sends number)).row.opened ≡ Some number }
+    ensures again { (row : Row) (number opened : ℕ) → row.stand ≢ Unstable → row.opened ≡ Some opened
+        → (row_step row (Sends number)).row.opened ≡ Some opened }
+    ensures anew { (row : Row) (number : ℕ) → row.stand ≡ Unstable → (row_step row (Sends number)).row.opened ≡ Some number }
+{}
+
+/// A Change of the peer moves no stand, whatever the row answers: it leaves all of the row but the value.
+pub fn changes_move_no_stand()
+    ensures { (row : Row) (body : List ℕ) (mandatory : Bool)
+        → (row_step row (Change body mandatory)).row ≡ record row { value = (row_step row (Change body mandatory)).row.value } }
+{}
+
+/// A row that asks comes to STABLE from CHANGING alone, by a Confirm that acknowledges its last opening or a later packet; and that
+/// is what it answers Settled to.
+pub fn only_its_confirm_settles()
+    ensures stand { (row : Row) (event : RowEvent) → row.stand ≢ Stable → (row_step row event).row.stand ≡ Stable
+        → (row.stand ≡ Changing) × IsItsConfirm row event }
+    ensures answer { (row : Row) (event : RowEvent) → (row_step row event).answer ≡ Settled
+        → (row.stand ≡ Changing) × IsItsConfirm row event × ((row_step row event).row.stand ≡ Stable) }
 {}
 
 /// Both ends compute one function of the server's list and the client's.

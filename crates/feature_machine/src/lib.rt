@@ -13,6 +13,7 @@ mod lists;
 mod negotiation;
 mod offers;
 mod row;
+mod rows;
 mod stands;
 #[cfg(test)]
 mod tests;
@@ -20,10 +21,14 @@ mod tests;
 pub use crate::answers::{Answer, ConfirmOut, Opening, Settling};
 pub use crate::due::Due;
 pub use crate::laws::{
-    both_ends_reconcile_alike, causes_of_resets, late_confirms_are_ignored,
-    openings_keep_their_number, refusals_change_nothing, rows_stand_apart, rows_stay_sound,
-    values_are_lawful,
+    both_ends_reconcile_alike, causes_of_resets, changes_move_no_stand, late_confirms_are_ignored,
+    only_its_confirm_settles, openings_keep_their_number, refusals_change_nothing,
+    rows_stand_apart, rows_stay_sound, values_are_lawful,
 };
 pub use crate::lists::Lists;
 pub use crate::negotiation::Negotiation;
+pub use crate::rows::{
+    due_rows_are_those_that_ask, lists_stand_apart, rows_begin_fresh, rows_keep_their_role,
+    turns_are_of_their_rows,
+};
 pub use crate::stands::{Held, Role2, Stand};

@@ -1,6 +1,6 @@
 //! The wishes and offers that an end starts with.
-ghost use Rattle.std.specs.Prelude.{◌≡◌, ◌↔◌, Err, Ok, true, false, OnOk, OnErr, IsOk, MatchResult, map, IfOk};
-ghost use Rattle.feature_lists.specs.Wishes.{is_allowed, is_ours, wish_of};
+ghost use Rattle.std.specs.Prelude.{◌≡◌, ◌↔◌, Err, Ok, true, false, OnOk, OnErr, IsOk, IsNone, IfSome, MatchResult, map, IfOk};
+ghost use Rattle.feature_lists.specs.Wishes.{is_allowed, is_ours, is_wish, wish_of};
 ghost use Rattle.feature_lists.specs.declared.features.Feature.{Feature};
 ghost use Rattle.feature_lists.specs.declared.features.Place.{Place};
 ghost use Rattle.feature_lists.specs.declared.wishes.PreferFault.TheVariants.{BadList, NotOurs};
@@ -8,7 +8,7 @@ ghost use Rattle.feature_machine.specs.Lists.{usual_listed, usual_offer, usual_l
 
 use crate::negotiation::index_of;
 use crate::offers::{Listed, Offer};
-use feature_lists::{Feature, Place, PreferFault, usual, wish};
+use feature_lists::{Feature, Place, PreferFault, Wanted, usual, wish};
 use std::marker::Model;
 
 /// What an end wants for each feature at each place when the connection starts, and which of these it offers by itself. Contracts
@@ -94,10 +94,22 @@ impl Lists {
         }
     }
 
+    /// What the end wishes for the feature at this place from the start on; None exactly for a non-negotiable feature at There.
+    pub fn wish(&self, feature: Feature, place: Place) -> Option<Wanted>
+        ensures value { result ≡ (listed_at self.now feature place).wish }
+        ensures none { IsNone result ↔ (is_ours feature place ≡ false) }
+        ensures wish { IfSome result (λ wish. is_wish feature place wish ≡ true) }
+        ensures lists { IsLists self.now }
+    {
+        let listed = self.at(feature, place);
+        listed.wish
+    }
+
     // What is listed for a row.
     pub(crate) fn at(&self, feature: Feature, place: Place) -> Listed
         ensures value { result ≡ listed_at self.now feature place }
         ensures its { IsListed feature place result }
+        ensures lists { IsLists self.now }
     {
         self.listed[index_of(feature, place)]
     }

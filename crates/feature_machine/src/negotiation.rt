@@ -6,7 +6,7 @@ ghost use Rattle.feature_lists.specs.declared.features.Feature.{Feature};
 ghost use Rattle.feature_lists.specs.declared.features.Place.{Place};
 ghost use Rattle.feature_machine.specs.Answers.{reply_of, shown, answered, Ignoring, Failing, settling_of, opening_of, is_opening};
 ghost use Rattle.feature_machine.specs.Lists.{index_of};
-ghost use Rattle.feature_machine.specs.Negotiating.{first_rows, row_at, put, OthersStay, stepped, place_of, changes, confirmed, is_due, due_keys, is_next_mandatory, held_by, IsNegotiation};
+ghost use Rattle.feature_machine.specs.Negotiating.{first_rows, row_at, put, OthersStay, stepped, place_of, changes, confirmed, is_due, due_keys, is_next_mandatory, held_by, IsNegotiation, AreRowsOf};
 ghost use Rattle.feature_machine.specs.Rows.{Change, Confirm, Prefers, Offers, Sends};
 ghost use Rattle.feature_machine.specs.Sound.{IsRowOf, IsRefusal};
 ghost use Rattle.feature_machine.specs.declared.stands.Stand.TheVariants.{Stable};
@@ -27,6 +27,11 @@ use std::marker::Model;
 /// all that were taken before: options of older packets must not be handed in, since they would bring values back that both
 /// ends have left); `prefer` and `open_offer` open a row, whose Change is then due, and `sent` tells that it went out. Each call
 /// changes the row that it names alone.
+///
+/// A Confirm that `on_change` answers has to go out in the same step, in a packet that acknowledges the Change's: without it the
+/// end would hold a value of which no packet of its own tells. A Change is written by first calling `sent` with the
+/// number of its packet, and then taking the list or value from `active` and Mandatory from `mandatory`: until then an UNSTABLE
+/// row still has its old list there.
 #[derive(Clone, Copy, Debug, PartialEq, Eq)]
 pub struct Negotiation {
     rows: [Row; 18],
@@ -81,6 +86,7 @@ impl Negotiation {
     pub fn new(role: Role2, lists: &Lists) -> Negotiation
         ensures rows { result ≡ first_rows role lists.now }
         ensures sound { IsNegotiation result }
+        ensures role { AreRowsOf role result }
     {
         let listed = lists.all();
         let mut rows = [Row::first(role, &listed[0]); 18];
@@ -228,8 +234,9 @@ impl Negotiation {
         }
     }
 
-    /// The end wants something else for a feature at a place. Now means that the row's Change is due in this very step; Later that
-    /// a Change of the row is under way, and the new wish goes out on a later one.
+    /// The end wants something else for a feature at a place: a wish that `wish` gives there, which is the condition. Now means that
+    /// the row was STABLE and its Change is due in this very step; Later that a Change of the row is under way, and the new wish goes
+    /// out on a later one.
     pub fn prefer(&mut self, feature: Feature, place: Place, wish: Wanted) -> Opening
         requires { is_wish feature place wish ≡ true }
         ensures rows { self.new ≡ (stepped self.old feature place (Prefers wish)).rows }
@@ -242,8 +249,9 @@ impl Negotiation {
         opening
     }
 
-    /// The row's offer comes up: one that was not yet made is used up. True exactly where there was one and no Confirm of the row
-    /// goes out on the same packet (`confirmed`): then the row is in CHANGING with its active list, and its Change is due.
+    /// The offer of a row that is STABLE, which is the condition, comes up: one that was not yet made is used up. True exactly where
+    /// there was one and no Confirm of the row goes out on the same packet (`confirmed`): then the row is in CHANGING with its
+    /// active list, which is the configured one unless the end preferred another before, and its Change is due.
     pub fn open_offer(&mut self, feature: Feature, place: Place, confirmed: bool) -> bool
         requires { (row_at self.old feature place).stand ≡ Stable }
         ensures rows { self.new ≡ (stepped self.old feature place (Offers confirmed)).rows }
@@ -256,7 +264,8 @@ impl Negotiation {
         opening
     }
 
-    /// Whether the next Change of a due row carries Mandatory: that of an offer, until a new list of the row is sent.
+    /// Whether the next Change of a due row, in CHANGING or UNSTABLE, carries Mandatory: that of an offer, until a new list of the
+    /// row is sent.
     pub fn mandatory(&self, feature: Feature, place: Place) -> bool
         requires { is_due (row_at self.now feature place) ≡ true }
         ensures { result ≡ is_next_mandatory (row_at self.now feature place).stand (row_at self.now feature place) }
@@ -265,7 +274,8 @@ impl Negotiation {
         row.stand == Stand::Changing && row.mandatory
     }
 
-    /// A packet with the Change of a due row went out under this number.
+    /// A packet with the Change of a due row, in CHANGING or UNSTABLE, goes out under this number. An UNSTABLE row's new wish is
+    /// its active one from then on.
     pub fn sent(&mut self, feature: Feature, place: Place, number: Seq48)
         requires { is_due (row_at self.old feature place) ≡ true }
         ensures rows { self.new ≡ (stepped self.old feature place (Sends number)).rows }

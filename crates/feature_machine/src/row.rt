@@ -21,7 +21,7 @@ ghost use Rattle.feature_machine.specs.Negotiating.{first_row, is_due};
 ghost use Rattle.feature_machine.specs.Sound.{IsSound, is_lawful};
 ghost use Rattle.feature_machine.specs.declared.stands.Stand.TheVariants.{Stable};
 
-use crate::judging::{Confirmation, Proposal, is_server_priority};
+use crate::judging::{Confirmation, Proposal};
 use crate::offers::{Listed, Offer};
 use crate::{Opening, Role2, Settling, Stand};
 use arrayvec::ArrayVec;
@@ -117,7 +117,7 @@ impl Row {
         requires { is_lawful self.now.feature self.now.place self.now.value ≡ true }
         ensures { result.items ≡ confirm_body self.now }
     {
-        if is_server_priority(self.feature) {
+        if self.feature.is_server_priority() {
             let mut body = ArrayVec::new();
             body.push(self.value as u8);
             let _ = body.try_extend_from_slice(self.entries());
@@ -181,7 +181,7 @@ impl Row {
         match self.confirmation(body, ack) {
             Confirmation::Late => Settling::Ignored,
             Confirmation::Empty => {
-                if is_required(self.feature) {
+                if self.feature.is_required() {
                     Settling::Fatal
                 } else {
                     self.settle(self.value)
@@ -250,14 +250,4 @@ impl Row {
             }
         }
     }
-}
-
-// Tells whether every end has to understand the feature.
-fn is_required(feature: Feature) -> bool
-    ensures { result ≡ (described feature).is_required }
-{
-    matches!(
-        feature,
-        Feature::Ccid | Feature::ShortSeqnos | Feature::SequenceWindow
-    )
 }

@@ -249,7 +249,9 @@ fn nothing_shared(rt: HostRuntime) -> Result<(), Fail> {
     Ok(())
 }
 
-// An end that came to want coverage 1, else 2, for itself, and stands there.
+const ROLES: [Role2; 2] = [Role2::Server, Role2::Client];
+
+// An end that came to want coverage 1, else 2, for itself, and stands there. Its opening's Change had the number 100.
 fn standing(role: Role2, stand: Stand) -> Result<Negotiation, Fail> {
     let mut lists = Lists::usual();
     if lists.set(Feature::MinCsCov, Place::Here, &[1, 2]).is_err() {
@@ -266,263 +268,363 @@ fn standing(role: Role2, stand: Stand) -> Result<Negotiation, Fail> {
     Ok(rows)
 }
 
+// What a Change is to lead to.
+#[derive(Clone, Copy, Debug, PartialEq, Eq)]
+enum Wanting {
+    // A Confirm of this value with the list 1, 2; the row then holds it.
+    Confirm(u8),
+    EmptyConfirm,
+    Ignored,
+    Fatal,
+}
+
+fn is_wanted(answer: &Answer, wanting: Wanting) -> bool {
+    match (answer, wanting) {
+        (Answer::Confirm(_), Wanting::Confirm(value)) => {
+            confirms(answer, true, COVERAGE, &[value, 1, 2])
+        }
+        (Answer::Confirm(_), Wanting::EmptyConfirm) => confirms(answer, true, COVERAGE, &[]),
+        (Answer::Ignored, Wanting::Ignored) => true,
+        (Answer::Fatal, Wanting::Fatal) => true,
+        _ => false,
+    }
+}
+
 #[test]
 fn changes_by_the_table(rt: HostRuntime) -> Result<(), Fail> {
-    // The role, the stand, the Change's list, whether Mandatory, the Confirm, and the value after.
-    let cases: [(Role2, Stand, &[u8], bool, Option<&[u8]>, u64); 12] = [
-        (Role2::Client, Stand::Unstable, &[], false, Some(&[]), 0),
-        (Role2::Server, Stand::Stable, &[], true, None, 0),
-        (Role2::Client, Stand::Unstable, &[2, 1], true, None, 0),
+    // The stand, the Change's list, whether Mandatory, and what it leads to at the server and at the client.
+    let cases: [(Stand, &[u8], bool, [Wanting; 2]); 17] = [
+        (Stand::Stable, &[], false, [Wanting::EmptyConfirm; 2]),
+        (Stand::Changing, &[], false, [Wanting::EmptyConfirm; 2]),
+        (Stand::Unstable, &[], false, [Wanting::EmptyConfirm; 2]),
+        (Stand::Stable, &[], true, [Wanting::Fatal; 2]),
+        (Stand::Changing, &[], true, [Wanting::Fatal; 2]),
+        (Stand::Unstable, &[], true, [Wanting::Fatal; 2]),
+        (Stand::Unstable, &[2, 1], false, [Wanting::Ignored; 2]),
+        (Stand::Unstable, &[2, 1], true, [Wanting::Ignored; 2]),
+        (Stand::Unstable, &[9], true, [Wanting::Ignored; 2]),
         (
-            Role2::Server,
+            Stand::Stable,
+            &[2, 1],
+            false,
+            [Wanting::Confirm(1), Wanting::Confirm(2)],
+        ),
+        (
             Stand::Stable,
             &[2, 1],
             true,
-            Some(&[1, 1, 2]),
-            1,
+            [Wanting::Confirm(1), Wanting::Confirm(2)],
         ),
         (
-            Role2::Client,
-            Stand::Stable,
-            &[2, 1],
-            false,
-            Some(&[2, 1, 2]),
-            2,
-        ),
-        (
-            Role2::Server,
             Stand::Changing,
             &[2, 1],
             false,
-            Some(&[1, 1, 2]),
-            1,
+            [Wanting::Confirm(1), Wanting::Confirm(2)],
         ),
         (
-            Role2::Client,
             Stand::Changing,
             &[9, 2, 1],
             false,
-            Some(&[2, 1, 2]),
-            2,
+            [Wanting::Confirm(1), Wanting::Confirm(2)],
         ),
-        (
-            Role2::Server,
-            Stand::Stable,
-            &[9],
-            false,
-            Some(&[0, 1, 2]),
-            0,
-        ),
-        (
-            Role2::Client,
-            Stand::Changing,
-            &[9],
-            false,
-            Some(&[0, 1, 2]),
-            0,
-        ),
-        (Role2::Client, Stand::Stable, &[9], true, None, 0),
-        (Role2::Server, Stand::Changing, &[9], true, None, 0),
-        (Role2::Server, Stand::Unstable, &[9], true, None, 0),
+        (Stand::Stable, &[9], false, [Wanting::Confirm(0); 2]),
+        (Stand::Changing, &[9], false, [Wanting::Confirm(0); 2]),
+        (Stand::Stable, &[9], true, [Wanting::Fatal; 2]),
+        (Stand::Changing, &[9], true, [Wanting::Fatal; 2]),
     ];
-    for (role, stand, list, mandatory, confirm, value) in cases {
-        let mut rows = standing(role, stand)?;
-        let answer = rows.on_change(false, COVERAGE, list, mandatory);
-        match confirm {
-            Some(body) => assert!(rt;
-                confirms(&answer, true, COVERAGE, body),
+    for (stand, list, mandatory, both) in cases {
+        for (role, wanting) in ROLES.into_iter().zip(both.into_iter()) {
+            let mut rows = standing(role, stand)?;
+            let answer = rows.on_change(false, COVERAGE, list, mandatory);
+            assert!(rt;
+                is_wanted(&answer, wanting),
                 "{list:?} at {role:?} {stand:?}"
-            ),
-            None => {
-                let ignored = matches!(answer, Answer::Ignored);
-                assert_eq!(rt;
-                    ignored,
-                    stand == Stand::Unstable,
-                    "{list:?} at {role:?} {stand:?}"
-                );
-            }
+            );
+            let value = match wanting {
+                Wanting::Confirm(value) => u64::from(value),
+                Wanting::EmptyConfirm | Wanting::Ignored | Wanting::Fatal => 0,
+            };
+            assert!(rt; holds(&rows, Feature::MinCsCov, Place::Here, value, stand));
         }
-        assert!(rt; holds(&rows, Feature::MinCsCov, Place::Here, value, stand));
     }
     Ok(())
 }
 
 #[test]
 fn confirms_by_the_table(rt: HostRuntime) -> Result<(), Fail> {
-    // The role, the stand, the Confirm's data, the acknowledgement number or 0 for none, what it leads to, the value after.
-    let cases: [(Role2, Stand, &[u8], u64, Settling, u64); 14] = [
+    // The stand, the Confirm's data for the server and for the client, the acknowledgement number or 0 for none, what it leads
+    // to, and the value after at each.
+    let cases: [(Stand, [&[u8]; 2], u64, Settling, [u64; 2]); 14] = [
         (
-            Role2::Client,
             Stand::Stable,
-            &[2, 2, 1],
+            [&[1, 2, 1], &[2, 2, 1]],
             100,
             Settling::Ignored,
-            0,
+            [0, 0],
         ),
         (
-            Role2::Server,
             Stand::Unstable,
-            &[1, 2, 1],
+            [&[1, 2, 1], &[2, 2, 1]],
             100,
             Settling::Ignored,
-            0,
+            [0, 0],
         ),
         (
-            Role2::Client,
             Stand::Changing,
-            &[2, 2, 1],
+            [&[1, 2, 1], &[2, 2, 1]],
             0,
             Settling::Ignored,
-            0,
+            [0, 0],
         ),
         (
-            Role2::Server,
             Stand::Changing,
-            &[1, 2, 1],
+            [&[1, 2, 1], &[2, 2, 1]],
             99,
             Settling::Ignored,
-            0,
+            [0, 0],
         ),
+        (Stand::Changing, [&[], &[]], 100, Settling::Settled, [0, 0]),
         (
-            Role2::Server,
             Stand::Changing,
-            &[],
+            [&[1, 2, 1], &[2, 2, 1]],
             100,
             Settling::Settled,
-            0,
+            [1, 2],
         ),
         (
-            Role2::Client,
             Stand::Changing,
-            &[2, 2, 1],
-            100,
-            Settling::Settled,
-            2,
-        ),
-        (
-            Role2::Server,
-            Stand::Changing,
-            &[1, 2, 1],
+            [&[1, 2, 1], &[2, 2, 1]],
             101,
             Settling::Settled,
-            1,
+            [1, 2],
         ),
         (
-            Role2::Client,
             Stand::Changing,
-            &[0, 9],
+            [&[0, 9], &[0, 9]],
             100,
             Settling::Settled,
-            0,
+            [0, 0],
         ),
         (
-            Role2::Server,
             Stand::Changing,
-            &[2],
+            [&[2], &[2]],
             100,
             Settling::Settled,
-            2,
+            [2, 2],
         ),
         (
-            Role2::Client,
             Stand::Changing,
-            &[0],
+            [&[0], &[0]],
             100,
             Settling::Settled,
-            0,
+            [0, 0],
         ),
         (
-            Role2::Client,
             Stand::Changing,
-            &[1, 2, 1],
+            [&[2, 2, 1], &[1, 2, 1]],
             100,
             Settling::Fatal,
-            0,
+            [0, 0],
         ),
         (
-            Role2::Server,
             Stand::Changing,
-            &[2, 2, 1],
+            [&[9, 9], &[9, 9]],
             100,
             Settling::Fatal,
-            0,
+            [0, 0],
         ),
         (
-            Role2::Server,
             Stand::Changing,
-            &[9, 9],
+            [&[1, 9], &[1, 9]],
             100,
             Settling::Fatal,
-            0,
+            [0, 0],
         ),
-        (
-            Role2::Client,
-            Stand::Changing,
-            &[9],
-            100,
-            Settling::Fatal,
-            0,
-        ),
+        (Stand::Changing, [&[9], &[9]], 100, Settling::Fatal, [0, 0]),
     ];
-    for (role, stand, body, ack, settling, value) in cases {
-        let mut rows = standing(role, stand)?;
+    for (stand, bodies, ack, settling, values) in cases {
         let ack = if ack == 0 { None } else { Some(number(ack)?) };
+        for (role, (body, value)) in ROLES
+            .into_iter()
+            .zip(bodies.into_iter().zip(values.into_iter()))
+        {
+            let mut rows = standing(role, stand)?;
+            assert_eq!(rt;
+                rows.on_confirm(false, COVERAGE, body, ack),
+                settling,
+                "{body:?} at {role:?} {stand:?}"
+            );
+            let after = if settling == Settling::Settled {
+                Stand::Stable
+            } else {
+                stand
+            };
+            assert!(rt; holds(&rows, Feature::MinCsCov, Place::Here, value, after));
+        }
+    }
+    Ok(())
+}
+
+fn wishes(rows: &Negotiation, values: &[u64]) -> bool {
+    match wish(Feature::MinCsCov, Place::Here, values) {
+        Ok(wish) => rows.active(Feature::MinCsCov, Place::Here) == Some(wish),
+        Err(_) => false,
+    }
+}
+
+#[test]
+fn preferences_and_sendings_by_the_table(rt: HostRuntime) -> Result<(), Fail> {
+    for role in ROLES {
+        let mut rows = standing(role, Stand::Stable)?;
+        assert_eq!(rt; prefer(&mut rows, Place::Here, &[2, 1])?, Opening::Now);
+        assert!(rt; holds(&rows, Feature::MinCsCov, Place::Here, 0, Stand::Changing));
+        assert!(rt; wishes(&rows, &[2, 1]));
+        let mut rows = standing(role, Stand::Changing)?;
+        send(&mut rows, Feature::MinCsCov, Place::Here, 105)?;
+        assert!(rt; wishes(&rows, &[1, 2]), "sent again");
+        let mut settling = rows;
         assert_eq!(rt;
-            rows.on_confirm(false, COVERAGE, body, ack),
-            settling,
-            "{body:?} at {role:?} {stand:?}"
+            settling.on_confirm(false, COVERAGE, &[1, 1], Some(number(100)?)),
+            Settling::Settled,
+            "the first of its Changes still counts"
         );
-        let after = if settling == Settling::Settled {
-            Stand::Stable
-        } else {
-            stand
+        assert_eq!(rt; prefer(&mut rows, Place::Here, &[2, 1])?, Opening::Later);
+        assert!(rt; holds(&rows, Feature::MinCsCov, Place::Here, 0, Stand::Unstable));
+        assert_eq!(rt; prefer(&mut rows, Place::Here, &[3])?, Opening::Later);
+        assert!(rt; holds(&rows, Feature::MinCsCov, Place::Here, 0, Stand::Unstable));
+        assert!(rt; wishes(&rows, &[1, 2]), "what waits is not active");
+        send(&mut rows, Feature::MinCsCov, Place::Here, 110)?;
+        assert!(rt; holds(&rows, Feature::MinCsCov, Place::Here, 0, Stand::Changing));
+        assert!(rt; wishes(&rows, &[3]), "the last that waited");
+        assert_eq!(rt;
+            rows.on_confirm(false, COVERAGE, &[3, 3], Some(number(109)?)),
+            Settling::Ignored
+        );
+        assert_eq!(rt;
+            rows.on_confirm(false, COVERAGE, &[3, 3], Some(number(110)?)),
+            Settling::Settled
+        );
+    }
+    Ok(())
+}
+
+// Whether the next Change carries Mandatory.
+fn is_mandatory(rows: &Negotiation, feature: Feature, place: Place) -> Result<bool, Fail> {
+    match rows.held(feature, place).stand {
+        Stand::Stable => Err(Fail::from("a due row")),
+        Stand::Changing => Ok(rows.mandatory(feature, place)),
+        Stand::Unstable => Ok(rows.mandatory(feature, place)),
+    }
+}
+
+#[test]
+fn an_offers_mandatory(rt: HostRuntime) -> Result<(), Fail> {
+    for role in ROLES {
+        let mut rows = Negotiation::new(role, &Lists::usual());
+        assert!(rt; open(&mut rows, Feature::SendAckVector, Place::There, false)?);
+        assert!(rt; is_mandatory(&rows, Feature::SendAckVector, Place::There)?);
+        send(&mut rows, Feature::SendAckVector, Place::There, 1)?;
+        send(&mut rows, Feature::SendAckVector, Place::There, 2)?;
+        assert!(rt;
+            is_mandatory(&rows, Feature::SendAckVector, Place::There)?,
+            "each time"
+        );
+        let Ok(other) = wish(Feature::SendAckVector, Place::There, &[0, 1]) else {
+            return Err(Fail::from("a wish"));
         };
-        assert!(rt; holds(&rows, Feature::MinCsCov, Place::Here, value, after));
+        assert_eq!(rt;
+            rows.prefer(Feature::SendAckVector, Place::There, other),
+            Opening::Later
+        );
+        assert!(rt; !is_mandatory(&rows, Feature::SendAckVector, Place::There)?);
+        send(&mut rows, Feature::SendAckVector, Place::There, 3)?;
+        assert!(rt; !is_mandatory(&rows, Feature::SendAckVector, Place::There)?);
+        let mut lists = Lists::usual();
+        assert_eq!(rt; lists.offer(Feature::MinCsCov, Place::Here, false), Ok(()));
+        let mut plain = Negotiation::new(role, &lists);
+        assert!(rt; open(&mut plain, Feature::MinCsCov, Place::Here, false)?);
+        assert!(rt; !is_mandatory(&plain, Feature::MinCsCov, Place::Here)?);
     }
     Ok(())
 }
 
 #[test]
 fn told_values_and_unknown_features(rt: HostRuntime) -> Result<(), Fail> {
-    let mut rows = plain_client();
-    assert!(rt; confirms(&rows.on_change(true, 10, &[1], false), false, 10, &[]));
-    let fatal = matches!(rows.on_change(false, 0, &[1], true), Answer::Fatal);
-    assert!(rt; fatal);
-    assert_eq!(rt; rows.on_confirm(true, 10, &[1], None), Settling::Ignored);
-    assert!(rt; confirms(&rows.on_change(true, 5, &[0, 7], false), false, 5, &[0, 7]));
-    assert!(rt; holds(&rows, Feature::AckRatio, Place::There, 7, Stand::Stable));
-    assert!(rt; confirms(&rows.on_change(true, 5, &[0, 0, 7], false), false, 5, &[]));
-    assert!(rt; confirms(&rows.on_change(false, 5, &[0, 7], false), true, 5, &[]));
+    for role in ROLES {
+        let mut rows = Negotiation::new(role, &Lists::usual());
+        assert!(rt; confirms(&rows.on_change(true, 10, &[1], false), false, 10, &[]));
+        let fatal = matches!(rows.on_change(false, 0, &[1], true), Answer::Fatal);
+        assert!(rt; fatal);
+        assert_eq!(rt; rows.on_confirm(true, 10, &[1], None), Settling::Ignored);
+        assert!(rt; confirms(&rows.on_change(true, 5, &[0, 7], false), false, 5, &[0, 7]));
+        assert!(rt; holds(&rows, Feature::AckRatio, Place::There, 7, Stand::Stable));
+        assert!(rt; confirms(&rows.on_change(true, 5, &[0, 0, 7], false), false, 5, &[]));
+        assert!(rt; confirms(&rows.on_change(false, 5, &[0, 7], false), true, 5, &[]));
+        let fatal = matches!(rows.on_change(false, 5, &[0, 7], true), Answer::Fatal);
+        assert!(rt; fatal);
+    }
+    Ok(())
+}
+
+// An end that has told its Ack Ratio 3 under the number 7.
+fn telling(role: Role2) -> Result<Negotiation, Fail> {
+    let mut rows = Negotiation::new(role, &Lists::usual());
     let Ok(ratio) = wish(Feature::AckRatio, Place::Here, &[3]) else {
         return Err(Fail::from("a wish"));
     };
-    assert_eq!(rt;
-        rows.prefer(Feature::AckRatio, Place::Here, ratio),
-        Opening::Now
-    );
+    rows.prefer(Feature::AckRatio, Place::Here, ratio);
     send(&mut rows, Feature::AckRatio, Place::Here, 7)?;
-    let mut other = rows;
-    assert_eq!(rt;
-        other.on_confirm(false, 5, &[0, 4], Some(number(7)?)),
-        Settling::Fatal
-    );
-    assert_eq!(rt;
-        rows.on_confirm(false, 5, &[0, 3], Some(number(7)?)),
-        Settling::Settled
-    );
-    assert!(rt; holds(&rows, Feature::AckRatio, Place::Here, 3, Stand::Stable));
-    let Ok(windows) = wish(Feature::Ccid, Place::Here, &[248]) else {
-        return Err(Fail::from("a wish"));
-    };
-    assert_eq!(rt;
-        rows.prefer(Feature::Ccid, Place::Here, windows),
-        Opening::Now
-    );
-    send(&mut rows, Feature::Ccid, Place::Here, 8)?;
-    assert_eq!(rt;
-        rows.on_confirm(false, 1, &[], Some(number(8)?)),
-        Settling::Fatal
-    );
+    Ok(rows)
+}
+
+#[test]
+fn confirms_of_told_values_and_of_a_required_feature(rt: HostRuntime) -> Result<(), Fail> {
+    // A Confirm's data, and what it leads to.
+    let cases: [(&[u8], Settling, u64, Stand); 4] = [
+        (&[0, 3], Settling::Settled, 3, Stand::Stable),
+        (&[0, 4], Settling::Fatal, 2, Stand::Changing),
+        (&[3], Settling::Fatal, 2, Stand::Changing),
+        (&[], Settling::Settled, 2, Stand::Stable),
+    ];
+    for role in ROLES {
+        for (body, settling, value, stand) in cases {
+            let mut rows = telling(role)?;
+            assert_eq!(rt;
+                rows.on_confirm(false, 5, body, Some(number(7)?)),
+                settling,
+                "{body:?}"
+            );
+            assert!(rt; holds(&rows, Feature::AckRatio, Place::Here, value, stand));
+        }
+        let mut rows = Negotiation::new(role, &Lists::usual());
+        let Ok(ccid) = wish(Feature::Ccid, Place::Here, &[248]) else {
+            return Err(Fail::from("a wish"));
+        };
+        assert_eq!(rt; rows.prefer(Feature::Ccid, Place::Here, ccid), Opening::Now);
+        send(&mut rows, Feature::Ccid, Place::Here, 8)?;
+        assert_eq!(rt;
+            rows.on_confirm(false, 1, &[], Some(number(8)?)),
+            Settling::Fatal,
+            "every end has to understand it"
+        );
+    }
+    Ok(())
+}
+
+// A number is before another where its distance to it is less than half the circle.
+#[test]
+fn half_the_circle(rt: HostRuntime) -> Result<(), Fail> {
+    let half = 140_737_488_355_328;
+    for (distance, settling) in [(half - 1, Settling::Ignored), (half, Settling::Settled)] {
+        let mut rows = plain_client();
+        assert_eq!(rt; prefer(&mut rows, Place::Here, &[1])?, Opening::Now);
+        send(&mut rows, Feature::MinCsCov, Place::Here, half)?;
+        let ack = number(half)?.sub(distance);
+        assert_eq!(rt;
+            rows.on_confirm(false, COVERAGE, &[1, 1], Some(ack)),
+            settling
+        );
+    }
     Ok(())
 }
 
@@ -543,6 +645,9 @@ fn offers_and_due_rows(rt: HostRuntime) -> Result<(), Fail> {
     );
     assert_eq!(rt; lists.set(Feature::MinCsCov, Place::There, &[5]), Ok(()));
     assert_eq!(rt; lists.offer(Feature::MinCsCov, Place::There, false), Ok(()));
+    let five = wish(Feature::MinCsCov, Place::There, &[5]).ok();
+    assert!(rt; lists.wish(Feature::MinCsCov, Place::There) == five);
+    assert!(rt; lists.wish(Feature::AckRatio, Place::There).is_none());
     let mut rows = Negotiation::new(Role2::Server, &lists);
     assert!(rt; rows.active(Feature::AckRatio, Place::There).is_none());
     assert!(rt; rows.active(Feature::AckRatio, Place::Here) == Some(Wanted::Number(2)));
