@@ -1,3 +1,4 @@
+pub mod Ahead
 pub mod Counts
 pub mod Fronts
 pub mod Memory

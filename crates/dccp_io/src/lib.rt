@@ -6,6 +6,7 @@
 
 mod calls;
 mod memory;
+mod read_ahead;
 mod standard;
 mod streams;
 mod sure;
@@ -14,6 +15,7 @@ mod tests;
 mod whole;
 
 pub use crate::memory::{MemorySink, MemorySource};
+pub use crate::read_ahead::ReadAhead;
 pub use crate::standard::{StdSink, StdSource};
 pub use crate::streams::{Failed, Sink, Source};
 pub use crate::sure::{SureSink, SureSource};

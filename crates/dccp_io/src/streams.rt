@@ -14,6 +14,8 @@ pub trait Source {
     ghost left: { Self → Option (List ℕ) };
     // How often it has failed.
     ghost faults: { Self → ℕ };
+    // Which loan it reads through, where it is one: so that who lent a source knows it again when it comes back.
+    ghost lender: { Self → ℕ } = { λ _. 0 };
 
     /// Reads the next bytes into the front of the slice and answers how many. Ok(0) is the end of the input; where the
     /// source tells its bytes, it comes exactly where none is left. Failed comes only where the count of faults rose
@@ -25,7 +27,8 @@ pub trait Source {
         ensures end { IfOk result (λ n. IfSome (left self.old) (λ bytes. (n ≡ 0) ↔ (bytes ≡ []))) }
         ensures none_taken { OnErr result (left self.new ≡ left self.old) }
         ensures never_falls { faults self.old ≤ faults self.new }
-        ensures cause { OnErr result (Rose (faults self.old) (faults self.new)) };
+        ensures cause { OnErr result (Rose (faults self.old) (faults self.new)) }
+        ensures same_lender { lender self.new ≡ lender self.old };
 }
 
 /// Where bytes go (own). Contracts see the bytes that a sink has taken, where it tells them, how often it has failed,
@@ -55,6 +58,8 @@ impl<S: Source> Source for &mut S {
     ghost left = { λ s. S.left s.now };
 
     ghost faults = { λ s. S.faults s.now };
+
+    ghost lender = { λ s. s.ghost_name };
 
     fn read(&mut self, into: &mut [u8]) -> Result<usize, Failed> {
         Source::read(&mut **self, into)

@@ -54,6 +54,7 @@ pub fn read_all<S: Source>(
     ensures end { IfOk result (λ text. vec_len text < most → IfSome (S.left source.new) (λ bytes. bytes ≡ [])) }
     ensures lost { OnErr result (GivesFront (S.left source.old) (S.left source.new)) }
     ensures never_falls { S.faults source.old ≤ S.faults source.new }
+    ensures same_lender { S.lender source.new ≡ S.lender source.old }
     ensures cause { IfErr result (λ fault. fault ≡ InputFault.Read → Rose (S.faults source.old) (S.faults source.new)) }
 {
     let mut text = Vec::new(alloc);
