@@ -1,5 +1,5 @@
 //! The places of the fields, and their readers (RFC 4340, section 5).
-ghost use Rattle.std.specs.Prelude.{◌≡◌, ◌+◌, ◌*◌, ◌/◌, ◌%◌, ◌^◌, ◌<◌, ◌≤◌, IsTrue, length, slice_index};
+ghost use Rattle.std.specs.Prelude.{true, ◌≡◌, ◌+◌, ◌*◌, ◌/◌, ◌%◌, ◌^◌, ◌<◌, ◌≤◌, IsTrue, length, slice_index};
 ghost use Rattle.dccp_packets.specs.declared.header.PacketType.TheVariants as types;
 ghost use Rattle.dccp_packets.specs.Grammar.{data_offset_bytes, type_code, has_long_numbers, long_ack, number_in, ack_in, kind_of, header_of, fixed_length, number_at};
 
@@ -111,6 +111,22 @@ fn ack(long: bool, bytes: &[u8]) -> Number
     }
 }
 
+// What a Reset carries.
+fn reset(bytes: &[u8]) -> Kind
+    requires { 28 ≤ length bytes.now }
+    ensures { result ≡ kind_of types.Reset true bytes.now }
+{
+    Kind::Reset {
+        ack: long_at(bytes, LONG_ACK),
+        code: bytes[RESET_CODE],
+        detail: [
+            bytes[RESET_DETAIL],
+            bytes[RESET_DETAIL + 1],
+            bytes[RESET_DETAIL + 2],
+        ],
+    }
+}
+
 fn kind(packet_type: PacketType, long: bool, bytes: &[u8]) -> Kind
     requires { fixed_length long packet_type ≤ length bytes.now }
     ensures { result ≡ kind_of packet_type long bytes.now }
@@ -136,15 +152,7 @@ fn kind(packet_type: PacketType, long: bool, bytes: &[u8]) -> Kind
         PacketType::Close => Kind::Close {
             ack: long_at(bytes, LONG_ACK),
         },
-        PacketType::Reset => Kind::Reset {
-            ack: long_at(bytes, LONG_ACK),
-            code: bytes[RESET_CODE],
-            detail: [
-                bytes[RESET_DETAIL],
-                bytes[RESET_DETAIL + 1],
-                bytes[RESET_DETAIL + 2],
-            ],
-        },
+        PacketType::Reset => reset(bytes),
         PacketType::Sync => Kind::Sync {
             ack: long_at(bytes, LONG_ACK),
         },
