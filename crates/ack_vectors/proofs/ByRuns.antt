@@ -7,42 +7,35 @@ use Rattle.seq_circle.specs.Circle.{residue, distance}
 use Rattle.run_list.specs.declared.walking.Stretch.{Stretch}
 use Rattle.run_list.specs.MarkedSet.{MarkedSet, IsSound, has, is_from}
 use Rattle.run_list.specs.Stretches.{stretches}
-use Rattle.run_list.proofs.Found.{laid-stretches}
 use Rattle.ack_vectors.proofs.Pieces.{take_cut}
 use Rattle.run_list.specs.Runs.{downwards, numbers_of, bound_below, AreLaid}
-use Rattle.run_list.proofs.Steps.{down, down_fits, distance-down}
-use Rattle.run_list.proofs.Downs.{below-absent, above-absent, inside-present}
-use Rattle.run_list.proofs.Laid.{falling_numbers, laid_below}
-use Rattle.ack_vectors.specs.Vector.{state_told, states_down, Group, group, grouped_with, groups, pieces, spelled, all_bytes}
-use Rattle.ack_vectors.specs.Told.{told}
+use Rattle.run_list.proofs.StretchFacts.{down, down_fits, distance-down, below-absent, above-absent, inside-present, falling_numbers, laid_below, laid-stretches}
+use Rattle.ack_vectors.specs.Vector.{state_told, set_states, states_down, Group, group, grouped_with, groups, pieces, spelled, all_bytes}
+use Rattle.ack_vectors.specs.ByRuns.{bytes_by_runs}
 
 -- two sets with the same numbers between have the same states
-pub states_down-same : (p q : ℕ → Bool) (f count n : ℕ) → f < 2 ^ 48 → n < 2 ^ 48 → count ≤ distance f n + 1
+pub states_down-same : (p q : ℕ → ℕ) (f count n : ℕ) → f < 2 ^ 48 → n < 2 ^ 48 → count ≤ distance f n + 1
     → ((m : ℕ) → m < 2 ^ 48 → distance f m ≤ distance f n → distance f n < distance f m + count → p m ≡ q m) → states_down p count n ≡ states_down q count n
 states_down-same p q f zero n a b h k = refl
-states_down-same p q f (suc zero) n a b h k = ap (λ s. state_told s ∷ []) (k n b (omega arith) (omega arith))
+states_down-same p q f (suc zero) n a b h k = ap (λ s. s ∷ []) (k n b (omega arith) (omega arith))
 states_down-same p q f (suc (suc count)) n a b h k =
     let d : distance f (down n) + 1 ≡ distance f n = distance-down f n a b (omega arith) in
     let here : p n ≡ q n = k n b (omega arith) (omega arith) in
     let rest : states_down p (suc count) (down n) ≡ states_down q (suc count) (down n) =
     states_down-same p q f (suc count) (down n) a (down_fits n) (omega arith) (λ m fits u v. k m fits (omega arith) (omega arith)) in
-    ap (λ s. state_told s ∷ states_down p (suc count) (down n)) here ∙ ap (λ ss. state_told (q n) ∷ ss) rest
+    ap (λ s. s ∷ states_down p (suc count) (down n)) here ∙ ap (λ ss. q n ∷ ss) rest
 
-pub states_down-add : (has : ℕ → Bool) (a b n m : ℕ) → n < 2 ^ 48 → m < 2 ^ 48 → residue (m + a) ≡ n → states_down has (a + b) n ≡ states_down has a n ++ states_down has b m
-states_down-add has zero b n m p q e =
+pub states_down-add : (state : ℕ → ℕ) (a b n m : ℕ) → n < 2 ^ 48 → m < 2 ^ 48 → residue (m + a) ≡ n → states_down state (a + b) n ≡ states_down state a n ++ states_down state b m
+states_down-add state zero b n m p q e =
     let none : 0 + b ≡ b = omega arith in
     let same : m ≡ n = omega arith in
     rw (none, same) refl
-states_down-add has (suc a) b n m p q e =
-    rw (suc-add a b) (ap (λ ss. state_told (has n) ∷ ss) (states_down-add has a b (down n) m (down_fits n) q (omega arith)))
+states_down-add state (suc a) b n m p q e =
+    rw (suc-add a b) (ap (λ ss. state n ∷ ss) (states_down-add state a b (down n) m (down_fits n) q (omega arith)))
 
-pub missing-states : (count n : ℕ) → states_down (λ _. false) count n ≡ replicate count 3
-missing-states zero n = refl
-missing-states (suc count) n = ap (λ ss. 3 ∷ ss) (missing-states count (down n))
-
-pub received-states : (count n : ℕ) → states_down (λ _. true) count n ≡ replicate count 0
-received-states zero n = refl
-received-states (suc count) n = ap (λ ss. 0 ∷ ss) (received-states count (down n))
+pub constant-states : (state count n : ℕ) → states_down (λ _. state) count n ≡ replicate count state
+constant-states state zero n = refl
+constant-states state (suc count) n = ap (λ ss. state ∷ ss) (constant-states state count (down n))
 
 -- a list that begins with another state, or has none
 abbrev pub BeginsWithout : ℕ → List ℕ → Type 0
@@ -85,7 +78,7 @@ pub distance-back : (f n a : ℕ) → f < 2 ^ 48 → n < 2 ^ 48 → a ≤ distan
 distance-back f n a p q h = omega arith
 
 -- a vector's states from a number that is missing, or from one that was received
-pub begins-missing : (p : ℕ → Bool) (count n : ℕ) → (0 < count → p n ≡ false) → BeginsWithout 0 (states_down p count n)
+pub begins-missing : (p : ℕ → Bool) (count n : ℕ) → (0 < count → p n ≡ false) → BeginsWithout 0 (states_down (set_states p) count n)
 begins-missing p zero n h = tt
 begins-missing p (suc count) n h =
     let absent : p n ≡ false = h (omega arith) in
@@ -108,48 +101,48 @@ at_top f left n (inl e) h = e
 at_top f left n (inr e) h = absurd (omega arith)
 
 -- the runs of the set spell what its states spell
-pub told-nothing : (left n : ℕ) → pieces 3 left ≡ spelled (groups (states_down (λ _. false) left n))
-told-nothing left n =
+pub runs-nothing : (left n : ℕ) → pieces 3 left ≡ spelled (groups (states_down (λ _. 3) left n))
+runs-nothing left n =
     sym (append-nil (pieces 3 left)) ∙ sym (spelled-replicate 3 left [] tt)
-    ∙ ap (λ ss. spelled (groups ss)) (append-nil (replicate left 3) ∙ sym (missing-states left n))
+    ∙ ap (λ ss. spelled (groups ss)) (append-nil (replicate left 3) ∙ sym (constant-states 3 left n))
 
 -- a run above all that is left is passed
-pub told-passed : (f left n : ℕ) (s : Stretch) (rest : List ℕ) → f < 2 ^ 48 → n < 2 ^ 48 → s.hi < 2 ^ 48 → s.count ≤ distance f s.hi + 1 → IsTop f left n → left ≤ distance f s.hi + 1 - s.count
-    → states_down (has (downwards s.count s.hi ++ rest)) left n ≡ states_down (has rest) left n
-told-passed f left n s rest p q r above top ge =
-    states_down-same (has (downwards s.count s.hi ++ rest)) (has rest) f left n p q (at_most f left n top)
+pub runs-passed : (f left n : ℕ) (s : Stretch) (rest : List ℕ) → f < 2 ^ 48 → n < 2 ^ 48 → s.hi < 2 ^ 48 → s.count ≤ distance f s.hi + 1 → IsTop f left n → left ≤ distance f s.hi + 1 - s.count
+    → states_down (set_states (has (downwards s.count s.hi ++ rest))) left n ≡ states_down (set_states (has rest)) left n
+runs-passed f left n s rest p q r above top ge =
+    states_down-same (set_states (has (downwards s.count s.hi ++ rest))) (set_states (has rest)) f left n p q (at_most f left n top)
     (λ m fits u v. let all : left ≡ distance f n + 1 = at_top f left n top (omega arith) in
-    above-absent f m s.count s.hi rest p r (omega arith))
+    ap state_told (above-absent f m s.count s.hi rest p r (omega arith)))
 
 -- the numbers above a run are missing, those in it are there
-pub told-missing : (f a n : ℕ) (s : Stretch) (ss : List Stretch) → f < 2 ^ 48 → n < 2 ^ 48 → AreLaid f (distance f s.hi + 1) (s ∷ ss) → (0 < a → a + distance f s.hi ≤ distance f n) → a ≤ distance f n + 1
-    → states_down (has (numbers_of (s ∷ ss))) a n ≡ replicate a 3
-told-missing f zero n s ss p q h over most = refl
-told-missing f (suc a) n s ss p q h over most =
+pub runs-missing : (f a n : ℕ) (s : Stretch) (ss : List Stretch) → f < 2 ^ 48 → n < 2 ^ 48 → AreLaid f (distance f s.hi + 1) (s ∷ ss) → (0 < a → a + distance f s.hi ≤ distance f n) → a ≤ distance f n + 1
+    → states_down (set_states (has (numbers_of (s ∷ ss)))) a n ≡ replicate a 3
+runs-missing f zero n s ss p q h over most = refl
+runs-missing f (suc a) n s ss p q h over most =
     let far : suc a + distance f s.hi ≤ distance f n = over (omega arith) in
-    states_down-same (has (numbers_of (s ∷ ss))) (λ _. false) f (suc a) n p q most
-    (λ m fits u v. below-absent f (distance f s.hi + 1) m (numbers_of (s ∷ ss)) (omega arith) (falling_numbers f (distance f s.hi + 1) (s ∷ ss) p h))
-    ∙ missing-states (suc a) n
+    states_down-same (set_states (has (numbers_of (s ∷ ss)))) (λ _. 3) f (suc a) n p q most
+    (λ m fits u v. ap state_told (below-absent f (distance f s.hi + 1) m (numbers_of (s ∷ ss)) (omega arith) (falling_numbers f (distance f s.hi + 1) (s ∷ ss) p h)))
+    ∙ constant-states 3 (suc a) n
 
-pub told-received : (f k n : ℕ) (s : Stretch) (rest : List ℕ) → f < 2 ^ 48 → n < 2 ^ 48 → s.hi < 2 ^ 48 → distance f n ≤ distance f s.hi → distance f s.hi + k ≤ distance f n + s.count → k ≤ distance f n + 1
-    → states_down (has (downwards s.count s.hi ++ rest)) k n ≡ replicate k 0
-told-received f k n s rest p q r under over most =
-    states_down-same (has (downwards s.count s.hi ++ rest)) (λ _. true) f k n p q most
-    (λ m fits u v. inside-present f m s.count s.hi rest p r fits (omega arith) (omega arith))
-    ∙ received-states k n
+pub runs-received : (f k n : ℕ) (s : Stretch) (rest : List ℕ) → f < 2 ^ 48 → n < 2 ^ 48 → s.hi < 2 ^ 48 → distance f n ≤ distance f s.hi → distance f s.hi + k ≤ distance f n + s.count → k ≤ distance f n + 1
+    → states_down (set_states (has (downwards s.count s.hi ++ rest))) k n ≡ replicate k 0
+runs-received f k n s rest p q r under over most =
+    states_down-same (set_states (has (downwards s.count s.hi ++ rest))) (λ _. 0) f k n p q most
+    (λ m fits u v. ap state_told (inside-present f m s.count s.hi rest p r fits (omega arith) (omega arith)))
+    ∙ constant-states 0 k n
 
 -- the run that comes first, and what is left below it
-pub told-first : (f left n : ℕ) (s : Stretch) (ss : List Stretch) → f < 2 ^ 48 → n < 2 ^ 48 → AreLaid f (distance f s.hi + 1) (s ∷ ss) → left ≡ distance f n + 1
+pub runs-first : (f left n : ℕ) (s : Stretch) (ss : List Stretch) → f < 2 ^ 48 → n < 2 ^ 48 → AreLaid f (distance f s.hi + 1) (s ∷ ss) → left ≡ distance f n + 1
     → distance f s.hi + 1 - s.count < left
     → (m : ℕ) × (m < 2 ^ 48) × IsTop f (distance f s.hi + 1 - s.count) m
-    × (states_down (has (numbers_of (s ∷ ss))) left n
+    × (states_down (set_states (has (numbers_of (s ∷ ss)))) left n
     ≡ replicate (left - min (distance f s.hi + 1) left) 3 ++ (replicate (min (distance f s.hi + 1) left - (distance f s.hi + 1 - s.count)) 0
-    ++ states_down (has (numbers_of ss)) (distance f s.hi + 1 - s.count) m))
-told-first f left n s ss p q h e lt =
+    ++ states_down (set_states (has (numbers_of ss))) (distance f s.hi + 1 - s.count) m))
+runs-first f left n s ss p q h e lt =
     let some : 1 ≤ s.count = h.0.some in
     let above : s.count ≤ distance f s.hi + 1 = h.0.above in
     let fits : s.hi < 2 ^ 48 = h.0.fits in
-    let numbers : ℕ → Bool = has (numbers_of (s ∷ ss)) in
+    let numbers : ℕ → ℕ = set_states (has (numbers_of (s ∷ ss))) in
     let bottom : ℕ = distance f s.hi + 1 - s.count in
     let top : ℕ = min (distance f s.hi + 1) left in
     let a : ℕ = left - top in
@@ -168,11 +161,11 @@ told-first f left n s ss p q h e lt =
       | inl pos ↦ let d2 : distance f m2 + k ≡ distance f m1 = distance-back f m1 k p m1_fits (omega arith) in inl (omega arith)
       | inr none ↦ inr (omega arith)
     ] in
-    let missing : states_down numbers a n ≡ replicate a 3 = told-missing f a n s ss p q h (λ pos. omega arith) (omega arith) in
+    let missing : states_down numbers a n ≡ replicate a 3 = runs-missing f a n s ss p q h (λ pos. omega arith) (omega arith) in
     let received : states_down numbers k m1 ≡ replicate k 0 =
-    told-received f k m1 s (numbers_of ss) p m1_fits fits (omega arith) (omega arith) (omega arith) in
-    let third : states_down numbers bottom m2 ≡ states_down (has (numbers_of ss)) bottom m2 =
-    told-passed f bottom m2 s (numbers_of ss) p m2_fits fits above is_top (omega arith) in
+    runs-received f k m1 s (numbers_of ss) p m1_fits fits (omega arith) (omega arith) (omega arith) in
+    let third : states_down numbers bottom m2 ≡ states_down (set_states (has (numbers_of ss))) bottom m2 =
+    runs-passed f bottom m2 s (numbers_of ss) p m2_fits fits above is_top (omega arith) in
     let all : left ≡ a + (k + bottom) = omega arith in (
       m2,
       m2_fits,
@@ -182,20 +175,20 @@ told-first f left n s ss p q h e lt =
           ∙ ap (λ ys. replicate a 3 ++ ys) (two ∙ ap (λ xs. xs ++ states_down numbers bottom m2) received ∙ ap (λ ys. replicate k 0 ++ ys) third),
     )
 
-pub told-is : (f b left n : ℕ) (ss : List Stretch) → f < 2 ^ 48 → n < 2 ^ 48 → AreLaid f b ss → IsTop f left n
-    → told f left ss ≡ spelled (groups (states_down (has (numbers_of ss)) left n))
-told-is f b left n [] p q h top = told-nothing left n
-told-is f b left n (s ∷ ss) p q h top =
+pub runs-is : (f b left n : ℕ) (ss : List Stretch) → f < 2 ^ 48 → n < 2 ^ 48 → AreLaid f b ss → IsTop f left n
+    → bytes_by_runs f left ss ≡ spelled (groups (states_down (set_states (has (numbers_of ss))) left n))
+runs-is f b left n [] p q h top = runs-nothing left n
+runs-is f b left n (s ∷ ss) p q h top =
     elim (cases_lt (distance f s.hi + 1 - s.count) left) [
       | inl lt ↦
           let test : nat_lt (distance f s.hi + 1 - s.count) left ≡ true = lt-ltb (distance f s.hi + 1 - s.count) left lt in
-          let first = told-first f left n s ss p q (laid_below f b (distance f s.hi + 1) s ss (omega arith) h) (at_top f left n top (omega arith)) lt in
+          let first = runs-first f left n s ss p q (laid_below f b (distance f s.hi + 1) s ss (omega arith) h) (at_top f left n top (omega arith)) lt in
           let bottom : ℕ = distance f s.hi + 1 - s.count in
           let some : 1 ≤ s.count = h.0.some in
           let above : s.count ≤ distance f s.hi + 1 = h.0.above in
           let m : ℕ = first.0 in
-          let ih : told f bottom ss ≡ spelled (groups (states_down (has (numbers_of ss)) bottom m)) = told-is f (bound_below f s) bottom m ss p first.1 h.1 first.2 in
-          let rest : List ℕ = states_down (has (numbers_of ss)) bottom m in
+          let ih : bytes_by_runs f bottom ss ≡ spelled (groups (states_down (set_states (has (numbers_of ss))) bottom m)) = runs-is f (bound_below f s) bottom m ss p first.1 h.1 first.2 in
+          let rest : List ℕ = states_down (set_states (has (numbers_of ss))) bottom m in
           let begins : BeginsWithout 0 rest = begins-missing (has (numbers_of ss)) bottom m
           (λ pos. let here : bottom ≡ distance f m + 1 = at_top f bottom m first.2 pos in
           below-absent f (bound_below f s) m (numbers_of ss) (omega arith) (falling_numbers f (bound_below f s) ss p h.1)) in
@@ -206,50 +199,50 @@ told-is f b left n (s ∷ ss) p q h top =
           ∙ ap (λ ys. pieces 3 a ++ ys) (spelled-replicate 0 k rest begins ∙ ap (λ ys. pieces 0 k ++ ys) (sym ih))))
       | inr ge ↦
           let test : nat_lt (distance f s.hi + 1 - s.count) left ≡ false = le-ltb (distance f s.hi + 1 - s.count) left ge in
-          let ih : told f left ss ≡ spelled (groups (states_down (has (numbers_of ss)) left n)) = told-is f (bound_below f s) left n ss p q h.1 top in
-          let same = told-passed f left n s (numbers_of ss) p q h.0.fits h.0.above top ge in
+          let ih : bytes_by_runs f left ss ≡ spelled (groups (states_down (set_states (has (numbers_of ss))) left n)) = runs-is f (bound_below f s) left n ss p q h.1 top in
+          let same = runs-passed f left n s (numbers_of ss) p q h.0.fits h.0.above top ge in
           rw test (ih ∙ ap (λ xs. spelled (groups xs)) (sym same))
     ]
 
 -- one run more, by what is written for it
-pub told-cons : (f left : ℕ) (s : Stretch) (ss : List Stretch) → distance f s.hi + 1 - s.count < left
-    → told f left (s ∷ ss) ≡ pieces 3 (left - min (distance f s.hi + 1) left) ++ (pieces 0 (min (distance f s.hi + 1) left - (distance f s.hi + 1 - s.count)) ++ told f (distance f s.hi + 1 - s.count) ss)
-told-cons f left s ss lt =
+pub runs-cons : (f left : ℕ) (s : Stretch) (ss : List Stretch) → distance f s.hi + 1 - s.count < left
+    → bytes_by_runs f left (s ∷ ss) ≡ pieces 3 (left - min (distance f s.hi + 1) left) ++ (pieces 0 (min (distance f s.hi + 1) left - (distance f s.hi + 1 - s.count)) ++ bytes_by_runs f (distance f s.hi + 1 - s.count) ss)
+runs-cons f left s ss lt =
     let test : nat_lt (distance f s.hi + 1 - s.count) left ≡ true = lt-ltb (distance f s.hi + 1 - s.count) left lt in
     rw test refl
 
 pub step_joins : (f left top bottom cut : ℕ) (out new goal : List ℕ) (s : Stretch) (ss : List Stretch) → top ≡ distance f s.hi + 1 → bottom ≡ top - s.count → bottom < left → cut ≡ min top left
-    → new ≡ out ++ (pieces 3 (left - cut) ++ pieces 0 (cut - bottom)) → out ++ told f left (s ∷ ss) ≡ goal → new ++ told f bottom ss ≡ goal
+    → new ≡ out ++ (pieces 3 (left - cut) ++ pieces 0 (cut - bottom)) → out ++ bytes_by_runs f left (s ∷ ss) ≡ goal → new ++ bytes_by_runs f bottom ss ≡ goal
 step_joins f left top bottom cut out new goal s ss t b lt c n j =
     let bottom_is : bottom ≡ distance f s.hi + 1 - s.count = omega arith in
     let cut_is : cut ≡ min (distance f s.hi + 1) left = omega arith in
-    let parts = told-cons f left s ss (omega arith) in
+    let parts = runs-cons f left s ss (omega arith) in
     rw (n, cut_is, bottom_is)
     (append_assoc out _ _ ∙ ap (λ xs. out ++ xs) (append_assoc (pieces 3 (left - min (distance f s.hi + 1) left)) _ _ ∙ sym parts) ∙ j)
 
-pub step_cut : (f left top bottom cut : ℕ) (out new goal : List ℕ) (s : Stretch) (ss : List Stretch) → top ≡ distance f s.hi + 1 → bottom ≡ top - s.count → bottom < left → cut ≡ min top left
-    → new ≡ take 253 (out ++ (pieces 3 (left - cut) ++ pieces 0 (cut - bottom))) → 253 < length (out ++ (pieces 3 (left - cut) ++ pieces 0 (cut - bottom)))
-    → out ++ told f left (s ∷ ss) ≡ goal → (new ≡ take 253 goal) × (253 < length goal)
-step_cut f left top bottom cut out new goal s ss t b lt c n long j =
+pub step_cut : (room f left top bottom cut : ℕ) (out new goal : List ℕ) (s : Stretch) (ss : List Stretch) → top ≡ distance f s.hi + 1 → bottom ≡ top - s.count → bottom < left → cut ≡ min top left
+    → new ≡ take room (out ++ (pieces 3 (left - cut) ++ pieces 0 (cut - bottom))) → room < length (out ++ (pieces 3 (left - cut) ++ pieces 0 (cut - bottom)))
+    → out ++ bytes_by_runs f left (s ∷ ss) ≡ goal → (new ≡ take room goal) × (room < length goal)
+step_cut room f left top bottom cut out new goal s ss t b lt c n long j =
     let front : List ℕ = out ++ (pieces 3 (left - cut) ++ pieces 0 (cut - bottom)) in
-    let all : front ++ told f bottom ss ≡ goal = step_joins f left top bottom cut out front goal s ss t b lt c refl j in
-    let size : length (front ++ told f bottom ss) ≡ length front + length (told f bottom ss) = length-append front (told f bottom ss) in
-    let same : length (front ++ told f bottom ss) ≡ length goal = ap length all in
-    (n ∙ sym (take_cut front (told f bottom ss) long) ∙ ap (λ xs. take 253 xs) all, omega arith)
+    let all : front ++ bytes_by_runs f bottom ss ≡ goal = step_joins f left top bottom cut out front goal s ss t b lt c refl j in
+    let size : length (front ++ bytes_by_runs f bottom ss) ≡ length front + length (bytes_by_runs f bottom ss) = length-append front (bytes_by_runs f bottom ss) in
+    let same : length (front ++ bytes_by_runs f bottom ss) ≡ length goal = ap length all in
+    (n ∙ sym (take_cut room front (bytes_by_runs f bottom ss) long) ∙ ap (λ xs. take room xs) all, omega arith)
 
 pub step_passed : (f left top bottom : ℕ) (out goal : List ℕ) (s : Stretch) (ss : List Stretch) → top ≡ distance f s.hi + 1 → bottom ≡ top - s.count → left ≤ bottom
-    → out ++ told f left (s ∷ ss) ≡ goal → out ++ told f left ss ≡ goal
+    → out ++ bytes_by_runs f left (s ∷ ss) ≡ goal → out ++ bytes_by_runs f left ss ≡ goal
 step_passed f left top bottom out goal s ss t b ge j =
     let test : nat_lt (distance f s.hi + 1 - s.count) left ≡ false = le-ltb (distance f s.hi + 1 - s.count) left (omega arith) in
-    let same : told f left (s ∷ ss) ≡ told f left ss = rw test refl in
+    let same : bytes_by_runs f left (s ∷ ss) ≡ bytes_by_runs f left ss = rw test refl in
     ap (λ xs. out ++ xs) (sym same) ∙ j
 
 -- the bytes of a vector by the maximal runs of its set
-pub told-all_bytes : (set : MarkedSet) (ack : ℕ) → IsSound set → ack < 2 ^ 48 → distance set.floor ack < 2 ^ 47
-    → told set.floor (distance set.floor ack + 1) (stretches set.numbers) ≡ all_bytes (has set.numbers) set.floor ack
-told-all_bytes set ack s q h =
+pub bytes_by_runs-all : (set : MarkedSet) (ack : ℕ) → IsSound set → ack < 2 ^ 48 → distance set.floor ack < 2 ^ 47
+    → bytes_by_runs set.floor (distance set.floor ack + 1) (stretches set.numbers) ≡ all_bytes (set_states (has set.numbers)) set.floor ack
+bytes_by_runs-all set ack s q h =
     let both = laid-stretches set.floor 2048 set.numbers s.floor_fits (omega arith) s.falling in
     let near : is_from set.floor ack ≡ true = lt-ltb (distance set.floor ack) (2 ^ 47) h in
     rw near
-    (told-is set.floor 2048 (distance set.floor ack + 1) ack (stretches set.numbers) s.floor_fits q both.0 (inl refl)
-    ∙ ap (λ ns. spelled (groups (states_down (has ns) (distance set.floor ack + 1) ack))) both.1)
+    (runs-is set.floor 2048 (distance set.floor ack + 1) ack (stretches set.numbers) s.floor_fits q both.0 (inl refl)
+    ∙ ap (λ ns. spelled (groups (states_down (set_states (has ns)) (distance set.floor ack + 1) ack))) both.1)

@@ -1,3 +1,5 @@
+pub mod ByRuns
 pub mod Pieces
-pub mod Told
 pub mod ReadBack
+pub mod Records
+pub mod Telling

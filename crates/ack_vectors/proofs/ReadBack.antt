@@ -1,20 +1,17 @@
 -- What is written is read.
-use Rattle.std.proofs.Common.{◌≡◌, ℕ, ◌+◌, ◌-◌, ◌/◌, ◌%◌, ◌^◌, ◌<◌, ◌≤◌, ◌==◌, ◌||◌, Bool, true, false, List, [], ◌∷◌, ◌++◌, zero, suc, refl, ap, arith, sym, ◌∙◌, length, drop, min, append_assoc, length-append, length-drop, add-one, inl, inr, if◌then◌else◌, nat_lt, Option, Some, None}
-use Rattle.std.specs.Prelude.{replicate, slice_get, is_some, IsTrue, ◌↔◌}
-use Rattle.std.specs.List.{list_any}
-use Rattle.std.proofs.lemmas.Bool.{cases_lt, cases_eq, cases_Bool, lt-ltb, le-ltb, eq-eqb, ne_eqb, le-leb, leb-true, or_right}
+use Rattle.std.proofs.Common.{◌≡◌, ℕ, ◌+◌, ◌-◌, ◌/◌, ◌%◌, ◌^◌, ◌<◌, ◌≤◌, ◌==◌, Bool, true, false, List, [], ◌∷◌, ◌++◌, zero, suc, refl, ap, arith, sym, ◌∙◌, length, take, drop, min, nat_le, append_assoc, length-append, length-drop, add-one, inl, inr, if◌then◌else◌, nat_lt, Some, None}
+use Rattle.std.specs.Prelude.{replicate, slice_get, IsTrue, ◌↔◌}
+use Rattle.std.proofs.lemmas.Bool.{cases_lt, cases_eq, cases_Bool, lt-ltb, le-ltb, eq-eqb, ne_eqb, le-leb, leb-true, ltb-true}
 use Rattle.std.proofs.lemmas.List.{take-append-drop, take_all, length-replicate, replicate-append-replicate}
 use Rattle.std.proofs.lemmas.Option.{slice_get_past}
 use Rattle.seq_circle.specs.Circle.{residue, distance}
-use Rattle.run_list.specs.MarkedSet.{is_from}
-use Rattle.run_list.proofs.Steps.{down, down_fits}
+use Rattle.run_list.specs.MarkedSet.{is_from, IsFrom}
+use Rattle.run_list.proofs.StretchFacts.{down, down_fits}
 use Rattle.dccp_options.specs.Vectors.{states, state_at, state_of, run_length}
 use Rattle.dccp_options.proofs.States.{states-append}
-use Rattle.ack_vectors.specs.Vector.{state_told, states_down, states_between, numbers_between, Group, grouped_with, groups, piece, pieces, spelled, all_bytes, vector, is_whole, numbers_told}
-use Rattle.ack_vectors.specs.Kept.{is_whole_at, newest_from}
-use Rattle.ack_vectors.specs.declared.received.Record.{Record}
+use Rattle.ack_vectors.specs.Vector.{state_told, set_states, states_down, states_between, numbers_between, Group, grouped_with, groups, piece, pieces, spelled, all_bytes, vector_within, is_whole_within, numbers_told_within}
 use Rattle.ack_vectors.proofs.Pieces.{pieces-step}
-use Rattle.ack_vectors.proofs.Told.{states_down-same}
+use Rattle.ack_vectors.proofs.ByRuns.{states_down-same}
 
 -- one piece
 pub state_of-piece : (s c : ℕ) → (s == 2) ≡ false → 1 ≤ c → c ≤ 64 → state_of (piece s c) ≡ s
@@ -76,21 +73,28 @@ pub plain-told : (b : Bool) → (state_told b == 2) ≡ false
 plain-told true = refl
 plain-told false = refl
 
-pub plain-states_down : (p : ℕ → Bool) (count n : ℕ) → ArePlain (states_down p count n)
-plain-states_down p zero n = tt
-plain-states_down p (suc count) n = (plain-told (p n), plain-states_down p count (down n))
+-- no state is the reserved one
+abbrev pub AllPlain : (ℕ → ℕ) → Type 0
+AllPlain state = (n : ℕ) → (state n == 2) ≡ false
 
-pub states-all_bytes : (p : ℕ → Bool) (floor ack : ℕ) → states (all_bytes p floor ack) ≡ states_between p floor ack
-states-all_bytes p floor ack = states-spelled (states_between p floor ack) (plain-states_down p (numbers_between floor ack) ack)
+pub plain-set : (has : ℕ → Bool) → AllPlain (set_states has)
+plain-set has n = plain-told (has n)
 
-pub length-states_down : (p : ℕ → Bool) (count n : ℕ) → length (states_down p count n) ≡ count
+pub plain-states_down : (p : ℕ → ℕ) (count n : ℕ) → AllPlain p → ArePlain (states_down p count n)
+plain-states_down p zero n h = tt
+plain-states_down p (suc count) n h = (h n, plain-states_down p count (down n) h)
+
+pub states-all_bytes : (p : ℕ → ℕ) (floor ack : ℕ) → AllPlain p → states (all_bytes p floor ack) ≡ states_between p floor ack
+states-all_bytes p floor ack h = states-spelled (states_between p floor ack) (plain-states_down p (numbers_between floor ack) ack h)
+
+pub length-states_down : (p : ℕ → ℕ) (count n : ℕ) → length (states_down p count n) ≡ count
 length-states_down p zero n = refl
 length-states_down p (suc count) n = ap suc (length-states_down p count (down n))
 
 -- the state at a place is that of the number so far down
-pub slice_get-states_down : (p : ℕ → Bool) (count n i m : ℕ) → n < 2 ^ 48 → m < 2 ^ 48 → i < count → residue (m + i) ≡ n → slice_get (states_down p count n) i ≡ Some (state_told (p m))
+pub slice_get-states_down : (p : ℕ → ℕ) (count n i m : ℕ) → n < 2 ^ 48 → m < 2 ^ 48 → i < count → residue (m + i) ≡ n → slice_get (states_down p count n) i ≡ Some (p m)
 slice_get-states_down p zero n i m a b h e = absurd (omega arith)
-slice_get-states_down p (suc count) n zero m a b h e = let same : n ≡ m = omega arith in ap (λ k. Some (state_told (p k))) same
+slice_get-states_down p (suc count) n zero m a b h e = let same : n ≡ m = omega arith in ap (λ k. Some (p k)) same
 slice_get-states_down p (suc count) n (suc i) m a b h e = slice_get-states_down p count (down n) i m (down_fits n) b (omega arith) (omega arith)
 
 pub slice_get-front : (front behind : List ℕ) (i : ℕ) → i < length front → slice_get (front ++ behind) i ≡ slice_get front i
@@ -99,36 +103,41 @@ slice_get-front (x ∷ xs) behind zero h = refl
 slice_get-front (x ∷ xs) behind (suc i) h = slice_get-front xs behind i (omega arith)
 
 -- what the vector tells, and what was cut
-pub told_and_cut : (p : ℕ → Bool) (floor ack : ℕ) → states_between p floor ack ≡ states (vector p floor ack) ++ states (drop 253 (all_bytes p floor ack))
-told_and_cut p floor ack =
-    sym (states-all_bytes p floor ack) ∙ ap states (sym (take-append-drop 253 (all_bytes p floor ack)))
-    ∙ states-append (vector p floor ack) (drop 253 (all_bytes p floor ack))
+pub told_and_cut : (room : ℕ) (p : ℕ → ℕ) (floor ack : ℕ) → AllPlain p
+    → states_between p floor ack ≡ states (vector_within room p floor ack) ++ states (drop room (all_bytes p floor ack))
+told_and_cut room p floor ack h =
+    sym (states-all_bytes p floor ack h) ∙ ap states (sym (take-append-drop room (all_bytes p floor ack)))
+    ∙ states-append (vector_within room p floor ack) (drop room (all_bytes p floor ack))
 
-pub told_lengths : (p : ℕ → Bool) (floor ack : ℕ) → numbers_told p floor ack + length (states (drop 253 (all_bytes p floor ack))) ≡ numbers_between floor ack
-told_lengths p floor ack =
-    sym (length-append (states (vector p floor ack)) (states (drop 253 (all_bytes p floor ack))))
-    ∙ ap length (sym (told_and_cut p floor ack)) ∙ length-states_down p (numbers_between floor ack) ack
+pub told_lengths : (room : ℕ) (p : ℕ → ℕ) (floor ack : ℕ) → AllPlain p
+    → numbers_told_within room p floor ack + length (states (drop room (all_bytes p floor ack))) ≡ numbers_between floor ack
+told_lengths room p floor ack h =
+    sym (length-append (states (vector_within room p floor ack)) (states (drop room (all_bytes p floor ack))))
+    ∙ ap length (sym (told_and_cut room p floor ack h)) ∙ length-states_down p (numbers_between floor ack) ack
 
-pub read_back : (p : ℕ → Bool) (floor ack n : ℕ) → floor < 2 ^ 48 → ack < 2 ^ 48 → n < 2 ^ 48
-    → state_at ack (vector p floor ack) n ≡ (if nat_lt (distance n ack) (numbers_told p floor ack) then Some (state_told (p n)) else None)
-read_back p floor ack n a b d =
-    elim (cases_lt (distance n ack) (numbers_told p floor ack)) [
+pub read_back : (room : ℕ) (p : ℕ → ℕ) (floor ack n : ℕ) → AllPlain p → ack < 2 ^ 48 → n < 2 ^ 48
+    → state_at ack (vector_within room p floor ack) n ≡ (if nat_lt (distance n ack) (numbers_told_within room p floor ack) then Some (p n) else None)
+read_back room p floor ack n h b d =
+    elim (cases_lt (distance n ack) (numbers_told_within room p floor ack)) [
       | inl within ↦
-          let lengths : numbers_told p floor ack + length (states (drop 253 (all_bytes p floor ack))) ≡ numbers_between floor ack = told_lengths p floor ack in
+          let front : List ℕ = states (vector_within room p floor ack) in
+          let behind : List ℕ = states (drop room (all_bytes p floor ack)) in
+          let lengths : numbers_told_within room p floor ack + length behind ≡ numbers_between floor ack = told_lengths room p floor ack h in
           let short : distance n ack < numbers_between floor ack = omega arith in
-          rw (lt-ltb (distance n ack) (numbers_told p floor ack) within)
-          (sym (slice_get-front (states (vector p floor ack)) (states (drop 253 (all_bytes p floor ack))) (distance n ack) within)
-          ∙ ap (λ xs. slice_get xs (distance n ack)) (sym (told_and_cut p floor ack))
+          rw (lt-ltb (distance n ack) (numbers_told_within room p floor ack) within)
+          (sym (slice_get-front front behind (distance n ack) within)
+          ∙ ap (λ xs. slice_get xs (distance n ack)) (sym (told_and_cut room p floor ack h))
           ∙ slice_get-states_down p (numbers_between floor ack) ack (distance n ack) n b d short (way_up n ack d b))
       | inr past ↦
-          rw (le-ltb (distance n ack) (numbers_told p floor ack) past) (slice_get_past (states (vector p floor ack)) (distance n ack) past)
+          rw (le-ltb (distance n ack) (numbers_told_within room p floor ack) past)
+          (slice_get_past (states (vector_within room p floor ack)) (distance n ack) past)
     ]
   where
     way_up : (n ack : ℕ) → n < 2 ^ 48 → ack < 2 ^ 48 → residue (n + distance n ack) ≡ ack
     way_up n ack d b = omega arith
 
-pub reach_at_most : (p : ℕ → Bool) (floor ack : ℕ) → numbers_told p floor ack ≤ numbers_between floor ack
-reach_at_most p floor ack = let lengths = told_lengths p floor ack in omega arith
+pub reach_at_most : (room : ℕ) (p : ℕ → ℕ) (floor ack : ℕ) → AllPlain p → numbers_told_within room p floor ack ≤ numbers_between floor ack
+reach_at_most room p floor ack h = let lengths = told_lengths room p floor ack h in omega arith
 
 -- each byte tells of a number
 pub states-long : (bytes : List ℕ) → length bytes ≤ length (states bytes)
@@ -140,35 +149,34 @@ states-long (b ∷ bs) =
     let run : length (replicate (run_length b) (state_of b)) ≡ b % 64 + 1 = length-replicate (run_length b) (state_of b) in
     omega arith
 
-pub whole_reaches : (p : ℕ → Bool) (floor ack : ℕ) → IsTrue (is_whole p floor ack) ↔ (numbers_told p floor ack ≡ numbers_between floor ack)
-whole_reaches p floor ack =
+pub whole_reaches : (room : ℕ) (p : ℕ → ℕ) (floor ack : ℕ) → AllPlain p
+    → IsTrue (is_whole_within room p floor ack) ↔ (numbers_told_within room p floor ack ≡ numbers_between floor ack)
+whole_reaches room p floor ack plain =
     let bytes : List ℕ = all_bytes p floor ack in
-    let lengths : numbers_told p floor ack + length (states (drop 253 bytes)) ≡ numbers_between floor ack = told_lengths p floor ack in
-    let cut : length (drop 253 bytes) ≤ length (states (drop 253 bytes)) = states-long (drop 253 bytes) in
-    let size : length (drop 253 bytes) ≡ length bytes - 253 = length-drop 253 bytes in (
-      λ h. let fits : length bytes ≤ 253 = leb-true (length bytes) 253 h in
-          ap (λ xs. length (states xs)) (take_all 253 bytes fits) ∙ ap length (states-all_bytes p floor ack) ∙ length-states_down p (numbers_between floor ack) ack,
-      λ e. le-leb (length bytes) 253 (omega arith),
+    let lengths : numbers_told_within room p floor ack + length (states (drop room bytes)) ≡ numbers_between floor ack = told_lengths room p floor ack plain in
+    let cut : length (drop room bytes) ≤ length (states (drop room bytes)) = states-long (drop room bytes) in
+    let size : length (drop room bytes) ≡ length bytes - room = length-drop room bytes in (
+      λ h. let fits : length bytes ≤ room = leb-true (length bytes) room h in
+          ap (λ xs. length (states xs)) (take_all room bytes fits) ∙ ap length (states-all_bytes p floor ack plain) ∙ length-states_down p (numbers_between floor ack) ack,
+      λ e. le-leb (length bytes) room (omega arith),
     )
 
 -- a vector looks at nothing but the numbers between
-pub states_between-same : (one other : ℕ → Bool) (floor ack : ℕ) → floor < 2 ^ 48 → ack < 2 ^ 48
-    → ((n : ℕ) → n < 2 ^ 48 → distance floor n ≤ distance floor ack → one n ≡ other n) → states_between one floor ack ≡ states_between other floor ack
+pub states_between-same : (one other : ℕ → ℕ) (floor ack : ℕ) → floor < 2 ^ 48 → ack < 2 ^ 48
+    → ((n : ℕ) → n < 2 ^ 48 → IsFrom floor n → distance floor n ≤ distance floor ack → one n ≡ other n) → states_between one floor ack ≡ states_between other floor ack
 states_between-same one other floor ack a b h =
     elim (cases_Bool (is_from floor ack)) [
-      | inl ahead ↦ rw ahead (states_down-same one other floor (distance floor ack + 1) ack a b (omega arith) (λ m fits u v. h m fits u))
+      | inl ahead ↦
+          let near : distance floor ack < 2 ^ 47 = ltb-true (distance floor ack) (2 ^ 47) ahead in
+          rw ahead (states_down-same one other floor (distance floor ack + 1) ack a b (omega arith) (λ m fits u v. h m fits (omega arith) u))
       | inr below ↦ rw below refl
     ]
 
--- the newest record of a whole vector, and that there is one
-pub newest_from-last : (n : ℕ) (found : Option Record) (rs : List Record) (r : Record) → newest_from n found (rs ++ r ∷ []) ≡ (if is_whole_at n r then Some r else newest_from n found rs)
-newest_from-last n found [] r = refl
-newest_from-last n found (q ∷ rs) r = newest_from-last n (if is_whole_at n q then Some q else found) rs r
-
-pub newest_from-some : (n : ℕ) (found : Option Record) (rs : List Record) → is_some (newest_from n found rs) ≡ is_some found || list_any (is_whole_at n) rs
-newest_from-some n found [] = elim (is_some found) as (λ b. b ≡ b || false) [ true ↦ refl | false ↦ refl ]
-newest_from-some n found (r ∷ rs) =
-    elim (cases_Bool (is_whole_at n r)) [
-      | inl fits ↦ rw fits (newest_from-some n (Some r) rs ∙ sym (or_right (is_some found) true refl))
-      | inr other ↦ rw other (newest_from-some n found rs)
-    ]
+pub vector-same : (room : ℕ) (one other : ℕ → ℕ) (floor ack : ℕ) → floor < 2 ^ 48 → ack < 2 ^ 48
+    → ((n : ℕ) → n < 2 ^ 48 → IsFrom floor n → distance floor n ≤ distance floor ack → one n ≡ other n)
+    → (vector_within room one floor ack ≡ vector_within room other floor ack) × (is_whole_within room one floor ack ≡ is_whole_within room other floor ack)
+vector-same room one other floor ack a b h =
+    let same = states_between-same one other floor ack a b h in (
+      ap (λ ss. take room (spelled (groups ss))) same,
+      ap (λ ss. nat_le (length (spelled (groups ss))) room) same,
+    )

@@ -5,11 +5,11 @@ use Rattle.run_list.specs.declared.walking.Stretch.{Stretch}
 use Rattle.ack_vectors.specs.Vector.{pieces}
 
 -- the bytes of so many numbers from the floor up, where these runs are still to come
-abbrev pub told : ℕ → ℕ → List Stretch → List ℕ
-told floor left [] = pieces 3 left
-told floor left (s ∷ ss) =
+abbrev pub bytes_by_runs : ℕ → ℕ → List Stretch → List ℕ
+bytes_by_runs floor left [] = pieces 3 left
+bytes_by_runs floor left (s ∷ ss) =
     let top = distance floor s.hi + 1 in
     let bottom = top - s.count in
     if nat_lt bottom left
-    then pieces 3 (left - min top left) ++ (pieces 0 (min top left - bottom) ++ told floor bottom ss)
-    else told floor left ss
+    then pieces 3 (left - min top left) ++ (pieces 0 (min top left - bottom) ++ bytes_by_runs floor bottom ss)
+    else bytes_by_runs floor left ss

@@ -1,3 +1,3 @@
+pub mod ByRuns
 pub mod Kept
-pub mod Told
 pub mod Vector

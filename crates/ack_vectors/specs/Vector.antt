@@ -1,7 +1,6 @@
--- The Ack Vector of a set of numbers, a floor and an acknowledgement (RFC 4340, section 11.4).
-use Rattle.std.specs.Prelude.{ℕ, ◌+◌, ◌-◌, ◌*◌, ◌/◌, ◌%◌, ◌^◌, ◌==◌, nat_le, Bool, true, false, List, [], ◌∷◌, ◌++◌, zero, suc, length, take, replicate, if◌then◌else◌}
-use Rattle.seq_circle.specs.Circle.{residue, distance}
-use Rattle.run_list.specs.MarkedSet.{is_from}
+-- The Ack Vector of numbers with states, a floor and an acknowledgement (RFC 4340, section 11.4).
+use Rattle.std.specs.Prelude.{ℕ, ◌+◌, ◌-◌, ◌*◌, ◌/◌, ◌%◌, ◌==◌, nat_le, Bool, true, false, List, [], ◌∷◌, ◌++◌, zero, suc, length, take, replicate, if◌then◌else◌}
+use Rattle.seq_circle.specs.Circle.{distance, down, is_from}
 use Rattle.dccp_options.specs.Vectors.{states}
 
 -- the state of a number: 0 received, 3 not yet received (RFC 4340, section 11.4)
@@ -9,18 +8,22 @@ abbrev pub state_told : Bool → ℕ
 state_told true = 0
 state_told false = 3
 
+-- what a set tells of each number
+abbrev pub set_states : (ℕ → Bool) → ℕ → ℕ
+set_states has n = state_told (has n)
+
 -- the states of so many numbers, from one down
-abbrev pub states_down : (ℕ → Bool) → ℕ → ℕ → List ℕ
-states_down has zero n = []
-states_down has (suc count) n = state_told (has n) ∷ states_down has count (residue (n + (2 ^ 48 - 1)))
+abbrev pub states_down : (ℕ → ℕ) → ℕ → ℕ → List ℕ
+states_down state zero n = []
+states_down state (suc count) n = state n ∷ states_down state count (down n 1)
 
 -- how many numbers there are from an acknowledgement down to the floor, both counted; none where it is below the floor
 abbrev pub numbers_between : ℕ → ℕ → ℕ
 numbers_between floor ack = if is_from floor ack then distance floor ack + 1 else 0
 
 -- the states that a vector is to tell
-abbrev pub states_between : (ℕ → Bool) → ℕ → ℕ → List ℕ
-states_between has floor ack = states_down has (numbers_between floor ack) ack
+abbrev pub states_between : (ℕ → ℕ) → ℕ → ℕ → List ℕ
+states_between state floor ack = states_down state (numbers_between floor ack) ack
 
 -- a maximal run of one state
 pub record Group : Type 0 where
@@ -59,17 +62,31 @@ spelled [] = []
 spelled (g ∷ gs) = pieces g.state g.count ++ spelled gs
 
 -- the bytes of states, however many
-abbrev pub all_bytes : (ℕ → Bool) → ℕ → ℕ → List ℕ
-all_bytes has floor ack = spelled (groups (states_between has floor ack))
+abbrev pub all_bytes : (ℕ → ℕ) → ℕ → ℕ → List ℕ
+all_bytes state floor ack = spelled (groups (states_between state floor ack))
 
--- the vector: the first 253 of these bytes, as many as an option has room for (RFC 4340, section 5.8)
-abbrev pub vector : (ℕ → Bool) → ℕ → ℕ → List ℕ
-vector has floor ack = take 253 (all_bytes has floor ack)
+-- the vector that so many bytes have room for: the first of these bytes
+abbrev pub vector_within : ℕ → (ℕ → ℕ) → ℕ → ℕ → List ℕ
+vector_within room state floor ack = take room (all_bytes state floor ack)
 
 -- it is whole where there are no more
-abbrev pub is_whole : (ℕ → Bool) → ℕ → ℕ → Bool
-is_whole has floor ack = nat_le (length (all_bytes has floor ack)) 253
+abbrev pub is_whole_within : ℕ → (ℕ → ℕ) → ℕ → ℕ → Bool
+is_whole_within room state floor ack = nat_le (length (all_bytes state floor ack)) room
 
 -- how many numbers its bytes reach, from the acknowledgement down
+abbrev pub numbers_told_within : ℕ → (ℕ → ℕ) → ℕ → ℕ → ℕ
+numbers_told_within room state floor ack = length (states (vector_within room state floor ack))
+
+-- the bytes of data that one option has room for (RFC 4340, section 5.8)
+abbrev pub option_room : ℕ
+option_room = 253
+
+-- the vector of a set of numbers in one option, whether it is whole, and how many numbers it reaches
+abbrev pub vector : (ℕ → Bool) → ℕ → ℕ → List ℕ
+vector has floor ack = vector_within option_room (set_states has) floor ack
+
+abbrev pub is_whole : (ℕ → Bool) → ℕ → ℕ → Bool
+is_whole has floor ack = is_whole_within option_room (set_states has) floor ack
+
 abbrev pub numbers_told : (ℕ → Bool) → ℕ → ℕ → ℕ
-numbers_told has floor ack = length (states (vector has floor ack))
+numbers_told has floor ack = numbers_told_within option_room (set_states has) floor ack

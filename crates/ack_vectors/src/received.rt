@@ -14,28 +14,32 @@ use seq_circle::{NoMemory, Seq48};
 use std::alloc::Global;
 use std::marker::Model;
 
-// Half the circle: an acknowledgement that far ahead of the floor, or farther, lies below it.
-const HALF: u64 = 1 << 47;
-
 // How many records are kept (own).
 const RECORDS: usize = 64;
 
-/// The bytes of one Ack Vector: an option has room for 253 (RFC 4340, section 5.8).
-pub type VectorBytes = ArrayVec<u8, 253>;
+// The bytes of data that one option has room for (RFC 4340, section 5.8).
+const OPTION_ROOM: usize = 253;
 
-/// A sent packet with an Ack Vector: its number, the number that it acknowledged, and whether its vector was whole (own).
-#[derive(Clone, Copy, Debug)]
-pub(crate) struct Record {
-    number: Seq48,
-    ack: Seq48,
-    whole: bool,
+/// The bytes of one Ack Vector: an option has room for 253 (RFC 4340, section 5.8).
+pub type VectorBytes = ArrayVec<u8, OPTION_ROOM>;
+
+/// A sent packet with an Ack Vector, as it is remembered (own). No call gives one out; contracts speak of them.
+#[derive(Clone, Copy, Debug, PartialEq, Eq)]
+pub struct Record {
+    /// The packet's number.
+    pub number: Seq48,
+    /// The number that it acknowledged.
+    pub ack: Seq48,
+    /// Whether its vector was whole: reached down to the floor.
+    pub whole: bool,
 }
 
 /// The numbers that an end has received, down to a floor, and the records of the last 64 Ack Vectors that it sent.
 /// Contracts see the set with its floor and the records from the oldest on.
 ///
 /// `start` begins a connection, `took` marks a packet, `write` writes the vector of an acknowledgement and `sent` records
-/// it, and `peer_acked` raises the floor when the peer acknowledges one that was whole. No call after `new` takes memory.
+/// it, and `peer_acked` raises the floor when an Ack or DataAck of the peer acknowledges one that was whole. No call after
+/// `new` takes memory.
 #[derive(Drop)]
 pub struct Received {
     set: RunList,
@@ -114,11 +118,11 @@ impl Received {
     {
         out.clear();
         let floor = self.set.floor();
-        let ahead = floor.distance(ack);
-        if ahead >= HALF {
+        if !ack.is_from(floor) {
             return true;
         }
-        put_runs(out, self.set.walk(), floor, ahead + 1)
+        let count = floor.distance(ack) + 1;
+        put_runs(out, OPTION_ROOM, self.set.walk(), floor, count)
     }
 
     /// Records a sent packet by its number, the number that it acknowledged and whether its vector was whole. The oldest
@@ -129,8 +133,13 @@ impl Received {
         self.records.push_back(Record { number, ack, whole });
     }
 
-    /// Tells whether a whole vector was recorded under the number `n`, which the peer acknowledged. The floor then rises
-    /// to the number behind the acknowledgement of the newest such record, where it is before that.
+    /// Tells whether a whole vector was recorded under the number `n`, which the peer acknowledged by an Ack or a DataAck.
+    /// The floor then rises to the number behind the acknowledgement of the newest such record, where it is before that.
+    ///
+    /// It is to be called for the acknowledgements of these two types alone. They acknowledge the greatest number that the
+    /// peer received, and where that was an Ack or DataAck, the peer has processed it, and so was told. A Sync acknowledges
+    /// the packet that it answers, which its sender may have passed over; the floor would then rise over numbers that the
+    /// peer was never told of.
     pub fn peer_acked(&mut self, n: Seq48) -> bool
         ensures kept { self.new ≡ acked self.old n }
         ensures answer { result ≡ is_some (newest_whole n self.old.records) }

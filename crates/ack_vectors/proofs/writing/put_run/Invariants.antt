@@ -4,7 +4,7 @@ use Rattle.ack_vectors.proofs.writing.put_run.Given as goal
 
 abbrev pub invariant-loop-left : goal.invariant-loop-left
 invariant-loop-left l = record {
-  fits : length l.out.items ≤ 253;
+  fits : length l.out.items ≤ l.room;
   joins : l.out.items ++ pieces l.state l.left ≡ l.fn.out.items ++ pieces l.state l.fn.count;
 }
 

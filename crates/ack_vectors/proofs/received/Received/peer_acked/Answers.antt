@@ -1,6 +1,6 @@
 use Rattle.std.proofs.Common.{◌∙◌, ap, None}
 use Rattle.std.specs.Prelude.{is_some}
-use Rattle.ack_vectors.proofs.ReadBack.{newest_from-some}
+use Rattle.ack_vectors.proofs.Records.{newest_from-some}
 use Rattle.ack_vectors.proofs.received.Received.peer_acked.Goals as goal
 
 pub returns-in_default-clause-cause : goal.returns-in_default-clause-cause

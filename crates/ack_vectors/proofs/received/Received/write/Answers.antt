@@ -1,7 +1,9 @@
-use Rattle.std.proofs.Common.{◌<◌, ◌^◌, ◌∙◌, ap, length, take, nat_le, arith, rules}
+use Rattle.std.proofs.Common.{◌≡◌, ◌+◌, ◌<◌, ◌^◌, ◌∙◌, ap, sym, length, take, nat_le, arith, rules}
+use Rattle.std.proofs.lemmas.Bool.{ltb-true}
 use Rattle.seq_circle.specs.Circle.{distance}
-use Rattle.run_list.proofs.Found.{laid-stretches}
-use Rattle.ack_vectors.proofs.Told.{told-all_bytes}
+use Rattle.run_list.proofs.StretchFacts.{laid-stretches}
+use Rattle.ack_vectors.specs.ByRuns.{bytes_by_runs}
+use Rattle.ack_vectors.proofs.ByRuns.{bytes_by_runs-all}
 use Rattle.ack_vectors.proofs.received.Received.write.Goals as goal
 
 pub put_runs-requires-clause-laid : goal.put_runs-requires-clause-laid
@@ -14,16 +16,24 @@ pub returns-clause-bytes : goal.returns-clause-bytes
 returns-clause-bytes c =
     let sound = c.floor-floor.ensures.sound in
     let ack : c.args.ack < 2 ^ 48 = search rules in
-    let near : distance c.self.inside.set.floor c.args.ack < 2 ^ 47 = rw c.floor-floor.ensures.value at (rw c.distance-ahead.ensures.value at c.if-ahead-ge-HALF.false) in
+    let near : distance c.self.inside.set.floor c.args.ack < 2 ^ 47 =
+    rw c.floor-floor.ensures.value at (ltb-true (distance c.floor-floor.result c.args.ack) (2 ^ 47) (sym c.if-not-is_from.ensures.value)) in
+    let floor : c.floor-floor.result ≡ c.self.inside.set.floor = c.floor-floor.ensures.value in
+    let count : c.distance-count.result ≡ distance c.self.inside.set.floor c.args.ack =
+    c.distance-count.ensures.value ∙ ap (λ f. distance f c.args.ack) floor in
     rw (← c.self.view_is)
-    (rw (c.distance-ahead.ensures.value, c.floor-floor.ensures.value, c.walk.ensures) at c.put_runs.ensures.bytes
-    ∙ ap (λ xs. take 253 xs) (told-all_bytes c.self.inside.set c.args.ack sound ack near))
+    (c.put_runs.ensures.bytes
+    ∙ ap (λ f. take 253 (bytes_by_runs f (c.distance-count.result + 1) c.walk.result)) floor
+    ∙ ap (λ d. take 253 (bytes_by_runs c.self.inside.set.floor (d + 1) c.walk.result)) count
+    ∙ ap (λ runs. take 253 (bytes_by_runs c.self.inside.set.floor (distance c.self.inside.set.floor c.args.ack + 1) runs)) c.walk.ensures
+    ∙ ap (λ xs. take 253 xs) (bytes_by_runs-all c.self.inside.set c.args.ack sound ack near))
 
 pub returns-clause-whole : goal.returns-clause-whole
 returns-clause-whole c =
     let sound = c.floor-floor.ensures.sound in
     let ack : c.args.ack < 2 ^ 48 = search rules in
-    let near : distance c.self.inside.set.floor c.args.ack < 2 ^ 47 = rw c.floor-floor.ensures.value at (rw c.distance-ahead.ensures.value at c.if-ahead-ge-HALF.false) in
+    let near : distance c.self.inside.set.floor c.args.ack < 2 ^ 47 =
+    rw c.floor-floor.ensures.value at (ltb-true (distance c.floor-floor.result c.args.ack) (2 ^ 47) (sym c.if-not-is_from.ensures.value)) in
     rw (← c.self.view_is)
-    (rw (c.distance-ahead.ensures.value, c.floor-floor.ensures.value, c.walk.ensures) at c.put_runs.ensures.whole
-    ∙ ap (λ xs. nat_le (length xs) 253) (told-all_bytes c.self.inside.set c.args.ack sound ack near))
+    (rw (c.distance-count.ensures.value, c.floor-floor.ensures.value, c.walk.ensures) at c.put_runs.ensures.whole
+    ∙ ap (λ xs. nat_le (length xs) 253) (bytes_by_runs-all c.self.inside.set c.args.ack sound ack near))
