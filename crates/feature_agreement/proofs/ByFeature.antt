@@ -10,9 +10,13 @@ use Rattle.feature_machine.specs.declared.stands.Role2.{Role2}
 use Rattle.feature_machine.specs.declared.stands.Role2.TheVariants as end
 use Rattle.feature_machine.specs.Sound.{IsSameRow}
 use Rattle.feature_agreement.specs.View.{Carried, Side}
-use Rattle.feature_agreement.specs.Moves.{Moves, IsReachable, negotiable}
+use Rattle.feature_agreement.specs.Moves.{Moves, Pair, Reached, IsReachable, fresh, swapped, negotiable}
 use Rattle.feature_agreement.specs.Rows.{RowMoves, pair_by, pair_of, row_pair, rule_at, opens_at, location_of, opposite}
 use Rattle.feature_agreement.specs.EachFeature.{agree_by, given_by, AgreesOn, IsGivenFor}
+use Rattle.feature_agreement.specs.Moves.Reached.{Starts}
+use Rattle.feature_agreement.proofs.Values.{reached_given}
+use Rattle.feature_agreement.proofs.Reaching.{reached_agree, server_reaches, client_reaches}
+use Rattle.feature_agreement.proofs.Located.{server_agree, server_given, client_agree, client_given}
 use Rattle.feature_agreement.proofs.Reachable.{reachable_agree, reachable_given, reachable_agree_at_server, reachable_agree_at_client, reachable_given_at_server, reachable_given_at_client, reachable_after_server, reachable_after_client}
 
 agree_by_kind : (priority : Bool) (initial : ℕ) (location : Role2) (server client : Side)
@@ -49,20 +53,64 @@ pub same_moves : (old new : Row) (there : List Carried) (before after : Side) �
     → RowMoves old there before after
 same_moves old new there before after same moves = rw (same.role, same.feature, same.place) at moves
 
+-- the same of what was reached by moves that are at hand
+agree_of_kind : (priority : Bool) (initial : ℕ) (location : Role2) (server client : Side)
+    → Reached (pair_by priority initial location) server client → agree_by priority location server client
+agree_of_kind true initial location server client = reached_agree (negotiable initial reconciled) server client
+agree_of_kind false initial end.Server server client = server_agree initial server client
+agree_of_kind false initial end.Client server client = client_agree initial server client
+
+given_of_kind : (priority : Bool) (initial : ℕ) (location : Role2) (server client : Side)
+    → Reached (pair_by priority initial location) server client → given_by priority initial location server client
+given_of_kind true initial location server client = reached_given (negotiable initial reconciled) server client
+given_of_kind false initial end.Server server client = server_given initial server client
+given_of_kind false initial end.Client server client = client_given initial server client
+
+pub reached_agrees : (feature : Feature) (location : Role2) (server client : Side) → Reached (pair_of feature location) server client
+    → AgreesOn feature location server client
+reached_agrees feature = agree_of_kind (described feature).is_server_priority (initial_of feature)
+
+pub reached_is_given : (feature : Feature) (location : Role2) (server client : Side) → Reached (pair_of feature location) server client
+    → IsGivenFor feature location server client
+reached_is_given feature = given_of_kind (described feature).is_server_priority (initial_of feature)
+
+starts_by : (priority : Bool) (initial : ℕ) (location : Role2) (servers clients : List ℕ)
+    → Reached (pair_by priority initial location) (fresh initial servers) (fresh initial clients)
+starts_by true initial location servers clients = Starts servers clients
+starts_by false initial end.Server servers clients = Starts servers clients
+starts_by false initial end.Client servers clients = Starts servers clients
+
+pub starts : (feature : Feature) (location : Role2) (servers clients : List ℕ)
+    → Reached (pair_of feature location) (fresh (initial_of feature) servers) (fresh (initial_of feature) clients)
+starts feature = starts_by (described feature).is_server_priority (initial_of feature)
+
+-- a row's moves are those of its end
+at_the_server : (role : Role2) (pair : Pair) (there : List Carried) (before after : Side) → role ≡ end.Server
+    → Moves (rule_at role pair) (opens_at role pair) there before after → Moves pair.rule pair.server_opens there before after
+at_the_server end.Server pair there before after is moves = moves
+at_the_server end.Client pair there before after is moves = absurd (cc is)
+
+at_the_client : (role : Role2) (pair : Pair) (there : List Carried) (before after : Side) → role ≡ end.Client
+    → Moves (rule_at role pair) (opens_at role pair) there before after → Moves (swapped pair.rule) pair.client_opens there before after
+at_the_client end.Client pair there before after is moves = moves
+at_the_client end.Server pair there before after is moves = absurd (cc is)
+
+pub server_row_reaches : (row : Row) (server client after : Side) → row.role ≡ end.Server → RowMoves row client.frames server after
+    → Reached (row_pair row) server client → Reached (row_pair row) after client
+server_row_reaches row server client after is moves =
+    server_reaches (row_pair row) client server after (at_the_server row.role (row_pair row) client.frames server after is moves)
+
+pub client_row_reaches : (row : Row) (server client after : Side) → row.role ≡ end.Client → RowMoves row server.frames client after
+    → Reached (row_pair row) server client → Reached (row_pair row) server after
+client_row_reaches row server client after is moves =
+    client_reaches (row_pair row) server client after (at_the_client row.role (row_pair row) server.frames client after is moves)
+
 pub server_row_steps : (row : Row) (server client after : Side) → row.role ≡ end.Server → RowMoves row client.frames server after
     → IsReachable (row_pair row) server client → IsReachable (row_pair row) after client
-server_row_steps row server client after is moves = reachable_after_server (row_pair row) server client after (by_role row.role is moves)
-  where
-    by_role : (role : Role2) → role ≡ end.Server → Moves (rule_at role (row_pair row)) (opens_at role (row_pair row)) client.frames server after
-        → Moves (rule_at end.Server (row_pair row)) (opens_at end.Server (row_pair row)) client.frames server after
-    by_role end.Server is moves = moves
-    by_role end.Client is moves = absurd (cc is)
+server_row_steps row server client after is moves =
+    reachable_after_server (row_pair row) server client after (at_the_server row.role (row_pair row) client.frames server after is moves)
 
 pub client_row_steps : (row : Row) (server client after : Side) → row.role ≡ end.Client → RowMoves row server.frames client after
     → IsReachable (row_pair row) server client → IsReachable (row_pair row) server after
-client_row_steps row server client after is moves = reachable_after_client (row_pair row) server client after (by_role row.role is moves)
-  where
-    by_role : (role : Role2) → role ≡ end.Client → Moves (rule_at role (row_pair row)) (opens_at role (row_pair row)) server.frames client after
-        → Moves (rule_at end.Client (row_pair row)) (opens_at end.Client (row_pair row)) server.frames client after
-    by_role end.Client is moves = moves
-    by_role end.Server is moves = absurd (cc is)
+client_row_steps row server client after is moves =
+    reachable_after_client (row_pair row) server client after (at_the_client row.role (row_pair row) server.frames client after is moves)

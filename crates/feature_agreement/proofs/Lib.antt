@@ -14,3 +14,6 @@ pub mod OpeningLines
 pub mod Beginning
 pub mod Saying
 pub mod ByFeature
+pub mod Listed
+pub mod Taking
+pub mod Truthful

@@ -1,6 +1,6 @@
 -- What our ends say is whole, and valid to each other.
-use Rattle.std.proofs.Common.{◌≡◌, ℕ, ◌≤◌, Bool, true, false, List, [], ◌∷◌, length, refl, subst, arith, true≢false}
-use Rattle.std.specs.Prelude.{Option, None, Some, ◌==◌, ◌&&◌, if◌then◌else◌}
+use Rattle.std.proofs.Common.{◌≡◌, ℕ, ◌≤◌, Bool, true, false, List, [], ◌∷◌, length, refl, ap, subst, arith, true≢false}
+use Rattle.std.specs.Prelude.{Option, None, Some, ◌==◌, ◌&&◌, ◌↔◌, nat_le, if◌then◌else◌}
 use Rattle.byteorder.specs.Endian.{big_number, big_bytes}
 use Rattle.byteorder.specs.Numbers.{length-bytes_high_first}
 use Rattle.feature_lists.specs.Features.{described, is_permitted}
@@ -17,10 +17,10 @@ use Rattle.feature_machine.specs.declared.judging.Proposal.{Proposal}
 use Rattle.feature_machine.specs.declared.judging.Proposal.TheVariants as p
 use Rattle.feature_machine.specs.declared.row.Row.{Row}
 use Rattle.feature_machine.specs.Rows as machine
-use Rattle.feature_machine.specs.Rows.{row_step, row_line, Proposed, is_server_priority, width, entries, reconciled_by, confirm_body, holding, proposal, shared_or_not, tells_value}
+use Rattle.feature_machine.specs.Rows.{row_step, row_line, Proposed, is_server_priority, width, entries, reconciled_by, confirm_body, holding, proposal, shared_or_not, tells_value, is_there}
 use Rattle.feature_machine.specs.Sound.{IsSound}
 use Rattle.feature_agreement.specs.View.Carried.{Change}
-use Rattle.feature_agreement.specs.Rows.{entries_of, change_in, is_whole, is_whole_by, change_data, opposite}
+use Rattle.feature_agreement.specs.Rows.{entries_of, change_in, is_whole, is_whole_by, is_valid_by, is_valid_change, change_data, opposite}
 use Rattle.feature_agreement.proofs.RowFacts.{permitted_fits, reads_back}
 
 opposite_here : (at : Place) → opposite at ≡ place.Here → at ≡ place.There
@@ -156,3 +156,68 @@ confirm_whole row body reply mandatory sound = by_line row.stand (proposal row b
     by_line Changing p.Unshared false valid is = said row.value is
     by_line Changing p.Unshared true valid is = absurd (cc is)
     by_line Changing (p.Told value) mandatory valid is = said value is
+
+-- what a wish is made into is valid, by its sender's place
+pub wish_valid : (feature : Feature) (at : Place) (wish : Wanted) → is_wish feature at wish ≡ true
+    → is_valid_change feature at (change_data feature wish) ≡ true
+wish_valid feature at (wanted.List list) is =
+    let priority : (described feature).is_server_priority ≡ true = list_wish feature at list is in
+    let filled : 1 ≤ length list = list_filled feature at list is in
+    let some : nat_le 1 (length list) ≡ true = grind arith in
+    rw priority some
+wish_valid feature at (wanted.Number number) is =
+    let wish : IsNumberWish feature at number = number_wish feature at number is in
+    let same : big_number (described feature).width (big_bytes (described feature).width number) ≡ number =
+    reads_back (described feature).width number (permitted_fits feature place.Here number wish.told wish.permitted) in
+    let long : length (big_bytes (described feature).width number) ≡ (described feature).width =
+    length-bytes_high_first (described feature).width number in
+    rw (wish.told, wish.here, long, same, wish.permitted) (same_is (described feature).width)
+
+-- both places of a feature that is not negotiable have one range
+one_range : (feature : Feature) (value : ℕ) → (described feature).is_server_priority ≡ false
+    → is_permitted feature place.There value ≡ is_permitted feature place.Here value
+one_range f.SequenceWindow value told = refl
+one_range f.AckRatio value told = refl
+one_range f.Ccid value told = absurd (true≢false told)
+one_range f.ShortSeqnos value told = absurd (true≢false told)
+one_range f.EcnIncapable value told = absurd (true≢false told)
+one_range f.SendAckVector value told = absurd (true≢false told)
+one_range f.SendNdpCount value told = absurd (true≢false told)
+one_range f.MinCsCov value told = absurd (true≢false told)
+one_range f.CheckDataChecksum value told = absurd (true≢false told)
+
+-- a value is told to a row exactly by what is valid at the other place
+valid_tells : (row : Row) (body : List ℕ) → is_server_priority row ≡ false
+    → tells_value row body ≡ is_valid_by false row.feature (opposite row.place) body
+valid_tells row body told = by_place row.place
+  where
+    by_place : (at : Place)
+        → (is_there at && length body == width row && is_permitted row.feature at (big_number (width row) body))
+        ≡ is_valid_by false row.feature (opposite at) body
+    by_place place.Here = refl
+    by_place place.There =
+        ap (λ permitted. length body == width row && permitted) (one_range row.feature (big_number (width row) body) told)
+
+priority_understood : (row : Row) (body : List ℕ) → is_server_priority row ≡ true
+    → (nat_le 1 (length body) ≡ true) ↔ (proposal row body ≡ p.Invalid → ⊥)
+priority_understood row [] priority = (λ is. absurd (cc is), λ valid. absurd (valid (rw priority refl)))
+priority_understood row (value ∷ rest) priority =
+    (λ is. list_valid row (value ∷ rest) priority (omega arith), λ valid. (grind arith))
+
+told_understood : (row : Row) (body : List ℕ) → is_server_priority row ≡ false
+    → (tells_value row body ≡ true) ↔ (proposal row body ≡ p.Invalid → ⊥)
+told_understood row body told = (told_valid row body told, λ valid. by_told (tells_value row body) refl valid)
+  where
+    by_told : (tells : Bool) → tells_value row body ≡ tells → (proposal row body ≡ p.Invalid → ⊥) → tells ≡ true
+    by_told true is valid = refl
+    by_told false is valid = absurd (valid (rw (told, is) refl))
+
+pub change_understood : (row : Row) (body : List ℕ)
+    → (is_valid_change row.feature (opposite row.place) body ≡ true) ↔ (proposal row body ≡ p.Invalid → ⊥)
+change_understood row body = by_rule (is_server_priority row) refl
+  where
+    by_rule : (priority : Bool) → is_server_priority row ≡ priority
+        → (is_valid_by priority row.feature (opposite row.place) body ≡ true) ↔ (proposal row body ≡ p.Invalid → ⊥)
+    by_rule true is = priority_understood row body is
+    by_rule false is =
+        subst (λ valid. (valid ≡ true) ↔ (proposal row body ≡ p.Invalid → ⊥)) (valid_tells row body is) (told_understood row body is)

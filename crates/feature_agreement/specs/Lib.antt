@@ -5,3 +5,5 @@ pub mod Counts
 pub mod Exchanges
 pub mod Rows
 pub mod EachFeature
+pub mod Facts
+pub mod Packets

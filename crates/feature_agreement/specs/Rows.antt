@@ -1,7 +1,7 @@
 -- A row of feature_machine as one side of its feature's pair, and its options as what frames carry for that pair.
-use Rattle.std.specs.Prelude.{◌≡◌, ◌≢◌, ℕ, ◌+◌, Bool, true, false, Option, None, Some, List, [], ◌∷◌, length}
+use Rattle.std.specs.Prelude.{◌≡◌, ◌≢◌, ℕ, ◌+◌, ◌==◌, ◌&&◌, nat_le, Bool, true, false, Option, None, Some, List, [], ◌∷◌, length}
 use Rattle.byteorder.specs.Endian.{big_number, big_bytes}
-use Rattle.feature_lists.specs.Features.{described, initial_of}
+use Rattle.feature_lists.specs.Features.{described, initial_of, is_permitted}
 use Rattle.feature_lists.specs.Lists.{reconciled}
 use Rattle.feature_lists.specs.declared.features.Feature.{Feature}
 use Rattle.feature_lists.specs.declared.features.Place.{Place}
@@ -100,6 +100,17 @@ confirm_in feature acknowledged body =
 abbrev pub change_data : Feature → Wanted → List ℕ
 change_data feature (wanted.List list) = list
 change_data feature (wanted.Number number) = big_bytes (described feature).width number
+
+-- The data of a Change are valid for the row of the peer, by the place at which the sender sees the feature: for a server-priority
+-- feature there is a value at least; for any other it is located at the sender, and the data are a permitted value in just its bytes.
+abbrev pub is_valid_by : Bool → Feature → Place → List ℕ → Bool
+is_valid_by true feature at body = nat_le 1 (length body)
+is_valid_by false feature place.Here body =
+    length body == (described feature).width && is_permitted feature place.Here (big_number (described feature).width body)
+is_valid_by false feature place.There body = false
+
+abbrev pub is_valid_change : Feature → Place → List ℕ → Bool
+is_valid_change feature at body = is_valid_by (described feature).is_server_priority feature at body
 
 -- where the peer sees the feature
 abbrev pub opposite : Place → Place

@@ -3,7 +3,7 @@
 -- count 1, and 0 is none.
 use Rattle.std.specs.Prelude.{ℕ, Bool, true, false, Option, None, Some, List, [], ◌∷◌, ◌++◌, slice_index_or}
 use Rattle.std.specs.Option.{option_or}
-use Rattle.std.specs.List.{list_any}
+use Rattle.std.specs.List.{list_any, list_all}
 use Rattle.feature_machine.specs.declared.stands.Stand.{Stand}
 
 -- What one frame carries for the feature. A wish is a preference list; the value of a feature that is not negotiable is a wish
@@ -64,3 +64,25 @@ last_change (frame ∷ frames) = option_or (last_change frames) (change_of frame
 abbrev pub last_wish : List Carried → Option (List ℕ)
 last_wish [] = None
 last_wish (frame ∷ frames) = option_or (last_wish frames) (wish_of frame)
+
+-- a frame's Confirm, if it has one, has a list
+abbrev pub is_listed : Carried → Bool
+is_listed Nothing = true
+is_listed (Change wish) = true
+is_listed (Confirm acknowledged value []) = false
+is_listed (Confirm acknowledged value (entry ∷ entries)) = true
+
+abbrev pub are_listed : List Carried → Bool
+are_listed frames = list_all is_listed frames
+
+-- the list of a Change, or of a Confirm that has one
+abbrev pub list_of : Carried → Option (List ℕ)
+list_of Nothing = None
+list_of (Change wish) = Some wish
+list_of (Confirm acknowledged value []) = None
+list_of (Confirm acknowledged value (entry ∷ entries)) = Some (entry ∷ entries)
+
+-- the list in the last frame that carries a Change, or a Confirm with a list
+abbrev pub last_list : List Carried → Option (List ℕ)
+last_list [] = None
+last_list (frame ∷ frames) = option_or (last_list frames) (list_of frame)

@@ -1,5 +1,6 @@
 //! The laws for each feature at each end.
-ghost use Rattle.std.specs.Prelude.{◌≡◌, List};
+ghost use Rattle.std.specs.Prelude.{◌≡◌, ℕ, List};
+ghost use Rattle.feature_lists.specs.Features.{initial_of};
 ghost use Rattle.feature_lists.specs.declared.features.Feature.{Feature};
 ghost use Rattle.feature_lists.specs.declared.features.Place.{Place};
 ghost use Rattle.feature_machine.specs.declared.row.Row.{Row};
@@ -7,7 +8,7 @@ ghost use Rattle.feature_machine.specs.declared.stands.Role2.{Role2};
 ghost use Rattle.feature_machine.specs.declared.stands.Role2.TheVariants.{Server, Client};
 ghost use Rattle.feature_machine.specs.Sound.{IsSameRow};
 ghost use Rattle.feature_agreement.specs.View.{Carried, Side};
-ghost use Rattle.feature_agreement.specs.Moves.{IsReachable};
+ghost use Rattle.feature_agreement.specs.Moves.{fresh, Reached, IsReachable};
 ghost use Rattle.feature_agreement.specs.Rows.{RowMoves, pair_of, row_pair, location_of, opposite};
 ghost use Rattle.feature_agreement.specs.EachFeature.{AgreesOn, IsGivenFor};
 
@@ -33,4 +34,23 @@ pub fn row_steps_stay_reachable()
         → RowMoves new there before after → RowMoves old there before after }
     ensures one_pair { (feature : Feature) (place : Place)
         → pair_of feature (location_of Server place) ≡ pair_of feature (location_of Client (opposite place)) }
+{}
+
+/// The same for a reader who keeps the moves that lead to two sides, and not just that there are some: then the origin of each value
+/// comes out itself, with the frames that it has.
+pub fn values_were_given()
+    ensures agree { (feature : Feature) (location : Role2) (server client : Side)
+        → Reached (pair_of feature location) server client → AgreesOn feature location server client }
+    ensures given { (feature : Feature) (location : Role2) (server client : Side)
+        → Reached (pair_of feature location) server client → IsGivenFor feature location server client }
+{}
+
+/// The moves of a row lead on from what was reached, at the server and at the client, and any two configurations are reached.
+pub fn row_steps_reach()
+    ensures start { (feature : Feature) (location : Role2) (servers clients : List ℕ)
+        → Reached (pair_of feature location) (fresh (initial_of feature) servers) (fresh (initial_of feature) clients) }
+    ensures server_step { (row : Row) (server client after : Side) → row.role ≡ Server → RowMoves row client.frames server after
+        → Reached (row_pair row) server client → Reached (row_pair row) after client }
+    ensures client_step { (row : Row) (server client after : Side) → row.role ≡ Client → RowMoves row server.frames client after
+        → Reached (row_pair row) server client → Reached (row_pair row) server after }
 {}

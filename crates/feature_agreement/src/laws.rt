@@ -3,6 +3,7 @@ ghost use Rattle.std.specs.Prelude.{ℕ, Bool, List, IsTrue};
 ghost use Rattle.feature_agreement.specs.View.{Carried, Side};
 ghost use Rattle.feature_agreement.specs.Moves.{Rule, Pair, Moves, swapped, fresh, IsReachable, at_server, at_client};
 ghost use Rattle.feature_agreement.specs.Exchanges.{server_asked, client_asking, server_crossing, client_crossing};
+ghost use Rattle.feature_agreement.specs.Facts.{IsTruthful};
 ghost use Rattle.feature_agreement.specs.Agreement.{Agree, Given, AgreeByLocation, GivenByLocation};
 
 /// Two sides are reachable at the start, whatever was configured, and after each step of either that is a list of moves.
@@ -28,7 +29,13 @@ pub fn reachable_sides_agree()
         → IsReachable pair server client → ∥ Given pair.initial pair.rule server client ∥₁ }
 {}
 
-/// The same of a feature that is not negotiable (RFC 4340, section 6.3.2): its value is the one that the end where it is
+/// Why they agree: what a side's frames say is true of what it holds, towards its peer, at the server and at the client.
+pub fn reachable_sides_are_truthful()
+    ensures servers { (pair : Pair) (server client : Side) → IsReachable pair server client → IsTruthful pair.rule server client }
+    ensures clients { (pair : Pair) (server client : Side) → IsReachable pair server client → IsTruthful (swapped pair.rule) client server }
+{}
+
+/// The agreement of a feature that is not negotiable (RFC 4340, section 6.3.2): its value is the one that the end where it is
 /// located sent last.
 pub fn location_decides()
     ensures agree_at_server { (initial : ℕ) (server client : Side)

@@ -9,13 +9,19 @@ mod counts;
 mod features;
 mod laws;
 mod lines;
+mod packets;
 
 pub use crate::counts::numbers_count_frames;
-pub use crate::features::{every_feature_agrees, row_steps_stay_reachable};
+pub use crate::features::{
+    every_feature_agrees, row_steps_reach, row_steps_stay_reachable, values_were_given,
+};
 pub use crate::laws::{
-    exchanges_settle, location_decides, reachable_sides_agree, steps_stay_reachable,
+    exchanges_settle, location_decides, reachable_sides_agree, reachable_sides_are_truthful,
+    steps_stay_reachable,
 };
 pub use crate::lines::{
     offering_is_a_move, preferring_is_a_move, rows_stay_begun, sending_is_a_move,
-    taking_a_change_is_a_move, taking_a_confirm_is_a_move, what_rows_say_is_whole,
+    taking_a_change_is_a_move, taking_a_confirm_is_a_move, valid_changes_are_understood,
+    what_rows_say_is_whole, whole_confirms_have_lists,
 };
+pub use crate::packets::{hearing_keeps_a_row, taking_a_packet_is_moves};

@@ -1,6 +1,6 @@
 //! That each line of the negotiation table is one of the moves, over feature_machine's own definition of it.
-ghost use Rattle.std.specs.Prelude.{◌≡◌, ◌≢◌, ℕ, ◌^◌, ◌<◌, ◌≤◌, Bool, IsTrue, Option, None, Some, List, [], length};
-ghost use Rattle.feature_lists.specs.Features.{initial_of};
+ghost use Rattle.std.specs.Prelude.{◌≡◌, ◌≢◌, ◌↔◌, ℕ, ◌^◌, ◌<◌, ◌≤◌, Bool, IsTrue, Option, None, Some, List, [], length};
+ghost use Rattle.feature_lists.specs.Features.{described, initial_of};
 ghost use Rattle.feature_lists.specs.Wishes.{is_wish};
 ghost use Rattle.feature_lists.specs.declared.features.Feature.{Feature};
 ghost use Rattle.feature_lists.specs.declared.features.Place.{Place};
@@ -11,11 +11,11 @@ ghost use Rattle.feature_machine.specs.declared.stands.Stand.TheVariants.{Stable
 ghost use Rattle.feature_machine.specs.Rows as machine;
 ghost use Rattle.feature_machine.specs.Rows.{row_step, proposal, Prefers, Offers, Opens, Confirms};
 ghost use Rattle.feature_machine.specs.Sound.{IsSound};
-ghost use Rattle.feature_agreement.specs.View.{Carried, carried_at, with_frame};
+ghost use Rattle.feature_agreement.specs.View.{Carried, carried_at, with_frame, last_wish, is_listed, are_listed, last_list};
 ghost use Rattle.feature_agreement.specs.View.Carried.{Nothing, Change};
 ghost use Rattle.feature_agreement.specs.Moves.{fresh};
 ghost use Rattle.feature_agreement.specs.Counts.{count_of, IsNumber};
-ghost use Rattle.feature_agreement.specs.Rows.{RowMoves, IsBegun, row_pair, entries_of, side_of, change_in, confirm_in, is_whole, after_change, after_confirm, after_sending, sending_row, change_data, opposite};
+ghost use Rattle.feature_agreement.specs.Rows.{RowMoves, IsBegun, row_pair, entries_of, side_of, change_in, confirm_in, is_whole, is_valid_change, after_change, after_confirm, after_sending, sending_row, change_data, opposite};
 
 /// A Change of the feature is taken from a newest packet: a valid one is one move, whatever the row answers, and so is a frame
 /// of which nothing of the feature is taken.
@@ -99,4 +99,23 @@ pub fn what_rows_say_is_whole()
         → proposal row (change_data row.feature wish) ≢ Invalid }
     ensures whole { (row : Row) (body reply : List ℕ) (mandatory : Bool) → IsSound row → proposal row body ≢ Invalid
         → (row_step row (machine.Change body mandatory)).answer ≡ Confirms reply → IsTrue (is_whole row.feature reply) }
+{}
+
+/// Whether a Change is valid is told by its data, by the feature and by where its sender sees it: the data made of a wish are, and
+/// for the row of the peer they are exactly where the table takes them so.
+pub fn valid_changes_are_understood()
+    ensures sent { (feature : Feature) (place : Place) (wish : Wanted) → IsTrue (is_wish feature place wish)
+        → IsTrue (is_valid_change feature place (change_data feature wish)) }
+    ensures understood { (row : Row) (body : List ℕ)
+        → IsTrue (is_valid_change row.feature (opposite row.place) body) ↔ (proposal row body ≢ Invalid) }
+{}
+
+/// Where every Confirm among frames has a list, the last wish sent is the list in the last frame with a Change, or with a Confirm that
+/// has a list. A whole Confirm of a server-priority feature has one.
+pub fn whole_confirms_have_lists()
+    ensures last { (frames : List Carried) → IsTrue (are_listed frames) → last_list frames ≡ last_wish frames }
+    ensures more { (frames : List Carried) (frame : Carried)
+        → IsTrue (are_listed (with_frame frames frame)) ↔ (IsTrue (are_listed frames) × IsTrue (is_listed frame)) }
+    ensures confirm { (feature : Feature) (count : ℕ) (body : List ℕ) → IsTrue (described feature).is_server_priority
+        → IsTrue (is_whole feature body) → IsTrue (is_listed (confirm_in feature count body)) }
 {}

@@ -1,0 +1,32 @@
+-- What holds of a side towards its peer, whatever moves both made (own).
+use Rattle.std.specs.Prelude.{◌≡◌, ℕ, ◌<◌, ◌≤◌, List, Some, IsTrue}
+use Rattle.feature_machine.specs.declared.stands.Stand.TheVariants.{Stable}
+use Rattle.feature_agreement.specs.View.{Side, carried_at, is_change}
+use Rattle.feature_agreement.specs.View.Carried.{Change, Confirm}
+use Rattle.feature_agreement.specs.Moves.{Rule}
+
+pub record IsTruthful (rule : Rule) (side peer : Side) : Type 0 where
+  -- from its last opening on, its Changes carry its active wish, and its Confirms after that do; if it never opened, all do
+  pub changes_active : (count : ℕ) (wish : List ℕ) → carried_at side.frames count ≡ Change wish → side.opened ≤ count
+      → wish ≡ side.active
+  pub confirms_active : (count acknowledged value : ℕ) (wish : List ℕ)
+      → carried_at side.frames count ≡ Confirm acknowledged value wish → side.opened < count → wish ≡ side.active
+  -- a Confirm acknowledges a frame that was taken and carries a Change; where its wish and that Change's lead to a value, that is
+  -- its value
+  pub confirms_taken : (count acknowledged value : ℕ) (wish : List ℕ)
+      → carried_at side.frames count ≡ Confirm acknowledged value wish
+      → (acknowledged ≤ side.greatest) × IsTrue (is_change (carried_at peer.frames acknowledged))
+  pub confirms_ruled : (count acknowledged value agreed : ℕ) (wish other : List ℕ)
+      → carried_at side.frames count ≡ Confirm acknowledged value wish → carried_at peer.frames acknowledged ≡ Change other
+      → rule wish other ≡ Some agreed → value ≡ agreed
+  -- of two Confirms the later acknowledges the later frame
+  pub confirms_rise : (earlier later acknowledged other value held : ℕ) (wish list : List ℕ)
+      → carried_at side.frames earlier ≡ Confirm acknowledged value wish → carried_at side.frames later ≡ Confirm other held list
+      → earlier < later → acknowledged < other
+  -- an opening of the peer that settled was heard here
+  pub settled_heard : 0 < peer.opened → peer.stand ≡ Stable → peer.opened ≤ side.greatest
+  -- A Confirm that the peer could still take and that answers the peer's last opening has the active wish and the value of its
+  -- side, unless the side has opened after it and is not STABLE.
+  pub takable : (count acknowledged value : ℕ) (wish : List ℕ)
+      → carried_at side.frames count ≡ Confirm acknowledged value wish → peer.greatest < count → peer.opened ≤ acknowledged
+      → (count < side.opened → side.stand ≡ Stable) → (wish ≡ side.active) × (value ≡ side.value)

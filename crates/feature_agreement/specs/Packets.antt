@@ -1,0 +1,50 @@
+-- A newest packet, the row that hears of it, and what the end's frame in the same step says to it (own).
+use Rattle.std.specs.Prelude.{◌≡◌, ℕ, ◌≤◌, Option, None, Some, List, [], ◌∷◌, length, IsTrue}
+use Rattle.feature_lists.specs.declared.features.Feature.{Feature}
+use Rattle.feature_machine.specs.declared.row.Row.{Row}
+use Rattle.feature_machine.specs.Rows as machine
+use Rattle.feature_machine.specs.Rows.{RowEvent, RowAnswer, Confirms, Ignored, Settled, Fatal, Opens, Waits, Quiet, row_step}
+use Rattle.feature_agreement.specs.View.{Carried, carried_at, with_frame}
+use Rattle.feature_agreement.specs.View.Carried.{Nothing}
+use Rattle.feature_agreement.specs.Counts.{count_of, IsNumber}
+use Rattle.feature_agreement.specs.Rows.{change_in, confirm_in, is_valid_change, is_whole, opposite}
+
+-- What the row hears of the peer's frame with this count: nothing, whatever the frame carries; or the frame's Change, which is valid;
+-- or its Confirm, which is whole and acknowledges a frame of this end.
+abbrev pub IsHeardOf : ℕ → Row → List Carried → ℕ → List RowEvent → Type 0
+IsHeardOf iss row there count [] = count ≤ length there
+IsHeardOf iss row there count (machine.Change body mandatory ∷ []) =
+    (carried_at there count ≡ change_in row.feature body) × IsTrue (is_valid_change row.feature (opposite row.place) body)
+IsHeardOf iss row there count (machine.Confirm body (Some ack) ∷ []) =
+    IsNumber iss ack × (carried_at there count ≡ confirm_in row.feature (count_of iss ack) body) × IsTrue (is_whole row.feature body)
+IsHeardOf iss row there count (machine.Confirm body None ∷ []) = ⊥
+IsHeardOf iss row there count (machine.Prefers wish ∷ []) = ⊥
+IsHeardOf iss row there count (machine.Offers confirmed ∷ []) = ⊥
+IsHeardOf iss row there count (machine.Sends number ∷ []) = ⊥
+IsHeardOf iss row there count (first ∷ (second ∷ rest)) = ⊥
+
+-- the data of the Confirm that an answer is, if it is one
+abbrev pub confirm_of : RowAnswer → Option (List ℕ)
+confirm_of (Confirms body) = Some body
+confirm_of Ignored = None
+confirm_of Settled = None
+confirm_of (Fatal code) = None
+confirm_of Opens = None
+confirm_of Waits = None
+confirm_of Quiet = None
+
+-- the data of the Confirm that is due for what the row heard, if one is
+abbrev pub reply_due : Row → List RowEvent → Option (List ℕ)
+reply_due row [] = None
+reply_due row (event ∷ []) = confirm_of (row_step row event).answer
+reply_due row (first ∷ (second ∷ rest)) = None
+
+-- what a frame carries for the feature that has the Confirm that is due, or else nothing of it
+abbrev pub carried_reply : Feature → ℕ → Option (List ℕ) → Carried
+carried_reply feature count None = Nothing
+carried_reply feature count (Some body) = confirm_in feature count body
+
+-- the frames with one that has the Confirm that is due, or else no further one
+abbrev pub with_reply : Feature → ℕ → Option (List ℕ) → List Carried → List Carried
+with_reply feature count None frames = frames
+with_reply feature count (Some body) frames = with_frame frames (confirm_in feature count body)

@@ -1,0 +1,47 @@
+//! That a newest packet and the frame of the same step are moves of each row.
+ghost use Rattle.std.specs.Prelude.{◌≡◌, ◌≢◌, ℕ, ◌^◌, ◌<◌, Bool, None, List, length};
+ghost use Rattle.feature_machine.specs.Rows.{RowEvent, Offers, Opens, row_step};
+ghost use Rattle.feature_machine.specs.Sound.{IsSound, IsSameRow};
+ghost use Rattle.feature_machine.specs.Turns.{row_turned};
+ghost use Rattle.feature_machine.specs.declared.row.Row.{Row};
+ghost use Rattle.feature_machine.specs.declared.stands.Stand.TheVariants.{Stable};
+ghost use Rattle.feature_agreement.specs.View.{Carried, with_frame};
+ghost use Rattle.feature_agreement.specs.Packets.{IsHeardOf, reply_due, carried_reply};
+ghost use Rattle.feature_agreement.specs.Rows.{RowMoves, IsBegun, side_of, after_sending};
+
+/// A newest packet is taken, of which the row hears nothing, a valid Change or a whole Confirm; and the end sends a frame in the
+/// same step, or none. Together these are moves of the row, whatever it makes of what it heard.
+///
+/// `replied`: the frame has the Confirm that is due, or nothing of the feature where none is. `silent`: there is no frame, and no
+/// Confirm is due. `asks`: none is due and the frame has the row's Change. `offers`: none is due, the row's offer opens and the frame
+/// has its Change.
+pub fn taking_a_packet_is_moves()
+    ensures replied { (iss greatest count : ℕ) (row : Row) (there frames : List Carried) (events : List RowEvent)
+        → greatest < count → IsSound row → IsBegun iss row → IsHeardOf iss row there count events
+        → RowMoves row there (side_of iss row greatest frames)
+        (side_of iss (row_turned row events) count (with_frame frames (carried_reply row.feature count (reply_due row events)))) }
+    ensures silent { (iss greatest count : ℕ) (row : Row) (there frames : List Carried) (events : List RowEvent)
+        → greatest < count → IsSound row → IsBegun iss row → IsHeardOf iss row there count events → reply_due row events ≡ None
+        → RowMoves row there (side_of iss row greatest frames) (side_of iss (row_turned row events) count frames) }
+    ensures asks { (iss greatest count : ℕ) (row : Row) (there frames : List Carried) (events : List RowEvent)
+        → iss < 2 ^ 48 → length frames < 2 ^ 47
+        → greatest < count → IsSound row → IsBegun iss row → IsHeardOf iss row there count events → reply_due row events ≡ None
+        → (row_turned row events).stand ≢ Stable
+        → RowMoves row there (side_of iss row greatest frames) (after_sending iss (row_turned row events) count frames) }
+    ensures offers { (iss greatest count : ℕ) (row : Row) (there frames : List Carried) (events : List RowEvent) (confirmed : Bool)
+        → iss < 2 ^ 48 → length frames < 2 ^ 47
+        → greatest < count → IsSound row → IsBegun iss row → IsHeardOf iss row there count events → reply_due row events ≡ None
+        → (row_step (row_turned row events) (Offers confirmed)).answer ≡ Opens
+        → RowMoves row there (side_of iss row greatest frames)
+        (after_sending iss (row_step (row_turned row events) (Offers confirmed)).row count frames) }
+{}
+
+/// What the row hears of a packet leaves it the same row, sound, and its last opening one of its end's frames.
+pub fn hearing_keeps_a_row()
+    ensures same { (iss count : ℕ) (row : Row) (there : List Carried) (events : List RowEvent)
+        → IsHeardOf iss row there count events → IsSameRow row (row_turned row events) }
+    ensures sound { (iss count : ℕ) (row : Row) (there : List Carried) (events : List RowEvent)
+        → IsHeardOf iss row there count events → IsSound row → IsSound (row_turned row events) }
+    ensures begun { (iss count : ℕ) (row : Row) (there : List Carried) (events : List RowEvent)
+        → IsHeardOf iss row there count events → IsBegun iss row → IsBegun iss (row_turned row events) }
+{}
