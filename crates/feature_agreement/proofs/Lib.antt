@@ -17,3 +17,4 @@ pub mod ByFeature
 pub mod Listed
 pub mod Taking
 pub mod Truthful
+pub mod Confirmed

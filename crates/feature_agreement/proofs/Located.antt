@@ -78,7 +78,7 @@ remote_moves rule location remote _ Sends facts = same_remote location remote (s
 remote_moves rule location remote _ (Sends_again busy) facts =
     same_remote location remote (sent remote (Change remote.active)) refl facts
 
-server_located : (initial : ℕ) (server client : Side) → Reached (at_server initial) server client → Located server client
+pub server_located : (initial : ℕ) (server client : Side) → Reached (at_server initial) server client → Located server client
 server_located initial _ _ (Starts servers clients) = located_start initial servers clients
 server_located initial _ _ (Server_moves server client after reached move) =
     location_moves own_value client server after move (reached_keeps (at_server initial) server client reached)
@@ -86,10 +86,10 @@ server_located initial _ _ (Server_moves server client after reached move) =
 server_located initial _ _ (Client_moves server client after reached move) =
     remote_moves (swapped own_value) server client after move (server_located initial server client reached)
 
-client_kept : (initial : ℕ) (server client : Side) → Reached (at_client initial) server client → Kept own_value client server
+pub client_kept : (initial : ℕ) (server client : Side) → Reached (at_client initial) server client → Kept own_value client server
 client_kept initial server client reached = turned (swapped own_value) server client (reached_keeps (at_client initial) server client reached)
 
-client_located : (initial : ℕ) (server client : Side) → Reached (at_client initial) server client → Located client server
+pub client_located : (initial : ℕ) (server client : Side) → Reached (at_client initial) server client → Located client server
 client_located initial _ _ (Starts servers clients) = located_start initial clients servers
 client_located initial _ _ (Server_moves server client after reached move) =
     remote_moves (swapped own_value) client server after move (client_located initial server client reached)
@@ -98,7 +98,7 @@ client_located initial _ _ (Client_moves server client after reached move) =
     (client_located initial server client reached)
 
 -- what the rule says of a single value, whatever the other wish
-single_value : (wish other : List ℕ) (value : ℕ) → one_value wish ≡ true → unwrap_or (own_value wish other) value ≡ value
+pub single_value : (wish other : List ℕ) (value : ℕ) → one_value wish ≡ true → unwrap_or (own_value wish other) value ≡ value
     → wish ≡ value ∷ []
 single_value [] other value single is = grind arith
 single_value (first ∷ []) other value single is = ap (λ entry. entry ∷ []) is

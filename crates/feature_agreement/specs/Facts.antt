@@ -1,5 +1,5 @@
 -- What holds of a side towards its peer, whatever moves both made (own).
-use Rattle.std.specs.Prelude.{◌≡◌, ℕ, ◌<◌, ◌≤◌, List, Some, IsTrue}
+use Rattle.std.specs.Prelude.{◌≡◌, ℕ, ◌<◌, ◌≤◌, List, [], ◌∷◌, Some, IsTrue}
 use Rattle.feature_machine.specs.declared.stands.Stand.TheVariants.{Stable}
 use Rattle.feature_agreement.specs.View.{Side, carried_at, is_change}
 use Rattle.feature_agreement.specs.View.Carried.{Change, Confirm}
@@ -30,3 +30,19 @@ pub record IsTruthful (rule : Rule) (side peer : Side) : Type 0 where
   pub takable : (count acknowledged value : ℕ) (wish : List ℕ)
       → carried_at side.frames count ≡ Confirm acknowledged value wish → peer.greatest < count → peer.opened ≤ acknowledged
       → (count < side.opened → side.stand ≡ Stable) → (wish ≡ side.active) × (value ≡ side.value)
+
+-- The same of a feature that is not negotiable: what the remote row confirms is what the location told.
+pub record IsConfirmed (location remote : Side) : Type 0 where
+  pub remote_stable : remote.stand ≡ Stable
+  -- a Confirm has the value of the Change that it acknowledges
+  pub told : (count acknowledged value : ℕ) (wish : List ℕ) → carried_at remote.frames count ≡ Confirm acknowledged value wish
+      → carried_at location.frames acknowledged ≡ Change (value ∷ [])
+  -- from its last opening on, the location's Changes carry its active value
+  pub changes_active : (count : ℕ) (wish : List ℕ) → carried_at location.frames count ≡ Change wish → location.opened ≤ count
+      → wish ≡ location.active
+  -- one that answers the location's last opening has the remote row's value, and the location's active one
+  pub confirmed : (count acknowledged value : ℕ) (wish : List ℕ) → carried_at remote.frames count ≡ Confirm acknowledged value wish
+      → location.opened ≤ acknowledged → (value ≡ remote.value) × (location.active ≡ value ∷ [])
+  -- an opening that settled was heard at the peer, and both values are the active one
+  pub settled : 0 < location.opened → location.stand ≡ Stable
+      → (location.opened ≤ remote.greatest) × (location.active ≡ location.value ∷ []) × (remote.value ≡ location.value)

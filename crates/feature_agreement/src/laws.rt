@@ -3,7 +3,7 @@ ghost use Rattle.std.specs.Prelude.{ℕ, Bool, List, IsTrue};
 ghost use Rattle.feature_agreement.specs.View.{Carried, Side};
 ghost use Rattle.feature_agreement.specs.Moves.{Rule, Pair, Moves, swapped, fresh, IsReachable, at_server, at_client};
 ghost use Rattle.feature_agreement.specs.Exchanges.{server_asked, client_asking, server_crossing, client_crossing};
-ghost use Rattle.feature_agreement.specs.Facts.{IsTruthful};
+ghost use Rattle.feature_agreement.specs.Facts.{IsTruthful, IsConfirmed};
 ghost use Rattle.feature_agreement.specs.Agreement.{Agree, Given, AgreeByLocation, GivenByLocation};
 
 /// Two sides are reachable at the start, whatever was configured, and after each step of either that is a list of moves.
@@ -46,6 +46,12 @@ pub fn location_decides()
         → IsReachable (at_server initial) server client → ∥ GivenByLocation initial server client ∥₁ }
     ensures given_at_client { (initial : ℕ) (server client : Side)
         → IsReachable (at_client initial) server client → ∥ GivenByLocation initial client server ∥₁ }
+{}
+
+/// And why: what the remote row confirms is what the location told, and its present value once it answers the last opening.
+pub fn remote_rows_confirm_what_was_told()
+    ensures at_server { (initial : ℕ) (server client : Side) → IsReachable (at_server initial) server client → IsConfirmed server client }
+    ensures at_client { (initial : ℕ) (server client : Side) → IsReachable (at_client initial) server client → IsConfirmed client server }
 {}
 
 /// Rows do settle: by a Change and its Confirm, and by two Changes that cross, each confirmed. Both rows then are STABLE,

@@ -17,7 +17,7 @@ pub use crate::features::{
 };
 pub use crate::laws::{
     exchanges_settle, location_decides, reachable_sides_agree, reachable_sides_are_truthful,
-    steps_stay_reachable,
+    remote_rows_confirm_what_was_told, steps_stay_reachable,
 };
 pub use crate::lines::{
     offering_is_a_move, preferring_is_a_move, rows_stay_begun, sending_is_a_move,
