@@ -1,0 +1,173 @@
+-- One call of `next`: the record that stands next, the end, or what is wrong.
+use Rattle.std.proofs.Common.{arith, ◌≡◌, ◌≤◌, ℕ, ◌+◌, ◌-◌, ◌^◌, List, [], ◌++◌, length, take, drop, Option, Some, None, Result, IfSome, Ok, Err, refl, sym, ap, ◌∙◌, subst, inl, inr, ⊎_elim}
+use Rattle.std.proofs.lemmas.List.{take-append-le, drop-append-le, drop-drop, length-drop, length-take-le}
+use Rattle.std.proofs.lemmas.Option.{none-some}
+use Rattle.std.proofs.Math.Seq.{drop-append_seam}
+use Rattle.std.specs.Prelude.{option_map}
+use Rattle.std.specs.Io.KnownBytes.{prepend_known}
+use Rattle.dccp_io.specs.Ahead.{BytesAhead}
+use Rattle.capture_reader.specs.declared.fault.CaptureFault.{CaptureFault}
+use Rattle.capture_reader.specs.declared.format.Format.{Format}
+use Rattle.capture_reader.specs.declared.record.RecordHeader.{RecordHeader}
+use Rattle.capture_reader.specs.Records.{found_in, next_of, next_by, entry_with, most_bytes}
+use Rattle.capture_reader.specs.Steps.{Keeps, RecordRead}
+use Rattle.capture_reader.specs.State.{CapturesState, rest, Passed, IsOfRecords, Advances}
+use Rattle.capture_reader.proofs.Opening.{passed-ahead}
+
+-- a reader with these parts
+abbrev pub state : {S : Type 0} → S → List ℕ → ℕ → Format → ℕ → ℕ → Option CaptureFault → CapturesState S
+state source held lent format given number fault = record {
+  source = source;
+  pending = drop lent held;
+  lent = take lent held;
+  format = format;
+  given = given;
+  number = number;
+  fault = fault;
+}
+
+-- the block once the lent bytes were let go
+abbrev pub let_go : BytesAhead → ℕ → BytesAhead
+let_go held lent = record { pending = drop lent held.pending; size = held.size }
+
+-- the list in an option
+abbrev from_some : Option (List ℕ) → List ℕ
+from_some None = []
+from_some (Some bytes) = bytes
+
+-- what was read past some bytes that were passed
+passed-behind : (k : ℕ) (pending : List ℕ) (all known : Option (List ℕ)) → k ≤ 16 → length pending ≤ 262144 → prepend_known pending known ≡ option_map (drop k) all
+    → Passed 262160 all known
+passed-behind k pending None None small fits same = (0, omega arith, refl)
+passed-behind k pending None (Some more) small fits same = absurd (none-some (pending ++ more) (sym same))
+passed-behind k pending (Some bytes) None small fits same = absurd (none-some (drop k bytes) same)
+passed-behind k pending (Some bytes) (Some more) small fits same =
+    let joined : pending ++ more ≡ drop k bytes = ap from_some same in (
+      k + length pending,
+      omega (arith, small, fits),
+      ap (λ (xs : List ℕ). Some xs)
+          (sym (drop-append_seam pending more) ∙ ap (drop (length pending)) joined ∙ drop-drop (length pending) k bytes),
+    )
+
+-- the record that was found stands next, and behind it what is left
+found-next : (format : Format) (number given : ℕ) (header : RecordHeader) (pending : List ℕ) (all known : Option (List ℕ)) → header.captured ≤ length pending
+    → prepend_known pending known ≡ option_map (drop 16) all → IfSome all (λ bytes. found_in format.order (most_bytes - given) bytes ≡ Ok (Some header))
+    → IfSome all (λ bytes. (next_of format number given bytes ≡ Ok (Some (entry_with format (number + 1) header (take header.captured pending))))
+    × (prepend_known (drop header.captured pending) known ≡ Some (drop (16 + length (take header.captured pending)) bytes)))
+found-next format number given header pending None known fits same found = tt
+found-next format number given header pending (Some bytes) None fits same found = absurd (none-some (drop 16 bytes) same)
+found-next format number given header pending (Some bytes) (Some more) fits same found =
+    let joined : pending ++ more ≡ drop 16 bytes = ap from_some same in
+    let front : take header.captured (drop 16 bytes) ≡ take header.captured pending =
+    ap (take header.captured) (sym joined) ∙ take-append-le header.captured pending more fits in
+    let size : length (take header.captured pending) ≡ header.captured = length-take-le header.captured pending fits in
+    let behind : drop header.captured pending ++ more ≡ drop (16 + header.captured) bytes =
+    sym (drop-append-le header.captured pending more fits) ∙ ap (drop header.captured) joined ∙ drop-drop header.captured 16 bytes in (
+      ap (λ (f : Result (Option RecordHeader) CaptureFault). next_by format (number + 1) f bytes) found
+          ∙ ap (λ (text : List ℕ). Ok (Some (entry_with format (number + 1) header text))) front,
+      ap (λ (xs : List ℕ). Some xs) (behind ∙ ap (λ (n : ℕ). drop (16 + n) bytes) (sym size)),
+    )
+
+-- nothing is left
+ended-next : (all known : Option (List ℕ)) → known ≡ all → IfSome all (λ bytes. bytes ≡ []) → IfSome all (λ bytes. (bytes ≡ []) × (known ≡ Some []))
+ended-next None known same ended = tt
+ended-next (Some bytes) known same ended = (ended, same ∙ ap (λ (xs : List ℕ). Some xs) ended)
+
+-- what is wrong stands next
+wrong-next : (format : Format) (number given : ℕ) (why : CaptureFault) (all : Option (List ℕ))
+    → IfSome all (λ bytes. found_in format.order (most_bytes - given) bytes ≡ Err why) → IfSome all (λ bytes. next_of format number given bytes ≡ Err why)
+wrong-next format number given why None wrong = tt
+wrong-next format number given why (Some bytes) wrong = ap (λ (f : Result (Option RecordHeader) CaptureFault). next_by format (number + 1) f bytes) wrong
+
+module _ {S : Type 0} (left : S → Option (List ℕ)) (faults lender : S → ℕ) where
+  pub advanced-found : (before after : S) (held passed got : BytesAhead) (lent : ℕ) (format : Format) (given number : ℕ) (fault : Option CaptureFault)
+      (header : RecordHeader) → passed ≡ let_go held lent → fault ≡ None → given ≤ 2 ^ 32 → length got.pending ≤ 262144
+      → Keeps faults lender passed got before after
+      → RecordRead left faults format.order (most_bytes - given) passed got before after (Ok (Some header))
+      → Advances left faults lender (state before held.pending lent format given number fault)
+      (state after got.pending header.captured format (given + (16 + header.captured)) (number + 1) fault)
+      (Ok (Some (entry_with format (number + 1) header (take header.captured got.pending))))
+  advanced-found before after held passed got lent format given number fault header is stands within block keeps read =
+      let here : RecordRead left faults format.order (most_bytes - given) (let_go held lent) got before after (Ok (Some header)) =
+      subst (λ (ahead : BytesAhead). RecordRead left faults format.order (most_bytes - given) ahead got before after (Ok (Some header))) is read in
+      record {
+        never_falls = keeps.never_falls;
+        same_lender = keeps.same_lender;
+        same_format = refl;
+        within = omega (arith, within, here.0);
+        block = rw (length-drop header.captured got.pending) (omega (arith, block));
+        past = passed-behind 16 got.pending (prepend_known (drop lent held.pending) (left before)) (left after) (omega arith) block here.2;
+        answer = record {
+          was_open = stands;
+          is_open = stands;
+          number = refl;
+          counted = refl;
+          given = ap (λ (n : ℕ). given + (16 + n)) (sym (length-take-le header.captured got.pending here.1));
+          next = found-next format number given header got.pending (prepend_known (drop lent held.pending) (left before)) (left after) here.1 here.2 here.3;
+        };
+      }
+
+  pub advanced-end : (before after : S) (held passed got : BytesAhead) (lent : ℕ) (format : Format) (given number : ℕ) (fault : Option CaptureFault)
+      → passed ≡ let_go held lent → fault ≡ None → given ≤ 2 ^ 32 → length got.pending ≤ 262144 → Keeps faults lender passed got before after
+      → RecordRead left faults format.order (most_bytes - given) passed got before after (Ok None)
+      → Advances left faults lender (state before held.pending lent format given number fault) (state after got.pending 0 format given number fault) (Ok None)
+  advanced-end before after held passed got lent format given number fault is stands within block keeps read =
+      let here : RecordRead left faults format.order (most_bytes - given) (let_go held lent) got before after (Ok None) =
+      subst (λ (ahead : BytesAhead). RecordRead left faults format.order (most_bytes - given) ahead got before after (Ok None)) is read in
+      record {
+        never_falls = keeps.never_falls;
+        same_lender = keeps.same_lender;
+        same_format = refl;
+        within = within;
+        block = block;
+        past = passed-ahead 262160 got.pending (left after) (prepend_known (drop lent held.pending) (left before)) (omega (arith, block)) here.0;
+        answer = record {
+          was_open = stands;
+          is_open = stands;
+          counted = refl;
+          given = refl;
+          next = ended-next (prepend_known (drop lent held.pending) (left before)) (prepend_known got.pending (left after)) here.0 here.1;
+        };
+      }
+
+  pub advanced-wrong : (before after : S) (held passed got : BytesAhead) (lent : ℕ) (format : Format) (given number : ℕ) (fault : Option CaptureFault)
+      (why : CaptureFault) → passed ≡ let_go held lent → fault ≡ None → given ≤ 2 ^ 32 → length got.pending ≤ 262144
+      → Keeps faults lender passed got before after
+      → RecordRead left faults format.order (most_bytes - given) passed got before after (Err why)
+      → Advances left faults lender (state before held.pending lent format given number fault) (state after got.pending 0 format given number (Some why)) (Err why)
+  advanced-wrong before after held passed got lent format given number fault why is stands within block keeps read =
+      let here : RecordRead left faults format.order (most_bytes - given) (let_go held lent) got before after (Err why) =
+      subst (λ (ahead : BytesAhead). RecordRead left faults format.order (most_bytes - given) ahead got before after (Err why)) is read in
+      record {
+        never_falls = keeps.never_falls;
+        same_lender = keeps.same_lender;
+        same_format = refl;
+        within = within;
+        block = block;
+        past = passed-behind here.1.0 got.pending (prepend_known (drop lent held.pending) (left before)) (left after) here.1.1 block here.1.2;
+        answer = record {
+          of_records = here.0;
+          kept = refl;
+          counted = refl;
+          cause = inr (
+            stands,
+            ⊎_elim
+                (λ rose. inl rose)
+                (λ wrong. inr (wrong.0, wrong-next format number given why (prepend_known (drop lent held.pending) (left before)) wrong.1))
+                here.2,
+          );
+        };
+      }
+
+  -- a reader whose capture ended with a fault does nothing
+  pub advanced-refused : (old : CapturesState S) (why : CaptureFault) → old.fault ≡ Some why → IsOfRecords why → old.given ≤ 2 ^ 32 → length old.pending ≤ 262144
+      → Advances left faults lender old old (Err why)
+  advanced-refused old why kept of_records within block = record {
+    never_falls = omega arith;
+    same_lender = refl;
+    same_format = refl;
+    within = within;
+    block = block;
+    past = passed-ahead 262160 old.pending (left old.source) (rest left old) (omega (arith, block)) refl;
+    answer = record { of_records = of_records; kept = kept; counted = refl; cause = inl (kept, refl) };
+  }

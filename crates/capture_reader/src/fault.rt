@@ -1,0 +1,31 @@
+//! Why a capture is refused.
+use thiserror::Error;
+
+/// Why a capture ended early (own). Of a file header the first cause that holds is answered, in this order.
+#[derive(Clone, Copy, Debug, PartialEq, Eq, Error)]
+pub enum CaptureFault {
+    /// The first four bytes are no magic number of a classic capture, in either byte order.
+    #[error("the first four bytes are no magic number of a capture")]
+    BadMagic,
+    /// The version is not 2.4.
+    #[error("the version is not 2.4")]
+    BadVersion,
+    /// The link type is neither 1, Ethernet, nor 101, raw IP.
+    #[error("the link type is neither 1 nor 101")]
+    BadLink,
+    /// The input ends inside the file header, a record's header or a record's bytes.
+    #[error("the input ends inside a header or a record")]
+    CutShort,
+    /// More than 262,144 bytes of a record were captured.
+    #[error("a record has more than 262144 bytes")]
+    RecordTooLong,
+    /// The source failed.
+    #[error("the source failed")]
+    ReadFault,
+    /// No memory was left for the block.
+    #[error("no memory is left")]
+    NoMemory,
+    /// A byte behind the first 4,294,967,296 is needed.
+    #[error("the capture goes on behind its first 4294967296 bytes")]
+    TooLarge,
+}

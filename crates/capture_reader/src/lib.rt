@@ -1,0 +1,21 @@
+//! The records of a classic packet capture (the savefile format of libpcap), one after another, from a source that may
+//! give its bytes in any pieces.
+//!
+//! All memory is taken when a reader is made: one block of 262,144 bytes. A record is lent from that block, and is given
+//! whole however the reads were cut. Nothing here looks into a record's bytes.
+#![tactic(auto)]
+
+mod captures;
+mod fault;
+mod format;
+mod gather;
+mod laws;
+mod record;
+#[cfg(test)]
+mod tests;
+
+pub use crate::captures::Captures;
+pub use crate::fault::CaptureFault;
+pub use crate::format::{Format, Order};
+pub use crate::laws::a_capture_has_one_list_of_records;
+pub use crate::record::Record;
