@@ -1,5 +1,5 @@
 -- What a mark and a raise make of a floor, and which numbers it passes.
-use Rattle.std.proofs.Common.{◌≡◌, ℕ, ◌-◌, ◌^◌, ◌<◌, ◌≤◌, true, false, max, refl, ap, arith, ◌∙◌, inl, inr}
+use Rattle.std.proofs.Common.{◌≡◌, ℕ, ◌-◌, ◌^◌, ◌<◌, ◌≤◌, true, false, max, refl, ap, arith, ◌∙◌, inl, inr, ◌⊎◌, ⊎_elim, ◌↔◌}
 use Rattle.std.proofs.Common.{nat_lt as ltb}
 use Rattle.std.proofs.lemmas.Bool.{cases_Bool, cases_lt, and_parts, ltb-true}
 use Rattle.std.specs.Prelude.{IsTrue}
@@ -8,7 +8,7 @@ use Rattle.seq_circle.specs.Counts.{number_of}
 use Rattle.run_list.specs.declared.answers.Marked.TheVariants.{New}
 use Rattle.run_list.specs.MarkedSet.{MarkedSet, IsSound, has, is_from, IsFrom, raised, floor_under, answer_to, marked}
 use Rattle.run_list.proofs.Steps.{distance_raised}
-use Rattle.run_list.proofs.Sets.{still, pushed, reach, new_parts, marked-new, marked_iff}
+use Rattle.run_list.proofs.Sets.{still, pushed, reach, new_parts, marked-new, marked_iff, raised_iff}
 
 pub floor-raised : (set : MarkedSet) (to : ℕ) → (raised set to).floor ≡ later_of set.floor to
 floor-raised set to =
@@ -132,3 +132,39 @@ pub raised-count : (set : MarkedSet) (iss floor to : ℕ) → iss < 2 ^ 48 → 1
     → set.floor ≡ number_of iss floor → (raised set (number_of iss to)).floor ≡ number_of iss (max floor to)
 raised-count set iss floor to p a b c d e =
     floor-raised set (number_of iss to) ∙ ap (λ f. later_of f (number_of iss to)) e ∙ later-count iss floor to p a c b d
+
+-- members by counts of packets
+pub same-count : (iss one other : ℕ) → iss < 2 ^ 48 → 1 ≤ one → one ≤ 2 ^ 47 → 1 ≤ other → other ≤ 2 ^ 47
+    → number_of iss one ≡ number_of iss other → one ≡ other
+same-count iss one other p a b c d h = omega (arith, h)
+
+pub from-count : (iss low n : ℕ) → iss < 2 ^ 48 → 1 ≤ low → low ≤ 2 ^ 47 → 1 ≤ n → n ≤ 2 ^ 47
+    → IsFrom (number_of iss low) (number_of iss n) ↔ (low ≤ n)
+from-count iss low n p a b c d = (λ h. omega (arith, h), λ h. omega (arith, h))
+
+pub marked-member : (set : MarkedSet) (iss floor n m : ℕ) → IsSound set → iss < 2 ^ 48 → 1 ≤ floor → floor ≤ 2 ^ 47
+    → 1 ≤ n → n ≤ 2 ^ 47 → 1 ≤ m → m ≤ 2 ^ 47 → set.floor ≡ number_of iss floor → answer_to set (number_of iss n) ≡ New
+    → IsTrue (has (marked set (number_of iss n)).numbers (number_of iss m))
+    ↔ ((m ≡ n) ⊎ (IsTrue (has set.numbers (number_of iss m)) × (max floor (n - 2047) ≤ m)))
+marked-member set iss floor n m s p a b c d e f is new =
+    let both = marked_iff set (number_of iss n) (number_of iss m) s (omega arith) new in
+    let at = marked-count set iss floor n p a b c d is new in
+    let order = from-count iss (max floor (n - 2047)) m p (grind arith) (grind arith) e f in (
+      λ h. ⊎_elim (λ same. inl (same-count iss m n p e f c d same))
+          (λ old. let low : IsFrom (number_of iss (max floor (n - 2047))) (number_of iss m) = rw at at old.1 in inr (old.0, order.0 low))
+          (both.0 h),
+      λ k. both.1 (⊎_elim (λ same. inl (ap (number_of iss) same)) (λ old. inr (old.0, rw at (order.1 old.1))) k),
+    )
+
+pub raised-member : (set : MarkedSet) (iss floor to m : ℕ) → IsSound set → iss < 2 ^ 48 → 1 ≤ floor → floor ≤ 2 ^ 47
+    → 1 ≤ to → to ≤ 2 ^ 47 → 1 ≤ m → m ≤ 2 ^ 47 → set.floor ≡ number_of iss floor
+    → IsTrue (has (raised set (number_of iss to)).numbers (number_of iss m))
+    ↔ (IsTrue (has set.numbers (number_of iss m)) × (max floor to ≤ m))
+raised-member set iss floor to m s p a b c d e f is =
+    let both = raised_iff set (number_of iss to) (number_of iss m) s in
+    let at = raised-count set iss floor to p a b c d is in
+    let order = from-count iss (max floor to) m p (grind arith) (grind arith) e f in (
+      λ h. let old = both.0 h in
+          let low : IsFrom (number_of iss (max floor to)) (number_of iss m) = rw at at old.1 in (old.0, order.0 low),
+      λ k. both.1 (k.0, rw at (order.1 k.1)),
+    )

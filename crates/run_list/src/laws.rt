@@ -59,6 +59,19 @@ pub fn floors_go_by_counts()
         → later_of (number_of iss floor) (floor_under (number_of iss n)) ≡ number_of iss (max floor (n - 2047)) }
 {}
 
+/// Among a sender's first 2^47 packets, by their counts: a new packet joins, and of the others those stay that are not under
+/// the floor; a raise keeps just those (own).
+pub fn members_go_by_counts()
+    ensures marked { (set : MarkedSet) (iss floor n m : ℕ) → IsSound set → iss < 2 ^ 48 → 1 ≤ floor → floor ≤ 2 ^ 47
+        → 1 ≤ n → n ≤ 2 ^ 47 → 1 ≤ m → m ≤ 2 ^ 47 → set.floor ≡ number_of iss floor → answer_to set (number_of iss n) ≡ New
+        → IsTrue (has (marked set (number_of iss n)).numbers (number_of iss m))
+        ↔ ((m ≡ n) ⊎ (IsTrue (has set.numbers (number_of iss m)) × (max floor (n - 2047) ≤ m))) }
+    ensures raised { (set : MarkedSet) (iss floor to m : ℕ) → IsSound set → iss < 2 ^ 48 → 1 ≤ floor → floor ≤ 2 ^ 47
+        → 1 ≤ to → to ≤ 2 ^ 47 → 1 ≤ m → m ≤ 2 ^ 47 → set.floor ≡ number_of iss floor
+        → IsTrue (has (raised set (number_of iss to)).numbers (number_of iss m))
+        ↔ (IsTrue (has set.numbers (number_of iss m)) × (max floor to ≤ m)) }
+{}
+
 /// What begins sound stays so: the numbers are distinct and span at most 2,048 successive ones from the floor up (own).
 pub fn sets_stay_sound()
     ensures empty { (floor : ℕ) → floor < 2 ^ 48 → IsSound (empty_from floor) }

@@ -16,8 +16,8 @@ mod walking;
 pub use crate::answers::Marked;
 pub use crate::laws::{
     a_set_is_known_by_its_numbers, floors_go_by_counts, floors_never_fall, marking_adds_one_number,
-    marking_moves_the_floor, raising_keeps_the_rest, raising_moves_the_floor, sets_stay_sound,
-    stretches_are_maximal_runs,
+    marking_moves_the_floor, members_go_by_counts, raising_keeps_the_rest, raising_moves_the_floor,
+    sets_stay_sound, stretches_are_maximal_runs,
 };
 pub use crate::list::RunList;
 pub use crate::walking::{Stretch, Walk};
