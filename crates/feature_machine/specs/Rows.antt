@@ -97,7 +97,7 @@ proposal row body =
     else p.Invalid
 
 -- The acknowledgement number reaches the row's last opening: there is one, and it is not before the opening's. (So one at just
--- half the circle from it does; no end can meet that, whose acknowledgement window is narrower.)
+-- half the circle from it does; an end that uses fewer than 2^47 numbers meets none.)
 abbrev pub answers_opening : Option ℕ → Option ℕ → Bool
 answers_opening (Some opened) (Some ack) = not (is_before ack opened)
 answers_opening _ _ = false
