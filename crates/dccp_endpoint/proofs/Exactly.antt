@@ -1,212 +1,203 @@
--- What an outcome tells is what `receive` does: each cause is put into the definitions from the top.
-use Rattle.std.proofs.Common.{◌≡◌, refl, ap, sym, ◌∙◌, subst, ℕ, List, Option, Some, None, Bool, true, false, if◌then◌else◌}
-use Rattle.std.proofs.lemmas.Bool.{eq-eqb, ne_eqb}
-use Rattle.dccp_packets.specs.Grammar.{Parts, packet_type}
-use Rattle.dccp_packets.specs.declared.header.Kind.TheVariants as kind
+-- No outcome of `receive` but its own has a cause: each cause is put into the steps, from the first on.
+use Rattle.std.proofs.Common.{◌≡◌, ◌≢◌, refl, ap, sym, ◌∙◌, ℕ, List, [], ◌∷◌, Option, Some, None, Bool, true, false, Result, Ok}
+use Rattle.dccp_packets.specs.Grammar.{Parts, decoded}
+use Rattle.dccp_packets.specs.declared.header.Number.{Number}
+use Rattle.dccp_packets.specs.declared.reading.Malformed.{Malformed}
+use Rattle.dccp_sum.specs.Checksum.{checked}
+use Rattle.dccp_sum.specs.declared.packet_sum.SumFault.{SumFault}
+use Rattle.validity_windows.specs.declared.verdict.Verdict.{Verdict}
+use Rattle.validity_windows.specs.declared.verdict.Verdict.TheVariants as verdicts
+use Rattle.dccp_states.specs.declared.phase.Phase.TheVariants as phase
 use Rattle.dccp_packets.specs.declared.header.PacketType.{PacketType}
 use Rattle.dccp_packets.specs.declared.header.PacketType.TheVariants as types
-use Rattle.dccp_states.specs.Phases.{after}
+use Rattle.dccp_states.specs.declared.entrance.Entrance.{Entrance}
 use Rattle.dccp_states.specs.declared.entrance.Entrance.TheVariants as entrance
-use Rattle.dccp_states.specs.declared.phase.Phase.TheVariants as phase
 use Rattle.dccp_states.specs.declared.reply.Reply.{Reply}
 use Rattle.dccp_states.specs.declared.reply.Reply.TheVariants as reply
-use Rattle.dccp_endpoint.specs.Arrivals.{ack_of}
+use Rattle.dccp_endpoint.specs.Causes.{Came, entrance_of, verdict_of}
 use Rattle.dccp_endpoint.specs.End.{EndState}
-use Rattle.dccp_endpoint.specs.Receiving.{Arrival, accepts, answers, bare_number, by_fault, by_form, by_packet, by_ports, by_sum, enters, is_of_connection, is_other_service, judged, moves, packet_error, passage, passes, plain, raised, receives, replies, resets, resets_bare, started, syncs, takes, torn}
-use Rattle.dccp_endpoint.specs.Steps.{Step, frame_of, idle, next_number}
-use Rattle.dccp_endpoint.specs.Telling.{Arrived, IsValidPacket, IsIntact, IsNoAnswer, OtherType, OtherRequest, IsRead, IsReset, NoConnection, OtherService, NoAnswer, WrongService, Faulted, Closes, IsSent, IsStray, WithoutConnection, OutsideWindow, IsSynced, OutOfWindow, OutOfPlace, IsTaken, IsValid, OpensConnection, ResponseToRequest, PacketInWindow, IsValidReset, ResetToRequest, ResetInWindow, Tells, IsResetWithoutConnection, IsNumberedReset, IsUntouched, HasFault, IsOnlyTold, acknowledges_in_window, closed, entrance_of, is_out_of_place, needs_unbuilt, packet_fault, reply_packet}
+use Rattle.dccp_endpoint.specs.Faults.{first_fault}
+use Rattle.dccp_endpoint.specs.Incoming.{Incoming}
+use Rattle.dccp_endpoint.specs.Inputs.{Input, Arrives, Opens}
+use Rattle.dccp_endpoint.specs.Outcomes.{HasCause, HasNoOtherCause, IsAdmitted, IsReset, IsValid, IsValidPacket, IsValidReset, OutOfWindow, Unexpected, NoConnection, OtherService, NoAnswer, OtherType, OtherRequest, WrongService, Faulted, AnswersClose, OpensConnection, ResponseToRequest, PacketInWindow, ResetToRequest, ResetInWindow, StrayWithoutConnection, StrayInRequest, is_for_another}
+use Rattle.dccp_endpoint.specs.Receiving.{Course, Goes, Leaves, is_of_connection, is_unexpected, acknowledges_in_window, answers, by_ports, by_sum, checks_numbers, checks_type, ends_as, ends_by_reset, expects, heeds, judged, long_number, moved_to, opens_connection, processes, raised, raises, reads, reads_options, received, receives, replies, serves, started, takes, takes_answer, the_steps, through, with_number, with_packet}
+use Rattle.dccp_endpoint.specs.Steps.{Step, detail_of}
+use Rattle.dccp_endpoint.specs.declared.exit.Exit.TheVariants as exits
 use Rattle.dccp_endpoint.specs.declared.outcome.Fault.{Fault}
 use Rattle.dccp_endpoint.specs.declared.outcome.Outcome.{Outcome}
-use Rattle.dccp_endpoint.specs.declared.outcome.Outcome.TheVariants.{Took, Dropped, Synced, WasReset, SentReset, NotBuilt}
+use Rattle.dccp_endpoint.specs.declared.outcome.Outcome.TheVariants.{Dropped, NotBuilt, SentReset, Synced, Took, WasReset}
+use Rattle.dccp_endpoint.specs.declared.outcome.Why.{Why}
 use Rattle.dccp_endpoint.specs.declared.outcome.Why.TheVariants as why
-use Rattle.dccp_endpoint.specs.declared.passage.Passage.{Passage}
-use Rattle.dccp_endpoint.specs.declared.passage.Passage.TheVariants as passages
-use Rattle.dccp_endpoint.proofs.Passing.{Tests, of-tests, another-is, not-another, moved-is}
-
-abbrev step_of : EndState → Option (List ℕ) → Outcome → Step Outcome
-step_of after frame answer = record { after = after; frame = frame; answer = answer }
-
--- steps with equal parts are equal
-same-step : {after before : EndState} {frame sent : Option (List ℕ)} {answer outcome : Outcome} → after ≡ before → frame ≡ sent → answer ≡ outcome
-    → step_of after frame answer ≡ step_of before sent outcome
-same-step {after} {before} {frame} {sent} {answer} {outcome} ends frames answers =
-    ap (λ (e : EndState). step_of e frame answer) ends
-    ∙ ap (λ (f : Option (List ℕ)). step_of before f answer) frames
-    ∙ ap (step_of before sent) answers
-
-untouched-step : (e after : EndState) (frame : Option (List ℕ)) (outcome : Outcome) → IsUntouched e after frame → step_of after frame outcome ≡ idle e outcome
-untouched-step e after frame outcome (same, none) = same-step same none refl
+use Rattle.dccp_endpoint.proofs.Phases.{accept-type}
 
 -- step 1
-intact-goes : (e : EndState) (bytes : List ℕ) (p : Parts) → IsIntact e bytes p → receives e bytes ≡ by_ports e p (is_of_connection e p.header)
-intact-goes e bytes p intact = ap (by_packet e bytes) intact.is_packet ∙ ap (by_sum e p) intact.sum_fits
+abbrev given_bytes : Input → List ℕ
+given_bytes (Arrives bytes) = bytes
+given_bytes Opens = []
 
-arrived-goes : (e : EndState) (bytes : List ℕ) (a : Arrival) → Arrived e bytes a → receives e bytes ≡ enters e a (entrance_of e a)
-arrived-goes e bytes a arrived =
-    intact-goes e bytes arrived.packet arrived.intact
-    ∙ ap (by_ports e arrived.packet) arrived.is_ours
-    ∙ ap (by_form e arrived.packet) arrived.is_long
-    ∙ ap (λ (x : Arrival). enters e x (entrance_of e x)) (sym arrived.same)
+abbrev after_packet : EndState → List ℕ → Parts → Result ℕ Why → Step Outcome
+after_packet e bytes p number = received e (with_number e bytes p number)
 
--- steps 2 to 4
-arrived-enters : (e : EndState) (bytes : List ℕ) (a : Arrival) → Arrived e bytes a → (how : _) → entrance_of e a ≡ how → receives e bytes ≡ enters e a how
-arrived-enters e bytes a arrived how is = arrived-goes e bytes a arrived ∙ ap (enters e a) is
+packet-goes : (e : EndState) (bytes : List ℕ) (p : Parts) → decoded bytes ≡ Ok p
+    → receives e bytes ≡ after_packet e bytes p (by_sum e p.header (checked e.config.pseudo_in bytes))
+unfolding receives
+packet-goes e bytes p is = ap (λ (d : Result Parts Malformed). received e (with_packet e bytes d)) is
 
-answers-other : (e : EndState) (a : Arrival) (t : PacketType) → (t ≡ types.Reset → ⊥)
-    → answers e a t true ≡ passes e (started e e.phase a) a (passage e e.phase a)
-answers-other e a types.Reset no_reset = absurd (no_reset refl)
-answers-other e a _ no_reset = refl
+sum-goes : (e : EndState) (bytes : List ℕ) (p : Parts) → decoded bytes ≡ Ok p → checked e.config.pseudo_in bytes ≡ Ok tt
+    → receives e bytes ≡ after_packet e bytes p (by_ports p.header.number (is_of_connection e p.header))
+sum-goes e bytes p is fits =
+    packet-goes e bytes p is ∙ ap (λ (s : Result (Unit {0}) SumFault). after_packet e bytes p (by_sum e p.header s)) fits
 
-answers-wrong : (e : EndState) (a : Arrival) (t : PacketType) → (t ≡ types.Reset → ⊥) → answers e a t false ≡ packet_error e a
-answers-wrong e a types.Reset no_reset = absurd (no_reset refl)
-answers-wrong e a _ no_reset = refl
+ports-goes : (e : EndState) (bytes : List ℕ) (p : Parts) (ours : Bool) → decoded bytes ≡ Ok p → checked e.config.pseudo_in bytes ≡ Ok tt
+    → is_of_connection e p.header ≡ ours → receives e bytes ≡ after_packet e bytes p (by_ports p.header.number ours)
+ports-goes e bytes p ours is fits same = sum-goes e bytes p is fits ∙ ap (λ (b : Bool). after_packet e bytes p (by_ports p.header.number b)) same
 
-takes-other : (e : EndState) (a : Arrival) (t : PacketType) → (t ≡ types.Reset → ⊥)
-    → takes e a t ≡ passes e (raised e a) a (passage e e.phase a)
-takes-other e a types.Reset no_reset = absurd (no_reset refl)
-takes-other e a _ no_reset = refl
+came-goes : (e : EndState) (bytes : List ℕ) (a : Incoming) → Came e (Arrives bytes) a → receives e bytes ≡ takes e a
+came-goes e bytes a came =
+    ap (receives e) (ap given_bytes came.is_given)
+    ∙ ports-goes e came.bytes came.packet true came.is_packet came.sum_fits came.is_ours
+    ∙ ap (λ (n : Number). after_packet e came.bytes came.packet (long_number n)) came.is_long
+    ∙ ap (takes e) (sym came.same)
 
-valid-goes : (e : EndState) (a : Arrival) (entered : EndState) → IsValid e a entered
-    → enters e a (entrance_of e a) ≡ passes e entered a (passage e entered.phase a)
-valid-goes e a entered (OpensConnection is same entered_so) =
-    subst (λ (x : EndState). enters e a (entrance_of e a) ≡ passes e x a (passage e x.phase a)) (sym entered_so)
-    (ap (enters e a) is ∙ ap (accepts e a) same
-    ∙ ap (λ (ours : Bool). if ours then passes e (started e phase.Respond a) a (passage e phase.Respond a) else resets_bare e a 8)
-    (eq-eqb e.config.service e.config.service refl))
-valid-goes e a entered (ResponseToRequest is no_reset fits entered_so) =
-    subst (λ (x : EndState). enters e a (entrance_of e a) ≡ passes e x a (passage e x.phase a)) (sym entered_so)
-    (ap (enters e a) is ∙ ap (answers e a (packet_type a.kind)) fits ∙ answers-other e a (packet_type a.kind) no_reset)
-valid-goes e a entered (PacketInWindow is no_reset valid entered_so) =
-    subst (λ (x : EndState). enters e a (entrance_of e a) ≡ passes e x a (passage e x.phase a)) (sym entered_so)
-    (ap (enters e a) is ∙ ap (judged e a) valid ∙ takes-other e a (packet_type a.kind) no_reset)
+-- steps 2 to 6
+abbrev from : EndState → Incoming → Course → List (EndState → Course) → Step Outcome
+from e a course steps = ends_as e a (through course steps)
 
-came-goes : (e : EndState) (bytes : List ℕ) (a : Arrival) (entered : EndState) → IsValidPacket e bytes a entered
-    → receives e bytes ≡ passes e entered a (passage e entered.phase a)
-came-goes e bytes a entered came = arrived-goes e bytes a came.arrived ∙ valid-goes e a entered came.valid
+enters-goes : (e : EndState) (bytes : List ℕ) (a : Incoming) (how : Entrance) → Came e (Arrives bytes) a → entrance_of e a ≡ how
+    → receives e bytes ≡ from e a (Goes e) (the_steps a how)
+enters-goes e bytes a how came is = came-goes e bytes a came ∙ ap (λ (h : Entrance). from e a (Goes e) (the_steps a h)) is
+
+past-reset : (a : Incoming) (t : PacketType) (x : EndState) → t ≢ types.Reset → ends_by_reset a t x ≡ Goes x
+past-reset a types.Reset x no_reset = absurd (no_reset refl)
+past-reset a _ x no_reset = refl
+
+answers-other : (a : Incoming) (e : EndState) (t : PacketType) → t ≢ types.Reset → answers a e t true ≡ Goes (started e e.phase a)
+answers-other a e types.Reset no_reset = absurd (no_reset refl)
+answers-other a e _ no_reset = refl
+
+answers-wrong : (a : Incoming) (e : EndState) (t : PacketType) → t ≢ types.Reset → answers a e t false ≡ Leaves e exits.PacketError
+answers-wrong a e types.Reset no_reset = absurd (no_reset refl)
+answers-wrong a e _ no_reset = refl
+
+raises-other : (a : Incoming) (e : EndState) (t : PacketType) → t ≢ types.Reset → raises a e t ≡ Goes (raised e a)
+raises-other a e types.Reset no_reset = absurd (no_reset refl)
+raises-other a e _ no_reset = refl
+
+-- the steps that are left behind 6
+abbrev behind_6 : Incoming → List (EndState → Course)
+behind_6 a = checks_type a ∷ reads_options a ∷ []
+
+abbrev answering : EndState → Incoming → Course → Step Outcome
+answering e a course = from e a course (checks_numbers a entrance.InRequest ∷ ends_by_reset a a.kind ∷ behind_6 a)
+
+in-request-goes : (e : EndState) (bytes : List ℕ) (a : Incoming) (fits : Bool) → Came e (Arrives bytes) a → entrance_of e a ≡ entrance.InRequest
+    → acknowledges_in_window e a ≡ fits → receives e bytes ≡ answering e a (answers a e a.kind fits)
+in-request-goes e bytes a fits came is same =
+    enters-goes e bytes a entrance.InRequest came is ∙ ap (λ (b : Bool). answering e a (answers a e a.kind b)) same
+
+judged-goes : (e : EndState) (bytes : List ℕ) (a : Incoming) (v : Verdict) → Came e (Arrives bytes) a → entrance_of e a ≡ entrance.Check
+    → verdict_of e a ≡ v → receives e bytes ≡ from e a (judged a e v) (ends_by_reset a a.kind ∷ behind_6 a)
+judged-goes e bytes a v came is same =
+    enters-goes e bytes a entrance.Check came is ∙ ap (λ (w : Verdict). from e a (judged a e w) (ends_by_reset a a.kind ∷ behind_6 a)) same
+
+entered-goes : (e : EndState) (a : Incoming) (x entered : EndState) → a.kind ≢ types.Reset → entered ≡ x
+    → from e a (Goes x) (ends_by_reset a a.kind ∷ behind_6 a) ≡ from e a (Goes entered) (behind_6 a)
+entered-goes e a x entered no_reset same =
+    ap (λ (c : Course). from e a c (behind_6 a)) (past-reset a a.kind x no_reset) ∙ ap (λ (y : EndState). from e a (Goes y) (behind_6 a)) (sym same)
+
+valid-goes : (e : EndState) (bytes : List ℕ) (a : Incoming) (entered : EndState) → IsValidPacket e bytes a entered
+    → receives e bytes ≡ from e a (Goes entered) (behind_6 a)
+valid-goes e bytes a entered valid = by valid.is_valid where
+  by : IsValid e a entered → receives e bytes ≡ from e a (Goes entered) (behind_6 a)
+  by (OpensConnection is ours same) =
+      enters-goes e bytes a entrance.Accept valid.came is
+      ∙ ap (λ (b : Bool). from e a (opens_connection a e b) (takes_answer a entrance.Accept ∷ checks_numbers a entrance.Accept ∷ ends_by_reset a a.kind ∷ behind_6 a)) ours
+      ∙ entered-goes e a (started e phase.Respond a) entered (λ reset. cc (accept-type e.phase a.kind is, reset)) same
+  by (ResponseToRequest is no_reset fits same) =
+      in-request-goes e bytes a true valid.came is fits ∙ ap (answering e a) (answers-other a e a.kind no_reset)
+      ∙ entered-goes e a (started e e.phase a) entered no_reset same
+  by (PacketInWindow is no_reset fits same) =
+      judged-goes e bytes a verdicts.Valid valid.came is fits
+      ∙ ap (λ (c : Course). from e a c (ends_by_reset a a.kind ∷ behind_6 a)) (raises-other a e a.kind no_reset)
+      ∙ entered-goes e a (raised e a) entered no_reset same
 
 -- step 7
-tested-goes : (e : EndState) (bytes : List ℕ) (a : Arrival) (entered : EndState) (how : Passage) → IsValidPacket e bytes a entered
-    → Tests how (is_out_of_place e entered a) (is_other_service e entered.phase a.kind) (needs_unbuilt entered a) → receives e bytes ≡ passes e entered a how
-tested-goes e bytes a entered how came tests =
-    came-goes e bytes a entered came
-    ∙ ap (passes e entered a) (of-tests how (is_out_of_place e entered a) (is_other_service e entered.phase a.kind) (needs_unbuilt entered a) tests)
+expected-goes : (e : EndState) (bytes : List ℕ) (a : Incoming) (entered : EndState) (out : Bool) → IsValidPacket e bytes a entered → is_unexpected entered a ≡ out
+    → receives e bytes ≡ from e a (expects a entered out) (reads_options a ∷ [])
+expected-goes e bytes a entered out valid same =
+    valid-goes e bytes a entered valid ∙ ap (λ (b : Bool). from e a (expects a entered b) (reads_options a ∷ [])) same
+
+served-goes : (e : EndState) (bytes : List ℕ) (a : Incoming) (entered : EndState) (other : Bool) → IsValidPacket e bytes a entered → is_unexpected entered a ≡ false
+    → is_for_another entered a ≡ other → receives e bytes ≡ from e a (serves a entered other) (reads_options a ∷ [])
+served-goes e bytes a entered other valid expected same =
+    expected-goes e bytes a entered false valid expected ∙ ap (λ (b : Bool). from e a (serves a entered b) (reads_options a ∷ [])) same
 
 -- step 8
-read-goes : (e : EndState) (bytes : List ℕ) (a : Arrival) (entered : EndState) (fault : Option Fault) → IsRead e bytes a entered fault
-    → receives e bytes ≡ by_fault entered a fault
-read-goes e bytes a entered fault read =
-    tested-goes e bytes a entered passages.Fine read.passed.came
-    (read.passed.in_place, not-another e entered.phase a.kind read.passed.for_us, read.is_built)
-    ∙ ap (by_fault entered a) read.faulted
+admitted-goes : (e : EndState) (bytes : List ℕ) (a : Incoming) (entered : EndState) (unbuilt : Bool) → IsAdmitted e bytes a entered unbuilt
+    → receives e bytes ≡ from e a (reads a entered unbuilt) []
+admitted-goes e bytes a entered unbuilt admitted =
+    served-goes e bytes a entered false admitted.valid admitted.expected admitted.for_us ∙ ap (λ (b : Bool). from e a (reads a entered b) []) admitted.needs
 
--- steps 9 to 15
-replied-step : (e : EndState) (number : ℕ) (r : Reply) (after : EndState) (frame : Option (List ℕ)) → (r ≡ reply.ResetClosed → ⊥)
-    → IsSent e (reply_packet e number r) after frame → step_of after frame (Took None) ≡ replies e number r
-replied-step e number reply.Nothing after frame answers sent = untouched-step e after frame (Took None) sent
-replied-step e number reply.Response after frame answers (ends, frames) = same-step ends frames refl
-replied-step e number reply.Ack after frame answers (ends, frames) = same-step ends frames refl
-replied-step e number reply.Close after frame answers (ends, frames) = same-step ends frames refl
-replied-step e number reply.ResetClosed after frame answers sent = absurd (answers refl)
-replied-step e number reply.SyncAck after frame answers (ends, frames) = same-step ends frames refl
-replied-step e number reply.Torn after frame answers sent = untouched-step e after frame (Took None) sent
+heeded-goes : (e : EndState) (bytes : List ℕ) (a : Incoming) (entered : EndState) (fault : Option Fault) → IsAdmitted e bytes a entered false
+    → first_fault a.options ≡ fault → receives e bytes ≡ from e a (heeds entered fault) []
+heeded-goes e bytes a entered fault admitted is =
+    admitted-goes e bytes a entered false admitted ∙ ap (λ (f : Option Fault). from e a (heeds entered f) []) is
 
-taken-goes : (e : EndState) (bytes : List ℕ) (delivered : Option (ℕ × ℕ)) (after : EndState) (frame : Option (List ℕ)) → IsTaken e bytes delivered after frame
-    → step_of after frame (Took delivered) ≡ receives e bytes
-taken-goes e bytes delivered after frame taken =
-    ap (λ (d : Option (ℕ × ℕ)). step_of after frame (Took d)) taken.no_data
-    ∙ replied-step taken.moved taken.packet.number taken.answer after frame taken.no_reset taken.sent
-    ∙ ap (λ (m : EndState). replies m taken.packet.number taken.answer) (moved-is taken.entered taken.packet.number taken.to taken.moved taken.moves_so)
-    ∙ sym (read-goes e bytes taken.packet taken.entered None taken.read ∙ ap (moves taken.entered taken.packet) taken.row)
+-- The answers.
+answer_of : {first second : Step Outcome} → first ≡ second → first.answer ≡ second.answer
+answer_of same = ap (λ (s : Step Outcome). s.answer) same
 
--- a valid Reset
-torn-goes : (e : EndState) (a : Arrival) → packet_type a.kind ≡ types.Reset → IsValidReset e a → enters e a (entrance_of e a) ≡ torn e a
-torn-goes e a reset (ResetToRequest is fits) =
-    ap (enters e a) is ∙ ap (λ (t : PacketType). answers e a t (acknowledges_in_window e a)) reset ∙ ap (answers e a types.Reset) fits
-torn-goes e a reset (ResetInWindow is valid) = ap (enters e a) is ∙ ap (judged e a) valid ∙ ap (takes e a) reset
+reset-answers : (e : EndState) (bytes : List ℕ) (fault : Fault) → IsReset e bytes fault → (receives e bytes).answer ≡ SentReset fault.code (detail_of fault)
+reset-answers e bytes fault (NoConnection a came is) = answer_of (enters-goes e bytes a entrance.NoConnection came is)
+reset-answers e bytes fault (OtherService a came is other) =
+    answer_of (enters-goes e bytes a entrance.Accept came is
+    ∙ ap (λ (b : Bool). from e a (opens_connection a e b) (takes_answer a entrance.Accept ∷ checks_numbers a entrance.Accept ∷ ends_by_reset a a.kind ∷ behind_6 a)) other)
+reset-answers e bytes fault (NoAnswer a came (OtherType is)) = answer_of (enters-goes e bytes a entrance.PacketError came is)
+reset-answers e bytes fault (NoAnswer a came (OtherRequest is no_reset wrong)) =
+    answer_of (in-request-goes e bytes a false came is wrong ∙ ap (answering e a) (answers-wrong a e a.kind no_reset))
+reset-answers e bytes fault (WrongService a entered valid expected other) = answer_of (served-goes e bytes a entered true valid expected other)
+reset-answers e bytes fault (Faulted a entered first admitted is) = answer_of (heeded-goes e bytes a entered (Some first) admitted is)
+reset-answers e bytes fault (AnswersClose a entered to admitted none row) =
+    answer_of (heeded-goes e bytes a entered None admitted none ∙ ap (processes entered a) row)
 
--- a Reset that goes out
-bare-step : (e : EndState) (a : Arrival) (n code : ℕ) (detail : List ℕ) (after : EndState) (frame : Option (List ℕ)) → HasFault (plain n) code detail
-    → IsResetWithoutConnection e a code detail after frame → step_of after frame (SentReset code detail) ≡ resets_bare e a n
-bare-step e a n code detail after frame (codes, details) (ends, frames) =
-    same-step ends
-    (frames ∙ ap (λ (c : ℕ). Some (frame_of e (bare_number (ack_of a.kind)) (kind.Reset a.number c detail))) codes
-    ∙ ap (λ (d : List ℕ). Some (frame_of e (bare_number (ack_of a.kind)) (kind.Reset a.number n d))) details)
-    (ap (λ (c : ℕ). SentReset c detail) codes ∙ ap (SentReset n) details)
+taken-answers : (e : EndState) (a : Incoming) (r : Reply) → r ≢ reply.ResetClosed → (replies e a r).answer ≡ Took None
+taken-answers e a reply.ResetClosed no_reset = absurd (no_reset refl)
+taken-answers e a _ no_reset = refl
 
-counted-step : (e : EndState) (ack : ℕ) (fault : Fault) (code : ℕ) (detail : List ℕ) (after : EndState) (frame : Option (List ℕ)) → HasFault fault code detail
-    → IsNumberedReset e ack code detail after frame → step_of after frame (SentReset code detail) ≡ resets e ack fault
-counted-step e ack fault code detail after frame (codes, details) (ends, frames) =
-    same-step ends
-    (frames ∙ ap (λ (c : ℕ). Some (frame_of e (next_number e) (kind.Reset ack c detail))) codes
-    ∙ ap (λ (d : List ℕ). Some (frame_of e (next_number e) (kind.Reset ack fault.code d))) details)
-    (ap (λ (c : ℕ). SentReset c detail) codes ∙ ap (SentReset fault.code) details)
+ending-goes : (e : EndState) (bytes : List ℕ) (a : Incoming) → Came e (Arrives bytes) a → a.kind ≡ types.Reset → IsValidReset e a
+    → receives e bytes ≡ from e a (ends_by_reset a types.Reset e) (behind_6 a)
+ending-goes e bytes a came reset (ResetToRequest is fits) =
+    in-request-goes e bytes a true came is fits ∙ ap (λ (t : PacketType). answering e a (answers a e t true)) reset
+    ∙ ap (λ (t : PacketType). from e a (ends_by_reset a t e) (behind_6 a)) reset
+ending-goes e bytes a came reset (ResetInWindow is valid) =
+    judged-goes e bytes a verdicts.Valid came is valid ∙ ap (λ (t : PacketType). from e a (raises a e t) (ends_by_reset a a.kind ∷ behind_6 a)) reset
+    ∙ ap (λ (t : PacketType). from e a (ends_by_reset a t e) (behind_6 a)) reset
 
-no-answer-goes : (e : EndState) (a : Arrival) → IsNoAnswer e a → enters e a (entrance_of e a) ≡ packet_error e a
-no-answer-goes e a (OtherType is) = ap (enters e a) is
-no-answer-goes e a (OtherRequest is no_reset wrong) =
-    ap (enters e a) is ∙ ap (answers e a (packet_type a.kind)) wrong ∙ answers-wrong e a (packet_type a.kind) no_reset
-
-reset-goes : (e : EndState) (bytes : List ℕ) (code : ℕ) (detail : List ℕ) (after : EndState) (frame : Option (List ℕ))
-    → IsReset e bytes code detail after frame → step_of after frame (SentReset code detail) ≡ receives e bytes
-reset-goes e bytes code detail after frame (NoConnection a arrived is tells bare) =
-    bare-step e a 3 code detail after frame tells bare ∙ sym (arrived-enters e bytes a arrived entrance.NoConnection is)
-reset-goes e bytes code detail after frame (OtherService a service arrived is same other tells bare) =
-    bare-step e a 8 code detail after frame tells bare
-    ∙ sym (arrived-enters e bytes a arrived entrance.Accept is ∙ ap (accepts e a) same
-    ∙ ap (λ (ours : Bool). if ours then passes e (started e phase.Respond a) a (passage e phase.Respond a) else resets_bare e a 8)
-    (ne_eqb service e.config.service other))
-reset-goes e bytes code detail after frame (NoAnswer a arrived is tells counts) =
-    counted-step e a.number (packet_fault a) code detail after frame tells counts
-    ∙ sym (arrived-goes e bytes a arrived ∙ no-answer-goes e a is)
-reset-goes e bytes code detail after frame (WrongService a entered came in_place other tells counts) =
-    counted-step (closed entered) entered.marks.gsr (plain 8) code detail after frame tells counts
-    ∙ sym (tested-goes e bytes a entered passages.OtherService came (in_place, another-is e entered.phase a.kind other))
-reset-goes e bytes code detail after frame (Faulted a entered fault read tells counts) =
-    counted-step (closed entered) entered.marks.gsr fault code detail after frame tells counts
-    ∙ sym (read-goes e bytes a entered (Some fault) read)
-reset-goes e bytes code detail after frame (Closes a entered read row tells counts) =
-    counted-step (closed entered) entered.marks.gsr (plain 1) code detail after frame tells counts
-    ∙ sym (read-goes e bytes a entered None read ∙ ap (moves entered a) row)
-
-stray-goes : (e : EndState) (bytes : List ℕ) → IsStray e bytes → receives e bytes ≡ idle e (Dropped why.StrayReset)
-stray-goes e bytes (WithoutConnection a arrived is) = arrived-enters e bytes a arrived entrance.Stray is
-stray-goes e bytes (OutsideWindow a arrived is reset wrong) =
-    arrived-enters e bytes a arrived entrance.InRequest is
-    ∙ ap (λ (t : PacketType). answers e a t (acknowledges_in_window e a)) reset ∙ ap (answers e a types.Reset) wrong
-
-synced-goes : (e : EndState) (bytes : List ℕ) (number : ℕ) (after : EndState) (frame : Option (List ℕ)) → IsSynced e bytes number after
-    → frame ≡ Some (frame_of e (next_number e) (kind.Sync number)) → step_of after frame (Synced number) ≡ receives e bytes
-synced-goes e bytes number after frame (OutOfWindow a arrived is verdict_so ends) frames =
-    same-step ends frames refl ∙ sym (arrived-enters e bytes a arrived entrance.Check is ∙ ap (judged e a) verdict_so)
-synced-goes e bytes number after frame (OutOfPlace a came out same ends) frames =
-    same-step ends frames refl ∙ ap (syncs (raised e a)) same ∙ sym (tested-goes e bytes a (raised e a) passages.Misplaced came out)
-
--- All of it.
-pub only-told : (e : EndState) (bytes : List ℕ) (after : EndState) (frame : Option (List ℕ)) (outcome : Outcome)
-    → Tells e bytes outcome after frame → step_of after frame outcome ≡ receives e bytes
-only-told e bytes after frame (Dropped (why.Malformed fault)) (is, untouched) =
-    untouched-step e after frame _ untouched ∙ sym (ap (by_packet e bytes) is)
-only-told e bytes after frame (Dropped (why.Sum fault)) (is, untouched) =
-    untouched-step e after frame _ untouched ∙ sym (ap (by_packet e bytes) is.is_packet ∙ ap (by_sum e is.packet) is.sum_fails)
-only-told e bytes after frame (Dropped why.OtherFlow) (is, untouched) =
-    untouched-step e after frame _ untouched ∙ sym (intact-goes e bytes is.packet is.intact ∙ ap (by_ports e is.packet) is.not_ours)
-only-told e bytes after frame (Dropped why.ShortOff) (is, untouched) =
-    untouched-step e after frame _ untouched
-    ∙ sym (intact-goes e bytes is.packet is.intact ∙ ap (by_ports e is.packet) is.is_ours ∙ ap (by_form e is.packet) is.is_short)
-only-told e bytes after frame (Dropped why.StrayReset) (is, untouched) = untouched-step e after frame _ untouched ∙ sym (stray-goes e bytes is)
-only-told e bytes after frame (Dropped why.BadSync) (is, untouched) =
-    untouched-step e after frame _ untouched
-    ∙ sym (arrived-enters e bytes is.packet is.arrived entrance.Check is.is_judged ∙ ap (judged e is.packet) is.is_bad)
-only-told e bytes after frame (Synced number) (is, frames) = synced-goes e bytes number after frame is frames
-only-told e bytes after frame (WasReset code) (is, ends, none) =
-    same-step ends none (ap WasReset is.has_code) ∙ sym (arrived-goes e bytes is.packet is.arrived ∙ torn-goes e is.packet is.is_reset is.is_valid)
-only-told e bytes after frame (SentReset code detail) is = reset-goes e bytes code detail after frame is
-only-told e bytes after frame NotBuilt (is, untouched) =
-    untouched-step e after frame _ untouched
-    ∙ sym (tested-goes e bytes is.packet is.entered passages.Unbuilt is.passed.came
-    (is.passed.in_place, not-another e is.entered.phase is.packet.kind is.passed.for_us, is.not_built))
-only-told e bytes after frame (Took delivered) is = taken-goes e bytes delivered after frame is
+answers-so : (e : EndState) (bytes : List ℕ) (outcome : Outcome) → HasCause e bytes outcome → (receives e bytes).answer ≡ outcome
+unfolding receives
+answers-so e bytes (Dropped (why.Malformed fault)) is = ap (λ (d : Result Parts Malformed). (received e (with_packet e bytes d)).answer) is
+answers-so e bytes (Dropped (why.Sum fault)) is =
+    answer_of (packet-goes e bytes is.packet is.is_packet
+    ∙ ap (λ (s : Result (Unit {0}) SumFault). after_packet e bytes is.packet (by_sum e is.packet.header s)) is.sum_fails)
+answers-so e bytes (Dropped why.OtherFlow) is = answer_of (ports-goes e bytes is.packet false is.is_packet is.sum_fits is.not_ours)
+answers-so e bytes (Dropped why.ShortOff) is =
+    answer_of (ports-goes e bytes is.packet true is.is_packet is.sum_fits is.is_ours
+    ∙ ap (λ (n : Number). after_packet e bytes is.packet (long_number n)) is.is_short)
+answers-so e bytes (Dropped why.StrayReset) (StrayWithoutConnection a came is) = answer_of (enters-goes e bytes a entrance.Stray came is)
+answers-so e bytes (Dropped why.StrayReset) (StrayInRequest a came is reset wrong) =
+    answer_of (in-request-goes e bytes a false came is wrong ∙ ap (λ (t : PacketType). answering e a (answers a e t false)) reset)
+answers-so e bytes (Dropped why.BadSync) is = answer_of (judged-goes e bytes is.packet verdicts.Drop is.came is.is_checked is.is_bad)
+answers-so e bytes (Synced number) (OutOfWindow a came is bad) = answer_of (judged-goes e bytes a (verdicts.SyncFor number) came is bad)
+answers-so e bytes (Synced number) (Unexpected a entered valid out same) = answer_of (expected-goes e bytes a entered true valid out) ∙ ap Synced (sym same)
+answers-so e bytes (WasReset code) is =
+    answer_of (ending-goes e bytes is.packet is.came is.is_reset is.is_valid) ∙ ap WasReset (sym is.has_code)
+answers-so e bytes (SentReset code detail) is =
+    reset-answers e bytes is.fault is.why ∙ sym (ap (λ (c : ℕ). SentReset c detail) is.has_code ∙ ap (SentReset is.fault.code) is.has_detail)
+answers-so e bytes NotBuilt is = answer_of (admitted-goes e bytes is.packet is.entered true is.admitted)
+answers-so e bytes (Took delivered) is =
+    answer_of (heeded-goes e bytes is.packet is.entered None is.admitted is.no_fault ∙ ap (processes is.entered is.packet) is.row)
+    ∙ taken-answers (moved_to is.entered is.to is.packet.number) is.packet is.answer is.no_reset ∙ ap Took (sym is.no_data)
 
 -- as the contract of `receive` says it
-pub exactly_told : (e : EndState) (bytes : List ℕ) (step : Step Outcome) → step ≡ receives e bytes → IsOnlyTold e bytes step
-exactly_told e bytes step same = λ after frame outcome tells. same ∙ sym (only-told e bytes after frame outcome tells)
+pub no_other_cause : (e : EndState) (bytes : List ℕ) (step : Step Outcome) → step ≡ receives e bytes → HasNoOtherCause e bytes step.answer
+no_other_cause e bytes step same = λ other cause. answer_of same ∙ answers-so e bytes other cause

@@ -1,5 +1,12 @@
 pub mod Frames
+pub mod AnyFrames
+pub mod OwnFrames
 pub mod Phases
-pub mod Passing
-pub mod Telling
+pub mod Reading
+pub mod Arriving
+pub mod Tables
+pub mod Deriving
+pub mod Walking
+pub mod Calling
 pub mod Exactly
+pub mod Rows

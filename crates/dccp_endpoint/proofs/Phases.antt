@@ -79,39 +79,39 @@ pub requests-client : (r : Role) → is_phase_of phase.Request r ≡ true → r 
 requests-client role.Client is = refl
 requests-client role.Server is = cc is
 
-pub accept-fits : (ph : Phase) (t : PacketType) (r : Role) → gate ph t ≡ entrance.Accept → is_phase_of ph r ≡ true → is_phase_of phase.Respond r ≡ true
-accept-fits ph t r is fits =
+pub accept_fits : (ph : Phase) (t : PacketType) (r : Role) → gate ph t ≡ entrance.Accept → is_phase_of ph r ≡ true → is_phase_of phase.Respond r ≡ true
+accept_fits ph t r is fits =
     ap (is_phase_of phase.Respond) (listens-server r (subst (λ (p : Phase). is_phase_of p r ≡ true) (accept-phase ph t is) fits))
 
 -- the table of phases keeps to the role
-pub after-fits : (ph : Phase) (t : PacketType) (r : Role) → is_phase_of ph r ≡ true → is_phase_of (after ph t).0 r ≡ true
-after-fits ph types.Reset r fits = refl
-after-fits phase.Request types.Response role.Client fits = refl
-after-fits phase.Request types.Response role.Server fits = fits
-after-fits phase.Respond types.Ack r fits = refl
-after-fits phase.Respond types.DataAck r fits = refl
-after-fits phase.Respond types.SyncAck r fits = refl
-after-fits phase.Respond types.Sync r fits = refl
-after-fits phase.Respond types.Close r fits = refl
-after-fits phase.PartOpen types.Data r fits = refl
-after-fits phase.PartOpen types.Ack r fits = refl
-after-fits phase.PartOpen types.DataAck r fits = refl
-after-fits phase.PartOpen types.SyncAck r fits = refl
-after-fits phase.PartOpen types.CloseReq r fits = refl
-after-fits phase.PartOpen types.Close r fits = refl
-after-fits phase.Open types.CloseReq r fits = refl
-after-fits phase.Open types.Close r fits = refl
-after-fits phase.CloseReq types.Close r fits = refl
-after-fits phase.Closing types.Close r fits = refl
-after-fits phase.Closed _ r fits = fits
-after-fits phase.Listen _ r fits = fits
-after-fits phase.Request _ r fits = fits
-after-fits phase.Respond _ r fits = fits
-after-fits phase.PartOpen _ r fits = fits
-after-fits phase.Open _ r fits = fits
-after-fits phase.CloseReq _ r fits = fits
-after-fits phase.Closing _ r fits = fits
-after-fits phase.TimeWait _ r fits = fits
+pub after_fits : (ph : Phase) (t : PacketType) (r : Role) → is_phase_of ph r ≡ true → is_phase_of (after ph t).0 r ≡ true
+after_fits ph types.Reset r fits = refl
+after_fits phase.Request types.Response role.Client fits = refl
+after_fits phase.Request types.Response role.Server fits = fits
+after_fits phase.Respond types.Ack r fits = refl
+after_fits phase.Respond types.DataAck r fits = refl
+after_fits phase.Respond types.SyncAck r fits = refl
+after_fits phase.Respond types.Sync r fits = refl
+after_fits phase.Respond types.Close r fits = refl
+after_fits phase.PartOpen types.Data r fits = refl
+after_fits phase.PartOpen types.Ack r fits = refl
+after_fits phase.PartOpen types.DataAck r fits = refl
+after_fits phase.PartOpen types.SyncAck r fits = refl
+after_fits phase.PartOpen types.CloseReq r fits = refl
+after_fits phase.PartOpen types.Close r fits = refl
+after_fits phase.Open types.CloseReq r fits = refl
+after_fits phase.Open types.Close r fits = refl
+after_fits phase.CloseReq types.Close r fits = refl
+after_fits phase.Closing types.Close r fits = refl
+after_fits phase.Closed _ r fits = fits
+after_fits phase.Listen _ r fits = fits
+after_fits phase.Request _ r fits = fits
+after_fits phase.Respond _ r fits = fits
+after_fits phase.PartOpen _ r fits = fits
+after_fits phase.Open _ r fits = fits
+after_fits phase.CloseReq _ r fits = fits
+after_fits phase.Closing _ r fits = fits
+after_fits phase.TimeWait _ r fits = fits
 
 -- the table closes where it answers by a Reset
 pub closing-closes : (ph : Phase) (t : PacketType) (to : Phase) → after ph t ≡ (to, reply.ResetClosed) → to ≡ phase.Closed

@@ -40,6 +40,65 @@ is_phase_of phase.CloseReq Server = true
 is_phase_of phase.Closing _ = true
 is_phase_of phase.TimeWait _ = true
 
+-- the phases in which a first number was received (section 8.1)
+abbrev pub is_live : Phase → Bool
+is_live phase.Closed = false
+is_live phase.Listen = false
+is_live phase.Request = false
+is_live phase.Respond = true
+is_live phase.PartOpen = true
+is_live phase.Open = true
+is_live phase.CloseReq = true
+is_live phase.Closing = true
+is_live phase.TimeWait = false
+
+-- those in which a packet was sent
+abbrev pub is_begun : Phase → Bool
+is_begun phase.Closed = false
+is_begun phase.Listen = false
+is_begun phase.Request = true
+is_begun phase.Respond = true
+is_begun phase.PartOpen = true
+is_begun phase.Open = true
+is_begun phase.CloseReq = true
+is_begun phase.Closing = true
+is_begun phase.TimeWait = true
+
+-- those in which the handshake has got through to this end
+abbrev pub is_connected : Phase → Bool
+is_connected phase.Closed = false
+is_connected phase.Listen = false
+is_connected phase.Request = false
+is_connected phase.Respond = false
+is_connected phase.PartOpen = true
+is_connected phase.Open = true
+is_connected phase.CloseReq = false
+is_connected phase.Closing = false
+is_connected phase.TimeWait = false
+
+abbrev pub is_open : Phase → Bool
+is_open phase.Open = true
+is_open phase.Closed = false
+is_open phase.Listen = false
+is_open phase.Request = false
+is_open phase.Respond = false
+is_open phase.PartOpen = false
+is_open phase.CloseReq = false
+is_open phase.Closing = false
+is_open phase.TimeWait = false
+
+-- the phase in which options are read: a Request that opens leaves LISTEN (section 8.5, step 3)
+abbrev pub phase_entered : Phase → Phase
+phase_entered phase.Closed = phase.Closed
+phase_entered phase.Listen = phase.Respond
+phase_entered phase.Request = phase.Request
+phase_entered phase.Respond = phase.Respond
+phase_entered phase.PartOpen = phase.PartOpen
+phase_entered phase.Open = phase.Open
+phase_entered phase.CloseReq = phase.CloseReq
+phase_entered phase.Closing = phase.Closing
+phase_entered phase.TimeWait = phase.TimeWait
+
 -- what holds of every end: its windows are as wide as they may be, and its phase is one of its role's
 pub record IsProper (e : EndState) : Type 0 where
   pub widths : InRange e.marks

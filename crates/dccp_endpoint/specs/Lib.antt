@@ -1,7 +1,13 @@
+pub mod ResetCodes
 pub mod End
 pub mod Usual
-pub mod Arrivals
+pub mod Incoming
 pub mod Faults
+pub mod Drafts
+pub mod Turns
 pub mod Steps
 pub mod Receiving
-pub mod Telling
+pub mod Inputs
+pub mod Effects
+pub mod Causes
+pub mod Outcomes

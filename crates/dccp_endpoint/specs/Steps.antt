@@ -1,56 +1,61 @@
 -- What an end sends, and its calls (RFC 4340, sections 7.1 and 8.1).
-use Rattle.std.specs.Prelude.{ℕ, ◌+◌, Bool, true, false, List, [], Option, Some, None, Result, Ok, Err}
+use Rattle.std.specs.Prelude.{ℕ, ◌+◌, Bool, true, false, List, [], ◌∷◌, Option, Some, None, Result, Ok, Err}
 use Rattle.seq_circle.specs.Circle.{residue}
-use Rattle.dccp_sum.specs.Checksum.{sealed}
-use Rattle.dccp_packets.specs.Grammar.{spelling}
-use Rattle.dccp_packets.specs.declared.header.Header.{Header}
-use Rattle.dccp_packets.specs.declared.header.Kind.{Kind}
+use Rattle.congestion_trait.specs.Calls.{Call}
 use Rattle.dccp_packets.specs.declared.header.Kind.TheVariants as kind
-use Rattle.dccp_packets.specs.declared.header.Number.TheVariants.{Long}
 use Rattle.dccp_states.specs.declared.phase.Role.{Role}
 use Rattle.dccp_states.specs.declared.phase.Role.TheVariants as role
 use Rattle.dccp_states.specs.declared.phase.Phase.TheVariants as phase
+use Rattle.dccp_endpoint.specs.Drafts.{Draft, alone, frame_of}
 use Rattle.dccp_endpoint.specs.End.{EndState}
+use Rattle.dccp_endpoint.specs.declared.outcome.Fault.{Fault}
 use Rattle.dccp_endpoint.specs.declared.outcome.OpenFault.{OpenFault}
 use Rattle.dccp_endpoint.specs.declared.outcome.OpenFault.TheVariants.{NotFresh}
 
--- an end after a step, the frame that it sends, if any, and its answer
+-- An end after a step, the frame that it sends, if any, what is due to its congestion control, in order, and its answer. Nothing is
+-- due to a congestion control yet.
 pub record Step (Answer : Type 0) : Type 0 where
   pub after : EndState
   pub frame : Option (List ℕ)
+  pub calls : List Call
   pub answer : Answer
 
 -- nothing changes and nothing is sent
 abbrev pub idle : {Answer : Type 0} → EndState → Answer → Step Answer
-idle e answer = record { after = e; frame = None; answer = answer }
-
--- the header of an end's own packets: all of the packet is covered, and the checksum follows
-abbrev pub header_of : EndState → ℕ → Kind → Header
-header_of e number kind =
-    record { from = e.config.own_port; to = e.config.peer_port; ccval = 0; cscov = 0; checksum = 0; number = Long number; kind = kind }
-
--- the packet as it is sent, with its checksum
-abbrev pub frame_of : EndState → ℕ → Kind → List ℕ
-frame_of e number kind = sealed e.config.pseudo_out (spelling (header_of e number kind) [] [])
+idle e answer = record { after = e; frame = None; calls = []; answer = answer }
 
 -- the number of the next packet (section 7.1)
 abbrev pub next_number : EndState → ℕ
 next_number e = residue (e.marks.gss + 1)
 
 -- the greatest number sent is that of the next packet
-abbrev pub counted : EndState → EndState
-counted e = record e { marks = record e.marks { gss = next_number e } }
+abbrev pub with_next_number : EndState → EndState
+with_next_number e = record e { marks = record e.marks { gss = next_number e } }
 
 -- a packet goes out under the next number
-abbrev pub sends : {Answer : Type 0} → EndState → Kind → Answer → Step Answer
-sends e kind answer = record { after = counted e; frame = Some (frame_of e (next_number e) kind); answer = answer }
+abbrev pub sends : {Answer : Type 0} → EndState → Draft → Answer → Step Answer
+sends e draft answer =
+    record { after = with_next_number e; frame = Some (frame_of e.config (next_number e) draft); calls = []; answer = answer }
+
+-- the three bytes of a Reset's detail
+abbrev pub detail_of : Fault → List ℕ
+detail_of fault = fault.first ∷ fault.second ∷ fault.third ∷ []
+
+-- a Reset code without details
+abbrev pub without_detail : ℕ → Fault
+without_detail code = record { code = code; first = 0; second = 0; third = 0 }
+
+-- a Reset that acknowledges this number and tells of a fault
+abbrev pub reset_of : ℕ → Fault → Draft
+reset_of ack fault = alone (kind.Reset ack fault.code (detail_of fault))
 
 -- A client sends its Request once (section 8.1.1).
 abbrev pub opens_as : EndState → Role → Bool → Step (Result (Unit {0}) OpenFault)
 opens_as e role.Client false =
-    sends (record e { opened = true; phase = phase.Request }) (kind.Request e.config.service) (Ok tt)
+    sends (record e { opened = true; phase = phase.Request }) (alone (kind.Request e.config.service)) (Ok tt)
 opens_as e role.Client true = idle e (Err NotFresh)
 opens_as e role.Server _ = idle e (Err NotFresh)
 
-abbrev pub opens : EndState → Step (Result (Unit {0}) OpenFault)
+-- What `open` does.
+unfoldable pub opens : EndState → Step (Result (Unit {0}) OpenFault)
 opens e = opens_as e e.config.role e.opened

@@ -34,7 +34,7 @@ impl Model for Endpoint {
 }
 
 impl Endpoint {
-    ghost use Rattle.std.specs.Prelude.{◌≡◌, ◌≢◌, ◌↔◌, ◌⊎◌, None, Ok, Err, OnErr, true, false};
+    ghost use Rattle.std.specs.Prelude.{◌≡◌, ◌↔◌, ◌⊎◌, [], None, Ok, Err, OnErr, true, false};
     ghost use Rattle.dccp_states.specs.declared.phase.Role.TheVariants as role;
     ghost use Rattle.dccp_endpoint.specs.End.{EndState, fresh, held_of, floor_of, window_of, in_flight_of};
     ghost use Rattle.dccp_endpoint.specs.Steps.{opens, opens_as};
@@ -69,8 +69,9 @@ impl Endpoint {
 
     /// The client sends its Request (RFC 4340, section 8.1.1). Refused with `NotFresh` exactly where the end is a server
     /// or was opened before.
+    #[tactic(auto, unfolding(crate::specs::Steps::opens))]
     pub fn open(&mut self, out: &mut Outbox) -> Result<(), OpenFault>
-        ensures step { record { after = self.new; frame = out.new; answer = result } ≡ opens self.old }
+        ensures step { record { after = self.new; frame = out.new; calls = []; answer = result } ≡ opens self.old }
         ensures not_fresh { (result ≡ Err OpenFault.NotFresh) ↔ ((self.old.config.role ≡ Role.Server) ⊎ (self.old.opened ≡ true)) }
         ensures refused { OnErr result ((self.new ≡ self.old) × (out.new ≡ None)) }
     {
@@ -87,7 +88,7 @@ impl Endpoint {
     // RFC 4340, section 8.1.1.
     fn send_request(&mut self, out: &mut Outbox)
         requires { self.old.config.role ≡ Role.Client }
-        ensures { record { after = self.new; frame = out.new; answer = Ok (tt {0}) } ≡ opens_as self.old role.Client false }
+        ensures { record { after = self.new; frame = out.new; calls = []; answer = Ok (tt {0}) } ≡ opens_as self.old role.Client false }
     {
         self.opened = true;
         self.phase = Phase::Request;

@@ -1,17 +1,14 @@
 //! What the options of a packet may be faulted for (RFC 4340, section 5.8).
-ghost use Rattle.std.specs.Prelude.{◌≡◌, ◌≤◌, length, slice_index};
+ghost use Rattle.std.specs.Prelude.{◌≡◌, ◌≤◌, ◌||◌, ◌&&◌, length, slice_index};
 ghost use Rattle.dccp_options.specs.Grammar.{options_of};
-ghost use Rattle.dccp_endpoint.specs.Faults.{is_understood, fault_of, first_fault, not_understood, is_feature_option, has_feature_option, counts, negotiates, may_negotiate, is_unbuilt_type, is_unbuilt};
+ghost use Rattle.dccp_endpoint.specs.Faults.{is_understood, fault_of, first_fault, not_understood, is_feature_option, has_feature_option, counts, negotiates, may_negotiate, is_unbuilt_type, or_later};
 ghost use Rattle.dccp_options.specs.Left.{item_of};
 
 use crate::Fault;
+use crate::reset_codes::{MANDATORY_ERROR, OPTION_ERROR};
 use dccp_options::{Opt, OptFault, options};
 use dccp_packets::PacketType;
 use dccp_states::Phase;
-
-const OPTION_ERROR: u8 = 5;
-
-const MANDATORY_ERROR: u8 = 6;
 
 const MANDATORY: u8 = 1;
 
@@ -63,19 +60,6 @@ fn fault_of(item: &Result<Opt<'_>, OptFault>) -> Option<Fault>
     }
 }
 
-/// The first fault of an option area, read in order, on a Data packet or on another (RFC 4340, section 8.5, step 8).
-pub(crate) fn first_fault(area: &[u8], on_data: bool) -> Option<Fault>
-    requires { length area.now ≤ 1008 }
-    ensures { result ≡ first_fault (options_of area.now on_data) }
-{
-    for item in options(area, on_data) {
-        if let Some(fault) = fault_of(&item) {
-            return Some(fault);
-        }
-    }
-    None
-}
-
 fn is_feature_option(item: &Result<Opt<'_>, OptFault>) -> bool
     ensures { result ≡ is_feature_option (item_of item.now) }
 {
@@ -85,16 +69,39 @@ fn is_feature_option(item: &Result<Opt<'_>, OptFault>) -> bool
     }
 }
 
-fn has_feature_option(area: &[u8], on_data: bool) -> bool
-    requires { length area.now ≤ 1008 }
-    ensures { result ≡ has_feature_option (options_of area.now on_data) }
+// The fault of the options so far, and else that of the next one.
+fn first_of(fault: Option<Fault>, item: &Result<Opt<'_>, OptFault>) -> Option<Fault>
+    ensures { result ≡ or_later fault (fault_of (item_of item.now)) }
 {
-    for item in options(area, on_data) {
-        if is_feature_option(&item) {
-            return true;
-        }
+    match fault {
+        Some(fault) => Some(fault),
+        None => fault_of(item),
     }
-    false
+}
+
+/// What the options of a packet come to.
+#[derive(Clone, Copy, Debug, PartialEq, Eq)]
+pub(crate) struct Reading {
+    // the first fault, in their order
+    pub(crate) fault: Option<Fault>,
+    // one of them belongs to the negotiation
+    pub(crate) negotiates: bool,
+}
+
+/// Reads the options of an area, on a Data packet or on another (RFC 4340, section 8.5, step 8).
+#[tactic(auto, using(crate::proofs::Reading::or_later_assoc, crate::proofs::Reading::or_assoc))]
+pub(crate) fn read(area: &[u8], on_data: bool) -> Reading
+    requires { length area.now ≤ 1008 }
+    ensures fault { result.fault ≡ first_fault (options_of area.now on_data) }
+    ensures negotiates { result.negotiates ≡ has_feature_option (options_of area.now on_data) }
+{
+    let mut fault = None;
+    let mut negotiates = false;
+    for item in options(area, on_data) {
+        fault = first_of(fault, &item);
+        negotiates = negotiates || is_feature_option(&item);
+    }
+    Reading { fault, negotiates }
 }
 
 fn counts(phase: Phase, kind: PacketType) -> bool
@@ -125,9 +132,8 @@ fn is_unbuilt_type(kind: PacketType) -> bool
 }
 
 /// Tells whether taking the packet needs what is not built yet.
-pub(crate) fn is_unbuilt(phase: Phase, kind: PacketType, area: &[u8], on_data: bool) -> bool
-    requires { length area.now ≤ 1008 }
-    ensures { result ≡ is_unbuilt phase kind (options_of area.now on_data) }
+pub(crate) fn is_unbuilt(phase: Phase, kind: PacketType, negotiates: bool) -> bool
+    ensures { result ≡ (is_unbuilt_type kind || (counts phase kind && negotiates)) }
 {
-    is_unbuilt_type(kind) || (counts(phase, kind) && has_feature_option(area, on_data))
+    is_unbuilt_type(kind) || (counts(phase, kind) && negotiates)
 }

@@ -7,17 +7,21 @@
 
 mod config;
 mod endpoint;
+mod exit;
 mod faults;
 mod held;
+mod incoming;
+mod laws;
 mod outcome;
-mod passage;
+mod reset_codes;
 #[cfg(test)]
 mod tests;
 
 pub use crate::config::Config;
 pub use crate::endpoint::Endpoint;
+pub(crate) use crate::exit::Exit;
 pub use crate::held::{Held, Stand};
+pub use crate::laws::{every_step_has_one_effect, own_frames_are_read};
 pub use crate::outcome::{Fault, OpenFault, Outcome, Why};
-pub use crate::passage::Passage;
 pub use dccp_states::{Phase, Role};
 pub use validity_windows::Marks;

@@ -3,30 +3,70 @@ ghost use Rattle.std.specs.Prelude.{◌≡◌, ◌≤◌, ◌^◌, Some, true, l
 ghost use Rattle.dccp_sum.specs.Checksum.{sealed};
 
 use super::Endpoint;
+use dccp_options::OptWriter;
 use dccp_packets::{Frame, Header, Kind, Number, Outbox, encode};
 use dccp_sum::{Pseudo, seal};
 use seq_circle::Seq48;
 
 impl Endpoint {
-    ghost use Rattle.dccp_packets.specs.Grammar.{has_forms};
-    ghost use Rattle.dccp_endpoint.specs.Steps.{next_number, counted, frame_of};
+    ghost use Rattle.std.specs.Prelude.{◌+◌};
+    ghost use Rattle.dccp_packets.specs.Grammar.{fixed_length, has_forms, packet_type, padded};
+    ghost use Rattle.dccp_endpoint.specs.Drafts.{alone, frame_of, framed};
+    ghost use Rattle.dccp_endpoint.specs.Steps.{next_number, with_next_number};
 
-    // Sends a packet without options under the next number.
+    // Sends a packet without options and data under the next number.
     pub(crate) fn send(&mut self, kind: Kind, out: &mut Outbox)
         requires { has_forms true kind ≡ true }
-        ensures counted { self.new ≡ counted self.old }
-        ensures sent { out.new ≡ Some (frame_of self.old (next_number self.old) kind) }
+        ensures counted { self.new ≡ with_next_number self.old }
+        ensures sent { out.new ≡ Some (frame_of self.old.config (next_number self.old) (alone kind)) }
     {
-        let number = self.marks.gss.next();
-        self.marks.gss = number;
+        let number = self.take_number();
         out.put(self.frame(number, kind));
     }
 
-    // A packet without options.
+    // Sends a packet under the next number.
+    pub(crate) fn send_with(
+        &mut self,
+        kind: Kind,
+        options: &OptWriter,
+        payload: &[u8],
+        out: &mut Outbox,
+    )
+        requires form { has_forms true kind ≡ true }
+        requires area { fixed_length true (packet_type kind) + length (padded options.now) ≤ 1020 }
+        requires short { length payload.now ≤ 1024 }
+        ensures counted { self.new ≡ with_next_number self.old }
+        ensures sent { out.new ≡ Some (framed self.old.config (next_number self.old) kind options.now payload.now) }
+    {
+        let number = self.take_number();
+        out.put(self.frame_with(number, kind, options.bytes(), payload));
+    }
+
+    // The next number, which is then the greatest sent.
+    fn take_number(&mut self) -> Seq48
+        ensures counted { self.new ≡ with_next_number self.old }
+        ensures number { result ≡ next_number self.old }
+    {
+        let number = self.marks.gss.next();
+        self.marks.gss = number;
+        number
+    }
+
+    // A packet without options and data.
     #[tactic(auto, using(crate::proofs::Frames::fixed_part_is_short))]
     pub(crate) fn frame(&self, number: Seq48, kind: Kind) -> Frame
         requires { has_forms true kind ≡ true }
-        ensures { result ≡ frame_of self.now number kind }
+        ensures { result ≡ frame_of self.now.config number (alone kind) }
+    {
+        self.frame_with(number, kind, &[], &[])
+    }
+
+    #[tactic(auto, unfolding(crate::specs::Drafts::framed))]
+    fn frame_with(&self, number: Seq48, kind: Kind, options: &[u8], payload: &[u8]) -> Frame
+        requires form { has_forms true kind ≡ true }
+        requires area { fixed_length true (packet_type kind) + length (padded options.now) ≤ 1020 }
+        requires short { length payload.now ≤ 1024 }
+        ensures { result ≡ framed self.now.config number kind options.now payload.now }
     {
         let header = Header {
             from: self.config.own_port,
@@ -38,7 +78,7 @@ impl Endpoint {
             kind,
         };
         let mut frame = Frame::new();
-        match encode(&header, &[], &[], &mut frame) {
+        match encode(&header, options, payload, &mut frame) {
             Ok(()) => {}
             Err(_) => unreachable!(),
         }

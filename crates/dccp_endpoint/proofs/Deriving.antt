@@ -1,0 +1,119 @@
+-- How a step comes to its effect: what it made of the end so far is `Ready`, and then it is silent or something goes out.
+use Rattle.std.proofs.Common.{◌≡◌, ◌⊎◌, inl, inr, refl, ℕ, Bool, true, false, List, Option, None}
+use Rattle.dccp_packets.specs.Grammar.{has_forms, packet_type}
+use Rattle.dccp_packets.specs.Widths.{HasDetail}
+use Rattle.dccp_packets.specs.declared.header.Kind.{Kind}
+use Rattle.dccp_packets.specs.declared.header.Kind.TheVariants as kind
+use Rattle.dccp_packets.specs.declared.header.Number.TheVariants.{Long}
+use Rattle.dccp_states.specs.declared.phase.Phase.{Phase}
+use Rattle.dccp_endpoint.specs.Causes.{Acknowledges, HasNext, IsAcknowledging, IsCaused, IsFirst, IsHearing, IsOpened, IsOpening, IsSending, IsSilentDraft, SaysNothing, Keeps, LeavesIt, StaysSo, NotNow, Rests, Acks, Others, is_acking, is_without_connection}
+use Rattle.dccp_endpoint.specs.Drafts.{alone}
+use Rattle.dccp_endpoint.specs.Effects.{Hearing, Unheard, Sending, Silent, Next, effect_of, end_after, greatest_by}
+use Rattle.dccp_endpoint.specs.End.{EndState, IsProper, is_begun, is_connected, is_live, is_phase_of}
+use Rattle.dccp_endpoint.specs.Incoming.{ack_of}
+use Rattle.dccp_endpoint.specs.Inputs.{Input, Arrives}
+use Rattle.dccp_endpoint.specs.Outcomes.{HasCause, HasEffectOf, HasForm}
+use Rattle.dccp_endpoint.specs.Steps.{Step, idle, sends}
+use Rattle.dccp_endpoint.specs.declared.outcome.Outcome.{Outcome}
+use Rattle.dccp_endpoint.proofs.OwnFrames.{alone-sendable}
+
+-- what a step made of the end before anything goes out, and why
+pub record Ready (e : EndState) (given : Input) (h : Hearing) (ack : Option ℕ) (opens : Bool) (ph : Phase) (called : Bool) : Type 0 where
+  pub hears : IsHearing e given ph h
+  pub acks : IsAcknowledging e given ack
+  pub its_role : is_phase_of ph e.config.role ≡ true
+  pub live : is_live ph ≡ true → (is_live e.phase ≡ true) ⊎ IsFirst h
+  pub opening : IsOpening e ph opens
+  pub opened : IsOpened e given called
+
+-- nothing, so far
+abbrev pub rest : (e : EndState) (given : Input) → IsProper e → Ready e given Unheard None false e.phase false
+rest e given proper =
+    record { hears = Keeps (λ is. is); acks = LeavesIt; its_role = proper.phase_fits; live = λ is. inl is; opening = StaysSo (λ is. is); opened = NotNow }
+
+pub caused : (e : EndState) (given : Input) (h : Hearing) (ack : Option ℕ) (opens : Bool) (ph : Phase) (called : Bool) (s : Sending)
+    → Ready e given h ack opens ph called → (is_begun ph ≡ true → (is_begun e.phase ≡ true) ⊎ HasNext s) → SaysNothing s
+    → IsSending e given (effect_of h ack opens ph called s) s → IsCaused e given (effect_of h ack opens ph called s)
+caused e given h ack opens ph called s ready begun says sends =
+    record {
+      hears = ready.hears;
+      acks = ready.acks;
+      moves = record { its_role = ready.its_role; live = ready.live; begun = begun };
+      opening = ready.opening;
+      opened = ready.opened;
+      looks = refl;
+      turns = refl;
+      says = says;
+      sends = sends;
+      calls = refl;
+      owed = refl;
+      unacked = refl;
+    }
+
+pub says-alone : (k : Kind) → has_forms true k ≡ true → HasDetail k → IsSilentDraft (alone k)
+says-alone k long detail = record { sendable = alone-sendable k long detail; no_options = refl }
+
+-- all that there is to tell of a step of `receive`
+pub record Told (e : EndState) (bytes : List ℕ) (step : Step Outcome) : Type 0 where
+  pub cause : HasCause e bytes step.answer
+  pub effect : HasEffectOf e (Arrives bytes) step.answer step.after step.frame step.calls
+
+-- nothing goes out
+pub silent-told : (e : EndState) (bytes : List ℕ) (h : Hearing) (ack : Option ℕ) (opens : Bool) (ph : Phase) (outcome : Outcome)
+    → Ready e (Arrives bytes) h ack opens ph false → (is_begun ph ≡ true → is_begun e.phase ≡ true) → HasCause e bytes outcome
+    → HasForm e (Arrives bytes) outcome (effect_of h ack opens ph false Silent)
+    → Told e bytes (idle (end_after e (effect_of h ack opens ph false Silent)) outcome)
+silent-told e bytes h ack opens ph outcome ready begun cause form =
+    record {
+      cause = cause;
+      effect = record {
+        effect = effect_of h ack opens ph false Silent;
+        after_is = refl;
+        frame_is = refl;
+        calls_are = refl;
+        because = caused e (Arrives bytes) h ack opens ph false Silent ready (λ is. inl (begun is)) tt Rests;
+        form = form;
+      };
+    }
+
+-- a packet goes out that is no Ack and no DataAck
+pub next-told : (e : EndState) (bytes : List ℕ) (h : Hearing) (ack : Option ℕ) (opens : Bool) (ph : Phase) (k : Kind) (outcome : Outcome)
+    → Ready e (Arrives bytes) h ack opens ph false → has_forms true k ≡ true → HasDetail k → is_acking (packet_type k) ≡ false
+    → Acknowledges e (Arrives bytes) (greatest_by e.marks.gsr h) (ack_of k) → is_without_connection e.config.role k ≡ false → HasCause e bytes outcome
+    → HasForm e (Arrives bytes) outcome (effect_of h ack opens ph false (Next (alone k)))
+    → Told e bytes (sends (end_after e (effect_of h ack opens ph false Silent)) (alone k) outcome)
+next-told e bytes h ack opens ph k outcome ready long detail other acknowledges numbered cause form =
+    record {
+      cause = cause;
+      effect = record {
+        effect = effect_of h ack opens ph false (Next (alone k));
+        after_is = refl;
+        frame_is = refl;
+        calls_are = refl;
+        because =
+            caused e (Arrives bytes) h ack opens ph false (Next (alone k)) ready (λ is. inr tt) (says-alone k long detail)
+            (Others (alone k) other acknowledges numbered);
+        form = form;
+      };
+    }
+
+-- an Ack goes out
+pub ack-told : (e : EndState) (bytes : List ℕ) (h : Hearing) (ack : Option ℕ) (opens : Bool) (ph : Phase) (outcome : Outcome)
+    → Ready e (Arrives bytes) h ack opens ph false → is_connected ph ≡ true → HasCause e bytes outcome
+    → HasForm e (Arrives bytes) outcome (effect_of h ack opens ph false (Next (alone (kind.Ack (Long (greatest_by e.marks.gsr h))))))
+    → Told e bytes (sends (end_after e (effect_of h ack opens ph false Silent)) (alone (kind.Ack (Long (greatest_by e.marks.gsr h)))) outcome)
+ack-told e bytes h ack opens ph outcome ready connected cause form =
+    let packet : Kind = kind.Ack (Long (greatest_by e.marks.gsr h)) in
+    record {
+      cause = cause;
+      effect = record {
+        effect = effect_of h ack opens ph false (Next (alone packet));
+        after_is = refl;
+        frame_is = refl;
+        calls_are = refl;
+        because =
+            caused e (Arrives bytes) h ack opens ph false (Next (alone packet)) ready (λ is. inr tt) (says-alone packet refl tt)
+            (Acks (alone packet) refl refl connected refl refl);
+        form = form;
+      };
+    }

@@ -1,0 +1,61 @@
+-- What an end writes: a packet before it has a number, and the frame that it becomes (RFC 4340, sections 5 and 9).
+use Rattle.std.specs.Prelude.{◌≡◌, ℕ, ◌+◌, ◌^◌, ◌<◌, ◌≤◌, true, List, [], length, map, Ok}
+use Rattle.std.specs.List.{All}
+use Rattle.dccp_options.specs.Grammar.{options_of}
+use Rattle.dccp_options.specs.Written.{Item, IsWritable, written, entries_at}
+use Rattle.dccp_packets.specs.Grammar.{decoded, fixed_length, has_forms, packet_type, padded, spelling}
+use Rattle.dccp_packets.specs.Widths.{HasDetail}
+use Rattle.dccp_packets.specs.declared.header.Header.{Header}
+use Rattle.dccp_packets.specs.declared.header.Kind.{Kind}
+use Rattle.dccp_packets.specs.declared.header.Number.TheVariants.{Long}
+use Rattle.dccp_sum.specs.Checksum.{checked, sealed}
+use Rattle.dccp_sum.specs.declared.pseudo_header.Pseudo.{Pseudo}
+use Rattle.dccp_endpoint.specs.Incoming.{is_data}
+use Rattle.dccp_endpoint.specs.declared.config.Config.{Config}
+
+-- a packet that is to be sent: its type with its fields, its options and its data
+pub record Draft : Type 0 where
+  pub kind : Kind
+  pub options : List Item
+  pub payload : List ℕ
+
+-- a type with its fields, and nothing else
+abbrev pub alone : Kind → Draft
+alone kind = record { kind = kind; options = []; payload = [] }
+
+-- the header of an end's own packets: all of the packet is covered, and the checksum follows
+abbrev pub header_of : Config → ℕ → Kind → Header
+header_of config number kind =
+    record { from = config.own_port; to = config.peer_port; ccval = 0; cscov = 0; checksum = 0; number = Long number; kind = kind }
+
+-- a packet as it goes out, with its checksum
+unfoldable pub framed : Config → ℕ → Kind → List ℕ → List ℕ → List ℕ
+framed config number kind area payload = sealed config.pseudo_out (spelling (header_of config number kind) area payload)
+
+-- the frame of a draft
+abbrev pub frame_of : Config → ℕ → Draft → List ℕ
+frame_of config number draft = framed config number draft.kind (written draft.options) draft.payload
+
+-- the widths of the fields, which every configuration of the program keeps (RFC 4340, section 5)
+pub record Fits (config : Config) : Type 0 where
+  pub own_port : config.own_port < 2 ^ 16
+  pub peer_port : config.peer_port < 2 ^ 16
+  pub service : config.service < 2 ^ 32
+  pub iss : config.iss < 2 ^ 48
+
+-- A draft that has a frame: numbers in the long form, and an option area and data that fit. A Data packet has no options.
+pub record IsSendable (draft : Draft) : Type 0 where
+  pub is_long : has_forms true draft.kind ≡ true
+  pub detail : HasDetail draft.kind
+  pub items : All IsWritable draft.options
+  pub on_data : is_data (packet_type draft.kind) ≡ true → draft.options ≡ []
+  pub area : fixed_length true (packet_type draft.kind) + length (padded (written draft.options)) ≤ 1020
+  pub data_fits : length draft.payload ≤ 1024
+
+-- The bytes are read as a packet with this header but for the checksum, and with the draft's options and data; the checksum fits.
+pub record ReadsAs (header : Header) (pseudo : Pseudo) (draft : Draft) (bytes : List ℕ) : Type 0 where
+  pub sum : ℕ
+  pub is_packet : decoded bytes
+      ≡ Ok (record { header = record header { checksum = sum }; options = padded (written draft.options); payload = draft.payload })
+  pub are_listed : options_of (padded (written draft.options)) (is_data (packet_type header.kind)) ≡ map Ok (entries_at 0 draft.options)
+  pub is_accepted : checked pseudo bytes ≡ Ok tt

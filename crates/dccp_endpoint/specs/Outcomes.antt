@@ -1,0 +1,231 @@
+-- Why each outcome of `receive` comes, and what the step's effect then is (RFC 4340, section 8.5).
+use Rattle.std.specs.Prelude.{◌≡◌, ◌≢◌, ℕ, Bool, true, false, List, Option, Some, None, Ok, Err}
+use Rattle.congestion_trait.specs.Calls.{Call}
+use Rattle.dccp_sum.specs.Checksum.{checked}
+use Rattle.dccp_sum.specs.declared.packet_sum.SumFault.{SumFault}
+use Rattle.dccp_packets.specs.Grammar.{Parts, decoded}
+use Rattle.dccp_packets.specs.declared.header.Kind.TheVariants as kind
+use Rattle.dccp_packets.specs.declared.header.Number.TheVariants.{Long, Short}
+use Rattle.dccp_packets.specs.declared.header.PacketType.TheVariants as types
+use Rattle.dccp_states.specs.Phases.{after}
+use Rattle.dccp_states.specs.declared.entrance.Entrance.TheVariants as entrance
+use Rattle.dccp_states.specs.declared.phase.Phase.{Phase}
+use Rattle.dccp_states.specs.declared.phase.Phase.TheVariants as phases
+use Rattle.dccp_states.specs.declared.reply.Reply.{Reply}
+use Rattle.dccp_states.specs.declared.reply.Reply.TheVariants as reply
+use Rattle.validity_windows.specs.declared.verdict.Verdict.TheVariants as verdicts
+use Rattle.dccp_endpoint.specs.Causes.{Came, IsCaused, entrance_of, is_code_without_connection, verdict_of}
+use Rattle.dccp_endpoint.specs.Drafts.{alone}
+use Rattle.dccp_endpoint.specs.Effects.{Effect, Sending, Silent, Next, WithoutConnection, Heard, Refused, Shut, Taken, effect_of, effect_of_sending, end_after, frame_by, greatest_or}
+use Rattle.dccp_endpoint.specs.End.{EndState, phase_entered}
+use Rattle.dccp_endpoint.specs.Faults.{first_fault, is_unbuilt}
+use Rattle.dccp_endpoint.specs.Incoming.{Incoming}
+use Rattle.dccp_endpoint.specs.Inputs.{Input, Arrives}
+use Rattle.dccp_endpoint.specs.Receiving.{acknowledges_in_window, becomes_open, is_of_connection, is_other_service, is_own_service, is_unexpected, packet_fault, raised, started}
+use Rattle.dccp_endpoint.specs.ResetCodes as codes
+use Rattle.dccp_endpoint.specs.Steps.{detail_of, without_detail}
+use Rattle.dccp_endpoint.specs.declared.outcome.Fault.{Fault}
+use Rattle.dccp_endpoint.specs.declared.outcome.Outcome.{Outcome}
+use Rattle.dccp_endpoint.specs.declared.outcome.Outcome.TheVariants.{Took, Dropped, Synced, WasReset, SentReset, NotBuilt}
+use Rattle.dccp_endpoint.specs.declared.outcome.Why.TheVariants as why
+
+-- the packet's checksum does not fit
+pub record HasWrongSum (e : EndState) (bytes : List ℕ) (fault : SumFault) : Type 0 where
+  pub packet : Parts
+  pub is_packet : decoded bytes ≡ Ok packet
+  pub sum_fails : checked e.config.pseudo_in bytes ≡ Err fault
+
+-- a packet whose checksum fits has other ports than the connection
+pub record HasWrongPorts (e : EndState) (bytes : List ℕ) : Type 0 where
+  pub packet : Parts
+  pub is_packet : decoded bytes ≡ Ok packet
+  pub sum_fits : checked e.config.pseudo_in bytes ≡ Ok tt
+  pub not_ours : is_of_connection e packet.header ≡ false
+
+-- such a packet of the connection has a short number
+pub record HasShortNumber (e : EndState) (bytes : List ℕ) : Type 0 where
+  pub packet : Parts
+  pub number : ℕ
+  pub is_packet : decoded bytes ≡ Ok packet
+  pub sum_fits : checked e.config.pseudo_in bytes ≡ Ok tt
+  pub is_ours : is_of_connection e packet.header ≡ true
+  pub is_short : packet.header.number ≡ Short number
+
+-- a Reset in CLOSED, LISTEN or TIMEWAIT, or one in REQUEST whose acknowledgement number is outside the window
+pub data IsStray (e : EndState) (bytes : List ℕ) : Type 0 where
+  StrayWithoutConnection : (a : Incoming) → Came e (Arrives bytes) a → entrance_of e a ≡ entrance.Stray → IsStray e bytes
+  StrayInRequest : (a : Incoming) → Came e (Arrives bytes) a → entrance_of e a ≡ entrance.InRequest → a.kind ≡ types.Reset
+      → acknowledges_in_window e a ≡ false → IsStray e bytes
+
+-- a Sync or SyncAck whose numbers are not valid
+pub record IsBadSync (e : EndState) (bytes : List ℕ) : Type 0 where
+  pub packet : Incoming
+  pub came : Came e (Arrives bytes) packet
+  pub is_checked : entrance_of e packet ≡ entrance.Check
+  pub is_bad : verdict_of e packet ≡ verdicts.Drop
+
+-- the numbers of a Reset are valid
+pub data IsValidReset (e : EndState) (a : Incoming) : Type 0 where
+  ResetToRequest : entrance_of e a ≡ entrance.InRequest → acknowledges_in_window e a ≡ true → IsValidReset e a
+  ResetInWindow : entrance_of e a ≡ entrance.Check → verdict_of e a ≡ verdicts.Valid → IsValidReset e a
+
+-- a valid Reset with this code
+pub record IsEnding (e : EndState) (bytes : List ℕ) (code : ℕ) : Type 0 where
+  pub packet : Incoming
+  pub came : Came e (Arrives bytes) packet
+  pub is_reset : packet.kind ≡ types.Reset
+  pub is_valid : IsValidReset e packet
+  pub has_code : code ≡ packet.code
+
+-- Any other valid packet, and the end as steps 3, 4 and 6 leave it: a Request that opens, a Response to the Request, or a packet
+-- in the windows.
+pub data IsValid (e : EndState) (a : Incoming) (entered : EndState) : Type 0 where
+  OpensConnection : entrance_of e a ≡ entrance.Accept → is_own_service e a.service ≡ true → entered ≡ started e phases.Respond a → IsValid e a entered
+  ResponseToRequest : entrance_of e a ≡ entrance.InRequest → a.kind ≢ types.Reset → acknowledges_in_window e a ≡ true → entered ≡ started e e.phase a
+      → IsValid e a entered
+  PacketInWindow : entrance_of e a ≡ entrance.Check → a.kind ≢ types.Reset → verdict_of e a ≡ verdicts.Valid → entered ≡ raised e a
+      → IsValid e a entered
+
+pub record IsValidPacket (e : EndState) (bytes : List ℕ) (a : Incoming) (entered : EndState) : Type 0 where
+  pub came : Came e (Arrives bytes) a
+  pub is_valid : IsValid e a entered
+
+abbrev pub is_for_another : EndState → Incoming → Bool
+is_for_another entered a = is_other_service entered entered.phase a.kind a.service
+
+-- A valid packet that step 7 lets pass, and what it needs: a part that is not built, or not.
+pub record IsAdmitted (e : EndState) (bytes : List ℕ) (a : Incoming) (entered : EndState) (unbuilt : Bool) : Type 0 where
+  pub valid : IsValidPacket e bytes a entered
+  pub expected : is_unexpected entered a ≡ false
+  pub for_us : is_for_another entered a ≡ false
+  pub needs : is_unbuilt entered.phase a.kind a.options ≡ unbuilt
+
+-- why a Sync answers: the numbers of a packet in a phase with windows are not valid (step 6), or its phase does not expect it (step 7)
+pub data IsSynced (e : EndState) (bytes : List ℕ) (number : ℕ) : Type 0 where
+  OutOfWindow : (a : Incoming) → Came e (Arrives bytes) a → entrance_of e a ≡ entrance.Check → verdict_of e a ≡ verdicts.SyncFor number
+      → IsSynced e bytes number
+  Unexpected : (a : Incoming) (entered : EndState) → IsValidPacket e bytes a entered → is_unexpected entered a ≡ true → number ≡ a.number
+      → IsSynced e bytes number
+
+-- no answer to the Request: another type, or a Response whose acknowledgement number is outside the window
+pub data IsNoAnswer (e : EndState) (a : Incoming) : Type 0 where
+  OtherType : entrance_of e a ≡ entrance.PacketError → IsNoAnswer e a
+  OtherRequest : entrance_of e a ≡ entrance.InRequest → a.kind ≢ types.Reset → acknowledges_in_window e a ≡ false → IsNoAnswer e a
+
+-- why a Reset answers, and which fault it tells
+pub data IsReset (e : EndState) (bytes : List ℕ) : Fault → Type 0 where
+  -- steps 2 and 3: No Connection, and Bad Service Code at a server
+  NoConnection : (a : Incoming) → Came e (Arrives bytes) a → entrance_of e a ≡ entrance.NoConnection
+      → IsReset e bytes (without_detail codes.no_connection)
+  OtherService : (a : Incoming) → Came e (Arrives bytes) a → entrance_of e a ≡ entrance.Accept → is_own_service e a.service ≡ false
+      → IsReset e bytes (without_detail codes.bad_service_code)
+  -- step 4: Packet Error, with the packet's type
+  NoAnswer : (a : Incoming) → Came e (Arrives bytes) a → IsNoAnswer e a → IsReset e bytes (packet_fault a)
+  -- step 7: Bad Service Code at a client
+  WrongService : (a : Incoming) (entered : EndState) → IsValidPacket e bytes a entered → is_unexpected entered a ≡ false → is_for_another entered a ≡ true
+      → IsReset e bytes (without_detail codes.bad_service_code)
+  -- step 8: the first fault of the options
+  Faulted : (a : Incoming) (entered : EndState) (fault : Fault) → IsAdmitted e bytes a entered false → first_fault a.options ≡ Some fault → IsReset e bytes fault
+  -- step 14: Closed. No packet leads here yet, since a Close needs a part that is not built.
+  AnswersClose : (a : Incoming) (entered : EndState) (to : Phase) → IsAdmitted e bytes a entered false → first_fault a.options ≡ None
+      → after entered.phase a.kind ≡ (to, reply.ResetClosed) → IsReset e bytes (without_detail codes.closed)
+
+-- it tells of this fault
+pub record HasReset (e : EndState) (bytes : List ℕ) (code : ℕ) (detail : List ℕ) : Type 0 where
+  pub fault : Fault
+  pub why : IsReset e bytes fault
+  pub has_code : code ≡ fault.code
+  pub has_detail : detail ≡ detail_of fault
+
+-- it needs a part that is not built
+pub record NeedsUnbuilt (e : EndState) (bytes : List ℕ) : Type 0 where
+  pub packet : Incoming
+  pub entered : EndState
+  pub admitted : IsAdmitted e bytes packet entered true
+
+-- It was taken: the table of phases moves the end and answers with anything but a Reset. No data is delivered yet.
+pub record IsTaken (e : EndState) (bytes : List ℕ) (delivered : Option (ℕ × ℕ)) : Type 0 where
+  pub packet : Incoming
+  pub entered : EndState
+  pub admitted : IsAdmitted e bytes packet entered false
+  pub no_fault : first_fault packet.options ≡ None
+  pub to : Phase
+  pub answer : Reply
+  pub row : after entered.phase packet.kind ≡ (to, answer)
+  pub no_reset : answer ≢ reply.ResetClosed
+  pub no_data : delivered ≡ None
+
+-- Why an outcome comes.
+abbrev pub HasCause : EndState → List ℕ → Outcome → Type 0
+HasCause e bytes (Dropped (why.Malformed fault)) = decoded bytes ≡ Err fault
+HasCause e bytes (Dropped (why.Sum fault)) = HasWrongSum e bytes fault
+HasCause e bytes (Dropped why.OtherFlow) = HasWrongPorts e bytes
+HasCause e bytes (Dropped why.ShortOff) = HasShortNumber e bytes
+HasCause e bytes (Dropped why.StrayReset) = IsStray e bytes
+HasCause e bytes (Dropped why.BadSync) = IsBadSync e bytes
+HasCause e bytes (Synced number) = IsSynced e bytes number
+HasCause e bytes (WasReset code) = IsEnding e bytes code
+HasCause e bytes (SentReset code detail) = HasReset e bytes code detail
+HasCause e bytes NotBuilt = NeedsUnbuilt e bytes
+HasCause e bytes (Took delivered) = IsTaken e bytes delivered
+
+-- No other outcome has its cause: whatever has one is the outcome.
+abbrev pub HasNoOtherCause : EndState → List ℕ → Outcome → Type 0
+HasNoOtherCause e bytes outcome = (other : Outcome) → HasCause e bytes other → outcome ≡ other
+
+-- The effect of a Sync. Where the packet's numbers are not valid, only the greatest number sent changes.
+pub data IsSyncing (e : EndState) (number : ℕ) : Effect → Type 0 where
+  SyncsInvalid : IsSyncing e number (effect_of_sending e (Next (alone (kind.Sync number))))
+  SyncsUnexpected : (ack : Option ℕ) → IsSyncing e number (effect_of (Heard false number Refused) ack false e.phase false (Next (alone (kind.Sync number))))
+
+-- The effect of a Reset. Without a connection (codes 3 and 8) nothing changes; with the code 4 only the greatest number sent does; any
+-- other closes the end, and acknowledges the greatest number received, the packet's included. A Close alone was taken.
+pub data IsResetting (e : EndState) (code : ℕ) (detail : List ℕ) : Effect → Type 0 where
+  Refusing : (number ack : ℕ) → is_code_without_connection e.config.role code ≡ true
+      → IsResetting e code detail (effect_of_sending e (WithoutConnection number (kind.Reset ack code detail)))
+  Correcting : (ack : ℕ) → code ≡ codes.packet_error → IsResetting e code detail (effect_of_sending e (Next (alone (kind.Reset ack code detail))))
+  Closing : (first : Bool) (number : ℕ) (ack : Option ℕ)
+      → IsResetting e code detail (effect_of (Heard first number Shut) ack false phases.Closed false (Next (alone (kind.Reset (greatest_or first number e.marks.gsr) code detail))))
+  Answering : (first : Bool) (number : ℕ) (ack : Option ℕ) → code ≡ codes.closed
+      → IsResetting e code detail (effect_of (Heard first number Taken) ack false phases.Closed false (Next (alone (kind.Reset (greatest_or first number e.marks.gsr) code detail))))
+
+-- the packet that a row of the table answers with, if any: a SyncAck acknowledges the Sync, and all others the greatest number received
+abbrev pub replying : EndState → ℕ → ℕ → Reply → Sending
+replying e greatest number reply.Nothing = Silent
+replying e greatest number reply.Response = Next (alone (kind.Response greatest e.config.service))
+replying e greatest number reply.Ack = Next (alone (kind.Ack (Long greatest)))
+replying e greatest number reply.Close = Next (alone (kind.Close greatest))
+replying e greatest number reply.ResetClosed = Next (alone (kind.Reset greatest codes.closed (detail_of (without_detail codes.closed))))
+replying e greatest number reply.SyncAck = Next (alone (kind.SyncAck number))
+replying e greatest number reply.Torn = Silent
+
+-- The effect of a packet that was taken: the row of its phase and type.
+pub record IsTaking (e : EndState) (given : Input) (f : Effect) : Type 0 where
+  pub packet : Incoming
+  pub came : Came e given packet
+  pub first : Bool
+  pub ack : Option ℕ
+  pub entered : Phase
+  pub is_entered : entered ≡ phase_entered e.phase
+  pub to : Phase
+  pub answer : Reply
+  pub row : after entered packet.kind ≡ (to, answer)
+  pub is : f ≡ effect_of (Heard first packet.number Taken) ack (becomes_open entered to) to false (replying e (greatest_or first packet.number e.marks.gsr) packet.number answer)
+
+-- What an outcome tells of the step's effect.
+abbrev pub HasForm : EndState → Input → Outcome → Effect → Type 0
+HasForm e given (Dropped why) f = f ≡ effect_of_sending e Silent
+HasForm e given (Synced number) f = IsSyncing e number f
+HasForm e given (WasReset code) f = f ≡ record (effect_of_sending e Silent) { phase = phases.TimeWait }
+HasForm e given (SentReset code detail) f = IsResetting e code detail f
+HasForm e given NotBuilt f = f ≡ effect_of_sending e Silent
+HasForm e given (Took delivered) f = IsTaking e given f
+
+-- The step is this effect's, and the effect has the outcome's form.
+pub record HasEffectOf (e : EndState) (given : Input) (outcome : Outcome) (after : EndState) (frame : Option (List ℕ)) (calls : List Call) : Type 0 where
+  pub effect : Effect
+  pub after_is : after ≡ end_after e effect
+  pub frame_is : frame ≡ frame_by e effect.sending
+  pub calls_are : calls ≡ effect.calls
+  pub because : IsCaused e given effect
+  pub form : HasForm e given outcome effect
