@@ -10,7 +10,7 @@ use Rattle.dccp_endpoint.specs.Causes.{Acknowledges, HasNext, IsAcknowledging, I
 use Rattle.dccp_endpoint.specs.Drafts.{alone}
 use Rattle.dccp_endpoint.specs.Effects.{Hearing, Unheard, Sending, Silent, Next, effect_of, end_after, greatest_by}
 use Rattle.dccp_endpoint.specs.End.{EndState, IsProper, is_begun, is_connected, is_live, is_phase_of}
-use Rattle.dccp_endpoint.specs.Incoming.{ack_of}
+use Rattle.dccp_packets.specs.Kinds.{ack_of}
 use Rattle.dccp_endpoint.specs.Inputs.{Input, Arrives}
 use Rattle.dccp_endpoint.specs.Outcomes.{HasCause, HasEffectOf, HasForm}
 use Rattle.dccp_endpoint.specs.Steps.{Step, idle, sends}

@@ -13,7 +13,7 @@ use Rattle.dccp_packets.specs.declared.header.Kind.TheVariants as kind
 use Rattle.dccp_packets.specs.declared.header.PacketType.{PacketType}
 use Rattle.dccp_packets.proofs.ReadBack.{header-kept}
 use Rattle.dccp_endpoint.specs.Drafts.{Draft, Fits, IsSendable, ReadsAs, alone, frame_of, framed, header_of}
-use Rattle.dccp_endpoint.specs.Incoming.{is_data}
+use Rattle.dccp_packets.specs.Kinds.{is_data}
 use Rattle.dccp_endpoint.specs.declared.config.Config.{Config}
 use Rattle.dccp_endpoint.proofs.AnyFrames.{sealed-read}
 use Rattle.dccp_endpoint.proofs.Frames.{fixed_part_is_short}

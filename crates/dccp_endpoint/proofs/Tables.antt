@@ -21,9 +21,11 @@ use Rattle.validity_windows.specs.declared.verdict.Verdict.TheVariants as verdic
 use Rattle.dccp_endpoint.specs.Causes.{is_acking, is_code_without_connection}
 use Rattle.dccp_endpoint.specs.Effects.{gar_by}
 use Rattle.dccp_endpoint.specs.End.{is_begun, is_connected, is_live, is_open, phase_entered}
-use Rattle.dccp_endpoint.specs.Faults.{fault_of, first_fault, is_understood, not_understood, or_later}
+use Rattle.dccp_endpoint.specs.Faults.{fault_of, first_fault, not_understood, or_later}
+use Rattle.dccp_options.specs.Kinds.{is_understood}
 use Rattle.dccp_endpoint.specs.Receiving.{is_other_service}
-use Rattle.dccp_endpoint.specs.ResetCodes as codes
+use Rattle.dccp_packets.specs.ResetCodes.{number_of_code}
+use Rattle.dccp_packets.specs.declared.reset_code.ResetCode.TheVariants as codes
 use Rattle.dccp_endpoint.specs.declared.outcome.Fault.{Fault}
 
 -- the windows are asked where a first number was received
@@ -141,15 +143,15 @@ sync-acknowledges m types.Sync number ack n is = absurd (not-dropped _ n is)
 sync-acknowledges m types.SyncAck number ack n is = absurd (not-dropped _ n is)
 
 -- the codes of Resets
-pub no-connection-code : (r : Role) → is_code_without_connection r codes.no_connection ≡ true
+pub no-connection-code : (r : Role) → is_code_without_connection r (number_of_code codes.NoConnection) ≡ true
 no-connection-code role.Client = refl
 no-connection-code role.Server = refl
 
-pub closed-code : (r : Role) → is_code_without_connection r codes.closed ≡ false
+pub closed-code : (r : Role) → is_code_without_connection r (number_of_code codes.Closed) ≡ false
 closed-code role.Client = refl
 closed-code role.Server = refl
 
-pub packet-error-code : (r : Role) → is_code_without_connection r codes.packet_error ≡ false
+pub packet-error-code : (r : Role) → is_code_without_connection r (number_of_code codes.PacketError) ≡ false
 packet-error-code role.Client = refl
 packet-error-code role.Server = refl
 

@@ -33,11 +33,13 @@ use Rattle.dccp_endpoint.specs.Drafts.{alone}
 use Rattle.dccp_endpoint.specs.Effects.{Heard, Unheard, greatest_or, Passing, Refused, Shut, Sending, Silent, Taken, WithoutConnection, effect_of, effect_of_sending, end_after}
 use Rattle.dccp_endpoint.specs.End.{EndState, IsProper, is_begun, is_live, is_open, is_phase_of, phase_entered}
 use Rattle.dccp_endpoint.specs.Faults.{first_fault, is_unbuilt}
-use Rattle.dccp_endpoint.specs.Incoming.{Incoming, ack_of, incoming}
+use Rattle.dccp_packets.specs.Kinds.{ack_of}
+use Rattle.dccp_endpoint.specs.Incoming.{Incoming, incoming}
 use Rattle.dccp_endpoint.specs.Inputs.{Arrives}
 use Rattle.dccp_endpoint.specs.Outcomes.{Answering, Closing, HasCause, IsNoAnswer, IsValidReset, replying, Correcting, IsAdmitted, IsReset, IsTaking, IsValid, IsValidPacket, Refusing, SyncsInvalid, SyncsUnexpected, OutOfWindow, Unexpected, NoConnection, OtherService, NoAnswer, OtherType, OtherRequest, WrongService, Faulted, AnswersClose, OpensConnection, ResponseToRequest, PacketInWindow, ResetToRequest, ResetInWindow, StrayWithoutConnection, StrayInRequest, is_for_another}
 use Rattle.dccp_endpoint.specs.Receiving.{Goes, acknowledges_in_window, answers, becomes_open, by_ports, by_sum, checks_numbers, checks_type, ends_as, ends_by_reset, expects, heeds, in_phase, is_of_connection, is_own_service, is_unexpected, judged, long_number, moved_to, number_without_connection, opens_connection, packet_fault, raised, raises, reads, reads_options, received, receives, replies, resets, resets_without_connection, serves, started, takes_answer, the_steps, through, with_number, with_packet}
-use Rattle.dccp_endpoint.specs.ResetCodes as codes
+use Rattle.dccp_packets.specs.ResetCodes.{number_of_code}
+use Rattle.dccp_packets.specs.declared.reset_code.ResetCode.TheVariants as codes
 use Rattle.dccp_endpoint.specs.Steps.{Step, detail_of, idle, sends, without_detail}
 use Rattle.dccp_endpoint.specs.declared.outcome.Fault.{Fault}
 use Rattle.dccp_endpoint.specs.declared.outcome.Outcome.{Outcome}
@@ -85,8 +87,8 @@ refused-told e bytes a code proper came is_code why =
 corrected-told : (e : EndState) (bytes : List ℕ) (a : Incoming) → IsProper e → Came e (Arrives bytes) a → IsNoAnswer e a
     → Told e bytes (resets e a.number (packet_fault a))
 corrected-told e bytes a proper came no_answer =
-    next-told e bytes Unheard None false e.phase (kind.Reset a.number codes.packet_error (detail_of (packet_fault a)))
-    (SentReset codes.packet_error (detail_of (packet_fault a))) (rest e (Arrives bytes) proper) refl refl refl (Arrived a came)
+    next-told e bytes Unheard None false e.phase (kind.Reset a.number (number_of_code codes.PacketError) (detail_of (packet_fault a)))
+    (SentReset (number_of_code codes.PacketError) (detail_of (packet_fault a))) (rest e (Arrives bytes) proper) refl refl refl (Arrived a came)
     (packet-error-code e.config.role)
     (record { fault = packet_fault a; why = NoAnswer a came no_answer; has_code = refl; has_detail = refl }) (Correcting a.number refl)
 
@@ -195,9 +197,9 @@ closed-told : (e : EndState) (bytes : List ℕ) (a : Incoming) (entry : Entry e 
     → first_fault a.options ≡ None → Row e bytes a entry phase.Closed reply.ResetClosed
     → Told e bytes (replies (moved_to (end_of e bytes a entry) phase.Closed a.number) a reply.ResetClosed)
 closed-told e bytes a entry admitted no_fault row =
-    let fault : Fault = without_detail codes.closed in
-    next-told e bytes (Heard entry.first a.number Taken) entry.ack false phase.Closed (kind.Reset (end_of e bytes a entry).marks.gsr codes.closed (detail_of fault))
-    (SentReset codes.closed (detail_of fault))
+    let fault : Fault = without_detail (number_of_code codes.Closed) in
+    next-told e bytes (Heard entry.first a.number Taken) entry.ack false phase.Closed (kind.Reset (end_of e bytes a entry).marks.gsr (number_of_code codes.Closed) (detail_of fault))
+    (SentReset (number_of_code codes.Closed) (detail_of fault))
     (taken-ready e bytes a entry phase.Closed reply.ResetClosed row) refl refl refl Greatest (closed-code e.config.role)
     (record { fault = fault; why = AnswersClose a (end_of e bytes a entry) phase.Closed admitted no_fault row; has_code = refl; has_detail = refl })
     (Answering entry.first a.number entry.ack refl)
@@ -257,7 +259,7 @@ served-told e bytes a proper entry expected true other =
     let asks : entry.ph ≡ phase.Request = other-service-asked (end_of e bytes a entry) entry.ph a.kind a.service other in
     let client : e.config.role ≡ role.Client =
     requests-client e.config.role (ap (λ (p : Phase). is_phase_of p e.config.role) (sym asks) ∙ entry.its_role) in
-    shut-told e bytes a entry (without_detail codes.bad_service_code) (ap (λ (r : Role). is_code_without_connection r codes.bad_service_code) client)
+    shut-told e bytes a entry (without_detail (number_of_code codes.BadServiceCode)) (ap (λ (r : Role). is_code_without_connection r (number_of_code codes.BadServiceCode)) client)
     (WrongService a (end_of e bytes a entry) (valid-packet e bytes a entry) expected other)
 served-told e bytes a proper entry expected false other =
     read-told e bytes a proper entry (is_unbuilt entry.ph a.kind a.options)
@@ -458,14 +460,14 @@ accepted-told e bytes a proper came is true ours =
 accepted-told e bytes a proper came is false other =
     let listens : e.phase ≡ phase.Listen = accept-phase e.phase a.kind is in
     let server : e.config.role ≡ role.Server = listens-server e.config.role (ap (λ (p : Phase). is_phase_of p e.config.role) (sym listens) ∙ proper.phase_fits) in
-    refused-told e bytes a codes.bad_service_code proper came (ap (λ (r : Role). is_code_without_connection r codes.bad_service_code) server)
+    refused-told e bytes a (number_of_code codes.BadServiceCode) proper came (ap (λ (r : Role). is_code_without_connection r (number_of_code codes.BadServiceCode)) server)
     (OtherService a came is other)
 
 -- steps 2 to 16
 entered-told : (e : EndState) (bytes : List ℕ) (a : Incoming) → IsProper e → Came e (Arrives bytes) a → (how : Entrance) → entrance_of e a ≡ how
     → Told e bytes (ends_as e a (through (Goes e) (the_steps a how)))
 entered-told e bytes a proper came entrance.NoConnection is =
-    refused-told e bytes a codes.no_connection proper came (no-connection-code e.config.role) (NoConnection a came is)
+    refused-told e bytes a (number_of_code codes.NoConnection) proper came (no-connection-code e.config.role) (NoConnection a came is)
 entered-told e bytes a proper came entrance.Stray is = dropped-told e bytes why.StrayReset proper (StrayWithoutConnection a came is)
 entered-told e bytes a proper came entrance.Accept is = accepted-told e bytes a proper came is (is_own_service e a.service) refl
 entered-told e bytes a proper came entrance.InRequest is = answered-told e bytes a proper came is a.kind refl (acknowledges_in_window e a) refl

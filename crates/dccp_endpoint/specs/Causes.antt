@@ -21,10 +21,12 @@ use Rattle.validity_windows.specs.declared.verdict.Verdict.TheVariants as verdic
 use Rattle.dccp_endpoint.specs.Drafts.{Draft, IsSendable, alone}
 use Rattle.dccp_endpoint.specs.Effects.{Effect, Passing, Refused, Shut, Taken, Hearing, Unheard, Heard, Sending, Silent, Next, WithoutConnection, greatest_by, end_after, frame_by}
 use Rattle.dccp_endpoint.specs.End.{EndState, IsProper, is_phase_of, is_live, is_begun, is_connected}
-use Rattle.dccp_endpoint.specs.Incoming.{Incoming, ack_of, incoming}
+use Rattle.dccp_packets.specs.Kinds.{ack_of}
+use Rattle.dccp_endpoint.specs.Incoming.{Incoming, incoming}
 use Rattle.dccp_endpoint.specs.Inputs.{Input, Arrives, Opens, stepped}
 use Rattle.dccp_endpoint.specs.Receiving.{acknowledges_in_window, is_of_connection, number_without_connection}
-use Rattle.dccp_endpoint.specs.ResetCodes as codes
+use Rattle.dccp_packets.specs.ResetCodes.{number_of_code}
+use Rattle.dccp_packets.specs.declared.reset_code.ResetCode.TheVariants as codes
 use Rattle.dccp_endpoint.specs.Steps.{detail_of, without_detail}
 
 -- A packet of the connection with a long number arrived (step 1).
@@ -118,8 +120,8 @@ pub data Acknowledges (e : EndState) (given : Input) (greatest : ℕ) : Option �
 
 -- A Reset without a connection has code 3, or at a server 8; no Reset under a number of the end's own has these.
 abbrev pub is_code_without_connection : Role → ℕ → Bool
-is_code_without_connection role.Client code = code == codes.no_connection
-is_code_without_connection role.Server code = code == codes.no_connection || code == codes.bad_service_code
+is_code_without_connection role.Client code = code == (number_of_code codes.NoConnection)
+is_code_without_connection role.Server code = code == (number_of_code codes.NoConnection) || code == (number_of_code codes.BadServiceCode)
 
 abbrev pub is_without_connection : Role → Kind → Bool
 is_without_connection who (kind.Reset ack code detail) = is_code_without_connection who code

@@ -10,7 +10,7 @@ use Rattle.dccp_packets.specs.declared.header.Kind.{Kind}
 use Rattle.dccp_packets.specs.declared.header.Number.TheVariants.{Long}
 use Rattle.dccp_sum.specs.Checksum.{checked, sealed}
 use Rattle.dccp_sum.specs.declared.pseudo_header.Pseudo.{Pseudo}
-use Rattle.dccp_endpoint.specs.Incoming.{is_data}
+use Rattle.dccp_packets.specs.Kinds.{is_data}
 use Rattle.dccp_endpoint.specs.declared.config.Config.{Config}
 
 -- a packet that is to be sent: its type with its fields, its options and its data

@@ -1,6 +1,5 @@
 -- The state of one end of a connection (RFC 4340, sections 7.1 and 8).
-use Rattle.std.specs.Prelude.{◌≡◌, ℕ, ◌+◌, ◌-◌, ◌^◌, Bool, true, false, List, []}
-use Rattle.seq_circle.specs.Circle.{residue}
+use Rattle.std.specs.Prelude.{◌≡◌, ℕ, Bool, true, false, List, []}
 use Rattle.feature_lists.specs.Features.{initial_of}
 use Rattle.feature_lists.specs.declared.features.Feature.{Feature}
 use Rattle.feature_lists.specs.declared.features.Feature.TheVariants.{SequenceWindow}
@@ -11,6 +10,7 @@ use Rattle.dccp_states.specs.declared.phase.Role.TheVariants.{Client, Server}
 use Rattle.dccp_states.specs.declared.phase.Phase.{Phase}
 use Rattle.dccp_states.specs.declared.phase.Phase.TheVariants as phase
 use Rattle.validity_windows.specs.declared.marks.Marks.{Marks}
+use Rattle.validity_windows.specs.Beginning.{new_marks}
 use Rattle.validity_windows.specs.Windows.{InRange}
 use Rattle.dccp_endpoint.specs.declared.held.Held.{Held}
 use Rattle.dccp_endpoint.specs.declared.held.Stand.TheVariants.{Stable}
@@ -109,23 +109,9 @@ abbrev pub first_phase : Role → Phase
 first_phase Client = phase.Closed
 first_phase Server = phase.Listen
 
--- The marks of an end that has sent and received nothing: its greatest sent number is the one before its first. The
--- windows are as wide as the feature Sequence Window says of each end (section 7.5.2).
-abbrev pub first_marks : ℕ → Marks
-first_marks iss =
-    record {
-      iss = iss;
-      gss = residue (iss + (2 ^ 48 - 1));
-      gar = iss;
-      isr = 0;
-      gsr = 0;
-      osr = 0;
-      own_w = initial_of SequenceWindow;
-      peer_w = initial_of SequenceWindow;
-    }
-
+-- An end that has sent and received nothing. The windows are as wide as the feature Sequence Window says at first (section 7.5.2).
 abbrev pub fresh : Config → EndState
-fresh config = record { config = config; phase = first_phase config.role; opened = false; marks = first_marks config.iss }
+fresh config = record { config = config; phase = first_phase config.role; opened = false; marks = new_marks config.iss (initial_of SequenceWindow) }
 
 -- What a row shows: its value and stand. No feature is negotiated yet, so each row stands at its initial value.
 abbrev pub held_of : EndState → Feature → Place → Held

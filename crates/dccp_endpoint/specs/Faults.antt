@@ -1,32 +1,24 @@
 -- What the options of a packet may be faulted for (RFC 4340, sections 5.8 and 8.5, step 8).
-use Rattle.std.specs.Prelude.{ℕ, Bool, true, false, not, ◌&&◌, ◌||◌, ◌==◌, nat_le, if◌then◌else◌, List, [], ◌∷◌, length, slice_index, Option, Some, None, Result, Ok, Err}
+use Rattle.std.specs.Prelude.{Bool, true, false, not, ◌&&◌, ◌||◌, nat_le, if◌then◌else◌, List, [], ◌∷◌, length, slice_index, Option, Some, None, Result, Ok, Err}
 use Rattle.dccp_options.specs.Grammar.{Entry}
+use Rattle.dccp_options.specs.Kinds as options
+use Rattle.dccp_options.specs.Kinds.{is_understood}
 use Rattle.dccp_options.specs.declared.option.OptFault.{OptFault}
+use Rattle.dccp_packets.specs.ResetCodes.{number_of_code}
+use Rattle.dccp_packets.specs.declared.reset_code.ResetCode.TheVariants as codes
 use Rattle.dccp_packets.specs.declared.header.PacketType.{PacketType}
 use Rattle.dccp_packets.specs.declared.header.PacketType.TheVariants as types
 use Rattle.dccp_states.specs.declared.phase.Phase.{Phase}
 use Rattle.dccp_states.specs.declared.phase.Phase.TheVariants as phases
 use Rattle.dccp_endpoint.specs.declared.outcome.Fault.{Fault}
 
--- an option of a type in the standard's table, of a length that the table allows; Init Cookie and what is a CCID's own are not understood (own)
-abbrev pub is_understood : ℕ → ℕ → Bool
-is_understood kind size =
-    kind == 2
-    || ((nat_le 32 kind && nat_le kind 35) && nat_le 1 size)
-    || (kind == 37 && nat_le 1 size && nat_le size 6)
-    || kind == 38 || kind == 39 || kind == 40
-    || (kind == 41 && size == 4)
-    || (kind == 42 && (size == 4 || size == 6 || size == 8))
-    || (kind == 43 && (size == 2 || size == 4))
-    || (kind == 44 && size == 4)
-
 -- a fault of Mandatory itself: Option Error with the option's bytes (own)
 abbrev pub mandatory_fault : Fault
-mandatory_fault = record { code = 5; first = 1; second = 0; third = 0 }
+mandatory_fault = record { code = number_of_code codes.OptionError; first = options.mandatory; second = 0; third = 0 }
 
 -- Mandatory before an option that is not understood: Mandatory Error with its type and the first two bytes of its data
 abbrev pub not_understood : Entry → Fault
-not_understood entry = record { code = 6; first = entry.kind; second = slice_index entry.body 0; third = slice_index entry.body 1 }
+not_understood entry = record { code = number_of_code codes.MandatoryError; first = entry.kind; second = slice_index entry.body 0; third = slice_index entry.body 1 }
 
 abbrev pub fault_of : Result Entry OptFault → Option Fault
 fault_of (Err _) = Some mandatory_fault
@@ -44,7 +36,7 @@ first_fault (item ∷ rest) = or_later (fault_of item) (first_fault rest)
 -- an option of the negotiation: Change or Confirm with a feature's number
 abbrev pub is_feature_option : Result Entry OptFault → Bool
 is_feature_option (Err _) = false
-is_feature_option (Ok entry) = (nat_le 32 entry.kind && nat_le entry.kind 35) && nat_le 1 (length entry.body)
+is_feature_option (Ok entry) = (nat_le options.change_l entry.kind && nat_le entry.kind options.confirm_r) && nat_le 1 (length entry.body)
 
 abbrev pub has_feature_option : List (Result Entry OptFault) → Bool
 has_feature_option [] = false

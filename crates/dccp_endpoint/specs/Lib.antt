@@ -1,4 +1,3 @@
-pub mod ResetCodes
 pub mod End
 pub mod Usual
 pub mod Incoming

@@ -22,7 +22,8 @@ use Rattle.dccp_endpoint.specs.Faults.{first_fault, is_unbuilt}
 use Rattle.dccp_endpoint.specs.Incoming.{Incoming}
 use Rattle.dccp_endpoint.specs.Inputs.{Input, Arrives}
 use Rattle.dccp_endpoint.specs.Receiving.{acknowledges_in_window, becomes_open, is_of_connection, is_other_service, is_own_service, is_unexpected, packet_fault, raised, started}
-use Rattle.dccp_endpoint.specs.ResetCodes as codes
+use Rattle.dccp_packets.specs.ResetCodes.{number_of_code}
+use Rattle.dccp_packets.specs.declared.reset_code.ResetCode.TheVariants as codes
 use Rattle.dccp_endpoint.specs.Steps.{detail_of, without_detail}
 use Rattle.dccp_endpoint.specs.declared.outcome.Fault.{Fault}
 use Rattle.dccp_endpoint.specs.declared.outcome.Outcome.{Outcome}
@@ -116,19 +117,19 @@ pub data IsNoAnswer (e : EndState) (a : Incoming) : Type 0 where
 pub data IsReset (e : EndState) (bytes : List ℕ) : Fault → Type 0 where
   -- steps 2 and 3: No Connection, and Bad Service Code at a server
   NoConnection : (a : Incoming) → Came e (Arrives bytes) a → entrance_of e a ≡ entrance.NoConnection
-      → IsReset e bytes (without_detail codes.no_connection)
+      → IsReset e bytes (without_detail (number_of_code codes.NoConnection))
   OtherService : (a : Incoming) → Came e (Arrives bytes) a → entrance_of e a ≡ entrance.Accept → is_own_service e a.service ≡ false
-      → IsReset e bytes (without_detail codes.bad_service_code)
+      → IsReset e bytes (without_detail (number_of_code codes.BadServiceCode))
   -- step 4: Packet Error, with the packet's type
   NoAnswer : (a : Incoming) → Came e (Arrives bytes) a → IsNoAnswer e a → IsReset e bytes (packet_fault a)
   -- step 7: Bad Service Code at a client
   WrongService : (a : Incoming) (entered : EndState) → IsValidPacket e bytes a entered → is_unexpected entered a ≡ false → is_for_another entered a ≡ true
-      → IsReset e bytes (without_detail codes.bad_service_code)
+      → IsReset e bytes (without_detail (number_of_code codes.BadServiceCode))
   -- step 8: the first fault of the options
   Faulted : (a : Incoming) (entered : EndState) (fault : Fault) → IsAdmitted e bytes a entered false → first_fault a.options ≡ Some fault → IsReset e bytes fault
   -- step 14: Closed. No packet leads here yet, since a Close needs a part that is not built.
   AnswersClose : (a : Incoming) (entered : EndState) (to : Phase) → IsAdmitted e bytes a entered false → first_fault a.options ≡ None
-      → after entered.phase a.kind ≡ (to, reply.ResetClosed) → IsReset e bytes (without_detail codes.closed)
+      → after entered.phase a.kind ≡ (to, reply.ResetClosed) → IsReset e bytes (without_detail (number_of_code codes.Closed))
 
 -- it tells of this fault
 pub record HasReset (e : EndState) (bytes : List ℕ) (code : ℕ) (detail : List ℕ) : Type 0 where
@@ -183,10 +184,10 @@ pub data IsSyncing (e : EndState) (number : ℕ) : Effect → Type 0 where
 pub data IsResetting (e : EndState) (code : ℕ) (detail : List ℕ) : Effect → Type 0 where
   Refusing : (number ack : ℕ) → is_code_without_connection e.config.role code ≡ true
       → IsResetting e code detail (effect_of_sending e (WithoutConnection number (kind.Reset ack code detail)))
-  Correcting : (ack : ℕ) → code ≡ codes.packet_error → IsResetting e code detail (effect_of_sending e (Next (alone (kind.Reset ack code detail))))
+  Correcting : (ack : ℕ) → code ≡ (number_of_code codes.PacketError) → IsResetting e code detail (effect_of_sending e (Next (alone (kind.Reset ack code detail))))
   Closing : (first : Bool) (number : ℕ) (ack : Option ℕ)
       → IsResetting e code detail (effect_of (Heard first number Shut) ack false phases.Closed false (Next (alone (kind.Reset (greatest_or first number e.marks.gsr) code detail))))
-  Answering : (first : Bool) (number : ℕ) (ack : Option ℕ) → code ≡ codes.closed
+  Answering : (first : Bool) (number : ℕ) (ack : Option ℕ) → code ≡ (number_of_code codes.Closed)
       → IsResetting e code detail (effect_of (Heard first number Taken) ack false phases.Closed false (Next (alone (kind.Reset (greatest_or first number e.marks.gsr) code detail))))
 
 -- the packet that a row of the table answers with, if any: a SyncAck acknowledges the Sync, and all others the greatest number received
@@ -195,7 +196,7 @@ replying e greatest number reply.Nothing = Silent
 replying e greatest number reply.Response = Next (alone (kind.Response greatest e.config.service))
 replying e greatest number reply.Ack = Next (alone (kind.Ack (Long greatest)))
 replying e greatest number reply.Close = Next (alone (kind.Close greatest))
-replying e greatest number reply.ResetClosed = Next (alone (kind.Reset greatest codes.closed (detail_of (without_detail codes.closed))))
+replying e greatest number reply.ResetClosed = Next (alone (kind.Reset greatest (number_of_code codes.Closed) (detail_of (without_detail (number_of_code codes.Closed)))))
 replying e greatest number reply.SyncAck = Next (alone (kind.SyncAck number))
 replying e greatest number reply.Torn = Silent
 

@@ -24,15 +24,17 @@ use Rattle.dccp_states.specs.declared.phase.Phase.TheVariants as phases
 use Rattle.dccp_states.specs.declared.reply.Reply.{Reply}
 use Rattle.dccp_states.specs.declared.reply.Reply.TheVariants as reply
 use Rattle.validity_windows.specs.declared.marks.Marks.{Marks}
+use Rattle.validity_windows.specs.Beginning.{begun}
 use Rattle.validity_windows.specs.Windows.{ack_low, ack_high}
-use Rattle.validity_windows.specs.Verdict.{verdict, is_ack_within, taken, gar_after}
+use Rattle.validity_windows.specs.Verdict.{verdict, is_ack_within, taken}
 use Rattle.validity_windows.specs.declared.verdict.Verdict.{Verdict}
 use Rattle.validity_windows.specs.declared.verdict.Verdict.TheVariants as verdicts
 use Rattle.dccp_endpoint.specs.Drafts.{alone, frame_of}
 use Rattle.dccp_endpoint.specs.End.{EndState, is_open}
 use Rattle.dccp_endpoint.specs.Faults.{first_fault, is_unbuilt}
 use Rattle.dccp_endpoint.specs.Incoming.{Incoming, incoming}
-use Rattle.dccp_endpoint.specs.ResetCodes as codes
+use Rattle.dccp_packets.specs.ResetCodes.{number_of_code}
+use Rattle.dccp_packets.specs.declared.reset_code.ResetCode.TheVariants as codes
 use Rattle.dccp_endpoint.specs.Steps.{Step, idle, sends, detail_of, reset_of, without_detail}
 use Rattle.dccp_endpoint.specs.declared.exit.Exit.{Exit}
 use Rattle.dccp_endpoint.specs.declared.exit.Exit.TheVariants as exits
@@ -86,17 +88,14 @@ course x (Err exit) = Leaves x exit
 
 -- Step 2: without a connection a packet gets a Reset, and a Reset nothing. So it is in step 3 with what opens none.
 abbrev pub finds_connection : Entrance → EndState → Course
-finds_connection entrance.NoConnection x = Leaves x (exits.ResetWithoutConnection codes.no_connection)
+finds_connection entrance.NoConnection x = Leaves x (exits.ResetWithoutConnection codes.NoConnection)
 finds_connection entrance.Stray x = Leaves x (exits.Drop why.StrayReset)
 finds_connection _ x = Goes x
 
 -- The first packet of the peer sets the first and the greatest number received. OSR is that number until the end is OPEN (own).
 abbrev pub started : EndState → Phase → Incoming → EndState
 started e phase a =
-    record e {
-      phase = phase;
-      marks = record e.marks { isr = a.number; gsr = a.number; osr = a.number; gar = gar_after e.marks.gar a.kind a.ack };
-    }
+    record e { phase = phase; marks = begun e.marks a.kind a.number a.ack }
 
 -- Step 3: in LISTEN a Request for this service opens the connection.
 abbrev pub is_own_service : EndState → Option ℕ → Bool
@@ -105,7 +104,7 @@ is_own_service e (Some service) = service == e.config.service
 
 abbrev pub opens_connection : Incoming → EndState → Bool → Course
 opens_connection a x true = Goes (started x phases.Respond a)
-opens_connection a x false = Leaves x (exits.ResetWithoutConnection codes.bad_service_code)
+opens_connection a x false = Leaves x (exits.ResetWithoutConnection codes.BadServiceCode)
 
 abbrev pub accepts_request : Incoming → Entrance → EndState → Course
 accepts_request a entrance.Accept x = opens_connection a x (is_own_service x a.service)
@@ -159,7 +158,7 @@ is_other_service e phases.Request types.Response service = not (is_own_service e
 is_other_service e _ _ service = false
 
 abbrev pub serves : Incoming → EndState → Bool → Course
-serves a x true = Leaves x (exits.Shut (without_detail codes.bad_service_code))
+serves a x true = Leaves x (exits.Shut (without_detail (number_of_code codes.BadServiceCode)))
 serves a x false = Goes x
 
 abbrev pub expects : Incoming → EndState → Bool → Course
@@ -230,7 +229,7 @@ replies e a reply.Nothing = idle e took
 replies e a reply.Response = sends e (alone (kind.Response e.marks.gsr e.config.service)) took
 replies e a reply.Ack = sends e (alone (kind.Ack (Long e.marks.gsr))) took
 replies e a reply.Close = sends e (alone (kind.Close e.marks.gsr)) took
-replies e a reply.ResetClosed = resets e e.marks.gsr (without_detail codes.closed)
+replies e a reply.ResetClosed = resets e e.marks.gsr (without_detail (number_of_code codes.Closed))
 replies e a reply.SyncAck = sends e (alone (kind.SyncAck a.number)) took
 replies e a reply.Torn = idle e took
 
@@ -256,13 +255,13 @@ in_phase e phase = record e { phase = phase }
 
 -- a Reset 4 tells of the packet's type
 abbrev pub packet_fault : Incoming → Fault
-packet_fault a = record { code = codes.packet_error; first = code_of a.kind; second = 0; third = 0 }
+packet_fault a = record { code = (number_of_code codes.PacketError); first = code_of a.kind; second = 0; third = 0 }
 
 -- What is done with a packet that leaves before step 10: the phase and the numbers before it, and the end as the steps left it.
 abbrev pub leaves : Phase → Marks → EndState → Incoming → Exit → Step Outcome
 leaves phase marks e a (exits.Drop why) = idle e (Dropped why)
 leaves phase marks e a (exits.Sync number) = sends e (alone (kind.Sync number)) (Synced number)
-leaves phase marks e a (exits.ResetWithoutConnection code) = resets_without_connection e a (without_detail code)
+leaves phase marks e a (exits.ResetWithoutConnection code) = resets_without_connection e a (without_detail (number_of_code code))
 leaves phase marks e a exits.PacketError = resets e a.number (packet_fault a)
 leaves phase marks e a (exits.Shut fault) = resets (in_phase e phases.Closed) e.marks.gsr fault
 leaves phase marks e a (exits.TimeWait code) = idle (in_phase e phases.TimeWait) (WasReset code)

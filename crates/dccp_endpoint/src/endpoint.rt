@@ -1,5 +1,4 @@
 //! The end itself.
-use crate::config::number;
 use crate::{Config, Held, OpenFault, Stand};
 use dccp_packets::{Kind, Outbox};
 use dccp_states::{Phase, Role};
@@ -47,18 +46,7 @@ impl Endpoint {
             Role::Client => Phase::Closed,
             Role::Server => Phase::Listen,
         };
-        let iss = config.iss;
-        let unset = number(0);
-        let marks = Marks {
-            iss,
-            gss: iss.sub(1),
-            gar: iss,
-            isr: unset,
-            gsr: unset,
-            osr: unset,
-            own_w: initial(Feature::SequenceWindow),
-            peer_w: initial(Feature::SequenceWindow),
-        };
+        let marks = Marks::new(config.iss, initial(Feature::SequenceWindow));
         Ok(Endpoint {
             config,
             phase,

@@ -1,31 +1,14 @@
 //! What the options of a packet may be faulted for (RFC 4340, section 5.8).
 ghost use Rattle.std.specs.Prelude.{◌≡◌, ◌≤◌, ◌||◌, ◌&&◌, length, slice_index};
 ghost use Rattle.dccp_options.specs.Grammar.{options_of};
-ghost use Rattle.dccp_endpoint.specs.Faults.{is_understood, fault_of, first_fault, not_understood, is_feature_option, has_feature_option, counts, negotiates, may_negotiate, is_unbuilt_type, or_later};
+ghost use Rattle.dccp_endpoint.specs.Faults.{fault_of, first_fault, not_understood, is_feature_option, has_feature_option, counts, negotiates, may_negotiate, is_unbuilt_type, or_later};
 ghost use Rattle.dccp_options.specs.Left.{item_of};
 
 use crate::Fault;
-use crate::reset_codes::{MANDATORY_ERROR, OPTION_ERROR};
+use dccp_options::kinds::{CHANGE_L, CONFIRM_R, MANDATORY};
 use dccp_options::{Opt, OptFault, options};
-use dccp_packets::PacketType;
+use dccp_packets::{PacketType, ResetCode};
 use dccp_states::Phase;
-
-const MANDATORY: u8 = 1;
-
-// Tells whether an option of this type and so many bytes of data is understood.
-fn is_understood(kind: u8, size: usize) -> bool
-    ensures { result ≡ is_understood kind size }
-{
-    match kind {
-        2 | 38 | 39 | 40 => true,
-        32..=35 => 1 <= size,
-        37 => 1 <= size && size <= 6,
-        41 | 44 => size == 4,
-        42 => size == 4 || size == 6 || size == 8,
-        43 => size == 2 || size == 4,
-        _ => false,
-    }
-}
 
 // A byte of an option's data, or 0 where it is absent.
 fn byte_of(body: &[u8], place: usize) -> u8
@@ -40,15 +23,15 @@ fn fault_of(item: &Result<Opt<'_>, OptFault>) -> Option<Fault>
 {
     match item {
         Err(_) => Some(Fault {
-            code: OPTION_ERROR,
+            code: ResetCode::OptionError.number(),
             first: MANDATORY,
             second: 0,
             third: 0,
         }),
         Ok(option) => {
-            if option.mandatory && !is_understood(option.kind, option.body.len()) {
+            if option.mandatory && !option.is_understood() {
                 Some(Fault {
-                    code: MANDATORY_ERROR,
+                    code: ResetCode::MandatoryError.number(),
                     first: option.kind,
                     second: byte_of(option.body, 0),
                     third: byte_of(option.body, 1),
@@ -65,7 +48,9 @@ fn is_feature_option(item: &Result<Opt<'_>, OptFault>) -> bool
 {
     match item {
         Err(_) => false,
-        Ok(option) => 32 <= option.kind && option.kind <= 35 && !option.body.is_empty(),
+        Ok(option) => CHANGE_L <= option.kind
+            && option.kind <= CONFIRM_R
+            && !option.body.is_empty(),
     }
 }
 

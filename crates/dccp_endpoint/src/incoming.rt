@@ -1,62 +1,7 @@
 //! A packet that arrived, read once.
-ghost use Rattle.std.specs.Prelude.{◌≡◌};
-ghost use Rattle.dccp_endpoint.specs.Incoming.{value_of, ack_of, service_of, reset_code, is_data};
-
-use crate::config::number as seq48;
-use dccp_packets::{Kind, Number, Packet, PacketType};
+use dccp_packets::{Packet, PacketType};
 use seq_circle::Seq48;
 use std::marker::Model;
-
-fn value_of(number: Number) -> Seq48
-    ensures { result ≡ value_of number }
-{
-    match number {
-        Number::Long(n) => n,
-        Number::Short(n) => seq48(u64::from(n.get())),
-    }
-}
-
-// The acknowledgement number of a packet that has one.
-fn ack_of(kind: &Kind) -> Option<Seq48>
-    ensures { result ≡ ack_of kind.now }
-{
-    match *kind {
-        Kind::Request { .. } | Kind::Data => None,
-        Kind::Response { ack, .. }
-        | Kind::CloseReq { ack }
-        | Kind::Close { ack }
-        | Kind::Reset { ack, .. }
-        | Kind::Sync { ack }
-        | Kind::SyncAck { ack } => Some(ack),
-        Kind::Ack { ack } | Kind::DataAck { ack } => Some(value_of(ack)),
-    }
-}
-
-// The Service Code of a packet that has one.
-fn service_of(kind: &Kind) -> Option<u32>
-    ensures { result ≡ service_of kind.now }
-{
-    match *kind {
-        Kind::Request { service } | Kind::Response { service, .. } => Some(service),
-        _ => None,
-    }
-}
-
-// The code of a Reset.
-fn reset_code(kind: &Kind) -> u8
-    ensures { result ≡ reset_code kind.now }
-{
-    match *kind {
-        Kind::Reset { code, .. } => code,
-        _ => 0,
-    }
-}
-
-pub(crate) fn is_data(kind: PacketType) -> bool
-    ensures { result ≡ is_data kind }
-{
-    matches!(kind, PacketType::Data)
-}
 
 // What an end has to know of a packet of its connection with a long number.
 #[derive(Clone, Debug, Drop)]
@@ -77,8 +22,8 @@ pub(crate) struct IncomingPacket<'a> {
 impl<'a> Model for IncomingPacket<'a> {
     ghost use Rattle.std.specs.Prelude.{◌≡◌, ◌≤◌, length, is_some};
     ghost use Rattle.dccp_options.specs.Grammar.{options_of};
-    ghost use Rattle.validity_windows.specs.Verdict.{has_ack};
-    ghost use Rattle.dccp_endpoint.specs.Incoming.{Incoming, is_data};
+    ghost use Rattle.dccp_packets.specs.Kinds.{has_ack, is_data};
+    ghost use Rattle.dccp_endpoint.specs.Incoming.{Incoming};
 
     ghost Value = { Incoming };
 
@@ -105,9 +50,9 @@ impl<'a> IncomingPacket<'a> {
         IncomingPacket {
             kind: kind.packet_type(),
             number,
-            ack: ack_of(kind),
-            service: service_of(kind),
-            code: reset_code(kind),
+            ack: kind.ack(),
+            service: kind.service(),
+            code: kind.reset_code(),
             options: packet.options,
             data_place: (size.saturating_sub(packet.payload.len()), size),
             newest,

@@ -13,7 +13,6 @@ mod held;
 mod incoming;
 mod laws;
 mod outcome;
-mod reset_codes;
 #[cfg(test)]
 mod tests;
 

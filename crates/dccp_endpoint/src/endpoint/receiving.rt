@@ -4,14 +4,14 @@ ghost use Rattle.std.specs.Prelude.{◌≡◌};
 ghost use Rattle.dccp_endpoint.specs.End.{is_open, is_live};
 ghost use Rattle.dccp_endpoint.specs.Receiving.{packet_fault};
 ghost use Rattle.dccp_endpoint.specs.Steps.{without_detail};
+ghost use Rattle.dccp_packets.specs.ResetCodes.{number_of_code};
 
 use super::Endpoint;
 use crate::config::number as seq48;
 use crate::faults::{is_unbuilt, read};
-use crate::incoming::{IncomingPacket, is_data};
-use crate::reset_codes::{BAD_SERVICE_CODE, CLOSED, NO_CONNECTION, PACKET_ERROR};
+use crate::incoming::IncomingPacket;
 use crate::{Exit, Fault, Outcome, Why};
-use dccp_packets::{Header, Kind, Number, Outbox, PacketType, decode};
+use dccp_packets::{Header, Kind, Number, Outbox, PacketType, ResetCode, decode};
 use dccp_states::{Entrance, Phase, Reply, after, gate, unexpected};
 use dccp_sum::check;
 use seq_circle::Seq48;
@@ -34,11 +34,11 @@ fn is_live(phase: Phase) -> bool
 }
 
 // A Reset code without details.
-fn without_detail(code: u8) -> Fault
-    ensures { result ≡ without_detail code }
+fn without_detail(code: ResetCode) -> Fault
+    ensures { result ≡ without_detail (number_of_code code) }
 {
     Fault {
-        code,
+        code: code.number(),
         first: 0,
         second: 0,
         third: 0,
@@ -50,7 +50,7 @@ fn packet_fault(packet: &IncomingPacket<'_>) -> Fault
     ensures { result ≡ packet_fault packet.now }
 {
     Fault {
-        code: PACKET_ERROR,
+        code: ResetCode::PacketError.number(),
         first: packet.kind.code(),
         second: 0,
         third: 0,
@@ -65,7 +65,7 @@ impl Endpoint {
     ghost use Rattle.dccp_states.specs.Entrance.{gate};
     ghost use Rattle.dccp_states.specs.Phases.{after};
     ghost use Rattle.dccp_states.specs.declared.phase.Phase.TheVariants as phase;
-    ghost use Rattle.validity_windows.specs.Verdict.{verdict, gar_after};
+    ghost use Rattle.validity_windows.specs.Verdict.{verdict};
     ghost use Rattle.dccp_endpoint.specs.Drafts.{alone};
     ghost use Rattle.dccp_endpoint.specs.End.{EndState, IsProper, is_phase_of};
     ghost use Rattle.dccp_endpoint.specs.Incoming.{Incoming, is_newest};
@@ -193,7 +193,7 @@ impl Endpoint {
         ensures { course self.now result ≡ finds_connection entrance self.now }
     {
         match entrance {
-            Entrance::NoConnection => Err(Exit::ResetWithoutConnection(NO_CONNECTION)),
+            Entrance::NoConnection => Err(Exit::ResetWithoutConnection(ResetCode::NoConnection)),
             Entrance::Stray => Err(Exit::Drop(Why::StrayReset)),
             _ => Ok(()),
         }
@@ -213,7 +213,7 @@ impl Endpoint {
             return Ok(());
         }
         if !self.is_own_service(&packet.service) {
-            return Err(Exit::ResetWithoutConnection(BAD_SERVICE_CODE));
+            return Err(Exit::ResetWithoutConnection(ResetCode::BadServiceCode));
         }
         self.start(Phase::Respond, packet);
         Ok(())
@@ -234,20 +234,7 @@ impl Endpoint {
         ensures { self.new ≡ started self.old phase packet.now }
     {
         self.phase = phase;
-        self.marks.isr = packet.number;
-        self.marks.gsr = packet.number;
-        self.marks.osr = packet.number;
-        self.marks.gar = self.gar_after(packet);
-    }
-
-    // The greatest acknowledgement number received, this packet's included; that of a Sync does not count.
-    fn gar_after(&self, packet: &IncomingPacket<'_>) -> Seq48
-        ensures { result ≡ gar_after self.now.marks.gar packet.now.kind packet.now.ack }
-    {
-        match (packet.kind, packet.ack) {
-            (PacketType::Sync, _) | (_, None) => self.marks.gar,
-            (_, Some(ack)) => self.marks.gar.max_of(ack),
-        }
+        self.marks.begin(packet.kind, packet.number, packet.ack);
     }
 
     // Step 4: in REQUEST a Response starts what is received, and a Reset goes on, where they acknowledge the Request.
@@ -281,11 +268,7 @@ impl Endpoint {
     fn acknowledges_in_window(&self, packet: &IncomingPacket<'_>) -> bool
         ensures { result ≡ acknowledges_in_window self.now packet.now }
     {
-        let windows = self.marks.windows();
-        match packet.ack {
-            Some(ack) => ack.within(windows.awl, windows.awh),
-            None => true,
-        }
+        self.marks.acknowledges(packet.ack)
     }
 
     // Steps 5 and 6: a packet with valid numbers raises the greatest numbers received, unless it is a Reset.
@@ -334,7 +317,7 @@ impl Endpoint {
             return Err(Exit::Sync(packet.number));
         }
         if self.is_other_service(packet) {
-            return Err(Exit::Shut(without_detail(BAD_SERVICE_CODE)));
+            return Err(Exit::Shut(without_detail(ResetCode::BadServiceCode)));
         }
         Ok(())
     }
@@ -359,7 +342,7 @@ impl Endpoint {
     fn read_options(&self, packet: &IncomingPacket<'_>) -> Result<(), Exit>
         ensures { course self.now result ≡ reads_options packet.now self.now }
     {
-        let reading = read(packet.options, is_data(packet.kind));
+        let reading = read(packet.options, packet.kind.is_data());
         if is_unbuilt(self.phase, packet.kind, reading.negotiates) {
             return Err(Exit::NotBuilt);
         }
@@ -408,7 +391,7 @@ impl Endpoint {
                 out,
             ),
             Reply::Close => self.send_and_take(Kind::Close { ack }, out),
-            Reply::ResetClosed => self.reset(ack, without_detail(CLOSED), out),
+            Reply::ResetClosed => self.reset(ack, without_detail(ResetCode::Closed), out),
             Reply::SyncAck => self.send_and_take(Kind::SyncAck { ack: packet.number }, out),
         }
     }
