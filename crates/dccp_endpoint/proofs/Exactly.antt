@@ -18,7 +18,7 @@ use Rattle.dccp_endpoint.specs.Causes.{Came, entrance_of, verdict_of}
 use Rattle.dccp_endpoint.specs.End.{EndState}
 use Rattle.dccp_endpoint.specs.Faults.{first_fault}
 use Rattle.dccp_endpoint.specs.Incoming.{Incoming}
-use Rattle.dccp_endpoint.specs.Inputs.{Input, Arrives, Opens}
+use Rattle.dccp_endpoint.specs.Inputs.{Input, Arrives}
 use Rattle.dccp_endpoint.specs.Outcomes.{HasCause, HasNoOtherCause, IsAdmitted, IsReset, IsValid, IsValidPacket, IsValidReset, OutOfWindow, Unexpected, NoConnection, OtherService, NoAnswer, OtherType, OtherRequest, WrongService, Faulted, AnswersClose, OpensConnection, ResponseToRequest, PacketInWindow, ResetToRequest, ResetInWindow, StrayWithoutConnection, StrayInRequest, is_for_another}
 use Rattle.dccp_endpoint.specs.Receiving.{Course, Goes, Leaves, is_of_connection, is_unexpected, acknowledges_in_window, answers, by_ports, by_sum, checks_numbers, checks_type, ends_as, ends_by_reset, expects, heeds, judged, long_number, moved_to, opens_connection, processes, raised, raises, reads, reads_options, received, receives, replies, serves, started, takes, takes_answer, the_steps, through, with_number, with_packet}
 use Rattle.dccp_endpoint.specs.Steps.{Step, detail_of}
@@ -33,7 +33,7 @@ use Rattle.dccp_endpoint.proofs.Phases.{accept-type}
 -- step 1
 abbrev given_bytes : Input → List ℕ
 given_bytes (Arrives bytes) = bytes
-given_bytes Opens = []
+given_bytes _ = []
 
 abbrev after_packet : EndState → List ℕ → Parts → Result ℕ Why → Step Outcome
 after_packet e bytes p number = received e (with_number e bytes p number)

@@ -37,10 +37,10 @@ use Rattle.dccp_packets.specs.Kinds.{ack_of}
 use Rattle.dccp_endpoint.specs.Incoming.{Incoming, incoming}
 use Rattle.dccp_endpoint.specs.Inputs.{Arrives}
 use Rattle.dccp_endpoint.specs.Outcomes.{Answering, Closing, HasCause, IsNoAnswer, IsValidReset, replying, Correcting, IsAdmitted, IsReset, IsTaking, IsValid, IsValidPacket, Refusing, SyncsInvalid, SyncsUnexpected, OutOfWindow, Unexpected, NoConnection, OtherService, NoAnswer, OtherType, OtherRequest, WrongService, Faulted, AnswersClose, OpensConnection, ResponseToRequest, PacketInWindow, ResetToRequest, ResetInWindow, StrayWithoutConnection, StrayInRequest, is_for_another}
-use Rattle.dccp_endpoint.specs.Receiving.{Goes, acknowledges_in_window, answers, becomes_open, by_ports, by_sum, checks_numbers, checks_type, ends_as, ends_by_reset, expects, heeds, in_phase, is_of_connection, is_own_service, is_unexpected, judged, long_number, moved_to, number_without_connection, opens_connection, packet_fault, raised, raises, reads, reads_options, received, receives, replies, resets, resets_without_connection, serves, started, takes_answer, the_steps, through, with_number, with_packet}
+use Rattle.dccp_endpoint.specs.Receiving.{Goes, acknowledges_in_window, answers, becomes_open, by_ports, by_sum, checks_numbers, checks_type, ends_as, ends_by_reset, expects, heeds, is_of_connection, is_own_service, is_unexpected, judged, long_number, moved_to, number_without_connection, opens_connection, packet_fault, raised, raises, reads, reads_options, received, receives, replies, resets, resets_without_connection, serves, started, takes_answer, the_steps, through, with_number, with_packet}
 use Rattle.dccp_packets.specs.ResetCodes.{number_of_code}
 use Rattle.dccp_packets.specs.declared.reset_code.ResetCode.TheVariants as codes
-use Rattle.dccp_endpoint.specs.Steps.{Step, detail_of, idle, sends, without_detail}
+use Rattle.dccp_endpoint.specs.Steps.{Step, in_phase, detail_of, idle, sends, without_detail}
 use Rattle.dccp_endpoint.specs.declared.outcome.Fault.{Fault}
 use Rattle.dccp_endpoint.specs.declared.outcome.Outcome.{Outcome}
 use Rattle.dccp_endpoint.specs.declared.outcome.Outcome.TheVariants.{Dropped, NotBuilt, SentReset, Synced, Took, WasReset}

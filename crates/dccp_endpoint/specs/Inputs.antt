@@ -1,20 +1,28 @@
 -- All that may happen to an end, and its step.
-use Rattle.std.specs.Prelude.{ℕ, List, Result}
+use Rattle.std.specs.Prelude.{ℕ, Bool, List, Result}
 use Rattle.dccp_endpoint.specs.End.{EndState}
 use Rattle.dccp_endpoint.specs.Receiving.{receives}
-use Rattle.dccp_endpoint.specs.Steps.{Step, opens}
-use Rattle.dccp_endpoint.specs.declared.outcome.OpenFault.{OpenFault}
+use Rattle.dccp_endpoint.specs.Calling.{aborts, closes, fires, opens}
+use Rattle.dccp_endpoint.specs.Steps.{Step}
+use Rattle.dccp_endpoint.specs.declared.calls.AbortFault.{AbortFault}
+use Rattle.dccp_endpoint.specs.declared.calls.CloseFault.{CloseFault}
+use Rattle.dccp_endpoint.specs.declared.calls.OpenFault.{OpenFault}
+use Rattle.dccp_endpoint.specs.declared.calls.Timer.{Timer}
 use Rattle.dccp_endpoint.specs.declared.outcome.Outcome.{Outcome}
 
--- bytes arrive, or the user calls
+-- Bytes arrive, the user calls, or a timer has run out; with a timer comes whether something is in flight.
 pub data Input : Type 0 where
   Arrives : (bytes : List ℕ) → Input
-  Opens : Input
+  Opens Closes Aborts : Input
+  Fires : (timer : Timer) (in_flight : Bool) → Input
 
 -- what the end answers
 pub data Answer : Type 0 where
   Received : (outcome : Outcome) → Answer
   Opened : (result : Result (Unit {0}) OpenFault) → Answer
+  Closed : (result : Result (Unit {0}) CloseFault) → Answer
+  Aborted : (result : Result (Unit {0}) AbortFault) → Answer
+  Fired : (applies : Bool) → Answer
 
 -- a step with its answer as one of these
 abbrev pub shown : {A : Type 0} → (A → Answer) → Step A → Step Answer
@@ -23,3 +31,6 @@ shown show step = record { after = step.after; frame = step.frame; calls = step.
 abbrev pub stepped : EndState → Input → Step Answer
 stepped e (Arrives bytes) = shown Received (receives e bytes)
 stepped e Opens = shown Opened (opens e)
+stepped e Closes = shown Closed (closes e)
+stepped e Aborts = shown Aborted (aborts e)
+stepped e (Fires timer in_flight) = shown Fired (fires e timer in_flight)

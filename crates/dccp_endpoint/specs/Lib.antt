@@ -6,6 +6,7 @@ pub mod Drafts
 pub mod Turns
 pub mod Steps
 pub mod Receiving
+pub mod Calling
 pub mod Inputs
 pub mod Effects
 pub mod Causes

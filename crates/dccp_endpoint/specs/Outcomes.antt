@@ -127,7 +127,7 @@ pub data IsReset (e : EndState) (bytes : List ℕ) : Fault → Type 0 where
       → IsReset e bytes (without_detail (number_of_code codes.BadServiceCode))
   -- step 8: the first fault of the options
   Faulted : (a : Incoming) (entered : EndState) (fault : Fault) → IsAdmitted e bytes a entered false → first_fault a.options ≡ Some fault → IsReset e bytes fault
-  -- step 14: Closed. No packet leads here yet, since a Close needs a part that is not built.
+  -- step 14: Closed, the answer to a Close
   AnswersClose : (a : Incoming) (entered : EndState) (to : Phase) → IsAdmitted e bytes a entered false → first_fault a.options ≡ None
       → after entered.phase a.kind ≡ (to, reply.ResetClosed) → IsReset e bytes (without_detail (number_of_code codes.Closed))
 

@@ -35,7 +35,7 @@ use Rattle.dccp_endpoint.specs.Faults.{first_fault, is_unbuilt}
 use Rattle.dccp_endpoint.specs.Incoming.{Incoming, incoming}
 use Rattle.dccp_packets.specs.ResetCodes.{number_of_code}
 use Rattle.dccp_packets.specs.declared.reset_code.ResetCode.TheVariants as codes
-use Rattle.dccp_endpoint.specs.Steps.{Step, idle, sends, detail_of, reset_of, without_detail}
+use Rattle.dccp_endpoint.specs.Steps.{Step, in_phase, idle, sends, detail_of, reset_of, without_detail}
 use Rattle.dccp_endpoint.specs.declared.exit.Exit.{Exit}
 use Rattle.dccp_endpoint.specs.declared.exit.Exit.TheVariants as exits
 use Rattle.dccp_endpoint.specs.declared.outcome.Fault.{Fault}
@@ -249,9 +249,6 @@ resets_without_connection e a fault =
       calls = [];
       answer = SentReset fault.code (detail_of fault);
     }
-
-abbrev pub in_phase : EndState → Phase → EndState
-in_phase e phase = record e { phase = phase }
 
 -- a Reset 4 tells of the packet's type
 abbrev pub packet_fault : Incoming → Fault

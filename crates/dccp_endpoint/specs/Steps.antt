@@ -1,16 +1,12 @@
--- What an end sends, and its calls (RFC 4340, sections 7.1 and 8.1).
+-- What a step of an end is, and what it sends (RFC 4340, section 7.1).
 use Rattle.std.specs.Prelude.{ℕ, ◌+◌, Bool, true, false, List, [], ◌∷◌, Option, Some, None, Result, Ok, Err}
 use Rattle.seq_circle.specs.Circle.{residue}
 use Rattle.congestion_trait.specs.Calls.{Call}
 use Rattle.dccp_packets.specs.declared.header.Kind.TheVariants as kind
-use Rattle.dccp_states.specs.declared.phase.Role.{Role}
-use Rattle.dccp_states.specs.declared.phase.Role.TheVariants as role
-use Rattle.dccp_states.specs.declared.phase.Phase.TheVariants as phase
+use Rattle.dccp_states.specs.declared.phase.Phase.{Phase}
 use Rattle.dccp_endpoint.specs.Drafts.{Draft, alone, frame_of}
 use Rattle.dccp_endpoint.specs.End.{EndState}
 use Rattle.dccp_endpoint.specs.declared.outcome.Fault.{Fault}
-use Rattle.dccp_endpoint.specs.declared.outcome.OpenFault.{OpenFault}
-use Rattle.dccp_endpoint.specs.declared.outcome.OpenFault.TheVariants.{NotFresh}
 
 -- An end after a step, the frame that it sends, if any, what is due to its congestion control, in order, and its answer. Nothing is
 -- due to a congestion control yet.
@@ -49,13 +45,6 @@ without_detail code = record { code = code; first = 0; second = 0; third = 0 }
 abbrev pub reset_of : ℕ → Fault → Draft
 reset_of ack fault = alone (kind.Reset ack fault.code (detail_of fault))
 
--- A client sends its Request once (section 8.1.1).
-abbrev pub opens_as : EndState → Role → Bool → Step (Result (Unit {0}) OpenFault)
-opens_as e role.Client false =
-    sends (record e { opened = true; phase = phase.Request }) (alone (kind.Request e.config.service)) (Ok tt)
-opens_as e role.Client true = idle e (Err NotFresh)
-opens_as e role.Server _ = idle e (Err NotFresh)
-
--- What `open` does.
-unfoldable pub opens : EndState → Step (Result (Unit {0}) OpenFault)
-opens e = opens_as e e.config.role e.opened
+-- the same end in another phase
+abbrev pub in_phase : EndState → Phase → EndState
+in_phase e phase = record e { phase = phase }

@@ -1,12 +1,12 @@
 //! The end itself.
-use crate::{Config, Held, OpenFault, Stand};
-use dccp_packets::{Kind, Outbox};
+use crate::{Config, Held, Stand};
 use dccp_states::{Phase, Role};
 use feature_lists::{Feature, Place, initial};
 use seq_circle::{NoMemory, Seq48};
 use std::marker::Model;
 use validity_windows::Marks;
 
+mod calling;
 mod receiving;
 mod sending;
 
@@ -33,10 +33,8 @@ impl Model for Endpoint {
 }
 
 impl Endpoint {
-    ghost use Rattle.std.specs.Prelude.{◌≡◌, ◌↔◌, ◌⊎◌, [], None, Ok, Err, OnErr, true, false};
-    ghost use Rattle.dccp_states.specs.declared.phase.Role.TheVariants as role;
+    ghost use Rattle.std.specs.Prelude.{◌≡◌, Ok};
     ghost use Rattle.dccp_endpoint.specs.End.{EndState, fresh, held_of, floor_of, window_of, in_flight_of};
-    ghost use Rattle.dccp_endpoint.specs.Steps.{opens, opens_as};
 
     /// An end of its configuration: CLOSED for a client, LISTEN for a server (RFC 4340, section 8.1).
     pub fn new(config: Config) -> Result<Endpoint, NoMemory>
@@ -53,35 +51,6 @@ impl Endpoint {
             opened: false,
             marks,
         })
-    }
-
-    /// The client sends its Request (RFC 4340, section 8.1.1). Refused with `NotFresh` exactly where the end is a server
-    /// or was opened before.
-    #[tactic(auto, unfolding(crate::specs::Steps::opens))]
-    pub fn open(&mut self, out: &mut Outbox) -> Result<(), OpenFault>
-        ensures step { record { after = self.new; frame = out.new; calls = []; answer = result } ≡ opens self.old }
-        ensures not_fresh { (result ≡ Err OpenFault.NotFresh) ↔ ((self.old.config.role ≡ Role.Server) ⊎ (self.old.opened ≡ true)) }
-        ensures refused { OnErr result ((self.new ≡ self.old) × (out.new ≡ None)) }
-    {
-        out.clear();
-        match (self.config.role, self.opened) {
-            (Role::Client, false) => {
-                self.send_request(out);
-                Ok(())
-            }
-            (Role::Client, true) | (Role::Server, _) => Err(OpenFault::NotFresh),
-        }
-    }
-
-    // RFC 4340, section 8.1.1.
-    fn send_request(&mut self, out: &mut Outbox)
-        requires { self.old.config.role ≡ Role.Client }
-        ensures { record { after = self.new; frame = out.new; calls = []; answer = Ok (tt {0}) } ≡ opens_as self.old role.Client false }
-    {
-        self.opened = true;
-        self.phase = Phase::Request;
-        let service = self.config.service;
-        self.send(Kind::Request { service }, out);
     }
 
     /// The phase.

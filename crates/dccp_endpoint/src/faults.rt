@@ -110,10 +110,7 @@ fn counts(phase: Phase, kind: PacketType) -> bool
 fn is_unbuilt_type(kind: PacketType) -> bool
     ensures { result ≡ is_unbuilt_type kind }
 {
-    matches!(
-        kind,
-        PacketType::Data | PacketType::DataAck | PacketType::CloseReq | PacketType::Close
-    )
+    matches!(kind, PacketType::Data | PacketType::DataAck)
 }
 
 /// Tells whether taking the packet needs what is not built yet.

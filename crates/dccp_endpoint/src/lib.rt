@@ -5,6 +5,7 @@
 //! clock, and takes no memory once it is made. Frames that arrive are handed to `receive`, in whatever order.
 #![tactic(auto)]
 
+mod calls;
 mod config;
 mod endpoint;
 mod exit;
@@ -16,11 +17,12 @@ mod outcome;
 #[cfg(test)]
 mod tests;
 
+pub use crate::calls::{AbortFault, CloseFault, OpenFault, Timer};
 pub use crate::config::Config;
 pub use crate::endpoint::Endpoint;
 pub(crate) use crate::exit::Exit;
 pub use crate::held::{Held, Stand};
 pub use crate::laws::{every_step_has_one_effect, own_frames_are_read};
-pub use crate::outcome::{Fault, OpenFault, Outcome, Why};
+pub use crate::outcome::{Fault, Outcome, Why};
 pub use dccp_states::{Phase, Role};
 pub use validity_windows::Marks;

@@ -3,13 +3,6 @@ use dccp_packets::Malformed;
 use dccp_sum::SumFault;
 use seq_circle::Seq48;
 
-/// Why `open` was refused. The end is unchanged.
-#[derive(Clone, Copy, Debug, PartialEq, Eq)]
-pub enum OpenFault {
-    /// The end is a server, or was opened before (own).
-    NotFresh,
-}
-
 /// Why a packet was dropped. The end is unchanged.
 #[derive(Clone, Copy, Debug, PartialEq, Eq)]
 pub enum Why {

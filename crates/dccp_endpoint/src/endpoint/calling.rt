@@ -1,0 +1,153 @@
+//! The calls and timers of an end (RFC 4340, sections 8.1 to 8.3). Each call empties the Outbox first.
+use super::Endpoint;
+use crate::{AbortFault, CloseFault, OpenFault, Timer};
+use dccp_packets::{Kind, Number, Outbox, ResetCode};
+use dccp_states::{Phase, Role};
+
+impl Endpoint {
+    ghost use Rattle.std.specs.Prelude.{◌≡◌, ◌≢◌, ◌↔◌, ◌⊎◌, [], None, Ok, Err, OnErr, true, false};
+    ghost use Rattle.dccp_states.specs.declared.phase.Role.TheVariants as role;
+    ghost use Rattle.dccp_endpoint.specs.Calling.{aborts, aborts_now, applies, closes, closes_now, fires, opens, opens_as};
+    ghost use Rattle.dccp_endpoint.specs.Drafts.{alone};
+    ghost use Rattle.dccp_endpoint.specs.Steps.{sends};
+    ghost use Rattle.dccp_packets.specs.Grammar.{has_forms};
+
+    /// The client sends its Request (RFC 4340, section 8.1.1). Refused with `NotFresh` exactly where the end is a server
+    /// or was opened before.
+    #[tactic(auto, unfolding(crate::specs::Calling::opens))]
+    pub fn open(&mut self, out: &mut Outbox) -> Result<(), OpenFault>
+        ensures step { record { after = self.new; frame = out.new; calls = []; answer = result } ≡ opens self.old }
+        ensures not_fresh { (result ≡ Err OpenFault.NotFresh) ↔ ((self.old.config.role ≡ Role.Server) ⊎ (self.old.opened ≡ true)) }
+        ensures refused { OnErr result ((self.new ≡ self.old) × (out.new ≡ None)) }
+    {
+        out.clear();
+        match (self.config.role, self.opened) {
+            (Role::Client, false) => {
+                self.request(out);
+                Ok(())
+            }
+            (Role::Client, true) | (Role::Server, _) => Err(OpenFault::NotFresh),
+        }
+    }
+
+    fn request(&mut self, out: &mut Outbox)
+        requires { self.old.config.role ≡ Role.Client }
+        ensures { record { after = self.new; frame = out.new; calls = []; answer = Ok (tt {0}) } ≡ opens_as self.old role.Client false }
+    {
+        self.opened = true;
+        self.phase = Phase::Request;
+        let service = self.config.service;
+        self.send(Kind::Request { service }, out);
+    }
+
+    /// Ends the connection in order: a client sends Close and is in CLOSING; a server asks for it by CloseReq and is in
+    /// CLOSEREQ (RFC 4340, section 8.3). Refused with `NotOpen` exactly outside PARTOPEN and OPEN.
+    #[tactic(auto, unfolding(crate::specs::Calling::closes))]
+    pub fn close(&mut self, out: &mut Outbox) -> Result<(), CloseFault>
+        ensures step { record { after = self.new; frame = out.new; calls = []; answer = result } ≡ closes self.old }
+        ensures not_open { (result ≡ Err CloseFault.NotOpen) ↔ ((self.old.phase ≢ Phase.PartOpen) × (self.old.phase ≢ Phase.Open)) }
+        ensures refused { OnErr result ((self.new ≡ self.old) × (out.new ≡ None)) }
+    {
+        out.clear();
+        match self.phase {
+            Phase::PartOpen | Phase::Open => {
+                self.begin_closing(out);
+                Ok(())
+            }
+            _ => Err(CloseFault::NotOpen),
+        }
+    }
+
+    fn begin_closing(&mut self, out: &mut Outbox)
+        ensures { record { after = self.new; frame = out.new; calls = []; answer = Ok (tt {0}) } ≡ closes_now self.old self.old.config.role }
+    {
+        let ack = self.marks.gsr;
+        match self.config.role {
+            Role::Client => {
+                self.phase = Phase::Closing;
+                self.send(Kind::Close { ack }, out);
+            }
+            Role::Server => {
+                self.phase = Phase::CloseReq;
+                self.send(Kind::CloseReq { ack }, out);
+            }
+        }
+    }
+
+    /// Ends the connection at once: the phase is CLOSED, and a Reset with the code Aborted goes out, but in REQUEST nothing,
+    /// since the other end was not heard (RFC 4340, section 8.3). Refused with `NotLive` exactly in CLOSED, LISTEN and TIMEWAIT.
+    #[tactic(auto, unfolding(crate::specs::Calling::aborts))]
+    pub fn abort(&mut self, out: &mut Outbox) -> Result<(), AbortFault>
+        ensures step { record { after = self.new; frame = out.new; calls = []; answer = result } ≡ aborts self.old }
+        ensures not_live { (result ≡ Err AbortFault.NotLive) ↔ ((self.old.phase ≡ Phase.Closed) ⊎ (self.old.phase ≡ Phase.Listen) ⊎ (self.old.phase ≡ Phase.TimeWait)) }
+        ensures refused { OnErr result ((self.new ≡ self.old) × (out.new ≡ None)) }
+    {
+        out.clear();
+        match self.phase {
+            Phase::Closed | Phase::Listen | Phase::TimeWait => Err(AbortFault::NotLive),
+            Phase::Request => {
+                self.phase = Phase::Closed;
+                Ok(())
+            }
+            Phase::Respond | Phase::PartOpen | Phase::Open | Phase::CloseReq | Phase::Closing => {
+                self.send_abort(out);
+                Ok(())
+            }
+        }
+    }
+
+    fn send_abort(&mut self, out: &mut Outbox)
+        ensures { record { after = self.new; frame = out.new; calls = []; answer = Ok (tt {0}) } ≡ aborts_now self.old }
+    {
+        self.phase = Phase::Closed;
+        let ack = self.marks.gsr;
+        let code = ResetCode::Aborted.number();
+        let detail = [0, 0, 0];
+        self.send(Kind::Reset { ack, code, detail }, out);
+    }
+
+    /// A timer has run out. True exactly where it has something to do in this phase (`applies`):
+    ///
+    /// | Timer | Phases | Does |
+    /// |---|---|---|
+    /// | Request | REQUEST | another Request goes out |
+    /// | Ack | PARTOPEN, OPEN | an Ack goes out |
+    /// | Close | CLOSEREQ; CLOSING | CloseReq; Close goes out again |
+    /// | TimeWait | TIMEWAIT | the phase is CLOSED |
+    ///
+    /// Negotiate and Rto have nothing to do yet. Where it is false, nothing changes and nothing is sent (RFC 4340, section 8).
+    #[tactic(auto, unfolding(crate::specs::Calling::fires))]
+    pub fn timer(&mut self, timer: Timer, out: &mut Outbox) -> bool
+        ensures step { record { after = self.new; frame = out.new; calls = []; answer = result } ≡ fires self.old timer false }
+        ensures applies { result ≡ applies timer self.old.phase }
+        ensures idle { result ≡ false → (self.new ≡ self.old) × (out.new ≡ None) }
+    {
+        out.clear();
+        let ack = self.marks.gsr;
+        match (timer, self.phase) {
+            (Timer::Request, Phase::Request) => {
+                let service = self.config.service;
+                self.fire(Kind::Request { service }, out)
+            }
+            (Timer::Ack, Phase::PartOpen | Phase::Open) => {
+                let ack = Number::Long(ack);
+                self.fire(Kind::Ack { ack }, out)
+            }
+            (Timer::Close, Phase::CloseReq) => self.fire(Kind::CloseReq { ack }, out),
+            (Timer::Close, Phase::Closing) => self.fire(Kind::Close { ack }, out),
+            (Timer::TimeWait, Phase::TimeWait) => {
+                self.phase = Phase::Closed;
+                true
+            }
+            _ => false,
+        }
+    }
+
+    fn fire(&mut self, kind: Kind, out: &mut Outbox) -> bool
+        requires { has_forms true kind ≡ true }
+        ensures { record { after = self.new; frame = out.new; calls = []; answer = result } ≡ sends self.old (alone kind) true }
+    {
+        self.send(kind, out);
+        true
+    }
+}
