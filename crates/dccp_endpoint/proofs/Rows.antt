@@ -1,5 +1,5 @@
 -- Worked packets, computed from the definitions: what the standard's numbers and the RFC 1071 sum come to by hand, as bytes.
-use Rattle.std.proofs.Common.{◌≡◌, refl, ℕ, ◌+◌, ◌-◌, ◌*◌, nat_le, if◌then◌else◌, List, [], ◌∷◌, Option, Some, None, codes}
+use Rattle.std.proofs.Common.{◌≡◌, refl, ℕ, ◌+◌, ◌-◌, ◌*◌, nat_le, if◌then◌else◌, Bool, true, false, List, [], ◌∷◌, Option, Some, None, Ok, Err, codes}
 use Rattle.dccp_packets.specs.declared.reading.Malformed.TheVariants as malformed
 use Rattle.dccp_sum.specs.declared.packet_sum.SumFault.TheVariants as sums
 use Rattle.dccp_states.specs.declared.phase.Phase.{Phase}
@@ -8,7 +8,10 @@ use Rattle.dccp_states.specs.declared.phase.Role.TheVariants.{Client, Server}
 use Rattle.dccp_endpoint.specs.Drafts.{framed}
 use Rattle.dccp_endpoint.specs.End.{EndState, fresh}
 use Rattle.dccp_endpoint.specs.Receiving.{receives}
-use Rattle.dccp_endpoint.specs.Calling.{opens}
+use Rattle.dccp_endpoint.specs.Calling.{aborts, closes, fires, opens}
+use Rattle.dccp_endpoint.specs.declared.calls.AbortFault.TheVariants.{NotLive}
+use Rattle.dccp_endpoint.specs.declared.calls.CloseFault.TheVariants.{NotOpen}
+use Rattle.dccp_endpoint.specs.declared.calls.Timer.TheVariants as timers
 use Rattle.dccp_endpoint.specs.Steps.{Step}
 use Rattle.dccp_endpoint.specs.Usual.{usual}
 use Rattle.dccp_endpoint.specs.declared.outcome.Outcome.{Outcome}
@@ -43,8 +46,15 @@ took_in e digits = (receives e (bytes digits)).after
 abbrev shows : Step Outcome → Seen
 shows step = seen step.answer step.frame step.after.phase
 
+abbrev shows_frame : EndState → List ℕ → Option (List ℕ)
+shows_frame e digits = (receives e (bytes digits)).frame
+
 abbrev answered : EndState → List ℕ → Seen
 answered e digits = shows (receives e (bytes digits))
+
+-- what is seen of a call or a timer
+abbrev called : {Answer : Type 0} → Step Answer → Answer × (Option (List ℕ) × Phase)
+called step = (step.answer, (step.frame, step.after.phase))
 
 abbrev listening : EndState
 listening = fresh (usual Server)
@@ -163,3 +173,64 @@ older-request-last = refl
 the-request : (opens (fresh (usual Client))).frame ≡ sent (codes "9c401389050031ec01000000000003e80000002a")
 unfolding opens framed
 the-request = refl
+
+-- both ends of the handshake above, in OPEN
+abbrev open-client : EndState
+open-client = took_in (took_in requesting (codes "13899c400700261403000000000007d000000000000003e80000002a")) (codes "13899c400600234007000000000007d100000000000003e9")
+
+abbrev open-server : EndState
+open-server = took_in (took_in listening (codes "9c401389050031ec01000000000003e80000002a")) (codes "9c4013890600234107000000000003e900000000000007d0")
+
+-- a client closes: Close, Reset 1, TIMEWAIT, CLOSED; and then nothing is left to close or to abort
+abbrev closing-client : EndState
+closing-client = (closes open-client).after
+
+abbrev torn-client : EndState
+torn-client = took_in closing-client (codes "13899c400700193a0f000000000007d200000000000003ea01000000")
+
+client-closes :
+    (called (closes open-client) ≡ (Ok tt, (sent (codes "9c40138906001d3f0d000000000003ea00000000000007d1"), phase.Closing)))
+    × (answered open-server (codes "9c40138906001d3f0d000000000003ea00000000000007d1")
+    ≡ seen (SentReset 1 (0 ∷ 0 ∷ 0 ∷ [])) (sent (codes "13899c400700193a0f000000000007d200000000000003ea01000000")) phase.Closed)
+    × (answered closing-client (codes "13899c400700193a0f000000000007d200000000000003ea01000000") ≡ seen (WasReset 1) None phase.TimeWait)
+    × (called (fires torn-client timers.TimeWait false) ≡ (true, (None, phase.Closed)))
+    × (called (aborts torn-client) ≡ (Err NotLive, (None, phase.TimeWait)))
+    × (called (closes (took_in open-server (codes "9c40138906001d3f0d000000000003ea00000000000007d1"))) ≡ (Err NotOpen, (None, phase.Closed)))
+unfolding receives opens closes aborts fires framed
+client-closes = (refl, refl, refl, refl, refl, refl)
+
+-- a server closes: CloseReq, Close, Reset 1; CloseReq goes out again by the timer
+server-closes :
+    (called (closes open-server) ≡ (Ok tt, (sent (codes "13899c4006001f3f0b000000000007d200000000000003e9"), phase.CloseReq)))
+    × (answered open-client (codes "13899c4006001f3f0b000000000007d200000000000003e9") ≡ seen (Took None) (sent (codes "9c40138906001d3e0d000000000003ea00000000000007d2")) phase.Closing)
+    × (answered (closes open-server).after (codes "9c40138906001d3e0d000000000003ea00000000000007d2") ≡ seen (SentReset 1 (0 ∷ 0 ∷ 0 ∷ [])) (sent (codes "13899c40070019390f000000000007d300000000000003ea01000000")) phase.Closed)
+    × (called (fires (closes open-server).after timers.Close false) ≡ (true, (sent (codes "13899c4006001f3e0b000000000007d300000000000003e9"), phase.CloseReq)))
+unfolding receives opens closes fires framed
+server-closes = (refl, refl, refl, refl)
+
+-- an abort sends a Reset 2, and nothing before the other end was heard
+aborted :
+    (called (aborts open-client) ≡ (Ok tt, (sent (codes "9c4013890700183b0f000000000003ea00000000000007d102000000"), phase.Closed)))
+    × (called (aborts (took_in listening (codes "9c401389050031ec01000000000003e80000002a"))) ≡ (Ok tt, (sent (codes "13899c400700183d0f000000000007d100000000000003e802000000"), phase.Closed)))
+    × (called (aborts requesting) ≡ (Ok tt, (None, phase.Closed)))
+unfolding receives opens aborts framed
+aborted = (refl, refl, refl)
+
+-- the Request goes out again under the next number
+the-request-again : called (fires requesting timers.Request false) ≡ (true, (sent (codes "9c401389050031eb01000000000003e90000002a"), phase.Request))
+unfolding opens fires framed
+the-request-again = refl
+
+-- numbers go from 2^48 - 1 on to 0
+abbrev late-client : EndState
+late-client = (opens (fresh (record (usual Client) { iss = 281474976710654 }))).after
+
+abbrev late-open : EndState
+late-open = took_in (took_in late-client (codes "13899c40070029fd03000000000007d00000fffffffffffe0000002a")) (codes "13899c400600272907000000000007d10000ffffffffffff")
+
+number-wrap :
+    (shows_frame late-client (codes "13899c40070029fd03000000000007d00000fffffffffffe0000002a")
+    ≡ sent (codes "9c4013890600272a0700ffffffffffff00000000000007d0"))
+    × (called (fires late-open timers.Ack false) ≡ (true, (sent (codes "9c40138906002729070000000000000000000000000007d1"), phase.Open)))
+unfolding receives opens fires framed
+number-wrap = (refl, refl)

@@ -1,5 +1,7 @@
-//! The worked packets of one end, and each outcome of `receive`.
-use crate::{Config, Endpoint, OpenFault, Outcome, Phase, Role, Why};
+//! The worked packets of one end, each outcome of `receive`, and its calls and timers.
+use crate::{
+    AbortFault, CloseFault, Config, Endpoint, OpenFault, Outcome, Phase, Role, Timer, Why,
+};
 use dccp_packets::{Malformed, Outbox};
 use dccp_sum::SumFault;
 use seq_circle::Seq48;
@@ -18,6 +20,15 @@ const SERVER_ACK: &str = "13899c400600234007000000000007d100000000000003e9";
 // The client tears the connection down by a Reset with the code Aborted.
 const RESET: &str = "9c4013890700183d0f000000000003e900000000000007d002000000";
 
+// Whether the box holds this frame, or none where it is empty.
+fn has_sent(alloc: Global, out: &Outbox, sent: &str) -> Result<bool, Fail> {
+    let frame = hex::decode(alloc, sent)?;
+    Ok(match out.frame() {
+        Some(own) => own.bytes() == frame.as_slice(),
+        None => frame.is_empty(),
+    })
+}
+
 // Whether an end answers a packet so, and sends this frame, or none where it is empty.
 fn is_answered(
     alloc: Global,
@@ -27,17 +38,12 @@ fn is_answered(
     sent: &str,
 ) -> Result<bool, Fail> {
     let bytes = hex::decode(alloc, packet)?;
-    let frame = hex::decode(alloc, sent)?;
     if 2044 < bytes.len() {
         return Err(Fail::from("no packet is longer"));
     }
     let mut out = Outbox::new();
     let outcome = end.receive(&bytes, &mut out);
-    let is_sent = match out.frame() {
-        Some(own) => own.bytes() == frame.as_slice(),
-        None => frame.is_empty(),
-    };
-    Ok(outcome == wanted && is_sent)
+    Ok(outcome == wanted && has_sent(alloc, &out, sent)?)
 }
 
 const TOOK: Outcome = Outcome::Took { delivered: None };
@@ -277,5 +283,137 @@ fn repeated_request(rt: HostRuntime) -> Result<(), Fail> {
     assert_eq!(rt; server.phase(), Phase::Open);
     assert!(rt; is_answered(rt.alloc(), &mut client, sync_ack, TOOK, "")?);
     assert_eq!(rt; client.phase(), Phase::Open);
+    Ok(())
+}
+
+fn open_server(alloc: Global) -> Result<Endpoint, Fail> {
+    let mut end = responding(alloc)?;
+    if is_answered(alloc, &mut end, ACK, TOOK, SERVER_ACK)? {
+        Ok(end)
+    } else {
+        Err(Fail::from("OPEN"))
+    }
+}
+
+fn open_client(alloc: Global) -> Result<Endpoint, Fail> {
+    let mut end = requesting()?;
+    if is_answered(alloc, &mut end, RESPONSE, TOOK, ACK)?
+        && is_answered(alloc, &mut end, SERVER_ACK, TOOK, "")?
+    {
+        Ok(end)
+    } else {
+        Err(Fail::from("OPEN"))
+    }
+}
+
+const CLOSE: &str = "9c40138906001d3f0d000000000003ea00000000000007d1";
+
+const RESET_CLOSED: &str = "13899c400700193a0f000000000007d200000000000003ea01000000";
+
+#[test]
+fn refused_calls_and_closing(rt: HostRuntime) -> Result<(), Fail> {
+    let mut client = open_client(rt.alloc())?;
+    let mut server = open_server(rt.alloc())?;
+    let mut out = Outbox::new();
+    assert_eq!(rt; client.open(&mut out), Err(OpenFault::NotFresh));
+    assert_eq!(rt; client.close(&mut out), Ok(()));
+    assert!(rt; has_sent(rt.alloc(), &out, CLOSE)?);
+    assert_eq!(rt; client.phase(), Phase::Closing);
+    assert_eq!(rt; client.close(&mut out), Err(CloseFault::NotOpen));
+    assert!(rt; has_sent(rt.alloc(), &out, "")?);
+    let reset = Outcome::SentReset {
+        code: 1,
+        detail: [0, 0, 0],
+    };
+    assert!(rt; is_answered(rt.alloc(), &mut server, CLOSE, reset, RESET_CLOSED)?);
+    assert!(rt;
+        is_answered(
+            rt.alloc(),
+            &mut client,
+            RESET_CLOSED,
+            Outcome::WasReset(1),
+            ""
+        )?
+    );
+    assert_eq!(rt; client.phase(), Phase::TimeWait);
+    assert_eq!(rt; client.abort(&mut out), Err(AbortFault::NotLive));
+    assert!(rt; client.timer(Timer::TimeWait, &mut out));
+    assert_eq!(rt; client.phase(), Phase::Closed);
+    assert_eq!(rt; server.close(&mut out), Err(CloseFault::NotOpen));
+    assert_eq!(rt; server.phase(), Phase::Closed);
+    Ok(())
+}
+
+#[test]
+fn server_closes(rt: HostRuntime) -> Result<(), Fail> {
+    let close_req = "13899c4006001f3f0b000000000007d200000000000003e9";
+    let close = "9c40138906001d3e0d000000000003ea00000000000007d2";
+    let reset = "13899c40070019390f000000000007d300000000000003ea01000000";
+    let mut client = open_client(rt.alloc())?;
+    let mut server = open_server(rt.alloc())?;
+    let mut out = Outbox::new();
+    assert_eq!(rt; server.close(&mut out), Ok(()));
+    assert!(rt; has_sent(rt.alloc(), &out, close_req)?);
+    assert_eq!(rt; server.phase(), Phase::CloseReq);
+    assert!(rt; is_answered(rt.alloc(), &mut client, close_req, TOOK, close)?);
+    assert_eq!(rt; client.phase(), Phase::Closing);
+    let closed = Outcome::SentReset {
+        code: 1,
+        detail: [0, 0, 0],
+    };
+    assert!(rt; is_answered(rt.alloc(), &mut server, close, closed, reset)?);
+    assert_eq!(rt; server.phase(), Phase::Closed);
+    Ok(())
+}
+
+const TIMERS: [Timer; 6] = [
+    Timer::Request,
+    Timer::Ack,
+    Timer::Negotiate,
+    Timer::Rto,
+    Timer::Close,
+    Timer::TimeWait,
+];
+
+// The timer that has something to do in each phase, at the roles that have the phase.
+#[test]
+fn timers_by_phase(rt: HostRuntime) -> Result<(), Fail> {
+    let mut out = Outbox::new();
+    let mut closing = open_client(rt.alloc())?;
+    closing.close(&mut out)?;
+    let mut close_req = open_server(rt.alloc())?;
+    close_req.close(&mut out)?;
+    let mut part_open = requesting()?;
+    assert!(rt; is_answered(rt.alloc(), &mut part_open, RESPONSE, TOOK, ACK)?);
+    let mut time_wait = responding(rt.alloc())?;
+    assert!(rt; is_answered(rt.alloc(), &mut time_wait, RESET, Outcome::WasReset(2), "")?);
+    let mut closed = requesting()?;
+    closed.abort(&mut out)?;
+    let ends = [
+        (Endpoint::new(Config::usual(Role::Client))?, None),
+        (requesting()?, Some(Timer::Request)),
+        (part_open, Some(Timer::Ack)),
+        (open_client(rt.alloc())?, Some(Timer::Ack)),
+        (closing, Some(Timer::Close)),
+        (closed, None),
+        (listening()?, None),
+        (responding(rt.alloc())?, None),
+        (open_server(rt.alloc())?, Some(Timer::Ack)),
+        (close_req, Some(Timer::Close)),
+        (time_wait, Some(Timer::TimeWait)),
+    ];
+    for (mut end, wanted) in ends {
+        for timer in TIMERS {
+            if Some(timer) != wanted {
+                let marks = end.marks();
+                assert!(rt; !end.timer(timer, &mut out));
+                assert!(rt; out.frame().is_none());
+                assert_eq!(rt; end.marks(), marks);
+            }
+        }
+        if let Some(timer) = wanted {
+            assert!(rt; end.timer(timer, &mut out));
+        }
+    }
     Ok(())
 }
