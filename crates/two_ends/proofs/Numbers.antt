@@ -18,6 +18,7 @@ use Rattle.two_ends.specs.World.{Half, WorldState, HalfStep, WorldStep, kept, mo
 use Rattle.two_ends.specs.Frames.{packet_of, is_reset}
 use Rattle.dccp_packets.specs.declared.header.Kind.{Kind}
 use Rattle.dccp_packets.specs.declared.header.Kind.TheVariants as kind
+use Rattle.two_ends.specs.Fits.{Fits}
 use Rattle.two_ends.specs.Reached.{Reached}
 use Rattle.two_ends.specs.Numbered.{IsAcknowledged, AreNumbered, IsNumbered, IsNumberedFrame, IsBareReset, is_bare, Facts, Hears, is_live}
 use Rattle.two_ends.proofs.Numbering.{GoesOn, HasOwnPhase, IsNext, FitsFrame, receives-on, opens-on}
@@ -308,6 +309,7 @@ module _ (client_iss server_iss : ℕ) (client_fits : client_iss < 2 ^ 48) (serv
         in_order = subst (λ (n : ℕ). AreNumbered half.end.config.role n 0 half.frames own) (sym k.same_first) k.in_order;
         up_to_greatest = k.up_to_greatest ∙ ap (λ (n : ℕ). residue (n + own + (2 ^ 48 - 1))) (sym k.same_first);
         few = few-numbered half iss own peer_iss peer k;
+        few_frames = k.few;
       }
 
   numbered-sides : (w : WorldState) → AreKept w → (side : Side) → IsNumbered (half_of w side)
@@ -379,10 +381,10 @@ start-kept : (client server : Config) (client_fits : client.iss < 2 ^ 48) (serve
 start-kept client server client_fits server_fits =
     record { client_count = 0; server_count = 0; client = start-half client server.iss client_fits; server = start-half server client.iss server_fits }
 
-pub every-run : (client server : Config) (events : List Event) → client.iss < 2 ^ 48 → server.iss < 2 ^ 48 → Facts (run (at_start client server) events)
+pub every-run : (client server : Config) (events : List Event) → Fits client → Fits server → Facts (run (at_start client server) events)
 every-run client server events client_fits server_fits =
-    kept-facts client.iss server.iss client_fits server_fits (run (at_start client server) events)
-    (run-kept client.iss server.iss client_fits server_fits (at_start client server) events (start-kept client server client_fits server_fits))
+    kept-facts client.iss server.iss client_fits.iss server_fits.iss (run (at_start client server) events)
+    (run-kept client.iss server.iss client_fits.iss server_fits.iss (at_start client server) events (start-kept client server client_fits.iss server_fits.iss))
 
 pub reached-facts : (w : WorldState) → Reached w → Facts w
 reached-facts w r = subst Facts (sym r.same) (every-run r.client r.server r.events r.client_fits r.server_fits)

@@ -1,10 +1,11 @@
 -- One more event leads from a world that a schedule reached to another.
-use Rattle.std.proofs.Common.{◌≡◌, refl, ap, sym, ◌∙◌, subst, ◌^◌, ◌<◌, List, [], ◌∷◌, ◌++◌, Result, Ok, Err, IfOk, OnErr}
+use Rattle.std.proofs.Common.{◌≡◌, refl, ap, sym, ◌∙◌, subst, List, [], ◌∷◌, ◌++◌, Result, Ok, Err, IfOk, OnErr}
 use Rattle.dccp_endpoint.specs.declared.config.Config.{Config}
 use Rattle.dccp_states.specs.declared.phase.Role.TheVariants.{Client, Server}
 use Rattle.two_ends.specs.declared.event.Event.{Event}
 use Rattle.two_ends.specs.declared.event.Seen.{Seen}
 use Rattle.two_ends.specs.declared.event.WorldFault.{WorldFault}
+use Rattle.two_ends.specs.Fits.{Fits}
 use Rattle.two_ends.specs.World.{WorldState, happens, world_after, run, at_start}
 use Rattle.two_ends.specs.Reached.{Reached}
 
@@ -12,7 +13,7 @@ pub run-snoc : (w : WorldState) (events : List Event) (event : Event) → run w 
 run-snoc w [] event = refl
 run-snoc w (e ∷ events) event = run-snoc (world_after w (happens w e)) events event
 
-pub start-reached : (client server : Config) → client.role ≡ Client → server.role ≡ Server → client.iss < 2 ^ 48 → server.iss < 2 ^ 48
+pub start-reached : (client server : Config) → client.role ≡ Client → server.role ≡ Server → Fits client → Fits server
     → (w : WorldState) → w ≡ at_start client server → Reached w
 start-reached client server is_client is_server client_fits server_fits w same =
     record {

@@ -1,4 +1,5 @@
 pub mod Lists
+pub mod Fits
 pub mod World
 pub mod Frames
 pub mod Pairs

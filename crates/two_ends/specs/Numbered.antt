@@ -1,5 +1,5 @@
 -- The numbers of the frames that were sent (RFC 4340, section 7.1).
-use Rattle.std.specs.Prelude.{◌≡◌, ◌⊎◌, ◌==◌, ◌&&◌, ◌||◌, ℕ, ◌+◌, ◌-◌, ◌^◌, ◌<◌, ◌≤◌, Bool, true, false, List, [], ◌∷◌, Option, Some, None}
+use Rattle.std.specs.Prelude.{◌≡◌, ◌⊎◌, ◌==◌, ◌&&◌, ◌||◌, ℕ, ◌+◌, ◌-◌, ◌^◌, ◌<◌, ◌≤◌, Bool, true, false, List, [], ◌∷◌, length, Option, Some, None}
 use Rattle.seq_circle.specs.Circle.{residue}
 use Rattle.dccp_packets.specs.Grammar.{Parts}
 use Rattle.dccp_packets.specs.declared.header.Kind.{Kind}
@@ -63,12 +63,13 @@ AreNumbered role iss before (frame ∷ frames) count =
     (IsNumberedFrame role (residue (iss + before)) frame.bytes × AreNumbered role iss (before + 1) frames count)
     ⊎ (IsBareReset role frame.bytes × AreNumbered role iss before frames count)
 
--- A side's numbered frames carry ISS, ISS + 1, and so on up to GSS, in this order.
+-- A side's numbered frames carry ISS, ISS + 1, and so on up to GSS, in this order. With the others they are fewer than 2^47.
 pub record IsNumbered (half : Half) : Type 0 where
   pub count : ℕ
   pub in_order : AreNumbered half.end.config.role half.end.marks.iss 0 half.frames count
   pub up_to_greatest : half.end.marks.gss ≡ residue (half.end.marks.iss + count + (2 ^ 48 - 1))
   pub few : count < 2 ^ 47
+  pub few_frames : length half.frames < 2 ^ 47
 
 -- the phases in which a first number was received (section 8.1)
 abbrev pub is_live : Phase → Bool

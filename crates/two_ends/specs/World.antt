@@ -1,6 +1,6 @@
 -- Two ends, all frames that they ever sent, and what happens to them (own). Losing, repeating and reordering frames is the
 -- choice of deliveries.
-use Rattle.std.specs.Prelude.{ℕ, ◌-◌, ◌^◌, Bool, false, nat_le, if◌then◌else◌, List, [], ◌∷◌, ◌++◌, length, Option, Some, None, Result, Ok, Err, slice_get}
+use Rattle.std.specs.Prelude.{ℕ, ◌-◌, ◌^◌, ◌≤◌, Bool, nat_le, if◌then◌else◌, List, [], ◌∷◌, ◌++◌, length, Option, Some, None, Result, Ok, Err, slice_get}
 use Rattle.dccp_endpoint.specs.End.{EndState, fresh, floor_of}
 use Rattle.dccp_endpoint.specs.Steps.{Step, opens}
 use Rattle.dccp_endpoint.specs.Receiving.{receives}
@@ -88,15 +88,19 @@ abbrev pub happens : WorldState → Event → Result WorldStep WorldFault
 happens w event.Open = unless_full w Client (half_opens w.client)
 happens w (event.Deliver from index) = arrives w from (slice_get (half_of w from).frames index)
 
--- the event names a frame that was not sent
-abbrev pub lacks_frame : WorldState → Event → Bool
-lacks_frame w event.Open = false
-lacks_frame w (event.Deliver from index) = nat_le (length (half_of w from).frames) index
-
 -- the side that acts
 abbrev pub actor : Event → Side
 actor event.Open = Client
 actor (event.Deliver from index) = other from
+
+-- A delivery whose index is not below the number of frames of its sender.
+abbrev pub LacksFrame : WorldState → Event → Type 0
+LacksFrame w event.Open = ⊥
+LacksFrame w (event.Deliver from index) = length (half_of w from).frames ≤ index
+
+-- The side that would act has sent 2^47 - 1 frames.
+abbrev pub ActorIsFull : WorldState → Event → Type 0
+ActorIsFull w event = 2 ^ 47 - 1 ≤ length (half_of w (actor event)).frames
 
 -- the world after an event; one that cannot happen changes nothing
 abbrev pub world_after : WorldState → Result WorldStep WorldFault → WorldState

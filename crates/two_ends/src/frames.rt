@@ -1,10 +1,15 @@
 //! Frames that were sent.
-ghost use Rattle.std.specs.Prelude.{◌≡◌, ◌<◌, ◌≤◌, ◌++◌, [], length, vec_len, vec_capacity};
+ghost use Rattle.std.specs.Prelude.{◌≡◌, ◌<◌, ◌≤◌, ◌++◌, [], length, OnOk, vec_len, vec_capacity};
 ghost use Rattle.two_ends.specs.World.{kept};
 
 use dccp_packets::Outbox;
-use seq_circle::Seq48;
+use seq_circle::{NoMemory, Seq48};
+use std::alloc::Global;
 use std::marker::Model;
+use std::mem;
+
+// No frame is longer.
+const MOST_BYTES: usize = 2044;
 
 /// The bytes of a frame that was sent, at most 2,044. Contracts see the list of bytes.
 #[derive(Drop)]
@@ -50,21 +55,38 @@ pub struct SentFrame {
     pub floor: Seq48,
 }
 
-/// Keeps the frame that a step sent, if any, in the memory that was taken before the step.
+/// Takes all memory that keeping one more frame may need: a place in the list, and room for a frame of any length in the spare
+/// block.
+pub(crate) fn take_memory(frames: &mut Vec<SentFrame>, spare: &mut Vec<u8>) -> Result<(), NoMemory>
+    requires empty { spare.old.items ≡ [] }
+    ensures same { frames.new.items ≡ frames.old.items }
+    ensures still_empty { spare.new.items ≡ [] }
+    ensures place { OnOk result (vec_len frames.new < vec_capacity frames.new) }
+    ensures room { OnOk result (2044 ≤ vec_capacity spare.new) }
+{
+    frames.reserve(1)?;
+    spare.reserve(MOST_BYTES)?;
+    Ok(())
+}
+
+/// Keeps the frame that a step sent, if any, in memory that was taken before the step: a place in the list, and a block that
+/// is given only where none of the frame's length is to be had.
 pub(crate) fn keep_frame(
+    alloc: Global,
     frames: &mut Vec<SentFrame>,
-    block: Vec<u8>,
+    spare: &mut Vec<u8>,
     out: &Outbox,
     processed: u64,
     floor: Seq48,
 )
     requires place { vec_len frames.old < vec_capacity frames.old }
-    requires room { 2044 ≤ vec_capacity block }
-    requires empty { block.items ≡ [] }
-    ensures { frames.new.items ≡ frames.old.items ++ kept processed floor out.now }
+    requires room { 2044 ≤ vec_capacity spare.old }
+    requires empty { spare.old.items ≡ [] }
+    ensures sent { frames.new.items ≡ frames.old.items ++ kept processed floor out.now }
+    ensures still_empty { spare.new.items ≡ [] }
 {
     let Some(frame) = out.frame() else { return };
-    let bytes = copied(block, frame.bytes());
+    let bytes = copied(alloc, frame.bytes(), spare);
     let sent = SentFrame {
         bytes,
         processed,
@@ -76,15 +98,31 @@ pub(crate) fn keep_frame(
     }
 }
 
-fn copied(block: Vec<u8>, bytes: &[u8]) -> FrameBytes
-    requires room { 2044 ≤ vec_capacity block }
-    requires empty { block.items ≡ [] }
+fn copied(alloc: Global, bytes: &[u8], spare: &mut Vec<u8>) -> FrameBytes
+    requires room { 2044 ≤ vec_capacity spare.old }
+    requires empty { spare.old.items ≡ [] }
     requires fits { length bytes.now ≤ 2044 }
-    ensures { result ≡ bytes.now }
+    ensures value { result ≡ bytes.now }
+    ensures still_empty { spare.new.items ≡ [] }
 {
-    let mut block = block;
+    let mut block = block_of(alloc, bytes.len(), spare);
     match block.extend_from_slice(bytes) {
         Ok(()) => FrameBytes::of(block),
         Err(_) => unreachable!(),
+    }
+}
+
+// An empty block with room for so many bytes: of just this length, or else the spare one.
+fn block_of(alloc: Global, length: usize, spare: &mut Vec<u8>) -> Vec<u8>
+    requires room { 2044 ≤ vec_capacity spare.old }
+    requires empty { spare.old.items ≡ [] }
+    requires fits { length ≤ 2044 }
+    ensures has_room { length ≤ vec_capacity result }
+    ensures empty { result.items ≡ [] }
+    ensures still_empty { spare.new.items ≡ [] }
+{
+    match Vec::with_capacity(alloc, length) {
+        Ok(exact) => exact,
+        Err(_) => mem::replace(spare, Vec::new(alloc)),
     }
 }

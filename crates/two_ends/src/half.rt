@@ -1,14 +1,14 @@
 //! One side of the world: an end, the frames that it ever sent, and the numbers that it processed.
-use crate::frames::keep_frame;
+ghost use Rattle.std.specs.Prelude.{◌≡◌, ◌≤◌, length};
+ghost use Rattle.dccp_endpoint.specs.Receiving.{receives};
+
+use crate::frames::{keep_frame, take_memory};
 use crate::{Refusal, Seen, SentFrame};
-use dccp_endpoint::{Config, Endpoint};
+use dccp_endpoint::{Config, Endpoint, Outcome};
 use dccp_packets::Outbox;
 use seq_circle::NoMemory;
 use std::alloc::Global;
 use std::marker::Model;
-
-// No frame is longer.
-const MOST_BYTES: usize = 2044;
 
 #[derive(Drop)]
 pub(crate) struct HalfWorld {
@@ -16,14 +16,19 @@ pub(crate) struct HalfWorld {
     end: Endpoint,
     frames: Vec<SentFrame>,
     processed: Vec<u64>,
+    // Empty, with room for a frame of any length during a step.
+    spare: Vec<u8>,
 }
 
 impl Model for HalfWorld {
+    ghost use Rattle.std.specs.Prelude.{◌≡◌, []};
     ghost use Rattle.two_ends.specs.World.{Half};
 
     ghost Value = { Half };
 
     ghost view = { λ h. record { end = h.end; frames = h.frames.items; processed = h.processed.items } };
+
+    ghost invariant = { λ h. h.spare.items ≡ [] };
 }
 
 impl HalfWorld {
@@ -39,6 +44,7 @@ impl HalfWorld {
             end,
             frames: Vec::new(alloc),
             processed: Vec::new(alloc),
+            spare: Vec::new(alloc),
         })
     }
 
@@ -65,8 +71,7 @@ impl HalfWorld {
         ensures ok { IfOk result (λ seen. record { half = self.new; seen = seen } ≡ half_opens self.old) }
         ensures err { OnErr result (self.new ≡ self.old) }
     {
-        self.frames.reserve(1)?;
-        let block = Vec::with_capacity(self.alloc, MOST_BYTES)?;
+        take_memory(&mut self.frames, &mut self.spare)?;
         let mut out = Outbox::new();
         let answer = match self.end.open(&mut out) {
             Ok(()) => Ok(()),
@@ -74,7 +79,14 @@ impl HalfWorld {
         };
         let processed = self.processed.len() as u64;
         let floor = self.end.floor();
-        keep_frame(&mut self.frames, block, &out, processed, floor);
+        keep_frame(
+            self.alloc,
+            &mut self.frames,
+            &mut self.spare,
+            &out,
+            processed,
+            floor,
+        );
         Ok(Seen::Called(answer))
     }
 
@@ -84,13 +96,27 @@ impl HalfWorld {
         ensures ok { IfOk result (λ seen. record { half = self.new; seen = seen } ≡ half_receives self.old bytes.now) }
         ensures err { OnErr result (self.new ≡ self.old) }
     {
-        self.frames.reserve(1)?;
-        let block = Vec::with_capacity(self.alloc, MOST_BYTES)?;
+        take_memory(&mut self.frames, &mut self.spare)?;
         let mut out = Outbox::new();
-        let outcome = self.end.receive(bytes, &mut out);
+        let outcome = arrive(&mut self.end, bytes, &mut out);
         let processed = self.processed.len() as u64;
         let floor = self.end.floor();
-        keep_frame(&mut self.frames, block, &out, processed, floor);
+        keep_frame(
+            self.alloc,
+            &mut self.frames,
+            &mut self.spare,
+            &out,
+            processed,
+            floor,
+        );
         Ok(Seen::Received(outcome))
     }
+}
+
+// The step of the end alone.
+fn arrive(end: &mut Endpoint, bytes: &[u8], out: &mut Outbox) -> Outcome
+    requires { length bytes.now ≤ 2044 }
+    ensures { record { after = end.new; frame = out.new; answer = result } ≡ receives end.old bytes.now }
+{
+    end.receive(bytes, out)
 }

@@ -28,7 +28,7 @@ impl Model for Sides {
 
 impl Sides {
     ghost use Rattle.std.specs.Prelude.{◌≡◌, ◌↔◌, ◌⊎◌, IfOk, IfErr, OnErr, Ok, Err, slice_get, Option, Some, None};
-    ghost use Rattle.two_ends.specs.World.{at_start, happens, half_of, unless_full, half_opens, arrives};
+    ghost use Rattle.two_ends.specs.World.{at_start, happens, half_of, unless_full, half_opens, arrives, LacksFrame, ActorIsFull};
 
     pub(crate) fn new(alloc: Global, client: Config, server: Config) -> Result<Sides, NoMemory>
         ensures { IfOk result (λ sides. sides ≡ at_start client server) }
@@ -52,6 +52,8 @@ impl Sides {
         ensures ok { IfOk result (λ seen. happens self.old event.now ≡ Ok (record { world = self.new; seen = seen })) }
         ensures no_such_frame { (result ≡ Err WorldFault.NoSuchFrame) ↔ (happens self.old event.now ≡ Err WorldFault.NoSuchFrame) }
         ensures full { (result ≡ Err WorldFault.Full) ↔ (happens self.old event.now ≡ Err WorldFault.Full) }
+        ensures lacks { (result ≡ Err WorldFault.NoSuchFrame) ↔ LacksFrame self.old event.now }
+        ensures filled { (result ≡ Err WorldFault.Full) ↔ ((LacksFrame self.old event.now → ⊥) × ActorIsFull self.old event.now) }
         ensures err { OnErr result (self.new ≡ self.old) }
     {
         match *event {
@@ -68,7 +70,7 @@ impl Sides {
     }
 }
 
-// A side that has not sent all the frames that it may.
+// The side has sent all the frames that the order of its numbers allows.
 fn is_full(half: &HalfWorld) -> bool
     ensures { result ≡ is_full half.now }
 {

@@ -1,5 +1,6 @@
 //! The world.
 ghost use Rattle.std.specs.Prelude.{◌≡◌, ◌<◌, ◌^◌, List};
+ghost use Rattle.two_ends.specs.Fits.{Fits};
 ghost use Rattle.two_ends.specs.World.{at_start, run};
 ghost use Rattle.two_ends.specs.Numbered.{Facts};
 ghost use Rattle.two_ends.specs.Safe.{Safe};
@@ -42,7 +43,7 @@ impl Model for World {
 
 impl World {
     ghost use Rattle.std.specs.Prelude.{◌≡◌, ◌↔◌, IfOk, OnErr, Ok, Err};
-    ghost use Rattle.two_ends.specs.World.{at_start, happens, half_of};
+    ghost use Rattle.two_ends.specs.World.{at_start, happens, half_of, LacksFrame, ActorIsFull};
     ghost use Rattle.dccp_states.specs.declared.phase.Role.TheVariants as role;
     ghost use Rattle.two_ends.specs.Safe.{Safe};
     ghost use Rattle.two_ends.specs.Numbered.{Facts};
@@ -56,8 +57,8 @@ impl World {
         ensures safe { IfOk result (λ w. Safe w) }
         ensures facts { IfOk result (λ w. Facts w) }
     {
-        first_number_fits(&client);
-        first_number_fits(&server);
+        config_fits(&client);
+        config_fits(&server);
         let sides = Sides::new(alloc, client, server)?;
         Ok(World { sides })
     }
@@ -75,6 +76,8 @@ impl World {
         ensures ok { IfOk result (λ seen. happens self.old event.now ≡ Ok (record { world = self.new; seen = seen })) }
         ensures no_such_frame { (result ≡ Err WorldFault.NoSuchFrame) ↔ (happens self.old event.now ≡ Err WorldFault.NoSuchFrame) }
         ensures full { (result ≡ Err WorldFault.Full) ↔ (happens self.old event.now ≡ Err WorldFault.Full) }
+        ensures lacks { (result ≡ Err WorldFault.NoSuchFrame) ↔ LacksFrame self.old event.now }
+        ensures filled { (result ≡ Err WorldFault.Full) ↔ ((LacksFrame self.old event.now → ⊥) × ActorIsFull self.old event.now) }
         ensures err { OnErr result (self.new ≡ self.old) }
         ensures safe { Safe self.new }
         ensures facts { Facts self.new }
@@ -104,25 +107,37 @@ impl World {
     }
 }
 
-// Contracts learn that a sequence number is below 2^48 where it is read.
-fn first_number_fits(config: &Config)
-    ensures { config.now.iss < 2 ^ 48 }
+// What the types of its fields keep of every configuration.
+fn config_fits(config: &Config)
+    ensures { Fits config.now }
 {
+    port_fits(config.own_port);
+    port_fits(config.peer_port);
+    service_fits(config.service);
     let _ = config.iss.get();
 }
 
-/// The world is safe after every list of events, from any configurations of a client and a server.
-pub fn every_run_is_safe()
-    ensures { (client server : Config) (events : List Event) → client.role ≡ role.Client → server.role ≡ role.Server → Safe (run (at_start client server) events) }
+fn port_fits(port: u16)
+    ensures { port < 2 ^ 16 }
 {}
 
-/// The world's facts after every list of events, from any two configurations, whatever their roles, whose first numbers
-/// are below 2^48. A side's frames, but for Resets without a connection, carry its first number, the next, and so on up
+fn service_fits(service: u32)
+    ensures { service < 2 ^ 32 }
+{}
+
+/// The world is safe after every list of events, from any configurations of a client and a server whose fields fit
+/// their widths.
+pub fn every_run_is_safe()
+    ensures { (client server : Config) (events : List Event) → client.role ≡ role.Client → server.role ≡ role.Server → Fits client → Fits server → Safe (run (at_start client server) events) }
+{}
+
+/// The world's facts after every list of events, from any two configurations, whatever their roles, whose fields fit their
+/// widths. A side's frames, but for Resets without a connection, carry its first number, the next, and so on up
 /// to its greatest number sent, in this order (RFC 4340, section 7.1); there are fewer than 2^47. A Reset without a
 /// connection, whose code is 3 or a server's 8, carries no option. Once an end has received a first number, that and
 /// its greatest number received are numbers of numbered frames of the other side, and the first is not the later one;
 /// once it has sent a numbered frame, GAR is the number of one of its own. A Reset that arrives moves neither the
 /// received numbers, nor GAR, nor a feature.
 pub fn every_run_numbers_its_frames()
-    ensures { (client server : Config) (events : List Event) → client.iss < 2 ^ 48 → server.iss < 2 ^ 48 → Facts (run (at_start client server) events) }
+    ensures { (client server : Config) (events : List Event) → Fits client → Fits server → Facts (run (at_start client server) events) }
 {}
