@@ -24,7 +24,7 @@ loop-rest-preserved c =
       safe = c.in_ok-accepted.ensures.still_safe;
     }
 
-refused : (c : goal.After-drop-play-else-accepted-4) → Ends c.args.input.now c.judge.new.text.items true
+refused : (c : goal.After-drop-play-else-accepted-6) → Ends c.args.input.now c.judge.new.text.items true
 refused c =
     let refuses = subst (λ (accepted : Bool). Judges (judged c.loop-rest.play c.first_line.result.0.now) c.loop-rest.text.items c.judge.new.text.items c.judge.new.self accepted) c.if-accepted.false c.in_ok-accepted.ensures.verdict in
     along-refused c.loop-rest.play c.judge.new.self c.loop-rest.rest.now c.first_line.result.1.now c.first_line.result.0.now c.loop-rest.text.items c.judge.new.text.items
@@ -39,7 +39,7 @@ returns-else-accepted-clause-refused c = (refused c).refused_is
 pub returns-else-accepted-clause-safe : goal.returns-else-accepted-clause-safe
 returns-else-accepted-clause-safe c = (refused c).safe
 
-ended : (c : goal.After-drop-play-5) → Ends c.args.input.now (c.loop-rest.text.items ++ end_lines c.loop-rest.play.world) false
+ended : (c : goal.After-drop-play-7) → Ends c.args.input.now (c.loop-rest.text.items ++ end_lines c.loop-rest.play.world) false
 ended c =
     let none : length c.loop-rest.rest.now ≡ 0 = grind (arith, nat_tests) in
     along-end c.loop-rest.play c.loop-rest.rest.now c.loop-rest.text.items c.args.input.now c.loop-rest.invariant.along (no-bytes c.loop-rest.rest.now none)
