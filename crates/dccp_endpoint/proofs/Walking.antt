@@ -369,7 +369,7 @@ answered-entry e bytes a proper came is no_reset fits =
       valid = ResponseToRequest is no_reset fits (sym (started-is e e.phase a));
       entered = asks ∙ sym (ap phase_entered asks);
       hears = λ to how fine so. Starts a how came no_reset (inr is) fine so;
-      acks = acks-so e bytes a a.kind a.ack (λ n same. ByWindow n a came no_reset same fits);
+      acks = acks-so e bytes a a.kind a.ack (λ n same. ByWindow n a came no_reset same is fits);
       its_role = proper.phase_fits;
       live = inr refl;
       begun = inl (ap is_begun asks);
@@ -383,7 +383,7 @@ raised-entry : (e : EndState) (bytes : List ℕ) (a : Incoming) → IsProper e �
 raised-entry e bytes a proper came is no_reset fits =
     let live : is_live e.phase ≡ true = check-live e.phase a.kind is in
     let acks : IsAcknowledging e (Arrives bytes) (raising a.kind a.ack) =
-    acks-so e bytes a a.kind a.ack (λ n same. ByVerdict n a came no_reset same fits) in
+    acks-so e bytes a a.kind a.ack (λ n same. ByVerdict n a came no_reset same is fits) in
     let entered : IsValid e a (entered_as e false e.phase a.number (raising a.kind a.ack)) = PacketInWindow is no_reset fits (sym (raised-is e a)) in
     record {
       came = came;

@@ -79,13 +79,13 @@ pub data IsHearing (e : EndState) (given : Input) (phase : Phase) : Hearing → 
   Raises : (a : Incoming) (how : Passing) → Came e given a → a.kind ≢ types.Reset → entrance_of e a ≡ entrance.Check
       → verdict_of e a ≡ verdicts.Valid → FitsPassing phase a.kind how → IsHearing e given phase (Heard false a.number how)
 
--- why what is known acknowledged changes: by the Request or Response that begins, and by a packet in the windows
+-- why what is known acknowledged changes: by the Response to the Request, and by a packet in the windows
 pub data IsAcknowledging (e : EndState) (given : Input) : Option ℕ → Type 0 where
   LeavesIt : IsAcknowledging e given None
-  ByWindow : (ack : ℕ) (a : Incoming) → Came e given a → a.kind ≢ types.Reset → a.ack ≡ Some ack → acknowledges_in_window e a ≡ true
-      → IsAcknowledging e given (Some ack)
-  ByVerdict : (ack : ℕ) (a : Incoming) → Came e given a → a.kind ≢ types.Reset → a.ack ≡ Some ack → verdict_of e a ≡ verdicts.Valid
-      → IsAcknowledging e given (Some ack)
+  ByWindow : (ack : ℕ) (a : Incoming) → Came e given a → a.kind ≢ types.Reset → a.ack ≡ Some ack → entrance_of e a ≡ entrance.InRequest
+      → acknowledges_in_window e a ≡ true → IsAcknowledging e given (Some ack)
+  ByVerdict : (ack : ℕ) (a : Incoming) → Came e given a → a.kind ≢ types.Reset → a.ack ≡ Some ack → entrance_of e a ≡ entrance.Check
+      → verdict_of e a ≡ verdicts.Valid → IsAcknowledging e given (Some ack)
 
 abbrev pub HasNext : Sending → Type 0
 HasNext Silent = ⊥

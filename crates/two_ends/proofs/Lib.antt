@@ -1,8 +1,10 @@
-pub mod Silent
-pub mod Keeping
-pub mod Reaching
+pub mod Logged
+pub mod ReadBack
+pub mod Acting
 pub mod Numbering
 pub mod Hearing
-pub mod Resets
 pub mod Acknowledging
-pub mod Numbers
+pub mod Speaking
+pub mod Resets
+pub mod Keeping
+pub mod Reaching

@@ -5,7 +5,7 @@ use Rattle.dccp_states.specs.declared.phase.Role.TheVariants.{Client, Server}
 use Rattle.two_ends.specs.declared.event.Event.{Event}
 use Rattle.two_ends.specs.declared.event.Seen.{Seen}
 use Rattle.two_ends.specs.declared.event.WorldFault.{WorldFault}
-use Rattle.two_ends.specs.Fits.{Fits}
+use Rattle.dccp_endpoint.specs.Drafts.{Fits}
 use Rattle.two_ends.specs.World.{WorldState, happens, world_after, run, at_start}
 use Rattle.two_ends.specs.Reached.{Reached}
 

@@ -1,79 +1,66 @@
--- A Reset moves at most the phase, and nothing that was received.
-use Rattle.std.proofs.Common.{◌≡◌, refl, ap, ◌∙◌, ℕ, List, Some, true, false, Bool, Result, Ok, Err}
+-- A Reset that arrives moves nothing that was received or acknowledged, and no feature.
+use Rattle.std.proofs.Common.{◌≡◌, refl, ap, sym, ◌∙◌, subst, ℕ, List, Option, Some, None, true, false, Result, Ok, Err}
+use Rattle.std.specs.Result.{result_ok}
+use Rattle.dccp_packets.specs.Grammar.{Parts, decoded, packet_type}
+use Rattle.dccp_packets.specs.declared.header.Kind.{Kind}
 use Rattle.dccp_packets.specs.declared.header.Kind.TheVariants as kind
-use Rattle.dccp_packets.specs.declared.header.Number.{Number}
-use Rattle.dccp_packets.specs.declared.header.Number.TheVariants.{Long, Short}
 use Rattle.dccp_packets.specs.declared.header.PacketType.TheVariants as types
 use Rattle.dccp_packets.specs.declared.reading.Malformed.{Malformed}
-use Rattle.dccp_sum.specs.Checksum.{checked}
-use Rattle.dccp_sum.specs.declared.packet_sum.SumFault.{SumFault}
-use Rattle.dccp_states.specs.Entrance.{gate}
-use Rattle.dccp_states.specs.declared.phase.Phase.{Phase}
-use Rattle.dccp_states.specs.declared.phase.Phase.TheVariants as phase
-use Rattle.validity_windows.specs.Verdict.{verdict, is_ack_within}
-use Rattle.validity_windows.specs.Windows.{ack_low, ack_high}
-use Rattle.validity_windows.specs.declared.verdict.Verdict.{Verdict}
-use Rattle.validity_windows.specs.declared.verdict.Verdict.TheVariants as verdicts
-use Rattle.dccp_endpoint.specs.End.{EndState}
-use Rattle.dccp_endpoint.specs.Receiving.{Arrival, answers, by_form, by_packet, by_ports, by_sum, enters, is_of_connection, judged, syncs, torn}
-use Rattle.std.specs.Result.{result_ok}
-use Rattle.dccp_packets.specs.Grammar.{Parts, packet_type, decoded}
-use Rattle.dccp_packets.specs.declared.header.Kind.{Kind}
+use Rattle.dccp_endpoint.specs.Causes.{Came, EveryStepHasOneEffect, IsAcknowledging, IsCaused, IsHearing, Keeps, Starts, Raises, LeavesIt, ByWindow, ByVerdict}
+use Rattle.dccp_endpoint.specs.Effects.{Effect, Hearing, Unheard, Heard, end_after, first_by, gar_by, greatest_by, osr_by}
+use Rattle.dccp_endpoint.specs.End.{EndState, IsProper}
+use Rattle.dccp_endpoint.specs.Incoming.{Incoming}
+use Rattle.dccp_endpoint.specs.Inputs.{Arrives, Input}
 use Rattle.two_ends.specs.Frames.{is_reset}
 use Rattle.two_ends.specs.Numbered.{KeepsReceived, ResetsMoveNothing}
 
-same : (e : EndState) → KeepsReceived e e
-same e = record { first = refl; greatest = refl; opening = refl; acknowledged = refl; features = λ feature place. refl }
+reset-type : (k : Kind) → is_reset k ≡ true → packet_type k ≡ types.Reset
+reset-type (kind.Reset ack code detail) is = refl
+reset-type _ is = cc is
 
-torn-keeps : (e : EndState) (a : Arrival) → KeepsReceived e (torn e a).after
-torn-keeps e a = record { first = refl; greatest = refl; opening = refl; acknowledged = refl; features = λ feature place. refl }
+read-ok : (read : Result Parts Malformed) (p : Parts) → result_ok read ≡ Some p → read ≡ Ok p
+read-ok (Ok q) p is =
+    let some : Option.Some q ≡ Some p = is in
+    let same : q ≡ p = cc some in
+    ap Ok same
+read-ok (Err fault) p is = cc is
 
-sync-keeps : (e : EndState) (number : ℕ) → KeepsReceived e (syncs e number).after
-sync-keeps e number = record { first = refl; greatest = refl; opening = refl; acknowledged = refl; features = λ feature place. refl }
+same-bytes : (given bytes : List ℕ) → Input.Arrives given ≡ Arrives bytes → given ≡ bytes
+same-bytes given bytes is = cc is
 
-judged-keeps : (e : EndState) (number ack code : ℕ) (detail options : List ℕ) (v : Verdict)
-    → KeepsReceived e (judged e (record { number = number; kind = kind.Reset ack code detail; options = options }) v).after
-judged-keeps e number ack code detail options verdicts.Valid = torn-keeps e (record { number = number; kind = kind.Reset ack code detail; options = options })
-judged-keeps e number ack code detail options (verdicts.SyncFor n) = sync-keeps e n
-judged-keeps e number ack code detail options verdicts.Drop = same e
+-- What came is the Reset.
+came-reset : (e : EndState) (bytes : List ℕ) (p : Parts) (a : Incoming) → result_ok (decoded bytes) ≡ Some p → is_reset p.header.kind ≡ true
+    → Came e (Arrives bytes) a → a.kind ≡ types.Reset
+came-reset e bytes p a read is came =
+    let mine : decoded bytes ≡ Ok came.packet = ap decoded (same-bytes bytes came.bytes came.is_given) ∙ came.is_packet in
+    let both : Result.Ok p ≡ Ok came.packet = sym (read-ok (decoded bytes) p read) ∙ mine in
+    let same : p ≡ came.packet = cc both in
+    ap (λ (x : Incoming). x.kind) came.same ∙ ap (λ (q : Parts). packet_type q.header.kind) (sym same) ∙ reset-type p.header.kind is
 
-answers-keeps : (e : EndState) (a : Arrival) (fits : Bool) → KeepsReceived e (answers e a types.Reset fits).after
-answers-keeps e a true = torn-keeps e a
-answers-keeps e a false = same e
+module _ (e : EndState) (given : Input) (reset : (a : Incoming) → Came e given a → a.kind ≡ types.Reset) where
+  unheard : (f : Effect) (h : Hearing) → IsHearing e given f.phase h → h ≡ Unheard
+  unheard f Unheard (Keeps live) = refl
+  unheard f (Heard true _ how) (Starts a _ came other entrance taken passes) = absurd (other (reset a came))
+  unheard f (Heard false _ how) (Raises a _ came other entrance valid passes) = absurd (other (reset a came))
 
-enters-keeps : (e : EndState) (number ack code : ℕ) (detail options : List ℕ) (ph : Phase)
-    → KeepsReceived e (enters e (record { number = number; kind = kind.Reset ack code detail; options = options }) (gate ph types.Reset)).after
-enters-keeps e number ack code detail options phase.Closed = same e
-enters-keeps e number ack code detail options phase.TimeWait = same e
-enters-keeps e number ack code detail options phase.Listen = same e
-enters-keeps e number ack code detail options phase.Request =
-    answers-keeps e (record { number = number; kind = kind.Reset ack code detail; options = options }) (is_ack_within (ack_low e.marks) (ack_high e.marks) (Some ack))
-enters-keeps e number ack code detail options _ = judged-keeps e number ack code detail options (verdict e.marks types.Reset number (Some ack))
+  unacknowledged : (acknowledged : Option ℕ) → IsAcknowledging e given acknowledged → acknowledged ≡ None
+  unacknowledged None LeavesIt = refl
+  unacknowledged (Some ack) (ByWindow _ a came other is entrance within) = absurd (other (reset a came))
+  unacknowledged (Some ack) (ByVerdict _ a came other is entrance valid) = absurd (other (reset a came))
 
-kind-keeps : (e : EndState) (number : ℕ) (k : Kind) (options : List ℕ) → is_reset k ≡ true
-    → KeepsReceived e (enters e (record { number = number; kind = k; options = options }) (gate e.phase (packet_type k))).after
-kind-keeps e number (kind.Reset ack code detail) options is = enters-keeps e number ack code detail options e.phase
-kind-keeps e number _ options is = cc is
+  keeps : (f : Effect) → IsCaused e given f → KeepsReceived e (end_after e f)
+  keeps f because =
+      let none = unheard f f.hearing because.hears in
+      record {
+        first = ap (first_by e.marks.isr) none;
+        greatest = ap (greatest_by e.marks.gsr) none;
+        opening = ap (λ (h : Hearing). osr_by e.marks.osr h f.opening) none;
+        acknowledged = ap (gar_by e.marks.gar) (unacknowledged f.acknowledged because.acks);
+        features = λ feature place. refl;
+      }
 
-form-keeps : (e : EndState) (p : Parts) (number : Number) → is_reset p.header.kind ≡ true → KeepsReceived e (by_form e p number).after
-form-keeps e p (Long number) is = kind-keeps e number p.header.kind p.options is
-form-keeps e p (Short number) is = same e
-
-ports-keeps : (e : EndState) (p : Parts) (ours : Bool) → is_reset p.header.kind ≡ true → KeepsReceived e (by_ports e p ours).after
-ports-keeps e p true is = form-keeps e p p.header.number is
-ports-keeps e p false is = same e
-
-sum-keeps : (e : EndState) (p : Parts) (sum : Result (Unit {0}) SumFault) → is_reset p.header.kind ≡ true → KeepsReceived e (by_sum e p sum).after
-sum-keeps e p (Ok _) is = ports-keeps e p (is_of_connection e p.header) is
-sum-keeps e p (Err fault) is = same e
-
-packet-keeps : (e : EndState) (bytes : List ℕ) (read : Result Parts Malformed) (p : Parts) → result_ok read ≡ Some p → is_reset p.header.kind ≡ true
-    → KeepsReceived e (by_packet e bytes read).after
-packet-keeps e bytes (Ok read) p found is =
-    let some : Some read ≡ Some p = found in
-    let one : read ≡ p = cc some in
-    sum-keeps e read (checked e.config.pseudo_in bytes) (ap (λ (q : Parts). is_reset q.header.kind) one ∙ is)
-packet-keeps e bytes (Err fault) p found is = same e
-
-pub resets-move-nothing : (e : EndState) → ResetsMoveNothing e
-resets-move-nothing e bytes p found is = packet-keeps e bytes (decoded bytes) p found is
+pub resets-move-nothing : EveryStepHasOneEffect → (e : EndState) → IsProper e → ResetsMoveNothing e
+resets-move-nothing effects e proper bytes p read is =
+    let has = effects e (Arrives bytes) proper in
+    subst (λ (after : EndState). KeepsReceived e after) (sym has.after_is)
+    (keeps e (Arrives bytes) (λ a came. came-reset e bytes p a read is came) has.effect has.because)

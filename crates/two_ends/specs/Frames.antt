@@ -6,7 +6,7 @@ use Rattle.dccp_packets.specs.declared.header.Kind.{Kind}
 use Rattle.dccp_packets.specs.declared.header.Kind.TheVariants as kind
 use Rattle.dccp_options.specs.Grammar.{Entry, options_of}
 use Rattle.dccp_options.specs.declared.option.OptFault.{OptFault}
-use Rattle.dccp_endpoint.specs.Arrivals.{is_data}
+use Rattle.dccp_packets.specs.Kinds.{is_data}
 
 abbrev pub packet_of : List ℕ → Option Parts
 packet_of bytes = result_ok (decoded bytes)

@@ -1,5 +1,4 @@
 pub mod Lists
-pub mod Fits
 pub mod World
 pub mod Frames
 pub mod Pairs

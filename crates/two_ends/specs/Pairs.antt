@@ -1,5 +1,5 @@
 -- A feature at its location, as the two ends hold it and as their frames speak of it (RFC 4340, sections 6 and 6.1).
-use Rattle.std.specs.Prelude.{ℕ, ◌==◌, ◌||◌, Bool, List, [], ◌∷◌, Option, Some, None, Result, Ok, Err, if◌then◌else◌}
+use Rattle.std.specs.Prelude.{ℕ, ◌+◌, ◌==◌, ◌||◌, Bool, List, [], ◌∷◌, Option, Some, None, Result, Ok, Err, if◌then◌else◌}
 use Rattle.dccp_options.specs.Grammar.{Entry}
 use Rattle.dccp_options.specs.declared.option.OptFault.{OptFault}
 use Rattle.feature_lists.specs.Features.{number_of}
@@ -68,3 +68,19 @@ said_in number place (Ok entry ∷ rest) =
 -- what a frame of a side says of a pair
 abbrev pub said_by : Pair → Side → List ℕ → Saying
 said_by pair side bytes = said_in (number_of pair.feature) (place_at side pair.location) (options_in bytes)
+
+-- how many options of a packet speak of a pair
+abbrev pub one_if : Option (List ℕ) → ℕ
+one_if None = 0
+one_if (Some values) = 1
+
+abbrev pub said_times : ℕ → Place → List (Result Entry OptFault) → ℕ
+said_times number place [] = 0
+said_times number place (Err _ ∷ rest) = said_times number place rest
+said_times number place (Ok entry ∷ rest) =
+    if (entry.kind == change_type place) || (entry.kind == confirm_type place)
+    then one_if (values_for number entry.body) + said_times number place rest
+    else said_times number place rest
+
+abbrev pub times_said : Pair → Side → List ℕ → ℕ
+times_said pair side bytes = said_times (number_of pair.feature) (place_at side pair.location) (options_in bytes)

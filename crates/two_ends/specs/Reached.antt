@@ -2,7 +2,7 @@
 use Rattle.std.specs.Prelude.{◌≡◌, List}
 use Rattle.dccp_endpoint.specs.declared.config.Config.{Config}
 use Rattle.dccp_states.specs.declared.phase.Role.TheVariants.{Client, Server}
-use Rattle.two_ends.specs.Fits.{Fits}
+use Rattle.dccp_endpoint.specs.Drafts.{Fits}
 use Rattle.two_ends.specs.World.{WorldState, at_start, run}
 use Rattle.two_ends.specs.declared.event.Event.{Event}
 

@@ -5,7 +5,7 @@ use Rattle.run_list.specs.MarkedSet.{has, floor_under}
 use Rattle.ack_vectors.specs.Vector.{vector, is_whole}
 use Rattle.dccp_options.specs.Vectors.{report_of}
 use Rattle.dccp_packets.specs.Grammar.{Parts}
-use Rattle.dccp_endpoint.specs.Arrivals.{ack_of, value_of}
+use Rattle.dccp_packets.specs.Kinds.{ack_of, value_of}
 use Rattle.dccp_endpoint.specs.End.{floor_of, reported_of}
 use Rattle.two_ends.specs.declared.frames.SentFrame.{SentFrame}
 use Rattle.two_ends.specs.declared.event.Side.{Side}

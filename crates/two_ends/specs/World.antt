@@ -2,10 +2,10 @@
 -- choice of deliveries.
 use Rattle.std.specs.Prelude.{ℕ, ◌-◌, ◌^◌, ◌≤◌, Bool, nat_le, if◌then◌else◌, List, [], ◌∷◌, ◌++◌, length, Option, Some, None, Result, Ok, Err, slice_get}
 use Rattle.dccp_endpoint.specs.End.{EndState, fresh, floor_of}
-use Rattle.dccp_endpoint.specs.Steps.{Step, opens}
-use Rattle.dccp_endpoint.specs.Receiving.{receives}
+use Rattle.dccp_endpoint.specs.Inputs.{Input, Answer, stepped}
+use Rattle.dccp_endpoint.specs.Inputs as input
+use Rattle.dccp_endpoint.specs.Steps.{Step}
 use Rattle.dccp_endpoint.specs.declared.config.Config.{Config}
-use Rattle.dccp_endpoint.specs.declared.outcome.OpenFault.{OpenFault}
 use Rattle.two_ends.specs.declared.frames.SentFrame.{SentFrame}
 use Rattle.two_ends.specs.declared.event.Side.{Side}
 use Rattle.two_ends.specs.declared.event.Side.TheVariants.{Client, Server}
@@ -15,6 +15,7 @@ use Rattle.two_ends.specs.declared.event.Seen.{Seen}
 use Rattle.two_ends.specs.declared.event.Seen.TheVariants as seen
 use Rattle.two_ends.specs.declared.event.WorldFault.{WorldFault}
 use Rattle.two_ends.specs.declared.event.WorldFault.TheVariants as fault
+use Rattle.two_ends.specs.declared.event.Refusal.{Refusal}
 use Rattle.two_ends.specs.declared.event.Refusal.TheVariants as refusal
 
 -- one side: its end, the frames that it ever sent, oldest first, and the numbers that it processed, in order
@@ -46,16 +47,18 @@ kept processed floor (Some bytes) = record { bytes = bytes; processed = processe
 abbrev pub moved : {Answer : Type 0} → Half → Step Answer → Half
 moved half step = record half { end = step.after; frames = half.frames ++ kept (length half.processed) (floor_of step.after) step.frame }
 
--- what is seen of a call
-abbrev pub seen_of_open : Result (Unit {0}) OpenFault → Seen
-seen_of_open (Ok _) = seen.Called (Ok tt)
-seen_of_open (Err _) = seen.Called (Err refusal.NotFresh)
+-- what is seen of a call, where a refusal has this name
+abbrev pub seen_of_call : {Fault : Type 0} → (Fault → Refusal) → Result (Unit {0}) Fault → Seen
+seen_of_call named (Ok _) = seen.Called (Ok tt)
+seen_of_call named (Err fault) = seen.Called (Err (named fault))
 
-abbrev pub half_opens : Half → HalfStep
-half_opens half = record { half = moved half (opens half.end); seen = seen_of_open (opens half.end).answer }
+abbrev pub seen_of : Answer → Seen
+seen_of (input.Received outcome) = seen.Received outcome
+seen_of (input.Opened result) = seen_of_call (λ fault. refusal.NotFresh) result
 
-abbrev pub half_receives : Half → List ℕ → HalfStep
-half_receives half bytes = record { half = moved half (receives half.end bytes); seen = seen.Received (receives half.end bytes).answer }
+-- one step of a side's end
+abbrev pub half_steps : Half → Input → HalfStep
+half_steps half given = record { half = moved half (stepped half.end given); seen = seen_of (stepped half.end given).answer }
 
 abbrev pub half_of : WorldState → Side → Half
 half_of w Client = w.client
@@ -81,22 +84,40 @@ unless_full w side step =
 -- a frame of one side arrives at the other
 abbrev pub arrives : WorldState → Side → Option SentFrame → Result WorldStep WorldFault
 arrives w from None = Err fault.NoSuchFrame
-arrives w from (Some frame) = unless_full w (other from) (half_receives (half_of w (other from)) frame.bytes)
+arrives w from (Some frame) = unless_full w (other from) (half_steps (half_of w (other from)) (input.Arrives frame.bytes))
+
+-- What an event is: a call of a side, or the delivery of a frame of one side to the other.
+pub data Happening : Type 0 where
+  Calls : (side : Side) (given : Input) → Happening
+  Delivers : (from : Side) (index : ℕ) → Happening
+
+abbrev pub happening_of : Event → Happening
+happening_of event.Open = Calls Client input.Opens
+happening_of (event.Deliver from index) = Delivers from index
+
+abbrev pub takes_place : WorldState → Happening → Result WorldStep WorldFault
+takes_place w (Calls side given) = unless_full w side (half_steps (half_of w side) given)
+takes_place w (Delivers from index) = arrives w from (slice_get (half_of w from).frames index)
 
 -- one event
 abbrev pub happens : WorldState → Event → Result WorldStep WorldFault
-happens w event.Open = unless_full w Client (half_opens w.client)
-happens w (event.Deliver from index) = arrives w from (slice_get (half_of w from).frames index)
+happens w event = takes_place w (happening_of event)
 
--- the side that acts
+-- the side that acts: the one that is called, or to which a frame is delivered
+abbrev pub acting_side : Happening → Side
+acting_side (Calls side given) = side
+acting_side (Delivers from index) = other from
+
 abbrev pub actor : Event → Side
-actor event.Open = Client
-actor (event.Deliver from index) = other from
+actor event = acting_side (happening_of event)
 
--- A delivery whose index is not below the number of frames of its sender.
+-- a delivery whose index is not below the number of frames of its sender
+abbrev pub IsUnsent : WorldState → Happening → Type 0
+IsUnsent w (Calls side given) = ⊥
+IsUnsent w (Delivers from index) = length (half_of w from).frames ≤ index
+
 abbrev pub LacksFrame : WorldState → Event → Type 0
-LacksFrame w event.Open = ⊥
-LacksFrame w (event.Deliver from index) = length (half_of w from).frames ≤ index
+LacksFrame w event = IsUnsent w (happening_of event)
 
 -- The side that would act has sent 2^47 - 1 frames.
 abbrev pub ActorIsFull : WorldState → Event → Type 0

@@ -1,5 +1,5 @@
 //! One side of the world: an end, the frames that it ever sent, and the numbers that it processed.
-ghost use Rattle.std.specs.Prelude.{◌≡◌, ◌≤◌, length};
+ghost use Rattle.std.specs.Prelude.{◌≡◌, ◌≤◌, [], length};
 ghost use Rattle.dccp_endpoint.specs.Receiving.{receives};
 
 use crate::frames::{keep_frame, take_memory};
@@ -33,7 +33,8 @@ impl Model for HalfWorld {
 
 impl HalfWorld {
     ghost use Rattle.std.specs.Prelude.{◌≡◌, ◌≤◌, ◌<◌, length, IfOk, OnErr, Ok};
-    ghost use Rattle.two_ends.specs.World.{half_at_start, half_opens, half_receives};
+    ghost use Rattle.dccp_endpoint.specs.Inputs.{Arrives, Opens};
+    ghost use Rattle.two_ends.specs.World.{half_at_start, half_steps};
 
     pub(crate) fn new(alloc: Global, config: Config) -> Result<HalfWorld, NoMemory>
         ensures { IfOk result (λ half. half ≡ half_at_start config) }
@@ -68,7 +69,7 @@ impl HalfWorld {
 
     // The client opens. All memory that the step may need is taken before the end is touched.
     pub(crate) fn open(&mut self) -> Result<Seen, NoMemory>
-        ensures ok { IfOk result (λ seen. record { half = self.new; seen = seen } ≡ half_opens self.old) }
+        ensures ok { IfOk result (λ seen. record { half = self.new; seen = seen } ≡ half_steps self.old Opens) }
         ensures err { OnErr result (self.new ≡ self.old) }
     {
         take_memory(&mut self.frames, &mut self.spare)?;
@@ -93,7 +94,7 @@ impl HalfWorld {
     // A frame of the other side arrives.
     pub(crate) fn receive(&mut self, bytes: &[u8]) -> Result<Seen, NoMemory>
         requires { length bytes.now ≤ 2044 }
-        ensures ok { IfOk result (λ seen. record { half = self.new; seen = seen } ≡ half_receives self.old bytes.now) }
+        ensures ok { IfOk result (λ seen. record { half = self.new; seen = seen } ≡ half_steps self.old (Arrives bytes.now)) }
         ensures err { OnErr result (self.new ≡ self.old) }
     {
         take_memory(&mut self.frames, &mut self.spare)?;
@@ -116,7 +117,7 @@ impl HalfWorld {
 // The step of the end alone.
 fn arrive(end: &mut Endpoint, bytes: &[u8], out: &mut Outbox) -> Outcome
     requires { length bytes.now ≤ 2044 }
-    ensures { record { after = end.new; frame = out.new; answer = result } ≡ receives end.old bytes.now }
+    ensures { record { after = end.new; frame = out.new; calls = []; answer = result } ≡ receives end.old bytes.now }
 {
     end.receive(bytes, out)
 }

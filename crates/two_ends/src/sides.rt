@@ -1,6 +1,7 @@
 //! The two sides together, and exactly what an event makes of them.
 ghost use Rattle.std.specs.Prelude.{◌≡◌, ◌≢◌, ◌↔◌, Ok, Err, None, IfOk, IfSome, IsSome, OnErr, true, false, slice_get};
-ghost use Rattle.two_ends.specs.World.{is_full, half_opens, half_receives};
+ghost use Rattle.dccp_endpoint.specs.Inputs.{Arrives, Opens};
+ghost use Rattle.two_ends.specs.World.{is_full, half_steps};
 
 use crate::half::HalfWorld;
 use crate::{Event, Seen, SentFrame, Side, WorldFault};
@@ -28,7 +29,7 @@ impl Model for Sides {
 
 impl Sides {
     ghost use Rattle.std.specs.Prelude.{◌≡◌, ◌↔◌, ◌⊎◌, IfOk, IfErr, OnErr, Ok, Err, slice_get, Option, Some, None};
-    ghost use Rattle.two_ends.specs.World.{at_start, happens, half_of, unless_full, half_opens, arrives, LacksFrame, ActorIsFull};
+    ghost use Rattle.two_ends.specs.World.{at_start, happens, half_of, unless_full, half_steps, arrives, LacksFrame, ActorIsFull};
 
     pub(crate) fn new(alloc: Global, client: Config, server: Config) -> Result<Sides, NoMemory>
         ensures { IfOk result (λ sides. sides ≡ at_start client server) }
@@ -78,7 +79,7 @@ fn is_full(half: &HalfWorld) -> bool
 }
 
 fn open(half: &mut HalfWorld) -> Result<Seen, WorldFault>
-    ensures ok { IfOk result (λ seen. (is_full half.old ≡ false) × (record { half = half.new; seen = seen } ≡ half_opens half.old)) }
+    ensures ok { IfOk result (λ seen. (is_full half.old ≡ false) × (record { half = half.new; seen = seen } ≡ half_steps half.old Opens)) }
     ensures full { (result ≡ Err WorldFault.Full) ↔ (is_full half.old ≡ true) }
     ensures there { result ≢ Err WorldFault.NoSuchFrame }
     ensures err { OnErr result (half.new ≡ half.old) }
@@ -93,7 +94,7 @@ fn open(half: &mut HalfWorld) -> Result<Seen, WorldFault>
 }
 
 fn deliver(frames: &[SentFrame], index: u64, half: &mut HalfWorld) -> Result<Seen, WorldFault>
-    ensures ok { IfOk result (λ seen. IfSome (slice_get frames.now index) (λ frame. (is_full half.old ≡ false) × (record { half = half.new; seen = seen } ≡ half_receives half.old frame.bytes))) }
+    ensures ok { IfOk result (λ seen. IfSome (slice_get frames.now index) (λ frame. (is_full half.old ≡ false) × (record { half = half.new; seen = seen } ≡ half_steps half.old (Arrives frame.bytes)))) }
     ensures no_such_frame { (result ≡ Err WorldFault.NoSuchFrame) ↔ (slice_get frames.now index ≡ None) }
     ensures full { (result ≡ Err WorldFault.Full) ↔ (IsSome (slice_get frames.now index) × (is_full half.old ≡ true)) }
     ensures err { OnErr result (half.new ≡ half.old) }

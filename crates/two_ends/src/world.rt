@@ -1,6 +1,6 @@
 //! The world.
 ghost use Rattle.std.specs.Prelude.{◌≡◌, ◌<◌, ◌^◌, List};
-ghost use Rattle.two_ends.specs.Fits.{Fits};
+ghost use Rattle.dccp_endpoint.specs.Drafts.{Fits};
 ghost use Rattle.two_ends.specs.World.{at_start, run};
 ghost use Rattle.two_ends.specs.Numbered.{Facts};
 ghost use Rattle.two_ends.specs.Safe.{Safe};
@@ -10,7 +10,7 @@ ghost use Rattle.dccp_states.specs.declared.phase.Role.TheVariants as role;
 
 use crate::sides::Sides;
 use crate::{Event, Seen, SentFrame, Side, WorldFault};
-use dccp_endpoint::{Config, Endpoint};
+use dccp_endpoint::{Config, Endpoint, every_step_has_one_effect};
 use seq_circle::NoMemory;
 use std::alloc::Global;
 use std::marker::Model;
@@ -57,6 +57,7 @@ impl World {
         ensures safe { IfOk result (λ w. Safe w) }
         ensures facts { IfOk result (λ w. Facts w) }
     {
+        every_step_has_one_effect();
         config_fits(&client);
         config_fits(&server);
         let sides = Sides::new(alloc, client, server)?;
@@ -82,6 +83,7 @@ impl World {
         ensures safe { Safe self.new }
         ensures facts { Facts self.new }
     {
+        every_step_has_one_effect();
         self.sides.step(event)
     }
 
@@ -129,7 +131,9 @@ fn service_fits(service: u32)
 /// their widths.
 pub fn every_run_is_safe()
     ensures { (client server : Config) (events : List Event) → client.role ≡ role.Client → server.role ≡ role.Server → Fits client → Fits server → Safe (run (at_start client server) events) }
-{}
+{
+    every_step_has_one_effect();
+}
 
 /// The world's facts after every list of events, from any two configurations, whatever their roles, whose fields fit their
 /// widths. A side's frames, but for Resets without a connection, carry its first number, the next, and so on up
@@ -140,4 +144,6 @@ pub fn every_run_is_safe()
 /// received numbers, nor GAR, nor a feature.
 pub fn every_run_numbers_its_frames()
     ensures { (client server : Config) (events : List Event) → Fits client → Fits server → Facts (run (at_start client server) events) }
-{}
+{
+    every_step_has_one_effect();
+}

@@ -1,0 +1,178 @@
+-- Facts of two sides, and the one induction over all schedules.
+--
+-- A fact speaks of a side and its peer. It holds at the start, and a step of either side keeps it (`Keeps`), by facts that were proved
+-- before. `run-held` carries it through every schedule. Nothing here or there knows what an end does but its effect.
+use Rattle.std.proofs.Common.{◌≡◌, refl, ap, sym, ◌∙◌, subst, ◌-◌, ◌^◌, ◌<◌, ℕ, List, [], ◌∷◌, ◌++◌, Option, Some, None, true, false, Bool, if◌then◌else◌, Result, Ok, Err, slice_get, length, length-append, ◌≤◌, arith}
+use Rattle.dccp_endpoint.specs.Causes.{EveryStepHasOneEffect, IsCaused}
+use Rattle.dccp_endpoint.specs.Effects.{Effect, Sending, Silent, Next, WithoutConnection, end_after, frame_by}
+use Rattle.dccp_endpoint.specs.End.{EndState, IsProper, floor_of}
+use Rattle.dccp_endpoint.specs.Inputs.{Arrives, Input, stepped}
+use Rattle.dccp_endpoint.specs.Steps.{Step}
+use Rattle.dccp_endpoint.specs.declared.config.Config.{Config}
+use Rattle.two_ends.specs.declared.event.Event.{Event}
+use Rattle.two_ends.specs.declared.event.Event.TheVariants as event
+use Rattle.two_ends.specs.declared.event.Side.{Side}
+use Rattle.two_ends.specs.declared.event.Side.TheVariants.{Client, Server}
+use Rattle.two_ends.specs.declared.event.WorldFault.{WorldFault}
+use Rattle.two_ends.specs.declared.event.WorldFault.TheVariants as fault
+use Rattle.two_ends.specs.declared.frames.SentFrame.{SentFrame}
+use Rattle.dccp_endpoint.specs.Drafts.{Fits}
+use Rattle.two_ends.specs.World.{Half, WorldState, WorldStep, Happening, Calls, Delivers, happening_of, kept, moved, half_of, half_at_start, half_steps, other, with_half, happens, arrives, takes_place, unless_full, is_full, world_after, run, at_start}
+use Rattle.two_ends.proofs.Logged.{Logged}
+use Rattle.two_ends.proofs.ReadBack.{IsFromPeer}
+
+-- a side, with what its numbered frames carry
+pub record Party : Type 0 where
+  pub half : Half
+  pub log : List Logged
+
+abbrev pub end_of : Party → EndState
+end_of x = x.half.end
+
+abbrev pub config_of : Party → Config
+config_of x = x.half.end.config
+
+-- what comes to the log
+abbrev pub logged_by : ℕ → ℕ → Sending → List Logged
+logged_by processed floor Silent = []
+logged_by processed floor (Next draft) = record { draft = draft; processed = processed; floor = floor } ∷ []
+logged_by processed floor (WithoutConnection number kind) = []
+
+pub longer : (log : List Logged) (processed floor : ℕ) (s : Sending) → length log ≤ length (log ++ logged_by processed floor s)
+longer log processed floor s = omega (arith, length-append log (logged_by processed floor s))
+
+abbrev pub half_after : Half → Effect → Half
+half_after half f =
+    record half {
+      end = end_after half.end f;
+      frames = half.frames ++ kept (length half.processed) (floor_of (end_after half.end f)) (frame_by half.end f.sending);
+    }
+
+-- a side after a step with this effect
+abbrev pub after_by : Party → Effect → Party
+after_by x f =
+    record {
+      half = half_after x.half f;
+      log = x.log ++ logged_by (length x.half.processed) (floor_of (end_after x.half.end f)) f.sending;
+    }
+
+abbrev pub at_beginning : Config → Party
+at_beginning config = record { half = half_at_start config; log = [] }
+
+-- One step of x, with its effect. What arrives, if anything, is a frame of y.
+pub record IsStep (x y : Party) (given : Input) (f : Effect) : Type 0 where
+  pub room : length x.half.frames < 2 ^ 47 - 1
+  pub from_peer : IsFromPeer y.half.frames given
+  pub because : IsCaused x.half.end given f
+
+-- a fact that needs no earlier one
+abbrev pub NoFact : Party → Party → Type 0
+NoFact x y = Unit {0}
+
+-- Every step keeps the fact, of the side that acts and of the other, where earlier facts hold of both.
+pub record Keeps (Earlier This : Party → Party → Type 0) : Type 0 where
+  pub starts : (own peer : Config) → Fits own → Fits peer → This (at_beginning own) (at_beginning peer)
+  pub acting : (x y : Party) (given : Input) (f : Effect) → IsStep x y given f → Earlier x y → Earlier y x → This x y → This y x → This (after_by x f) y
+  pub waiting : (x y : Party) (given : Input) (f : Effect) → IsStep x y given f → Earlier x y → Earlier y x → This x y → This y x → This y (after_by x f)
+
+abbrev pub party_of : WorldState → (Side → List Logged) → Side → Party
+party_of w logs side = record { half = half_of w side; log = logs side }
+
+-- A fact of both sides, with their logs.
+pub record IsHeld (This : Party → Party → Type 0) (w : WorldState) : Type 0 where
+  pub logs : Side → List Logged
+  pub holds : (side : Side) → This (party_of w logs side) (party_of w logs (other side))
+
+abbrev with_log : (Side → List Logged) → Side → List Logged → Side → List Logged
+with_log logs Client log Client = log
+with_log logs Client log Server = logs Server
+with_log logs Server log Client = logs Client
+with_log logs Server log Server = log
+
+moved-after : {Answer : Type 0} (half : Half) (step : Step Answer) (f : Effect) → step.after ≡ end_after half.end f → step.frame ≡ frame_by half.end f.sending
+    → moved half step ≡ half_after half f
+moved-after half step f after frame =
+    ap (λ (e : EndState). record half { end = e; frames = half.frames ++ kept (length half.processed) (floor_of e) step.frame }) after
+    ∙ ap (λ (sent : Option (List ℕ)). record half { end = end_after half.end f; frames = half.frames ++ kept (length half.processed) (floor_of (end_after half.end f)) sent }) frame
+
+not-full : (half : Half) → is_full half ≡ false → length half.frames < 2 ^ 47 - 1
+not-full half room = grind arith
+
+-- an event delivers what the other side sent, and nothing else
+abbrev IsCall : Happening → Type 0
+IsCall (Calls side (Arrives bytes)) = ⊥
+IsCall _ = Unit {0}
+
+is-call : (e : Event) → IsCall (happening_of e)
+is-call (event.Deliver from index) = tt
+is-call _ = tt
+
+call-given : (side : Side) (given : Input) (frames : List SentFrame) → IsCall (Calls side given) → IsFromPeer frames given
+call-given side (Arrives bytes) frames is = absurd is
+call-given side _ frames is = tt
+
+frame-given : (w : WorldState) (from : Side) (index : ℕ) (frame : SentFrame) → slice_get (half_of w from).frames index ≡ Some frame
+    → IsFromPeer (half_of w (other (other from))).frames (Arrives frame.bytes)
+frame-given w Client index frame there = record { index = index; frame = frame; is_there = there; same = refl }
+frame-given w Server index frame there = record { index = index; frame = frame; is_there = there; same = refl }
+
+module _ (This : Party → Party → Type 0) (keeps : Keeps NoFact This) (proper : (x y : Party) → This x y → IsProper x.half.end) (effects : EveryStepHasOneEffect) where
+  peer-holds : (w : WorldState) (h : IsHeld This w) (side : Side) → This (party_of w h.logs (other side)) (party_of w h.logs side)
+  peer-holds w h Client = h.holds Server
+  peer-holds w h Server = h.holds Client
+
+  both-hold : (w : WorldState) (logs : Side → List Logged) (side : Side) (x : Party) → This x (party_of w logs (other side)) → This (party_of w logs (other side)) x
+      → (s : Side) → This (party_of (with_half w side x.half) (with_log logs side x.log) s) (party_of (with_half w side x.half) (with_log logs side x.log) (other s))
+  both-hold w logs Client x here there Client = here
+  both-hold w logs Client x here there Server = there
+  both-hold w logs Server x here there Client = there
+  both-hold w logs Server x here there Server = here
+
+  side-held : (w : WorldState) (side : Side) (given : Input) → is_full (half_of w side) ≡ false → IsFromPeer (half_of w (other side)).frames given → IsHeld This w
+      → IsHeld This (with_half w side (half_steps (half_of w side) given).half)
+  side-held w side given room from h =
+      let x : Party = party_of w h.logs side in
+      let y : Party = party_of w h.logs (other side) in
+      let has = effects x.half.end given (proper x y (h.holds side)) in
+      let step : IsStep x y given has.effect = record { room = not-full x.half room; from_peer = from; because = has.because } in
+      subst (λ (half : Half). IsHeld This (with_half w side half)) (sym (moved-after x.half (stepped x.half.end given) has.effect has.after_is has.frame_is))
+      (record {
+        logs = with_log h.logs side (after_by x has.effect).log;
+        holds =
+            both-hold w h.logs side (after_by x has.effect) (keeps.acting x y given has.effect step tt tt (h.holds side) (peer-holds w h side))
+            (keeps.waiting x y given has.effect step tt tt (h.holds side) (peer-holds w h side));
+      })
+
+  unless-held : (w : WorldState) (full : Bool) (step : Result WorldStep WorldFault) → IsHeld This w → (full ≡ false → IsHeld This (world_after w step))
+      → IsHeld This (world_after w (if full then Err fault.Full else step))
+  unless-held w true step h after = h
+  unless-held w false step h after = after refl
+
+  full-held : (w : WorldState) (side : Side) (given : Input) → IsFromPeer (half_of w (other side)).frames given → IsHeld This w
+      → IsHeld This (world_after w (unless_full w side (half_steps (half_of w side) given)))
+  full-held w side given from h =
+      unless-held w (is_full (half_of w side)) (Ok (record { world = with_half w side (half_steps (half_of w side) given).half; seen = (half_steps (half_of w side) given).seen }))
+      h (λ room. side-held w side given room from h)
+
+  arrives-held : (w : WorldState) (from : Side) (index : ℕ) (frame : Option SentFrame) → slice_get (half_of w from).frames index ≡ frame → IsHeld This w
+      → IsHeld This (world_after w (arrives w from frame))
+  arrives-held w from index None there h = h
+  arrives-held w from index (Some frame) there h = full-held w (other from) (Arrives frame.bytes) (frame-given w from index frame there) h
+
+  takes-held : (w : WorldState) (what : Happening) → IsCall what → IsHeld This w → IsHeld This (world_after w (takes_place w what))
+  takes-held w (Calls side given) is h = full-held w side given (call-given side given (half_of w (other side)).frames is) h
+  takes-held w (Delivers from index) is h = arrives-held w from index (slice_get (half_of w from).frames index) refl h
+
+  held-from : (w : WorldState) (events : List Event) → IsHeld This w → IsHeld This (run w events)
+  held-from w [] h = h
+  held-from w (e ∷ events) h = held-from (world_after w (happens w e)) events (takes-held w (happening_of e) (is-call e) h)
+
+  start-holds : (client server : Config) → Fits client → Fits server → (side : Side)
+      → This (party_of (at_start client server) (λ s. []) side) (party_of (at_start client server) (λ s. []) (other side))
+  start-holds client server client_fits server_fits Client = keeps.starts client server client_fits server_fits
+  start-holds client server client_fits server_fits Server = keeps.starts server client server_fits client_fits
+
+  -- What the start has and each step keeps, holds after every schedule.
+  pub run-held : (client server : Config) (events : List Event) → Fits client → Fits server → IsHeld This (run (at_start client server) events)
+  run-held client server events client_fits server_fits =
+      held-from (at_start client server) events (record { logs = λ s. []; holds = start-holds client server client_fits server_fits })
