@@ -1,5 +1,8 @@
 -- What the numbered frames of a side carry is one list: the n-th of them, from 0, stands at place n.
 use Rattle.std.proofs.Common.{◌≡◌, refl, ap, subst, ℕ, ◌+◌, zero, suc, ◌≤◌, List, [], ◌∷◌, ◌++◌, Some, slice_get, length, true, false, arith}
+use Rattle.std.proofs.lemmas.List.Elements.{All-get_or}
+use Rattle.std.proofs.lemmas.Option.{get_or_from_slice_get, slice_get_within}
+use Rattle.std.specs.List.{All}
 use Rattle.seq_circle.specs.Circle.{residue}
 use Rattle.dccp_packets.specs.declared.header.Kind.{Kind}
 use Rattle.dccp_endpoint.specs.Causes.{is_without_connection}
@@ -92,20 +95,6 @@ found config _ _ _ zero frame (Unnumbered first head frames log here rest) there
     subst (λ (f : SentFrame). Found config first log f) (the-same head frame there) (Nowhere here)
 found config _ _ _ (suc index) frame (Unnumbered first head frames log here rest) there = found config first frames log index frame rest there
 
--- the last of a list with one more at its end, or one of those before it
-pub data IsAmong {A : Type 0} (xs : List A) (last : A) (place : ℕ) (x : A) : Type 0 where
-  Before : slice_get xs place ≡ Some x → IsAmong xs last place x
-  Last : place ≡ length xs → last ≡ x → IsAmong xs last place x
-
-among-later : {A : Type 0} (first : A) (xs : List A) (last : A) (place : ℕ) (x : A) → IsAmong xs last place x
-    → IsAmong (first ∷ xs) last (suc place) x
-among-later first xs last place x (Before there) = Before there
-among-later first xs last place x (Last is same) = Last (ap suc is) same
-
-pub among : {A : Type 0} (xs : List A) (last : A) (place : ℕ) (x : A) → slice_get (xs ++ last ∷ []) place ≡ Some x → IsAmong xs last place x
-among [] last zero x there =
-    let some : Some last ≡ Some x = there in
-    Last refl (cc some)
-among [] last (suc place) x there = cc there
-among (head ∷ xs) last zero x there = Before there
-among (head ∷ xs) last (suc place) x there = among-later head xs last place x (among xs last place x there)
+-- what holds of each member of a log
+pub at-place : (P : Logged → Type 0) (log : List Logged) (place : ℕ) (l : Logged) → All P log → slice_get log place ≡ Some l → P l
+at-place P log place l all there = subst P (get_or_from_slice_get log place l l there) (All-get_or P log place l (slice_get_within log place l there) all)

@@ -24,7 +24,8 @@ use std::marker::Model;
 /// and TIMEWAIT numbers that are 0 may mean none), that and its greatest number received are numbers of such frames of
 /// the other side, and the first is not the later one. Once it has sent such a frame, GAR, the greatest acknowledgement
 /// number that it received or its first number, is the number of one of its own. A Reset that arrives moves nothing
-/// received, nothing acknowledged and no feature.
+/// received, nothing acknowledged and no feature. No frame says two things of one feature and side, and none has an Ack Vector
+/// without an acknowledgement number.
 #[derive(Drop)]
 pub struct World {
     sides: Sides,
@@ -71,8 +72,8 @@ impl World {
     ///
     /// After it, refused or not, the world is safe and its facts hold: the frames of a side but Resets without a connection
     /// carry its first number, the next, and so on; once an end has received a first number, what it heard are numbers of
-    /// the other side's frames; once it has sent a numbered frame, GAR is the number of one; and a Reset moves nothing
-    /// received.
+    /// the other side's frames; once it has sent a numbered frame, GAR is the number of one; a Reset moves nothing received;
+    /// and no frame says two things of one feature and side.
     pub fn step(&mut self, event: &Event) -> Result<Seen, WorldFault>
         ensures ok { IfOk result (λ seen. happens self.old event.now ≡ Ok (record { world = self.new; seen = seen })) }
         ensures no_such_frame { (result ≡ Err WorldFault.NoSuchFrame) ↔ (happens self.old event.now ≡ Err WorldFault.NoSuchFrame) }
@@ -141,7 +142,8 @@ pub fn every_run_is_safe()
 /// connection, whose code is 3 or a server's 8, carries no option. Once an end has received a first number, that and
 /// its greatest number received are numbers of numbered frames of the other side, and the first is not the later one;
 /// once it has sent a numbered frame, GAR is the number of one of its own. A Reset that arrives moves neither the
-/// received numbers, nor GAR, nor a feature.
+/// received numbers, nor GAR, nor a feature. No frame says two things of one feature and side, and none has an Ack Vector
+/// without an acknowledgement number.
 pub fn every_run_numbers_its_frames()
     ensures { (client server : Config) (events : List Event) → Fits client → Fits server → Facts (run (at_start client server) events) }
 {
