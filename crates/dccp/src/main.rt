@@ -3,22 +3,32 @@
 
 use dccp_command::{Status, dccp};
 use dccp_io::{StdSink, StdSource};
+use std::alloc::AllocError;
 use std::env;
+use std::io::ErrorKind;
 use std::process::ExitCode;
 
 fn main(rt: HostRuntime) -> ExitCode {
     let mut input = StdSource::new(rt.stdin());
     let mut output = StdSink::new(rt.stdout());
+    match words_of(&rt) {
+        Ok(words) => code(dccp(&rt, rt.alloc(), &words, &mut input, &mut output)),
+        Err(AllocError) => code(Status::Memory),
+    }
+}
+
+// The words after the program's name. Where one is not UTF-8 they are none of the tool's forms, and neither are no words.
+fn words_of(rt: &HostRuntime) -> Result<Vec<String>, AllocError> {
     let mut words = Vec::new(rt.alloc());
-    let Ok(all) = env::args(&rt) else {
-        return code(Status::Memory);
+    let all = match env::args(rt) {
+        Ok(all) => all,
+        Err(error) if error.kind() == ErrorKind::InvalidData => return Ok(words),
+        Err(_) => return Err(AllocError),
     };
     for word in all.skip(1) {
-        if words.push(word).is_err() {
-            return code(Status::Memory);
-        }
+        words.push(word)?;
     }
-    code(dccp(&rt, rt.alloc(), &words, &mut input, &mut output))
+    Ok(words)
 }
 
 // The exit status of a call's status.

@@ -1,5 +1,5 @@
-pub mod Along
 pub mod Ending
 pub mod FirstLine
-pub mod Leading
+pub mod HexText
+pub mod LoopInvariant
 mod Spelling

@@ -1,5 +1,6 @@
 -- Words of the tool's texts (own).
-use Rattle.std.specs.Prelude.{ℕ, List, [], codes}
+use Rattle.std.specs.Prelude.{ℕ, List, [], ◌∷◌, codes}
+use Rattle.hex.specs.Hex.{encode_lower}
 use Rattle.dccp_states.specs.declared.phase.Phase.{Phase}
 use Rattle.dccp_states.specs.declared.phase.Phase.TheVariants as phase
 use Rattle.dccp_endpoint.specs.declared.held.Stand.{Stand}
@@ -14,6 +15,8 @@ use Rattle.two_ends.specs.declared.event.Side.{Side}
 use Rattle.two_ends.specs.declared.event.Side.TheVariants.{Client, Server}
 use Rattle.two_ends.specs.declared.event.Refusal.{Refusal}
 use Rattle.two_ends.specs.declared.event.Refusal.TheVariants as refusal
+use Rattle.dccp_command.specs.declared.fault.LineWhy.{LineWhy}
+use Rattle.dccp_command.specs.declared.fault.LineWhy.TheVariants as line_why
 
 abbrev pub side_name : Side → List ℕ
 side_name Client = codes "client"
@@ -62,3 +65,13 @@ why_name why.BadSync = codes "BadSync"
 
 abbrev pub refusal_name : Refusal → List ℕ
 refusal_name refusal.NotFresh = codes "NotFresh"
+
+-- why a line is refused
+abbrev pub line_why_name : LineWhy → List ℕ
+line_why_name line_why.NoSuchFrame = codes "NoSuchFrame"
+line_why_name line_why.NotBuilt = codes "NotBuilt"
+
+-- bytes in lower-case hexadecimal, or a dash where there are none
+abbrev pub hex_text : List ℕ → List ℕ
+hex_text [] = codes "-"
+hex_text (byte ∷ bytes) = encode_lower (byte ∷ bytes)

@@ -1,33 +1,46 @@
--- What the tool's words mean, and what its one call may leave written (own).
-use Rattle.std.specs.Prelude.{◌≡◌, ◌⊎◌, ℕ, Bool, false, List, [], ◌∷◌, take, codes, Option, String, string_bytes}
-use Rattle.std.specs.Str.{bytes_eq}
+-- What the tool's one call may leave written, and why it ends (own).
+use Rattle.std.specs.Prelude.{◌≡◌, ◌⊎◌, ℕ, Bool, true, false, List, [], take, Option, Some}
 use Rattle.std.specs.Io.KnownBytes.{append_known}
-use Rattle.std.specs.declared.alloc.Global.{Global}
+use Rattle.dccp_io.specs.Counts.{Rose}
 use Rattle.dccp_command.specs.declared.top.Status.{Status}
 use Rattle.dccp_command.specs.declared.top.Status.TheVariants as status
 
--- the words of the one form that is built: `run` alone
-abbrev pub is_run : List (String Global) → Bool
-is_run [] = false
-is_run (word ∷ []) = bytes_eq (string_bytes word) (codes "run")
-is_run (word ∷ (next ∷ words)) = false
-
--- the line that answers all other words
-abbrev pub usage : List ℕ
-usage = codes "usage: dccp run | replay --side server|client [--plain] | campaign --first F --seeds N --events E --workers W | show\n"
-
--- a sink that tells what it took has taken this text
+-- A sink that tells what it took has taken this text.
 abbrev pub HasTaken : Option (List ℕ) → Option (List ℕ) → List ℕ → Type 0
 HasTaken before after text = after ≡ append_known before text
 
--- it has taken a front of this text
+-- It has taken the first bytes of this text, some or none or all.
 abbrev pub HasBegun : Option (List ℕ) → Option (List ℕ) → List ℕ → Type 0
 HasBegun before after text = (n : ℕ) × (after ≡ append_known before (take n text))
 
--- the whole job was done, or the input was refused: both write all that there is to write
+-- A sink's counts show that it failed, or took no byte of a piece that was not empty.
+abbrev pub SinkFailed : ℕ → ℕ → ℕ → ℕ → Type 0
+SinkFailed faults faults_after takes takes_after = Rose faults faults_after ⊎ Rose takes takes_after
+
+-- A text was written as far as the sink took it, and whole unless the sink failed.
+pub record IsWritten (text : List ℕ) (before after : Option (List ℕ)) (sink_failed : Type 0) : Type 0 where
+  pub front : HasBegun before after text
+  pub whole : (sink_failed → ⊥) → HasTaken before after text
+
+-- The whole job was done, or the input was refused: both write all that there is to write.
 abbrev pub IsAnswered : Status → Type 0
 IsAnswered result = (result ≡ status.Done) ⊎ (result ≡ status.Input)
 
--- a fault or want of memory ended the job
+-- A fault or want of memory ended the job.
 abbrev pub IsCutOff : Status → Type 0
 IsCutOff result = (result ≡ status.Read) ⊎ ((result ≡ status.Write) ⊎ (result ≡ status.Memory))
+
+-- What a form that reads its input owes, where that input has this text and is refused or not: an answer is the whole text, what was
+-- cut off is a front of it, Done leaves nothing to read, and Done and Input say whether the input was refused.
+pub record Answers (text : List ℕ) (is_refused : Bool) (result : Status) (left before after : Option (List ℕ)) : Type 0 where
+  pub whole : IsAnswered result → HasTaken before after text
+  pub front : IsCutOff result → HasBegun before after text
+  pub done : result ≡ status.Done → (is_refused ≡ false) × (left ≡ Some [])
+  pub input : result ≡ status.Input → is_refused ≡ true
+
+-- Why a form ends: with Read only where the source failed, with Write only where the sink did, and where neither failed with an
+-- answer, if memory is found.
+pub record EndsForCause (result : Status) (source_failed sink_failed : Type 0) : Type 0 where
+  pub read : result ≡ status.Read → source_failed
+  pub write : result ≡ status.Write → sink_failed
+  pub complete : (source_failed → ⊥) → (sink_failed → ⊥) → IsAnswered result ⊎ (result ≡ status.Memory)

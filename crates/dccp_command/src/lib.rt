@@ -4,6 +4,7 @@
 //! clock, starts no thread, and reads and writes nothing but the source and the sink that it is lent.
 #![tactic(auto)]
 
+mod fault;
 mod laws;
 mod lines;
 mod play;
@@ -14,6 +15,8 @@ mod tests;
 mod text;
 mod top;
 mod transcript;
+mod words;
 
 pub use crate::laws::lines_are_their_forms;
 pub use crate::top::{Status, dccp};
+pub use crate::words::Form;

@@ -1,12 +1,12 @@
 //! A schedule while it is played.
-ghost use Rattle.std.specs.Prelude.{◌≡◌, ◌+◌, ◌<◌, ◌^◌, ◌++◌, length, IfOk, OnOk, true, false};
-ghost use Rattle.two_ends.specs.Safe.{Safe};
-ghost use Rattle.dccp_command.specs.Transcript.{first_play, judged, Judges, behind, says_plain, says_event, is_built, not_built, no_such_frame, refusal_line, by_line};
+ghost use Rattle.std.specs.Prelude.{◌≡◌, ◌+◌, ◌<◌, ◌^◌, ◌++◌, length, ℕ, List, IfOk, OnOk, Some, Ok};
+ghost use Rattle.dccp_command.specs.Shown.{end_lines};
+ghost use Rattle.dccp_command.specs.Transcript.{first_play, world_of, IsReady, IsBehind, Shows, event_shown, Judges, judged, by_line, behind, says_plain, says_event, is_built, not_built, no_such_frame};
 
+use crate::fault::{LineFault, LineWhy};
 use crate::lines::text_of;
 use crate::schedule::{Line, read_line};
-use crate::show::{put_event_line, put_sent_line};
-use crate::text::{put, put_number};
+use crate::show::{arrived, put_end_lines, put_event_line, put_sent_line};
 use dccp_endpoint::{Config, Outcome, Role};
 use seq_circle::NoMemory;
 use std::alloc::Global;
@@ -27,72 +27,76 @@ pub(crate) struct Play {
     pub(crate) plain: bool,
     /// How many events took place.
     pub(crate) events: u32,
-    /// The two ends.
-    pub(crate) world: World,
+    /// What the client is made from.
+    pub(crate) client: Config,
+    /// What the server is made from.
+    pub(crate) server: Config,
+    /// The two ends, from the first event on.
+    pub(crate) world: Option<World>,
 }
 
 impl Play {
-    // Before the first line: the two usual ends.
-    pub(crate) fn new(alloc: Global) -> Result<Play, NoMemory>
-        ensures start { IfOk result (λ play. play ≡ first_play) }
-        ensures safe { IfOk result (λ play. Safe play.world) }
+    /// Before the first line: the two usual ends are configured, and no event took place.
+    pub(crate) fn new() -> Play
+        ensures { result ≡ first_play }
     {
-        let client = Config::usual(Role::Client);
-        let server = Config::usual(Role::Server);
-        let world = World::new(alloc, client, server)?;
-        Ok(Play {
+        Play {
             number: 1,
             read: 0,
             plain: false,
             events: 0,
-            world,
-        })
+            client: Config::usual(Role::Client),
+            server: Config::usual(Role::Server),
+            world: None,
+        }
     }
 
-    // Plays one line, which has its newline. True where it is accepted; otherwise the text ends with its refusal.
-    pub(crate) fn judge(&mut self, line: &[u8], text: &mut Vec<u8>) -> Result<bool, NoMemory>
-        requires counted { self.old.number + 1 < 2 ^ 64 }
-        requires reached { self.old.read + length line.now < 2 ^ 64 }
-        requires safe { Safe self.old.world }
-        ensures verdict { IfOk result (λ accepted. Judges (judged self.old line.now) text.old.items text.new.items self.new accepted) }
-        ensures still_safe { OnOk result (Safe self.new.world) }
+    /// Plays one line, which has its newline, or answers why it is refused. The faults that need more than the line are
+    /// judged here, each at its place among those of the line itself: the limit of bytes before them, and behind them that
+    /// it has to stand before all events, the limit of events, what is not built, and a frame that was not sent.
+    pub(crate) fn judge(
+        &mut self,
+        alloc: Global,
+        line: &[u8],
+        text: &mut Vec<u8>,
+    ) -> Result<Result<(), LineFault>, NoMemory>
+        requires { IsReady self.old line.now }
+        ensures verdict { IfOk result (λ answer. Judges (judged self.old line.now) text.old.items text.new.items self.new answer) }
+        ensures onward { IfOk result (λ answer. answer ≡ Ok tt → IsBehind self.old line.now self.new) }
     {
         if MOST_BYTES < self.read + line.len() as u64 {
-            return self.refuse_unbuilt(text);
+            return Ok(Err(not_built()));
         }
         match read_line(text_of(line)) {
-            None => self.refuse_unbuilt(text),
+            None => Ok(Err(not_built())),
             Some(Line::Nothing) => {
                 self.pass(line);
-                Ok(true)
+                Ok(Ok(()))
             }
-            Some(Line::Plain) => self.say_plain(line, text),
-            Some(Line::Event(event)) => self.say_event(line, &event, text),
+            Some(Line::Plain) => Ok(self.say_plain(line)),
+            Some(Line::Event(event)) => self.say_event(alloc, line, &event, text),
         }
     }
 
     fn pass(&mut self, line: &[u8])
-        requires counted { self.old.number + 1 < 2 ^ 64 }
-        requires reached { self.old.read + length line.now < 2 ^ 64 }
+        requires { IsReady self.old line.now }
         ensures { self.new ≡ behind self.old line.now }
     {
         self.number += 1;
         self.read += line.len() as u64;
     }
 
-    fn say_plain(&mut self, line: &[u8], text: &mut Vec<u8>) -> Result<bool, NoMemory>
-        requires counted { self.old.number + 1 < 2 ^ 64 }
-        requires reached { self.old.read + length line.now < 2 ^ 64 }
-        requires safe { Safe self.old.world }
-        ensures verdict { IfOk result (λ accepted. Judges (says_plain self.old line.now) text.old.items text.new.items self.new accepted) }
-        ensures still_safe { OnOk result (Safe self.new.world) }
+    fn say_plain(&mut self, line: &[u8]) -> Result<(), LineFault>
+        requires { IsReady self.old line.now }
+        ensures verdict { (text : List ℕ) → Judges (says_plain self.old line.now) text text self.new result }
+        ensures onward { result ≡ Ok tt → IsBehind self.old line.now self.new }
     {
-        if self.events != 0 {
-            return self.refuse_unbuilt(text);
+        if self.world.is_some() {
+            return Err(not_built());
         }
         self.pass(line);
         self.plain = true;
-        Ok(true)
+        Ok(())
     }
 
     fn is_built(&self, event: &Event) -> bool
@@ -106,52 +110,96 @@ impl Play {
 
     fn say_event(
         &mut self,
+        alloc: Global,
         line: &[u8],
         event: &Event,
         text: &mut Vec<u8>,
-    ) -> Result<bool, NoMemory>
-        requires counted { self.old.number + 1 < 2 ^ 64 }
-        requires reached { self.old.read + length line.now < 2 ^ 64 }
-        requires safe { Safe self.old.world }
-        ensures verdict { IfOk result (λ accepted. Judges (says_event self.old line.now event.now) text.old.items text.new.items self.new accepted) }
-        ensures still_safe { OnOk result (Safe self.new.world) }
+    ) -> Result<Result<(), LineFault>, NoMemory>
+        requires { IsReady self.old line.now }
+        ensures verdict { IfOk result (λ answer. Judges (says_event self.old line.now event.now) text.old.items text.new.items self.new answer) }
+        ensures onward { IfOk result (λ answer. answer ≡ Ok tt → IsBehind self.old line.now self.new) }
     {
         if MOST_EVENTS <= self.events || !self.is_built(event) {
-            return self.refuse_unbuilt(text);
+            return Ok(Err(not_built()));
         }
-        let actor = event.actor();
-        let before = self.world.frames(actor).len();
-        match self.world.step(event) {
-            Ok(Seen::Received(Outcome::NotBuilt)) => self.refuse_unbuilt(text),
-            Ok(seen) => {
-                put_event_line(text, self.number, event, &seen)?;
-                put_sent_line(text, &self.world, actor, before)?;
-                self.pass(line);
-                self.events += 1;
-                Ok(true)
-            }
-            Err(WorldFault::NoSuchFrame) => self.refuse(9, b"NoSuchFrame", text),
-            Err(WorldFault::Full) => self.refuse_unbuilt(text),
-            Err(WorldFault::NoMemory) => Err(NoMemory),
+        self.make_world(alloc)?;
+        let Some(world) = &mut self.world else {
+            unreachable!()
+        };
+        let answer = show_event(world, self.number, event, text)?;
+        if answer.is_ok() {
+            self.pass(line);
+            self.events += 1;
         }
+        Ok(answer)
     }
 
-    fn refuse_unbuilt(&self, text: &mut Vec<u8>) -> Result<bool, NoMemory>
-        ensures { IfOk result (λ accepted. Judges (not_built self.now) text.old.items text.new.items self.now accepted) }
+    // Makes the world of the two configurations, where none is made yet.
+    fn make_world(&mut self, alloc: Global) -> Result<(), NoMemory>
+        requires client { self.old.client.role ≡ Role.Client }
+        requires server { self.old.server.role ≡ Role.Server }
+        ensures { OnOk result (self.new ≡ record self.old { world = Some (world_of self.old) }) }
     {
-        self.refuse(1, b"NotBuilt", text)
+        if self.world.is_none() {
+            let world = World::new(alloc, self.client, self.server)?;
+            self.world = Some(world);
+        }
+        Ok(())
     }
 
-    fn refuse(&self, column: u64, why: &[u8], text: &mut Vec<u8>) -> Result<bool, NoMemory>
-        ensures { IfOk result (λ accepted. (text.new.items ≡ text.old.items ++ refusal_line self.now.number column why.now) × (accepted ≡ false)) }
+    /// Puts the two lines at a schedule's end.
+    pub(crate) fn finish(&mut self, alloc: Global, text: &mut Vec<u8>) -> Result<(), NoMemory>
+        requires client { self.old.client.role ≡ Role.Client }
+        requires server { self.old.server.role ≡ Role.Server }
+        ensures { OnOk result (text.new.items ≡ text.old.items ++ end_lines (world_of self.old)) }
     {
-        put(text, b"line ")?;
-        put_number(text, self.number)?;
-        put(text, b" column ")?;
-        put_number(text, column)?;
-        put(text, b": ")?;
-        put(text, why)?;
-        put(text, b"\n")?;
-        Ok(false)
+        self.make_world(alloc)?;
+        match &self.world {
+            Some(world) => put_end_lines(text, world),
+            None => unreachable!(),
+        }
+    }
+}
+
+// Lets an event happen and puts its lines, or answers why its line is refused.
+fn show_event(
+    world: &mut World,
+    number: u64,
+    event: &Event,
+    text: &mut Vec<u8>,
+) -> Result<Result<(), LineFault>, NoMemory>
+    ensures { IfOk result (λ answer. Shows (event_shown number world.old event.now) text.old.items text.new.items world.new answer) }
+{
+    let actor = event.actor();
+    let before = world.frames(actor).len();
+    match world.step(event) {
+        Ok(Seen::Received(Outcome::NotBuilt)) => Ok(Err(not_built())),
+        Ok(seen) => {
+            put_event_line(text, number, event, arrived(world, event), &seen)?;
+            put_sent_line(text, world, actor, before)?;
+            Ok(Ok(()))
+        }
+        Err(WorldFault::NoSuchFrame) => Ok(Err(no_such_frame())),
+        Err(WorldFault::Full) => Ok(Err(not_built())),
+        Err(WorldFault::NoMemory) => Err(NoMemory),
+    }
+}
+
+fn not_built() -> LineFault
+    ensures { result ≡ not_built }
+{
+    LineFault {
+        column: 1,
+        why: LineWhy::NotBuilt,
+    }
+}
+
+// The name of a frame stands behind `deliver `.
+fn no_such_frame() -> LineFault
+    ensures { result ≡ no_such_frame }
+{
+    LineFault {
+        column: 9,
+        why: LineWhy::NoSuchFrame,
     }
 }

@@ -1,7 +1,7 @@
 //! The lines that `run` writes.
 ghost use Rattle.std.specs.Prelude.{◌≡◌, ◌++◌, List, ℕ, OnOk, Some, flat_map};
-ghost use Rattle.dccp_command.specs.Text.{side_name, side_letter, phase_name, stand_mark, malformed_name, sum_name, why_name, refusal_name};
-ghost use Rattle.dccp_command.specs.Shown.{frame_name, event_text, byte_text, outcome_text, seen_text, event_line, frame_line, sent_line, held_text, row_text, end_name, end_counts, end_rows, end_line, end_lines};
+ghost use Rattle.dccp_command.specs.Text.{side_name, side_letter, phase_name, stand_mark, malformed_name, sum_name, why_name, refusal_name, hex_text};
+ghost use Rattle.dccp_command.specs.Shown.{frame_name, event_text, byte_text, data_of, outcome_text, seen_text, arrived, event_line, frame_line, sent_line, held_text, row_text, end_name, end_counts, end_rows, end_line, end_lines};
 
 use crate::text::{put, put_hex, put_number};
 use dccp_endpoint::{Endpoint, Held, Outcome, Phase, Stand, Why};
@@ -144,11 +144,36 @@ fn put_detail(text: &mut Vec<u8>, detail: &[u8; 3]) -> Result<(), NoMemory>
     Ok(())
 }
 
-fn put_outcome(text: &mut Vec<u8>, outcome: &Outcome) -> Result<(), NoMemory>
-    ensures { OnOk result (text.new.items ≡ text.old.items ++ outcome_text outcome.now) }
+// The bytes from a place up to another, as far as there are such bytes.
+fn data_of(bytes: &[u8], place: (usize, usize)) -> &[u8]
+    ensures { result.now ≡ data_of bytes.now place }
+{
+    let (first, last) = place;
+    let end = last.min(bytes.len());
+    if first < end { &bytes[first..end] } else { &[] }
+}
+
+fn put_hex_text(text: &mut Vec<u8>, bytes: &[u8]) -> Result<(), NoMemory>
+    ensures { OnOk result (text.new.items ≡ text.old.items ++ hex_text bytes.now) }
+{
+    if bytes.is_empty() {
+        put(text, b"-")
+    } else {
+        put_hex(text, bytes)
+    }
+}
+
+fn put_outcome(text: &mut Vec<u8>, bytes: &[u8], outcome: &Outcome) -> Result<(), NoMemory>
+    ensures { OnOk result (text.new.items ≡ text.old.items ++ outcome_text bytes.now outcome.now) }
 {
     match *outcome {
-        Outcome::Took { .. } => put(text, b"took"),
+        Outcome::Took { delivered: None } => put(text, b"took"),
+        Outcome::Took {
+            delivered: Some(place),
+        } => {
+            put(text, b"took data ")?;
+            put_hex_text(text, data_of(bytes, place))
+        }
         Outcome::Dropped(why) => {
             put(text, b"dropped ")?;
             put(text, why_name(why))
@@ -170,8 +195,8 @@ fn put_outcome(text: &mut Vec<u8>, outcome: &Outcome) -> Result<(), NoMemory>
     }
 }
 
-fn put_seen(text: &mut Vec<u8>, seen: &Seen) -> Result<(), NoMemory>
-    ensures { OnOk result (text.new.items ≡ text.old.items ++ seen_text seen.now) }
+fn put_seen(text: &mut Vec<u8>, bytes: &[u8], seen: &Seen) -> Result<(), NoMemory>
+    ensures { OnOk result (text.new.items ≡ text.old.items ++ seen_text bytes.now seen.now) }
 {
     match seen {
         Seen::Called(Ok(())) => put(text, b"ok"),
@@ -179,24 +204,38 @@ fn put_seen(text: &mut Vec<u8>, seen: &Seen) -> Result<(), NoMemory>
             put(text, b"refused ")?;
             put(text, refusal_name(*fault))
         }
-        Seen::Received(outcome) => put_outcome(text, outcome),
+        Seen::Received(outcome) => put_outcome(text, bytes, outcome),
     }
 }
 
-/// Puts the line of an event that took place.
+/// The bytes of the frame that an event brought to an end; none for a call.
+pub(crate) fn arrived<'a>(world: &'a World, event: &Event) -> &'a [u8]
+    ensures { result.now ≡ arrived world.now event.now }
+{
+    match *event {
+        Event::Open => &[],
+        Event::Deliver { from, index } => match world.frames(from).get(index as usize) {
+            Some(frame) => frame.bytes.as_slice(),
+            None => &[],
+        },
+    }
+}
+
+/// Puts the line of an event that took place. `bytes` are those of the frame that arrived.
 pub(crate) fn put_event_line(
     text: &mut Vec<u8>,
     number: u64,
     event: &Event,
+    bytes: &[u8],
     seen: &Seen,
 ) -> Result<(), NoMemory>
-    ensures { OnOk result (text.new.items ≡ text.old.items ++ event_line number event.now seen.now) }
+    ensures { OnOk result (text.new.items ≡ text.old.items ++ event_line number event.now bytes.now seen.now) }
 {
     put_number(text, number)?;
     put(text, b" ")?;
     put_event(text, event)?;
     put(text, b": ")?;
-    put_seen(text, seen)?;
+    put_seen(text, bytes, seen)?;
     put(text, b"\n")
 }
 

@@ -1,9 +1,13 @@
 //! The worked schedules, and the words and streams of whole calls.
+use crate::show::put_event_line;
 use crate::{Status, dccp};
+use dccp_endpoint::Outcome;
 use dccp_io::{MemorySink, MemorySource};
+use hex::FromHex;
 use std::alloc::Global;
 use std::test::Fail;
 use std::thread::Threads;
+use two_ends::{Event, Seen, Side};
 
 const HANDSHAKE: &[u8] = b"plain\nopen\ndeliver c0\ndeliver s0\ndeliver c1\n";
 
@@ -153,6 +157,36 @@ line 3 column 1: NotBuilt\n";
         let (status, text) = played(&rt, rt.alloc(), schedule, ROOM)?;
         assert_eq!(rt; status, Status::Input, "{schedule:?}");
         assert_eq!(rt; text.as_slice(), want, "{schedule:?}");
+    }
+    Ok(())
+}
+
+// A DataAck with one byte of data at its end.
+#[test]
+fn delivered_data(rt: HostRuntime) -> Result<(), Fail> {
+    let frame = <[u8; 29]>::from_hex(
+        "9c4013890700503609000000000003ea00000000000007d126030000aa",
+    ).ok();
+    let bytes = frame.ok_or("no digits")?;
+    let event = Event::Deliver {
+        from: Side::Client,
+        index: 2,
+    };
+    for (delivered, want) in [
+        (None, b"9 deliver c2: took\n".as_slice()),
+        (Some((28, 29)), b"9 deliver c2: took data aa\n".as_slice()),
+        (Some((29, 29)), b"9 deliver c2: took data -\n".as_slice()),
+        (
+            Some((24, 29)),
+            b"9 deliver c2: took data 26030000aa\n".as_slice(),
+        ),
+    ] {
+        let seen = Seen::Received(Outcome::Took { delivered });
+        let mut text = Vec::new(rt.alloc());
+        put_event_line(&mut text, 9, &event, &bytes, &seen)
+            .ok()
+            .ok_or("no memory")?;
+        assert_eq!(rt; text.as_slice(), want, "{delivered:?}");
     }
     Ok(())
 }

@@ -1,16 +1,15 @@
-//! The top call.
-ghost use Rattle.std.specs.Prelude.{◌≡◌, ◌≢◌, ◌⊎◌, ◌↔◌, ℕ, List, [], Option, Some, true, false, if◌then◌else◌};
+//! The tool's one call.
+ghost use Rattle.std.specs.Prelude.{◌≡◌, ◌≢◌, ◌↔◌, ℕ, List, Some, None, if◌then◌else◌};
 ghost use Rattle.dccp_io.specs.Counts.{Rose};
 ghost use Rattle.dccp_command.specs.Transcript.{transcript, is_refused, SafeThroughout};
-ghost use Rattle.dccp_command.specs.Top.{is_run, usage, HasTaken, HasBegun, IsAnswered, IsCutOff};
+ghost use Rattle.dccp_command.specs.Words.{form_of, usage};
+ghost use Rattle.dccp_command.specs.Top.{SinkFailed, IsWritten, IsAnswered, Answers, EndsForCause};
 
 use crate::transcript::play_all;
+use crate::words::{Form, USAGE, form_of};
 use dccp_io::{InputFault, Sink, Source, read_all, write_all};
 use std::alloc::Global;
 use std::thread::Threads;
-
-const USAGE: &[u8] =
-    b"usage: dccp run | replay --side server|client [--plain] | campaign --first F --seeds N --events E --workers W | show\n";
 
 /// How a call of the tool ended (own), numbered from 0 as the program's exit status.
 #[derive(Clone, Copy, Debug, PartialEq, Eq)]
@@ -42,51 +41,32 @@ pub fn dccp<R: Threads + Sync, S: Source, K: Sink>(
     input: &mut S,
     output: &mut K,
 ) -> Status
-    // Other words come to the usage line, whatever the sink does, and no byte is read.
-    ensures words { (result ≡ Status.Words) ↔ (is_run words.now ≡ false) }
-    ensures unread { is_run words.now ≡ false → input.new ≡ input.old }
-    ensures usage_front { is_run words.now ≡ false → HasBegun (K.taken output.old) (K.taken output.new) usage }
-    ensures usage_whole { is_run words.now ≡ false → (Rose (K.faults output.old) (K.faults output.new) → ⊥)
-        → (Rose (K.empty_takes output.old) (K.empty_takes output.new) → ⊥) → HasTaken (K.taken output.old) (K.taken output.new) usage }
+    // Words that are none of the forms come to the usage line, as far as the sink takes it, and no byte is read.
+    ensures words { (result ≡ Status.Words) ↔ (form_of words.now ≡ None) }
+    ensures unread { form_of words.now ≡ None → input.new ≡ input.old }
+    ensures usage { form_of words.now ≡ None → IsWritten usage (K.taken output.old) (K.taken output.new)
+        (SinkFailed (K.faults output.old) (K.faults output.new) (K.empty_takes output.old) (K.empty_takes output.new)) }
 
-    // What is written of an input that the source tells, and what held meanwhile.
-    ensures transcript { IsAnswered result → (bytes : List ℕ) → S.left input.old ≡ Some bytes → HasTaken (K.taken output.old) (K.taken output.new) (transcript bytes) }
-    ensures safe { IsAnswered result → (bytes : List ℕ) → S.left input.old ≡ Some bytes → SafeThroughout bytes }
-    ensures front { IsCutOff result → (bytes : List ℕ) → S.left input.old ≡ Some bytes → HasBegun (K.taken output.old) (K.taken output.new) (transcript bytes) }
+    // `run`, over an input that the source tells: what is written and how it ends, and what held of the two ends meanwhile.
+    ensures transcript { form_of words.now ≡ Some Form.Run → (bytes : List ℕ) → S.left input.old ≡ Some bytes
+        → Answers (transcript bytes) (is_refused bytes) result (S.left input.new) (K.taken output.old) (K.taken output.new) }
+    ensures safe { form_of words.now ≡ Some Form.Run → (bytes : List ℕ) → S.left input.old ≡ Some bytes → IsAnswered result → SafeThroughout bytes }
 
-    // Why it ended.
-    ensures done { result ≡ Status.Done → (bytes : List ℕ) → S.left input.old ≡ Some bytes → (is_refused bytes ≡ false) × (S.left input.new ≡ Some []) }
-    ensures input { result ≡ Status.Input → (bytes : List ℕ) → S.left input.old ≡ Some bytes → is_refused bytes ≡ true }
-    ensures read { result ≡ Status.Read → Rose (S.faults input.old) (S.faults input.new) }
-    ensures write { result ≡ Status.Write → Rose (K.faults output.old) (K.faults output.new) ⊎ Rose (K.empty_takes output.old) (K.empty_takes output.new) }
-
-    // Without faults it comes to an end of its own, if memory is found.
-    ensures complete { is_run words.now ≡ true → (Rose (S.faults input.old) (S.faults input.new) → ⊥)
-        → (Rose (K.faults output.old) (K.faults output.new) → ⊥) → (Rose (K.empty_takes output.old) (K.empty_takes output.new) → ⊥)
-        → IsAnswered result ⊎ (result ≡ Status.Memory) }
+    // Why any form ended.
+    ensures cause { (form : Form) → form_of words.now ≡ Some form → EndsForCause result (Rose (S.faults input.old) (S.faults input.new))
+        (SinkFailed (K.faults output.old) (K.faults output.new) (K.empty_takes output.old) (K.empty_takes output.new)) }
 {
     let _ = rt;
-    if is_run(words) {
-        run(alloc, input, output)
-    } else {
-        refuse_words(output)
-    }
-}
-
-fn is_run(words: &[String]) -> bool
-    ensures { result ≡ is_run words.now }
-{
-    match words {
-        [word] => word.as_bytes() == b"run".as_slice(),
-        _ => false,
+    match form_of(words) {
+        Some(Form::Run) => run(alloc, input, output),
+        None => refuse_words(output),
     }
 }
 
 fn refuse_words<K: Sink>(output: &mut K) -> Status
     ensures words { result ≡ Status.Words }
-    ensures front { HasBegun (K.taken output.old) (K.taken output.new) usage }
-    ensures whole { (Rose (K.faults output.old) (K.faults output.new) → ⊥)
-        → (Rose (K.empty_takes output.old) (K.empty_takes output.new) → ⊥) → HasTaken (K.taken output.old) (K.taken output.new) usage }
+    ensures usage { IsWritten usage (K.taken output.old) (K.taken output.new)
+        (SinkFailed (K.faults output.old) (K.faults output.new) (K.empty_takes output.old) (K.empty_takes output.new)) }
 {
     let _ = write_all(output, USAGE);
     Status::Words
@@ -94,16 +74,11 @@ fn refuse_words<K: Sink>(output: &mut K) -> Status
 
 fn run<S: Source, K: Sink>(alloc: Global, input: &mut S, output: &mut K) -> Status
     ensures words { result ≢ Status.Words }
-    ensures transcript { IsAnswered result → (bytes : List ℕ) → S.left input.old ≡ Some bytes → HasTaken (K.taken output.old) (K.taken output.new) (transcript bytes) }
-    ensures safe { IsAnswered result → (bytes : List ℕ) → S.left input.old ≡ Some bytes → SafeThroughout bytes }
-    ensures front { IsCutOff result → (bytes : List ℕ) → S.left input.old ≡ Some bytes → HasBegun (K.taken output.old) (K.taken output.new) (transcript bytes) }
-    ensures done { result ≡ Status.Done → (bytes : List ℕ) → S.left input.old ≡ Some bytes → (is_refused bytes ≡ false) × (S.left input.new ≡ Some []) }
-    ensures input { result ≡ Status.Input → (bytes : List ℕ) → S.left input.old ≡ Some bytes → is_refused bytes ≡ true }
-    ensures read { result ≡ Status.Read → Rose (S.faults input.old) (S.faults input.new) }
-    ensures write { result ≡ Status.Write → Rose (K.faults output.old) (K.faults output.new) ⊎ Rose (K.empty_takes output.old) (K.empty_takes output.new) }
-    ensures complete { (Rose (S.faults input.old) (S.faults input.new) → ⊥)
-        → (Rose (K.faults output.old) (K.faults output.new) → ⊥) → (Rose (K.empty_takes output.old) (K.empty_takes output.new) → ⊥)
-        → IsAnswered result ⊎ (result ≡ Status.Memory) }
+    ensures transcript { (bytes : List ℕ) → S.left input.old ≡ Some bytes
+        → Answers (transcript bytes) (is_refused bytes) result (S.left input.new) (K.taken output.old) (K.taken output.new) }
+    ensures safe { (bytes : List ℕ) → S.left input.old ≡ Some bytes → IsAnswered result → SafeThroughout bytes }
+    ensures cause { EndsForCause result (Rose (S.faults input.old) (S.faults input.new))
+        (SinkFailed (K.faults output.old) (K.faults output.new) (K.empty_takes output.old) (K.empty_takes output.new)) }
 {
     let bytes = match read_all(alloc, input, usize::MAX) {
         Ok(bytes) => bytes,

@@ -1,12 +1,13 @@
-//! A whole schedule.
+//! The loop over a schedule's lines.
 ghost use Rattle.std.specs.Prelude.{◌≡◌, IfOk, OnOk};
 ghost use Rattle.dccp_command.specs.Transcript.{transcript, is_refused, SafeThroughout};
 
+use crate::fault::put_refusal;
 use crate::lines::first_line;
 use crate::play::Play;
-use crate::show::put_end_lines;
 use seq_circle::NoMemory;
 use std::alloc::Global;
+use two_ends::every_run_is_safe;
 
 /// What `run` writes of an input, and whether a line was refused.
 #[derive(Drop)]
@@ -21,22 +22,26 @@ pub(crate) fn play_all(alloc: Global, input: &[u8]) -> Result<Transcript, NoMemo
     ensures refused { IfOk result (λ played. played.refused ≡ is_refused input.now) }
     ensures safe { OnOk result (SafeThroughout input.now) }
 {
-    let mut play = Play::new(alloc)?;
+    // The law, which `safe` follows from.
+    every_run_is_safe();
+    let mut play = Play::new();
     let mut text = Vec::new(alloc);
     let mut rest = input;
     while !rest.is_empty() {
         let (line, behind) = first_line(rest);
-        let accepted = play.judge(line, &mut text)?;
-        if accepted {
-            rest = behind;
-        } else {
-            return Ok(Transcript {
-                text,
-                refused: true,
-            });
+        let number = play.number;
+        match play.judge(alloc, line, &mut text)? {
+            Ok(()) => rest = behind,
+            Err(fault) => {
+                put_refusal(&mut text, number, fault)?;
+                return Ok(Transcript {
+                    text,
+                    refused: true,
+                });
+            }
         }
     }
-    put_end_lines(&mut text, &play.world)?;
+    play.finish(alloc, &mut text)?;
     Ok(Transcript {
         text,
         refused: false,

@@ -1,7 +1,8 @@
-use Rattle.dccp_command.specs.Top.{usage}
-use Rattle.dccp_command.proofs.Ending.{begun-by}
+use Rattle.dccp_command.specs.Words.{usage}
+use Rattle.dccp_command.proofs.Ending.{written-by}
 use Rattle.dccp_command.proofs.top.refuse_words.Goals as goal
 
-pub returns-clause-front : goal.returns-clause-front
-returns-clause-front g c =
-    begun-by c.write_all.result (g.K.Sink.taken c.args.output.now) (g.K.Sink.taken c.write_all.new.sink) usage c.write_all.ensures.whole c.write_all.ensures.front
+pub returns-clause-usage : goal.returns-clause-usage
+returns-clause-usage g c =
+    written-by c.write_all.result (g.K.Sink.taken c.args.output.now) (g.K.Sink.taken c.write_all.new.sink) usage _ c.write_all.ensures.whole c.write_all.ensures.front
+    c.write_all.ensures.cause

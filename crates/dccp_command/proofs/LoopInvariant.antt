@@ -1,0 +1,116 @@
+-- A schedule while it is played: what was put into the text, and what is left, make the whole.
+use Rattle.std.proofs.Common.{◌≡◌, refl, sym, ap, ◌∙◌, ℕ, ◌+◌, ◌≤◌, ◌<◌, List, [], ◌∷◌, ◌++◌, length, Bool, true, false, append_assoc, zero-add, length-append, Ok, Err, arith}
+use Rattle.dccp_states.specs.declared.phase.Role.TheVariants as role
+use Rattle.two_ends.specs.declared.event.Event.{Event}
+use Rattle.dccp_command.specs.declared.fault.LineFault.{LineFault}
+use Rattle.dccp_command.specs.declared.play.Play.{Play}
+use Rattle.dccp_command.specs.Lines.{lines_of}
+use Rattle.dccp_command.specs.Shown.{end_lines, refusal_line}
+use Rattle.dccp_command.specs.Transcript.{Verdict, Accepted, Refused, judged, Judges, IsBehind, Performance, onto, ends_at, continues_with, performed_from, world_of, first_play, performed, transcript, is_refused}
+
+-- Before a line: the text and events so far go before those of the lines that are left, the counters are at most the bytes read, and
+-- the two ends are a client and a server.
+pub record LoopInvariant (play : Play) (rest text input : List ℕ) : Type 0 where
+  pub events : List Event
+  pub same : performed input ≡ onto text events (performed_from play (lines_of rest))
+  pub client : play.client.role ≡ role.Client
+  pub server : play.server.role ≡ role.Server
+  pub number : play.number ≤ play.read + 1
+  pub read : play.read + length rest ≡ length input
+
+pub at-start : (play : Play) (input : List ℕ) → play ≡ first_play → LoopInvariant play input [] input
+at-start play input start = record {
+  events = [];
+  same = ap (λ (first : Play). performed_from first (lines_of input)) (sym start);
+  client = ap (λ (first : Play). first.client.role) start;
+  server = ap (λ (first : Play). first.server.role) start;
+  number = let number : play.number ≡ 1 = ap (λ (first : Play). first.number) start in omega arith;
+  read = ap (λ (first : Play). first.read + length input) start ∙ zero-add (length input);
+}
+
+onto-onto : (text more : List ℕ) (events others : List Event) (rest : Performance) → onto text events (onto more others rest) ≡ onto (text ++ more) (events ++ others) rest
+onto-onto text more events others rest =
+    ap (λ (whole : List ℕ). record rest { text = whole; events = events ++ (others ++ rest.events) }) (sym (append_assoc text more rest.text))
+    ∙ ap (λ (whole : List Event). record rest { text = (text ++ more) ++ rest.text; events = whole }) (sym (append_assoc events others rest.events))
+
+accepted-by : (play next : Play) (rest behind line text after input : List ℕ) (before : LoopInvariant play rest text input) (verdict : Verdict) → judged play line ≡ verdict
+    → Judges verdict text after next (Ok tt) → IsBehind play line next → lines_of rest ≡ line ∷ lines_of behind → length rest ≡ length line + length behind → 0 < length line
+    → LoopInvariant next behind after input
+accepted-by play next rest behind line text after input before (Refused fault) is judges further cut counted some = cc judges.1
+accepted-by play next rest behind line text after input before (Accepted more events onward) is judges further cut counted some =
+    let number = before.number in
+    let read = before.read in
+    let next_number = further.number in
+    let next_read = further.read in
+    record {
+      events = before.events ++ events;
+      same =
+          before.same
+          ∙ ap (λ (lines : List (List ℕ)). onto text before.events (performed_from play lines)) cut
+          ∙ ap (λ (v : Verdict). onto text before.events (continues_with play v (λ p. performed_from p (lines_of behind)))) is
+          ∙ onto-onto text more before.events events (performed_from onward (lines_of behind))
+          ∙ ap (λ (all : List ℕ). onto all (before.events ++ events) (performed_from onward (lines_of behind))) (sym judges.0)
+          ∙ ap (λ (p : Play). onto after (before.events ++ events) (performed_from p (lines_of behind))) (sym judges.1);
+      client = further.client ∙ before.client;
+      server = further.server ∙ before.server;
+      number = omega arith;
+      read = omega arith;
+    }
+
+-- behind an accepted line
+pub after-line : (play next : Play) (rest behind line text after input : List ℕ) → LoopInvariant play rest text input → Judges (judged play line) text after next (Ok tt)
+    → IsBehind play line next → lines_of rest ≡ line ∷ lines_of behind → rest ≡ line ++ behind → 0 < length line → LoopInvariant next behind after input
+after-line play next rest behind line text after input before judges further cut whole some =
+    accepted-by play next rest behind line text after input before (judged play line) refl judges further cut (ap length whole ∙ length-append line behind) some
+
+-- What is known when the schedule is over.
+pub record IsOver (input text : List ℕ) (refused : Bool) : Type 0 where
+  pub text_is : text ≡ transcript input
+  pub refused_is : refused ≡ is_refused input
+  pub client : (performed input).client.role ≡ role.Client
+  pub server : (performed input).server.role ≡ role.Server
+
+over-at : (play : Play) (rest text more input : List ℕ) (refused : Bool) (before : LoopInvariant play rest text input)
+    → performed_from play (lines_of rest) ≡ ends_at play more refused → IsOver input (text ++ more) refused
+over-at play rest text more input refused before over =
+    let whole : performed input ≡ onto text before.events (ends_at play more refused) = before.same ∙ ap (onto text before.events) over in
+    record {
+      text_is = sym (ap (λ (p : Performance). p.text) whole);
+      refused_is = sym (ap (λ (p : Performance). p.is_refused) whole);
+      client = ap (λ (p : Performance). p.client.role) whole ∙ before.client;
+      server = ap (λ (p : Performance). p.server.role) whole ∙ before.server;
+    }
+
+no-bytes : (bytes : List ℕ) → length bytes ≡ 0 → bytes ≡ []
+no-bytes [] none = refl
+no-bytes (byte ∷ bytes) none = absurd (omega arith)
+
+-- the input was played to its end
+pub at-end : (play : Play) (rest text input : List ℕ) → LoopInvariant play rest text input → length rest ≡ 0 → IsOver input (text ++ end_lines (world_of play)) false
+at-end play rest text input before none =
+    over-at play rest text (end_lines (world_of play)) input false before (ap (λ (left : List ℕ). performed_from play (lines_of left)) (no-bytes rest none))
+
+refused-by : (play next : Play) (rest behind line text after input : List ℕ) (given : LineFault) (before : LoopInvariant play rest text input) (verdict : Verdict)
+    → judged play line ≡ verdict → Judges verdict text after next (Err given) → lines_of rest ≡ line ∷ lines_of behind
+    → IsOver input (after ++ refusal_line play.number given) true
+refused-by play next rest behind line text after input given before (Accepted more events onward) is judges cut = cc judges.2
+refused-by play next rest behind line text after input given before (Refused fault) is judges cut =
+    let over : performed_from play (lines_of rest) ≡ ends_at play (refusal_line play.number fault) true =
+    ap (performed_from play) cut ∙ ap (λ (v : Verdict). continues_with play v (λ p. performed_from p (lines_of behind))) is in
+    let same : fault ≡ given = cc judges.1 in
+    let ends = over-at play rest text (refusal_line play.number fault) input true before over in
+    record {
+      text_is =
+          ap (λ (front : List ℕ). front ++ refusal_line play.number given) judges.0
+          ∙ ap (λ (f : LineFault). text ++ refusal_line play.number f) (sym same)
+          ∙ ends.text_is;
+      refused_is = ends.refused_is;
+      client = ends.client;
+      server = ends.server;
+    }
+
+-- a line was refused
+pub at-refusal : (play next : Play) (rest behind line text after input : List ℕ) (given : LineFault) → LoopInvariant play rest text input
+    → Judges (judged play line) text after next (Err given) → lines_of rest ≡ line ∷ lines_of behind → IsOver input (after ++ refusal_line play.number given) true
+at-refusal play next rest behind line text after input given before judges cut =
+    refused-by play next rest behind line text after input given before (judged play line) refl judges cut
