@@ -1,29 +1,36 @@
 -- A schedule while it is played: what was put into the text, and what is left, make the whole.
-use Rattle.std.proofs.Common.{◌≡◌, refl, sym, ap, ◌∙◌, ℕ, ◌+◌, ◌≤◌, ◌<◌, List, [], ◌∷◌, ◌++◌, length, Bool, true, false, append_assoc, zero-add, length-append, Ok, Err, arith}
+use Rattle.std.proofs.Common.{◌≡◌, refl, sym, ap, ◌∙◌, subst, lit<, ℕ, ◌+◌, ◌≤◌, ◌<◌, List, [], ◌∷◌, ◌++◌, length, Bool, true, false, append_assoc, zero-add, length-append, Ok, Err, arith}
+use Rattle.dccp_endpoint.specs.Usual.{usual}
 use Rattle.dccp_states.specs.declared.phase.Role.TheVariants as role
 use Rattle.two_ends.specs.declared.event.Event.{Event}
 use Rattle.dccp_command.specs.declared.fault.LineFault.{LineFault}
 use Rattle.dccp_command.specs.declared.play.Play.{Play}
 use Rattle.dccp_command.specs.Lines.{lines_of}
 use Rattle.dccp_command.specs.Shown.{end_lines, refusal_line}
-use Rattle.dccp_command.specs.Transcript.{Verdict, Accepted, Refused, judged, Judges, IsBehind, Performance, onto, ends_at, continues_with, performed_from, world_of, first_play, performed, transcript, is_refused}
+use Rattle.dccp_command.specs.Transcript.{Verdict, Accepted, Refused, judged, Judges, ArePeers, IsBehind, Performance, onto, ends_at, continues_with, performed_from, world_of, first_play, performed, transcript, is_refused}
 
 -- Before a line: the text and events so far go before those of the lines that are left, the counters are at most the bytes read, and
--- the two ends are a client and a server.
+-- the configurations are those of a client and a server.
 pub record LoopInvariant (play : Play) (rest text input : List ℕ) : Type 0 where
   pub events : List Event
   pub same : performed input ≡ onto text events (performed_from play (lines_of rest))
-  pub client : play.client.role ≡ role.Client
-  pub server : play.server.role ≡ role.Server
+  pub peers : ArePeers play.client play.server
   pub number : play.number ≤ play.read + 1
   pub read : play.read + length rest ≡ length input
+
+usual-peers : ArePeers (usual role.Client) (usual role.Server)
+usual-peers = record {
+  is_client = refl;
+  is_server = refl;
+  client_fits = record { own_port = lit< tt; peer_port = lit< tt; service = lit< tt; iss = lit< tt };
+  server_fits = record { own_port = lit< tt; peer_port = lit< tt; service = lit< tt; iss = lit< tt };
+}
 
 pub at-start : (play : Play) (input : List ℕ) → play ≡ first_play → LoopInvariant play input [] input
 at-start play input start = record {
   events = [];
   same = ap (λ (first : Play). performed_from first (lines_of input)) (sym start);
-  client = ap (λ (first : Play). first.client.role) start;
-  server = ap (λ (first : Play). first.server.role) start;
+  peers = subst (λ (first : Play). ArePeers first.client first.server) (sym start) usual-peers;
   number = let number : play.number ≡ 1 = ap (λ (first : Play). first.number) start in omega arith;
   read = ap (λ (first : Play). first.read + length input) start ∙ zero-add (length input);
 }
@@ -51,8 +58,7 @@ accepted-by play next rest behind line text after input before (Accepted more ev
           ∙ onto-onto text more before.events events (performed_from onward (lines_of behind))
           ∙ ap (λ (all : List ℕ). onto all (before.events ++ events) (performed_from onward (lines_of behind))) (sym judges.0)
           ∙ ap (λ (p : Play). onto after (before.events ++ events) (performed_from p (lines_of behind))) (sym judges.1);
-      client = further.client ∙ before.client;
-      server = further.server ∙ before.server;
+      peers = further.peers;
       number = omega arith;
       read = omega arith;
     }
@@ -67,8 +73,7 @@ after-line play next rest behind line text after input before judges further cut
 pub record IsOver (input text : List ℕ) (refused : Bool) : Type 0 where
   pub text_is : text ≡ transcript input
   pub refused_is : refused ≡ is_refused input
-  pub client : (performed input).client.role ≡ role.Client
-  pub server : (performed input).server.role ≡ role.Server
+  pub peers : ArePeers (performed input).client (performed input).server
 
 over-at : (play : Play) (rest text more input : List ℕ) (refused : Bool) (before : LoopInvariant play rest text input)
     → performed_from play (lines_of rest) ≡ ends_at play more refused → IsOver input (text ++ more) refused
@@ -77,8 +82,7 @@ over-at play rest text more input refused before over =
     record {
       text_is = sym (ap (λ (p : Performance). p.text) whole);
       refused_is = sym (ap (λ (p : Performance). p.is_refused) whole);
-      client = ap (λ (p : Performance). p.client.role) whole ∙ before.client;
-      server = ap (λ (p : Performance). p.server.role) whole ∙ before.server;
+      peers = subst (λ (p : Performance). ArePeers p.client p.server) (sym whole) before.peers;
     }
 
 no-bytes : (bytes : List ℕ) → length bytes ≡ 0 → bytes ≡ []
@@ -105,8 +109,7 @@ refused-by play next rest behind line text after input given before (Refused fau
           ∙ ap (λ (f : LineFault). text ++ refusal_line play.number f) (sym same)
           ∙ ends.text_is;
       refused_is = ends.refused_is;
-      client = ends.client;
-      server = ends.server;
+      peers = ends.peers;
     }
 
 -- a line was refused

@@ -5,6 +5,7 @@ use Rattle.dccp_endpoint.specs.declared.config.Config.{Config}
 use Rattle.dccp_states.specs.declared.phase.Role.TheVariants as role
 use Rattle.dccp_endpoint.specs.declared.outcome.Outcome.TheVariants.{NotBuilt}
 use Rattle.two_ends.specs.World.{WorldState, WorldStep, at_start, happens, half_of, actor, run}
+use Rattle.dccp_endpoint.specs.Drafts.{Fits}
 use Rattle.two_ends.specs.Safe.{Safe}
 use Rattle.two_ends.specs.declared.event.Event.{Event}
 use Rattle.two_ends.specs.declared.event.Event.TheVariants as event
@@ -127,17 +128,22 @@ abbrev pub Shows : Result Shown LineFault → List ℕ → List ℕ → WorldSta
 Shows (Ok shown) old new after answer = (new ≡ old ++ shown.text) × (after ≡ shown.world) × (answer ≡ Ok tt)
 Shows (Err fault) old new after answer = (new ≡ old) × (answer ≡ Err fault)
 
--- A client and a server, and counters with room for one more line.
+-- A client and a server, whose fields fit their widths.
+pub record ArePeers (client server : Config) : Type 0 where
+  pub is_client : client.role ≡ role.Client
+  pub is_server : server.role ≡ role.Server
+  pub client_fits : Fits client
+  pub server_fits : Fits server
+
+-- The configurations are those of a client and a server, and the counters have room for one more line.
 pub record IsReady (play : Play) (piece : List ℕ) : Type 0 where
-  pub client : play.client.role ≡ role.Client
-  pub server : play.server.role ≡ role.Server
+  pub peers : ArePeers play.client play.server
   pub number : play.number + 1 < 2 ^ 64
   pub read : play.read + length piece < 2 ^ 64
 
--- One line further, with a client and a server as before.
+-- One line further, with the configurations of a client and a server.
 pub record IsBehind (before : Play) (piece : List ℕ) (after : Play) : Type 0 where
-  pub client : after.client.role ≡ before.client.role
-  pub server : after.server.role ≡ before.server.role
+  pub peers : ArePeers after.client after.server
   pub number : after.number ≡ before.number + 1
   pub read : after.read ≡ before.read + length piece
 

@@ -1,7 +1,7 @@
 //! A schedule while it is played.
 ghost use Rattle.std.specs.Prelude.{◌≡◌, ◌+◌, ◌<◌, ◌^◌, ◌++◌, length, ℕ, List, IfOk, OnOk, Some, Ok};
 ghost use Rattle.dccp_command.specs.Shown.{end_lines};
-ghost use Rattle.dccp_command.specs.Transcript.{first_play, world_of, IsReady, IsBehind, Shows, event_shown, Judges, judged, by_line, behind, says_plain, says_event, is_built, not_built, no_such_frame};
+ghost use Rattle.dccp_command.specs.Transcript.{first_play, world_of, ArePeers, IsReady, IsBehind, Shows, event_shown, Judges, judged, by_line, behind, says_plain, says_event, is_built, not_built, no_such_frame};
 
 use crate::fault::{LineFault, LineWhy};
 use crate::lines::text_of;
@@ -136,8 +136,7 @@ impl Play {
 
     // Makes the world of the two configurations, where none is made yet.
     fn make_world(&mut self, alloc: Global) -> Result<(), NoMemory>
-        requires client { self.old.client.role ≡ Role.Client }
-        requires server { self.old.server.role ≡ Role.Server }
+        requires { ArePeers self.old.client self.old.server }
         ensures { OnOk result (self.new ≡ record self.old { world = Some (world_of self.old) }) }
     {
         if self.world.is_none() {
@@ -149,8 +148,7 @@ impl Play {
 
     /// Puts the two lines at a schedule's end.
     pub(crate) fn finish(&mut self, alloc: Global, text: &mut Vec<u8>) -> Result<(), NoMemory>
-        requires client { self.old.client.role ≡ Role.Client }
-        requires server { self.old.server.role ≡ Role.Server }
+        requires { ArePeers self.old.client self.old.server }
         ensures { OnOk result (text.new.items ≡ text.old.items ++ end_lines (world_of self.old)) }
     {
         self.make_world(alloc)?;

@@ -18,10 +18,10 @@ returns-in-Err-clause-safe c = λ n.
     let over =
     at-refusal c.loop-rest.play c.judge.new.self c.loop-rest.rest.now c.first_line.result.1.now c.first_line.result.0.now c.loop-rest.text.items c.judge.new.text.items
     c.args.input.now c.in-Err.fault c.loop-rest.invariant refuses c.first_line.ensures.lines in
-    c.every_run_is_safe.ensures (performed c.args.input.now).client (performed c.args.input.now).server (take n (performed c.args.input.now).events) over.client over.server
+    c.every_run_is_safe.ensures (performed c.args.input.now).client (performed c.args.input.now).server (take n (performed c.args.input.now).events) over.peers.is_client over.peers.is_server over.peers.client_fits over.peers.server_fits
 
 pub returns-clause-safe : goal.returns-clause-safe
 returns-clause-safe c = λ n.
     let none : length c.loop-rest.rest.now ≡ 0 = grind (arith, nat_tests) in
     let over = at-end c.loop-rest.play c.loop-rest.rest.now c.loop-rest.text.items c.args.input.now c.loop-rest.invariant none in
-    c.every_run_is_safe.ensures (performed c.args.input.now).client (performed c.args.input.now).server (take n (performed c.args.input.now).events) over.client over.server
+    c.every_run_is_safe.ensures (performed c.args.input.now).client (performed c.args.input.now).server (take n (performed c.args.input.now).events) over.peers.is_client over.peers.is_server over.peers.client_fits over.peers.server_fits
