@@ -1,0 +1,14 @@
+pub mod FirstFaults
+pub mod FrameFaults
+pub mod HexBack
+pub mod HexSpelling
+pub mod Keeping
+pub mod LinesBack
+pub mod LinesSpelled
+pub mod Numerals
+pub mod Pieces
+pub mod Placed
+pub mod ReadBack
+pub mod Spelling
+pub mod ValueLists
+pub mod WordTexts

@@ -1,0 +1,158 @@
+-- Words that are joined are parted again, and a line of them is clean.
+use Rattle.std.proofs.Common.{◌≡◌, refl, sym, ap, ◌∙◌, ℕ, zero, suc, ◌+◌, ◌*◌, ◌≤◌, ◌<◌, ◌^◌, ◌%◌, ◌/◌, List, [], ◌∷◌, ◌++◌, length, length-append, Bool, true, false, ◌&&◌, ◌==◌, not, cond, if◌then◌else◌, nat_le, nat_lt, Option, Some, None, Result, Ok, Err, arith}
+use Rattle.std.specs.Prelude.{codes, decimal}
+use Rattle.std.specs.List.{list_all, slice_split, onto_first, join_with_byte, position_from}
+use Rattle.std.proofs.lemmas.Bool.Decides.{nat_tests}
+use Rattle.std.proofs.lemmas.List.Folds.{list_all-append}
+use Rattle.std.proofs.lemmas.Fmt.{decimal_by_steps}
+use Rattle.schedule_text.specs.declared.line.Line.{Line}
+use Rattle.schedule_text.specs.declared.line.Line.TheVariants as line
+use Rattle.schedule_text.specs.declared.line.LineFault.{LineFault}
+use Rattle.schedule_text.specs.declared.line.LineWhy.TheVariants as why
+use Rattle.schedule_text.specs.Numbers.{is_digit}
+use Rattle.schedule_text.specs.Words.{pieces, placed, words_left, words_of}
+use Rattle.schedule_text.specs.Reading.{◌>>◌, fault_at, is_text, first_other, text_or_other, clean, says_nothing, read_clean, read_line, read_words}
+use Rattle.schedule_text.specs.Printing.{joined}
+
+pub both-true : (a b : Bool) → (a && b) ≡ true → (a ≡ true) × (b ≡ true)
+both-true true true is = (refl, refl)
+both-true true false is = cc is
+both-true false b is = cc is
+
+pub and-true : (a b : Bool) → a ≡ true → b ≡ true → (a && b) ≡ true
+and-true true true p q = refl
+and-true true false p q = q
+and-true false b p q = p
+
+pub if-false : {A : Type 0} (test : Bool) (x y : A) → test ≡ false → (if test then x else y) ≡ y
+if-false true x y is = cc is
+if-false false x y is = refl
+
+pub if-true : {A : Type 0} (test : Bool) (x y : A) → test ≡ true → (if test then x else y) ≡ x
+if-true true x y is = refl
+if-true false x y is = cc is
+
+pub all-weaker : {X : Type 0} (p q : X → Bool) → ((x : X) → p x ≡ true → q x ≡ true) → (xs : List X) → list_all p xs ≡ true → list_all q xs ≡ true
+all-weaker p q weaker [] all = refl
+all-weaker p q weaker (x ∷ xs) all =
+    let both = both-true (p x) (list_all p xs) all in
+    and-true (q x) (list_all q xs) (weaker x both.0) (all-weaker p q weaker xs both.1)
+
+-- a byte is another than the mark
+abbrev pub lacks : ℕ → ℕ → Bool
+lacks mark byte = not (byte == mark)
+
+-- a byte of a word
+abbrev pub is_word_byte : ℕ → Bool
+is_word_byte byte = nat_le 33 byte && nat_le byte 126
+
+abbrev pub is_word : List ℕ → Bool
+is_word word = list_all is_word_byte word
+
+word-byte-text : (byte : ℕ) → is_word_byte byte ≡ true → is_text byte ≡ true
+word-byte-text byte is = grind (arith, nat_tests)
+
+word-byte-lacks : (byte : ℕ) → is_word_byte byte ≡ true → lacks 32 byte ≡ true
+word-byte-lacks byte is = grind (arith, nat_tests)
+
+digit-word-byte : (byte : ℕ) → is_digit byte ≡ true → is_word_byte byte ≡ true
+digit-word-byte byte is = grind (arith, nat_tests)
+
+digit-lacks : (byte : ℕ) → is_digit byte ≡ true → lacks 44 byte ≡ true
+digit-lacks byte is = grind (arith, nat_tests)
+
+-- Words and marks
+
+same : (n : ℕ) → (n == n) ≡ true
+same n = grind (arith, nat_tests)
+
+other-by : (test : Bool) → not test ≡ true → test ≡ false
+other-by true is = sym is
+other-by false is = refl
+
+split-word : (mark : ℕ) (w rest : List ℕ) → list_all (lacks mark) w ≡ true
+    → slice_split (λ byte. byte == mark) (w ++ (mark ∷ rest)) ≡ w ∷ slice_split (λ byte. byte == mark) rest
+split-word mark [] rest all =
+    ap (λ (test : Bool). cond test ([] ∷ slice_split (λ byte. byte == mark) rest) (onto_first mark (slice_split (λ byte. byte == mark) rest))) (same mark)
+split-word mark (byte ∷ w) rest all =
+    let both = both-true (lacks mark byte) (list_all (lacks mark) w) all in
+    ap (λ (test : Bool). cond test ([] ∷ slice_split (λ b. b == mark) (w ++ (mark ∷ rest))) (onto_first byte (slice_split (λ b. b == mark) (w ++ (mark ∷ rest)))))
+    (other-by (byte == mark) both.0)
+    ∙ ap (onto_first byte) (split-word mark w rest both.1)
+
+split-whole : (mark : ℕ) (w : List ℕ) → list_all (lacks mark) w ≡ true → slice_split (λ byte. byte == mark) w ≡ w ∷ []
+split-whole mark [] all = refl
+split-whole mark (byte ∷ w) all =
+    let both = both-true (lacks mark byte) (list_all (lacks mark) w) all in
+    ap (λ (test : Bool). cond test ([] ∷ slice_split (λ b. b == mark) w) (onto_first byte (slice_split (λ b. b == mark) w))) (other-by (byte == mark) both.0)
+    ∙ ap (onto_first byte) (split-whole mark w both.1)
+
+-- pieces that are joined are parted again
+pub joined-parts : (mark : ℕ) (w : List ℕ) (ws : List (List ℕ)) → list_all (list_all (lacks mark)) (w ∷ ws) ≡ true → slice_split (λ byte. byte == mark) (join_with_byte mark (w ∷ ws)) ≡ w ∷ ws
+joined-parts mark w [] all = split-whole mark w (both-true (list_all (lacks mark) w) true all).0
+joined-parts mark w (next ∷ ws) all =
+    let both = both-true (list_all (lacks mark) w) (list_all (list_all (lacks mark)) (next ∷ ws)) all in
+    split-word mark w (join_with_byte mark (next ∷ ws)) both.0
+    ∙ ap (λ (parts : List (List ℕ)). w ∷ parts) (joined-parts mark next ws both.1)
+
+-- Clean lines
+
+joined-text : (w : List ℕ) (ws : List (List ℕ)) → list_all is_word (w ∷ ws) ≡ true → list_all is_text (joined (w ∷ ws)) ≡ true
+joined-text w [] all = all-weaker is_word_byte is_text word-byte-text w (both-true (is_word w) true all).0
+joined-text w (next ∷ ws) all =
+    let both = both-true (is_word w) (list_all is_word (next ∷ ws)) all in
+    list_all-append is_text w (32 ∷ joined (next ∷ ws))
+    ∙ and-true (list_all is_text w) (list_all is_text (joined (next ∷ ws))) (all-weaker is_word_byte is_text word-byte-text w both.0) (joined-text next ws both.1)
+
+no-other-by : (from byte : ℕ) (rest : List ℕ) (test : Bool) → test ≡ true → position_from (λ b. not (is_text b)) (from + 1) rest ≡ None
+    → cond (not test) (Some from) (position_from (λ b. not (is_text b)) (from + 1) rest) ≡ None
+no-other-by from byte rest true is none = none
+no-other-by from byte rest false is none = cc is
+
+no-other : (from : ℕ) (text : List ℕ) → list_all is_text text ≡ true → position_from (λ byte. not (is_text byte)) from text ≡ None
+no-other from [] all = refl
+no-other from (byte ∷ rest) all =
+    let both = both-true (is_text byte) (list_all is_text rest) all in
+    no-other-by from byte rest (is_text byte) both.0 (no-other (from + 1) rest both.1)
+
+pub clean-text : (text : List ℕ) → length text ≤ 4096 → list_all is_text text ≡ true → clean text ≡ Ok tt
+clean-text text short all =
+    let is : nat_lt 4096 (length text) ≡ false = grind (arith, nat_tests) in
+    if-false (nat_lt 4096 (length text)) (Err (fault_at 4097 why.LineTooLong)) (text_or_other (first_other text)) is ∙ ap text_or_other (no-other 0 text all)
+
+-- the bytes of words, each with the one that parts it from the next
+abbrev pub words_length : List (List ℕ) → ℕ
+words_length [] = 0
+words_length (w ∷ ws) = length w + 1 + words_length ws
+
+joined-length : (w : List ℕ) (ws : List (List ℕ)) → length (joined (w ∷ ws)) + 1 ≡ words_length (w ∷ ws)
+joined-length w [] = omega arith
+joined-length w (next ∷ ws) = let rest = joined-length next ws in omega (arith, length-append w (32 ∷ joined (next ∷ ws)))
+
+-- a line that words make is read word by word
+pub read-joined : (w : List ℕ) (ws : List (List ℕ)) → list_all is_word (w ∷ ws) ≡ true → words_length (w ∷ ws) ≤ 4097 → says_nothing (joined (w ∷ ws)) ≡ false
+    → read_line (joined (w ∷ ws)) ≡ read_words (words_left (placed 1 (w ∷ ws)) (length (joined (w ∷ ws)) + 2))
+read-joined w ws all short says =
+    let size = joined-length w ws in
+    ap (λ (r : Result (Unit {0}) LineFault). r >> read_clean (joined (w ∷ ws))) (clean-text (joined (w ∷ ws)) (omega arith) (joined-text w ws all))
+    ∙ if-false (says_nothing (joined (w ∷ ws))) (Ok line.Nothing) (read_words (words_of (joined (w ∷ ws)))) says
+    ∙ ap (λ (parts : List (List ℕ)). read_words (words_left (placed 1 parts) (length (joined (w ∷ ws)) + 2)))
+    (joined-parts 32 w ws (all-weaker is_word (list_all (lacks 32)) (λ word is. all-weaker is_word_byte (lacks 32) word-byte-lacks word is) (w ∷ ws) all))
+
+-- Numbers
+
+digit-byte : (digit : ℕ) → digit < 10 → is_digit (48 + digit) ≡ true
+digit-byte digit low = grind (arith, nat_tests)
+
+decimal-digits : (n : ℕ) → n < 2 ^ 64 → list_all is_digit (decimal n) ≡ true
+decimal-digits =
+    decimal_by_steps (λ m ds. list_all is_digit ds ≡ true)
+    (λ m low. and-true (is_digit (48 + m)) true (digit-byte m low) refl)
+    (λ m ds many before. list_all-append is_digit ds ((48 + m % 10) ∷ [])
+    ∙ and-true (list_all is_digit ds) (is_digit (48 + m % 10) && true) before (and-true (is_digit (48 + m % 10)) true (digit-byte (m % 10) (omega arith)) refl))
+
+pub decimal-word : (n : ℕ) → n < 2 ^ 64 → is_word (decimal n) ≡ true
+decimal-word n small = all-weaker is_digit is_word_byte digit-word-byte (decimal n) (decimal-digits n small)
+
+pub decimal-lacks : (n : ℕ) → n < 2 ^ 64 → list_all (lacks 44) (decimal n) ≡ true
+decimal-lacks n small = all-weaker is_digit (lacks 44) digit-lacks (decimal n) (decimal-digits n small)

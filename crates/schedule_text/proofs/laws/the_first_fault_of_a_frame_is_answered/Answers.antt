@@ -1,0 +1,5 @@
+use Rattle.schedule_text.proofs.FrameFaults.{first-frame-fault}
+use Rattle.schedule_text.proofs.laws.the_first_fault_of_a_frame_is_answered.Goals as goal
+
+pub returns : goal.returns
+returns c = first-frame-fault

@@ -1,0 +1,15 @@
+use Rattle.std.proofs.Common.{◌≡◌, ◌≤◌, length}
+use Rattle.schedule_text.specs.Words.{pieces}
+use Rattle.schedule_text.specs.Numbers.{numbers_of}
+use Rattle.schedule_text.specs.Rest.{pieces_left, rest_length}
+use Rattle.schedule_text.proofs.ValueLists.{preceded}
+use Rattle.schedule_text.proofs.numbers.values_of.Given as goal
+
+abbrev pub invariant-loop-rest : goal.invariant-loop-rest
+invariant-loop-rest l = record {
+  few : length l.values ≤ 9;
+  same : preceded l.values (numbers_of (pieces_left 44 l.rest)) ≡ numbers_of (pieces 44 l.word);
+}
+
+abbrev pub decreases-loop-rest : goal.decreases-loop-rest
+decreases-loop-rest l = rest_length l.rest

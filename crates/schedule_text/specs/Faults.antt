@@ -1,0 +1,159 @@
+-- The first fault of a line, as a table: what the words of each form are judged for, in the order in which they are (own).
+use Rattle.std.specs.Prelude.{ℕ, ◌+◌, ◌^◌, Bool, false, ◌&&◌, ◌==◌, ◌||◌, nat_lt, if◌then◌else◌, List, [], ◌∷◌, length, codes, Option, Some, None, is_some, Result, Ok, Err}
+use Rattle.std.specs.Str.{bytes_eq}
+use Rattle.feature_lists.specs.Wishes.{is_ours, wish_of}
+use Rattle.feature_lists.specs.declared.features.Feature.{Feature}
+use Rattle.feature_lists.specs.declared.features.Place.{Place}
+use Rattle.feature_lists.specs.declared.wishes.PreferFault.{PreferFault}
+use Rattle.feature_lists.specs.declared.wishes.Wanted.{Wanted}
+use Rattle.schedule_text.specs.declared.line.LineFault.{LineFault}
+use Rattle.schedule_text.specs.declared.line.LineWhy.{LineWhy}
+use Rattle.schedule_text.specs.declared.line.LineWhy.TheVariants as why
+use Rattle.schedule_text.specs.declared.names.Form.{Form}
+use Rattle.schedule_text.specs.declared.names.Form.TheVariants as form
+use Rattle.schedule_text.specs.Names.{form_of, side_of, place_of, timer_of}
+use Rattle.schedule_text.specs.Numbers.{number_below, values_of, feature_of}
+use Rattle.schedule_text.specs.Digits.{flaw_of}
+use Rattle.schedule_text.specs.Words.{WordAt, WordsLeft, first_word, later, word_at, words_of}
+use Rattle.schedule_text.specs.Reading.{fault_at, wish_fault, first_other, says_nothing}
+
+-- of two faults the first, if there is one
+abbrev pub first_or : Option LineFault → Option LineFault → Option LineFault
+first_or None next = next
+first_or (Some fault) next = Some fault
+
+abbrev pub unless : Bool → LineFault → Option LineFault
+unless fits fault = if fits then None else Some fault
+
+-- a word is there, or else Missing, and it fits, or else this cause, both at its column
+abbrev pub word_fault : LineWhy → Bool → WordAt → Option LineFault
+word_fault cause fits word =
+    if length word.text == 0 then Some (fault_at word.column why.Missing) else unless fits (fault_at word.column cause)
+
+-- What the first of the words that are left is judged for
+
+abbrev pub Judge : Type 0
+Judge = WordsLeft → Option LineFault
+
+abbrev pub a_side : Judge
+a_side left = word_fault why.UnknownWord (is_some (side_of (first_word left).text)) (first_word left)
+
+abbrev pub a_place : Judge
+a_place left = word_fault why.UnknownWord (is_some (place_of (first_word left).text)) (first_word left)
+
+abbrev pub a_timer : Judge
+a_timer left = word_fault why.UnknownWord (is_some (timer_of (first_word left).text)) (first_word left)
+
+abbrev pub a_number : Judge
+a_number left = word_fault why.BadNumber (is_some (number_below (2 ^ 48) (first_word left).text)) (first_word left)
+
+abbrev pub a_feature : Judge
+a_feature left = word_fault why.BadNumber (is_some (feature_of (first_word left).text)) (first_word left)
+
+abbrev pub some_values : Judge
+some_values left = word_fault why.BadNumber (is_some (values_of (first_word left).text)) (first_word left)
+
+-- a name that begins with neither letter is no word that may stand there; otherwise its rest should be an index
+abbrev pub name_cause : List ℕ → LineWhy
+name_cause [] = why.UnknownWord
+name_cause (letter ∷ index) = if letter == 99 || letter == 115 then why.BadNumber else why.UnknownWord
+
+abbrev pub names_frame : List ℕ → Bool
+names_frame [] = false
+names_frame (letter ∷ index) = (letter == 99 || letter == 115) && is_some (number_below (2 ^ 47) index)
+
+abbrev pub a_name : Judge
+a_name left = word_fault (name_cause (first_word left).text) (names_frame (first_word left).text) (first_word left)
+
+-- the first byte that is no digit, or the place behind an odd number of digits
+abbrev pub bad_digit : WordAt → Option ℕ → Option LineFault
+bad_digit word None = None
+bad_digit word (Some place) = Some (fault_at (word.column + place) why.BadHex)
+
+abbrev pub digits_fault : WordAt → Option LineFault
+digits_fault word =
+    if length word.text == 0 then Some (fault_at word.column why.Missing) else bad_digit word (flaw_of word.text)
+
+abbrev pub some_bytes : Judge
+some_bytes left = if bytes_eq (first_word left).text (codes "-") then None else digits_fault (first_word left)
+
+abbrev pub maybe_first : List WordAt → Option LineFault
+maybe_first [] = None
+maybe_first (word ∷ words) = word_fault why.UnknownWord (bytes_eq word.text (codes "mandatory")) word
+
+abbrev pub maybe_mandatory : Judge
+maybe_mandatory left = maybe_first left.words
+
+-- The table of forms: what stands behind the first word.
+abbrev pub judges_of : Form → List Judge
+judges_of form.Plain = []
+judges_of form.Iss = a_side ∷ a_number ∷ []
+judges_of form.Set = a_side ∷ a_place ∷ a_feature ∷ some_values ∷ []
+judges_of form.Offer = a_side ∷ a_place ∷ a_feature ∷ maybe_mandatory ∷ []
+judges_of form.Open = []
+judges_of form.Deliver = a_name ∷ []
+judges_of form.Send = a_side ∷ some_bytes ∷ []
+judges_of form.Prefer = a_side ∷ a_place ∷ a_feature ∷ some_values ∷ []
+judges_of form.Timer = a_side ∷ a_timer ∷ []
+judges_of form.Close = a_side ∷ []
+judges_of form.Abort = a_side ∷ []
+
+abbrev pub nothing_more : List WordAt → Option LineFault
+nothing_more [] = None
+nothing_more (word ∷ words) = Some (fault_at word.column why.Trailing)
+
+-- word by word from the left, and then the first word too many
+abbrev pub words_fault : List Judge → WordsLeft → Option LineFault
+words_fault [] left = nothing_more left.words
+words_fault (judge ∷ judges) left = first_or (judge left) (words_fault judges (later left))
+
+-- what an end may not have, at the values, and for an offer at the feature
+abbrev pub refused_wish : ℕ → Result Wanted PreferFault → Option LineFault
+refused_wish column (Ok wanted) = None
+refused_wish column (Err fault) = Some (fault_at column (wish_fault fault))
+
+abbrev pub refused_set : ℕ → Option Place → Option Feature → Option (List ℕ) → Option LineFault
+refused_set column (Some place) (Some feature) (Some values) = refused_wish column (wish_of feature place values)
+refused_set column (Some place) (Some feature) None = None
+refused_set column (Some place) None values = None
+refused_set column None feature values = None
+
+abbrev pub refused_offer : ℕ → Option Place → Option Feature → Option LineFault
+refused_offer column (Some place) (Some feature) = unless (is_ours feature place) (fault_at column why.NotOurs)
+refused_offer column (Some place) None = None
+refused_offer column None feature = None
+
+abbrev pub end_fault : Form → WordsLeft → Option LineFault
+end_fault form.Plain left = None
+end_fault form.Iss left = None
+end_fault form.Set left =
+    refused_set (word_at 3 left).column (place_of (word_at 1 left).text) (feature_of (word_at 2 left).text) (values_of (word_at 3 left).text)
+end_fault form.Offer left =
+    refused_offer (word_at 2 left).column (place_of (word_at 1 left).text) (feature_of (word_at 2 left).text)
+end_fault form.Open left = None
+end_fault form.Deliver left = None
+end_fault form.Send left = None
+end_fault form.Prefer left = None
+end_fault form.Timer left = None
+end_fault form.Close left = None
+end_fault form.Abort left = None
+
+abbrev pub form_fault : Option Form → WordsLeft → Option LineFault
+form_fault None left = None
+form_fault (Some form) left = first_or (words_fault (judges_of form) left) (end_fault form left)
+
+abbrev pub spoken_fault : WordsLeft → Option LineFault
+spoken_fault left =
+    first_or (word_fault why.UnknownWord (is_some (form_of (first_word left).text)) (first_word left))
+    (form_fault (form_of (first_word left).text) (later left))
+
+-- a byte that is no text
+abbrev pub no_text : Option ℕ → Option LineFault
+no_text None = None
+no_text (Some place) = Some (fault_at (place + 1) why.NotText)
+
+-- the first fault of a line
+abbrev pub line_fault : List ℕ → Option LineFault
+line_fault line =
+    first_or (if nat_lt 4096 (length line) then Some (fault_at 4097 why.LineTooLong) else None)
+    (first_or (no_text (first_other line)) (if says_nothing line then None else spoken_fault (words_of line)))

@@ -1,0 +1,53 @@
+-- The lines that are accepted, by their words (own).
+use Rattle.std.specs.Prelude.{◌≡◌, ℕ, ◌/◌, ◌%◌, ◌≤◌, true, List, [], ◌∷◌, length, codes, Option, Some, ◌⊎◌}
+use Rattle.std.specs.List.{list_all}
+use Rattle.hex.specs.Hex.{hex_digit_value}
+use Rattle.schedule_text.specs.declared.event.Event.TheVariants as event
+use Rattle.schedule_text.specs.declared.line.Line.{Line}
+use Rattle.schedule_text.specs.declared.line.Line.TheVariants as line
+use Rattle.schedule_text.specs.declared.names.Form.TheVariants as form
+use Rattle.schedule_text.specs.Names.{form_name, side_name}
+use Rattle.schedule_text.specs.Printing.{joined, line_words}
+use Rattle.schedule_text.specs.Range.{IsSayable}
+use Rattle.schedule_text.specs.Reading.{is_text, says_nothing}
+
+-- two digits for each byte, of either case, the high one first
+abbrev pub AreDigitsOf : List ℕ → List ℕ → Type 0
+AreDigitsOf [] [] = Unit {0}
+AreDigitsOf [] (byte ∷ bytes) = ⊥
+AreDigitsOf (digit ∷ []) bytes = ⊥
+AreDigitsOf (high ∷ (low ∷ digits)) [] = ⊥
+AreDigitsOf (high ∷ (low ∷ digits)) (byte ∷ bytes) =
+    (hex_digit_value high ≡ Some (byte / 16)) × (hex_digit_value low ≡ Some (byte % 16)) × AreDigitsOf digits bytes
+
+-- a dash spells no bytes, and digits spell some
+abbrev pub SpellsBytes : List ℕ → List ℕ → Type 0
+SpellsBytes digits [] = digits ≡ codes "-"
+SpellsBytes digits (byte ∷ bytes) = AreDigitsOf digits (byte ∷ bytes)
+
+-- the digits of the data that are sent, in the text of their line
+pub record IsSending (text : List ℕ) (side : List ℕ) (payload : List ℕ) : Type 0 where
+  pub digits : List ℕ
+  pub spells : SpellsBytes digits payload
+  pub words : text ≡ joined (form_name form.Send ∷ (side ∷ (digits ∷ [])))
+  pub few : length payload ≤ 2042
+
+-- a text is a line that says this: its own words, parted by one space, of which digits may be of either case
+abbrev pub IsLine : List ℕ → Line → Type 0
+IsLine text line.Nothing = (says_nothing text ≡ true) × (length text ≤ 4096) × (list_all is_text text ≡ true)
+IsLine text line.Plain = text ≡ joined (line_words line.Plain)
+IsLine text (line.Iss side number) = (text ≡ joined (line_words (line.Iss side number))) × IsSayable (line.Iss side number)
+IsLine text (line.Set side place feature values) =
+    (text ≡ joined (line_words (line.Set side place feature values))) × IsSayable (line.Set side place feature values)
+IsLine text (line.Offer side place feature mandatory) =
+    (text ≡ joined (line_words (line.Offer side place feature mandatory))) × IsSayable (line.Offer side place feature mandatory)
+IsLine text (line.Event event.Open) = text ≡ joined (line_words (line.Event event.Open))
+IsLine text (line.Event (event.Deliver from index)) =
+    (text ≡ joined (line_words (line.Event (event.Deliver from index)))) × IsSayable (line.Event (event.Deliver from index))
+IsLine text (line.Event (event.Send side payload)) = IsSending text (side_name side) payload
+IsLine text (line.Event (event.Prefer side feature place values)) =
+    (text ≡ joined (line_words (line.Event (event.Prefer side feature place values))))
+    × IsSayable (line.Event (event.Prefer side feature place values))
+IsLine text (line.Event (event.Timer side timer)) = text ≡ joined (line_words (line.Event (event.Timer side timer)))
+IsLine text (line.Event (event.Close side)) = text ≡ joined (line_words (line.Event (event.Close side)))
+IsLine text (line.Event (event.Abort side)) = text ≡ joined (line_words (line.Event (event.Abort side)))

@@ -1,0 +1,64 @@
+-- What a line of a replay says, or the first of its faults (own).
+use Rattle.std.specs.Prelude.{ℕ, Bool, true, false, ◌&&◌, nat_lt, if◌then◌else◌, List, length, codes, Option, Some, None, Result, Ok, Err}
+use Rattle.std.specs.Str.{bytes_eq}
+use Rattle.schedule_text.specs.declared.line.FrameLine.{FrameLine}
+use Rattle.schedule_text.specs.declared.line.LineFault.{LineFault}
+use Rattle.schedule_text.specs.declared.line.LineWhy.TheVariants as why
+use Rattle.schedule_text.specs.Words.{WordAt, WordsLeft, first_word, later, words_of}
+use Rattle.schedule_text.specs.Digits.{bytes_of}
+use Rattle.schedule_text.specs.Reading.{◌>>=◌, ◌>>◌, fault_at, digits_word, ended, clean, says_nothing, first_other}
+use Rattle.schedule_text.specs.Faults.{first_or, digits_fault, nothing_more, no_text}
+
+-- a frame, whose checksum is to be set or stands in it
+abbrev pub frame_line : Bool → List ℕ → FrameLine
+frame_line seal bytes = record { seal = seal; bytes = bytes }
+
+-- a frame has at most 2,044 bytes, and one whose checksum is to be set at least 8
+abbrev pub sized : Bool → ℕ → List ℕ → Result (Option FrameLine) LineFault
+sized seal column bytes =
+    if nat_lt 2044 (length bytes) then Err (fault_at column why.FrameTooLong)
+    else if seal && nat_lt (length bytes) 8 then Err (fault_at column why.SealShort)
+    else Ok (Some (frame_line seal bytes))
+
+-- its digits, and nothing behind them
+abbrev pub frame_of : Bool → WordsLeft → Result (Option FrameLine) LineFault
+frame_of seal left = do
+  bytes ← digits_word (first_word left)
+  ended (later left)
+  sized seal (first_word left).column bytes
+
+-- the word `seal` may stand before the digits
+abbrev pub seals : WordsLeft → Bool
+seals left = bytes_eq (first_word left).text (codes "seal")
+
+abbrev pub read_digits : WordsLeft → Result (Option FrameLine) LineFault
+read_digits left = if seals left then frame_of true (later left) else frame_of false left
+
+abbrev pub read_clean_frame : List ℕ → Result (Option FrameLine) LineFault
+read_clean_frame text = if says_nothing text then Ok None else read_digits (words_of text)
+
+abbrev pub read_frame : List ℕ → Result (Option FrameLine) LineFault
+read_frame text = do
+  clean text
+  read_clean_frame text
+
+-- The first fault of such a line, as a table.
+
+abbrev pub size_fault : Bool → ℕ → List ℕ → Option LineFault
+size_fault seal column bytes =
+    if nat_lt 2044 (length bytes) then Some (fault_at column why.FrameTooLong)
+    else if seal && nat_lt (length bytes) 8 then Some (fault_at column why.SealShort)
+    else None
+
+abbrev pub digits_line_fault : Bool → WordsLeft → Option LineFault
+digits_line_fault seal left =
+    first_or (digits_fault (first_word left))
+    (first_or (nothing_more (later left).words) (size_fault seal (first_word left).column (bytes_of (first_word left).text)))
+
+abbrev pub replayed_fault : WordsLeft → Option LineFault
+replayed_fault left = if seals left then digits_line_fault true (later left) else digits_line_fault false left
+
+abbrev pub frame_fault : List ℕ → Option LineFault
+frame_fault text =
+    first_or (if nat_lt 4096 (length text) then Some (fault_at 4097 why.LineTooLong) else None)
+    (first_or (no_text (first_other text)) (if says_nothing text then None else replayed_fault (words_of text)))

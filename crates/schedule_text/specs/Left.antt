@@ -1,0 +1,12 @@
+-- The words that are left, as the code keeps them.
+use Rattle.std.specs.Prelude.{◌+◌}
+use Rattle.schedule_text.specs.Words.{placed, WordAt, word_at_column, WordsLeft, words_left}
+use Rattle.schedule_text.specs.Rest.{pieces_left, rest_length}
+use Rattle.schedule_text.specs.declared.words.Word.{Word}
+use Rattle.schedule_text.specs.declared.words.Words.{Words}
+
+abbrev pub word_of : Word → WordAt
+word_of word = word_at_column word.column word.text.now
+
+abbrev pub left_of : Words → WordsLeft
+left_of words = words_left (placed words.column (pieces_left 32 words.rest)) (words.column + rest_length words.rest)

@@ -1,0 +1,78 @@
+-- The words of the tool's lines (own).
+use Rattle.std.specs.Prelude.{ℕ, if◌then◌else◌, List, codes, Option, Some, None}
+use Rattle.std.specs.Str.{bytes_eq}
+use Rattle.feature_lists.specs.declared.features.Place.{Place}
+use Rattle.feature_lists.specs.declared.features.Place.TheVariants as place
+use Rattle.two_ends.specs.declared.event.Side.{Side}
+use Rattle.two_ends.specs.declared.event.Side.TheVariants as side
+use Rattle.schedule_text.specs.declared.event.Timer.{Timer}
+use Rattle.schedule_text.specs.declared.event.Timer.TheVariants as timer
+use Rattle.schedule_text.specs.declared.names.Form.{Form}
+use Rattle.schedule_text.specs.declared.names.Form.TheVariants as form
+
+abbrev pub form_name : Form → List ℕ
+form_name form.Plain = codes "plain"
+form_name form.Iss = codes "iss"
+form_name form.Set = codes "set"
+form_name form.Offer = codes "offer"
+form_name form.Open = codes "open"
+form_name form.Deliver = codes "deliver"
+form_name form.Send = codes "send"
+form_name form.Prefer = codes "prefer"
+form_name form.Timer = codes "timer"
+form_name form.Close = codes "close"
+form_name form.Abort = codes "abort"
+
+abbrev pub side_name : Side → List ℕ
+side_name side.Client = codes "client"
+side_name side.Server = codes "server"
+
+abbrev pub place_name : Place → List ℕ
+place_name place.Here = codes "here"
+place_name place.There = codes "there"
+
+abbrev pub timer_name : Timer → List ℕ
+timer_name timer.Request = codes "request"
+timer_name timer.Ack = codes "ack"
+timer_name timer.Negotiate = codes "negotiate"
+timer_name timer.Rto = codes "rto"
+timer_name timer.Close = codes "close"
+timer_name timer.TimeWait = codes "timewait"
+
+-- what a word names, if it names anything of its kind
+abbrev pub form_of : List ℕ → Option Form
+form_of word =
+    if bytes_eq word (form_name form.Plain) then Some form.Plain
+    else if bytes_eq word (form_name form.Iss) then Some form.Iss
+    else if bytes_eq word (form_name form.Set) then Some form.Set
+    else if bytes_eq word (form_name form.Offer) then Some form.Offer
+    else if bytes_eq word (form_name form.Open) then Some form.Open
+    else if bytes_eq word (form_name form.Deliver) then Some form.Deliver
+    else if bytes_eq word (form_name form.Send) then Some form.Send
+    else if bytes_eq word (form_name form.Prefer) then Some form.Prefer
+    else if bytes_eq word (form_name form.Timer) then Some form.Timer
+    else if bytes_eq word (form_name form.Close) then Some form.Close
+    else if bytes_eq word (form_name form.Abort) then Some form.Abort
+    else None
+
+abbrev pub side_of : List ℕ → Option Side
+side_of word =
+    if bytes_eq word (side_name side.Client) then Some side.Client
+    else if bytes_eq word (side_name side.Server) then Some side.Server
+    else None
+
+abbrev pub place_of : List ℕ → Option Place
+place_of word =
+    if bytes_eq word (place_name place.Here) then Some place.Here
+    else if bytes_eq word (place_name place.There) then Some place.There
+    else None
+
+abbrev pub timer_of : List ℕ → Option Timer
+timer_of word =
+    if bytes_eq word (timer_name timer.Request) then Some timer.Request
+    else if bytes_eq word (timer_name timer.Ack) then Some timer.Ack
+    else if bytes_eq word (timer_name timer.Negotiate) then Some timer.Negotiate
+    else if bytes_eq word (timer_name timer.Rto) then Some timer.Rto
+    else if bytes_eq word (timer_name timer.Close) then Some timer.Close
+    else if bytes_eq word (timer_name timer.TimeWait) then Some timer.TimeWait
+    else None

@@ -1,0 +1,51 @@
+-- Numbers as a line has them (own).
+use Rattle.std.specs.Prelude.{ℕ, ◌+◌, ◌-◌, ◌*◌, ◌^◌, Bool, ◌==◌, ◌&&◌, not, nat_lt, nat_le, if◌then◌else◌, List, [], ◌∷◌, length, Option, Some, None, option_and_then}
+use Rattle.feature_lists.specs.Features.{feature_numbered}
+use Rattle.feature_lists.specs.declared.features.Feature.{Feature}
+use Rattle.two_ends.specs.declared.event.Side.{Side}
+use Rattle.two_ends.specs.declared.event.Side.TheVariants.{Client, Server}
+use Rattle.schedule_text.specs.Words.{pieces}
+
+-- the digits 0 to 9
+abbrev pub is_digit : ℕ → Bool
+is_digit byte = nat_le 48 byte && nat_le byte 57
+
+-- Digits after a number that begins with them, as long as it stays below the limit.
+abbrev pub digits_after : ℕ → ℕ → List ℕ → Option ℕ
+digits_after limit n [] = Some n
+digits_after limit n (byte ∷ rest) =
+    if is_digit byte && nat_lt (10 * n + (byte - 48)) limit then digits_after limit (10 * n + (byte - 48)) rest else None
+
+-- a decimal number below the limit, without sign or leading zero
+abbrev pub number_below : ℕ → List ℕ → Option ℕ
+number_below limit [] = None
+number_below limit (byte ∷ []) = digits_after limit 0 (byte ∷ [])
+number_below limit (byte ∷ (next ∷ rest)) = if byte == 48 then None else digits_after limit 0 (byte ∷ (next ∷ rest))
+
+-- the numbers of sequence numbers and of values, and those of frames
+abbrev pub sequence_numbers : ℕ
+sequence_numbers = 2 ^ 48
+
+abbrev pub indices : ℕ
+indices = 2 ^ 47
+
+-- numbers in front of others
+abbrev pub with_number : ℕ → Option (List ℕ) → Option (List ℕ)
+with_number number None = None
+with_number number (Some numbers) = Some (number ∷ numbers)
+
+-- each of the texts as a number below 2^48
+abbrev pub numbers_of : List (List ℕ) → Option (List ℕ)
+numbers_of [] = Some []
+numbers_of (text ∷ texts) = option_and_then (λ number. with_number number (numbers_of texts)) (number_below sequence_numbers text)
+
+abbrev pub at_most_nine : List ℕ → Option (List ℕ)
+at_most_nine numbers = if nat_le (length numbers) 9 then Some numbers else None
+
+-- one to nine numbers below 2^48, parted by commas
+abbrev pub values_of : List ℕ → Option (List ℕ)
+values_of word = option_and_then at_most_nine (numbers_of (pieces 44 word))
+
+-- a feature's number
+abbrev pub feature_of : List ℕ → Option Feature
+feature_of word = option_and_then feature_numbered (number_below 10 word)

@@ -1,0 +1,71 @@
+-- The lines as they are printed, word by word (own).
+use Rattle.std.specs.Prelude.{◌≡◌, ℕ, ◌++◌, Bool, List, [], ◌∷◌, length, take, map, codes, decimal, if◌then◌else◌}
+use Rattle.std.specs.List.{join_with_byte}
+use Rattle.hex.specs.Hex.{encode_lower}
+use Rattle.feature_lists.specs.Features.{number_of}
+use Rattle.two_ends.specs.declared.event.Side.{Side}
+use Rattle.two_ends.specs.declared.event.Side.TheVariants.{Client, Server}
+use Rattle.schedule_text.specs.declared.event.Event.{Event}
+use Rattle.schedule_text.specs.declared.event.Event.TheVariants as event
+use Rattle.schedule_text.specs.declared.line.Line.{Line}
+use Rattle.schedule_text.specs.declared.line.Line.TheVariants as line
+use Rattle.schedule_text.specs.declared.names.Form.TheVariants as form
+use Rattle.schedule_text.specs.Names.{form_name, side_name, place_name, timer_name}
+
+-- a text that was begun still begins a later one
+pub record Keeps (old new : List ℕ) : Type 0 where
+  pub front : take (length old) new ≡ old
+
+-- words, parted by one space
+abbrev pub joined : List (List ℕ) → List ℕ
+joined words = join_with_byte 32 words
+
+-- bytes as digits in lower case, or a dash for none
+abbrev pub hex_text : List ℕ → List ℕ
+hex_text [] = codes "-"
+hex_text (byte ∷ bytes) = encode_lower (byte ∷ bytes)
+
+-- the two digits of a byte
+abbrev pub byte_digits : ℕ → List ℕ
+byte_digits byte = encode_lower (byte ∷ [])
+
+-- numbers, parted by commas
+abbrev pub values_text : List ℕ → List ℕ
+values_text values = join_with_byte 44 (map decimal values)
+
+-- a frame's name: the letter of its sender and its index
+abbrev pub side_letter : Side → List ℕ
+side_letter Client = codes "c"
+side_letter Server = codes "s"
+
+abbrev pub frame_name : Side → ℕ → List ℕ
+frame_name from index = side_letter from ++ decimal index
+
+abbrev pub event_words : Event → List (List ℕ)
+event_words event.Open = form_name form.Open ∷ []
+event_words (event.Deliver from index) = form_name form.Deliver ∷ frame_name from index ∷ []
+event_words (event.Send side payload) = form_name form.Send ∷ side_name side ∷ hex_text payload ∷ []
+event_words (event.Prefer side feature place values) =
+    form_name form.Prefer ∷ side_name side ∷ place_name place ∷ decimal (number_of feature) ∷ values_text values ∷ []
+event_words (event.Timer side timer) = form_name form.Timer ∷ side_name side ∷ timer_name timer ∷ []
+event_words (event.Close side) = form_name form.Close ∷ side_name side ∷ []
+event_words (event.Abort side) = form_name form.Abort ∷ side_name side ∷ []
+
+-- the words of an offer that is marked with Mandatory have one more
+abbrev pub mandatory_words : Bool → List (List ℕ)
+mandatory_words mandatory = if mandatory then codes "mandatory" ∷ [] else []
+
+-- what a line that says this has for its words; one that says nothing has none
+abbrev pub line_words : Line → List (List ℕ)
+line_words line.Nothing = []
+line_words line.Plain = form_name form.Plain ∷ []
+line_words (line.Iss side number) = form_name form.Iss ∷ side_name side ∷ decimal number ∷ []
+line_words (line.Set side place feature values) =
+    form_name form.Set ∷ side_name side ∷ place_name place ∷ decimal (number_of feature) ∷ values_text values ∷ []
+line_words (line.Offer side place feature mandatory) =
+    form_name form.Offer ∷ side_name side ∷ place_name place ∷ decimal (number_of feature) ∷ mandatory_words mandatory
+line_words (line.Event event) = event_words event
+
+-- an event as its line has it
+abbrev pub event_text : Event → List ℕ
+event_text event = joined (event_words event)

@@ -1,0 +1,114 @@
+-- What was seen of an event, as it is printed (own).
+use Rattle.std.specs.Prelude.{◌≡◌, ℕ, ◌≤◌, ◌++◌, Bool, true, false, List, [], length, slice_range, flat_map, codes, decimal, Option, Some, None, Ok, Err}
+use Rattle.dccp_packets.specs.declared.reading.Malformed.{Malformed}
+use Rattle.dccp_packets.specs.declared.reading.Malformed.TheVariants as malformed
+use Rattle.dccp_sum.specs.declared.packet_sum.SumFault.{SumFault}
+use Rattle.dccp_sum.specs.declared.packet_sum.SumFault.TheVariants as sum
+use Rattle.dccp_endpoint.specs.declared.outcome.Why.{Why}
+use Rattle.dccp_endpoint.specs.declared.outcome.Why.TheVariants as why
+use Rattle.dccp_endpoint.specs.declared.outcome.Outcome.{Outcome}
+use Rattle.dccp_endpoint.specs.declared.outcome.Outcome.TheVariants.{Took, Dropped, Synced, WasReset, SentReset, NotBuilt}
+use Rattle.schedule_text.specs.declared.event.Event.{Event}
+use Rattle.schedule_text.specs.declared.event.Refusal.{Refusal}
+use Rattle.schedule_text.specs.declared.event.Refusal.TheVariants as refusal
+use Rattle.schedule_text.specs.declared.event.Seen.{Seen}
+use Rattle.schedule_text.specs.declared.event.Seen.TheVariants.{Called, Fired, Received}
+use Rattle.schedule_text.specs.Printing.{hex_text, event_text}
+
+-- Names
+
+abbrev pub refusal_name : Refusal → List ℕ
+refusal_name refusal.NotFresh = codes "NotFresh"
+refusal_name refusal.NotOpen = codes "NotOpen"
+refusal_name refusal.TooLong = codes "TooLong"
+refusal_name refusal.NotNegotiated = codes "NotNegotiated"
+refusal_name refusal.WindowFull = codes "WindowFull"
+refusal_name refusal.BadList = codes "BadList"
+refusal_name refusal.NotOurs = codes "NotOurs"
+refusal_name refusal.NotLive = codes "NotLive"
+
+abbrev pub malformed_name : Malformed → List ℕ
+malformed_name malformed.Short = codes "Short"
+malformed_name malformed.ReservedType = codes "ReservedType"
+malformed_name malformed.OffsetSmall = codes "OffsetSmall"
+malformed_name malformed.OffsetLarge = codes "OffsetLarge"
+malformed_name malformed.ShortNumbers = codes "ShortNumbers"
+
+abbrev pub sum_name : SumFault → List ℕ
+sum_name sum.CoverageTooLarge = codes "CoverageTooLarge"
+sum_name sum.Wrong = codes "Wrong"
+
+abbrev pub why_name : Why → List ℕ
+why_name (why.Malformed fault) = malformed_name fault
+why_name (why.Sum fault) = sum_name fault
+why_name why.OtherFlow = codes "OtherFlow"
+why_name why.StrayReset = codes "StrayReset"
+why_name why.ShortOff = codes "ShortOff"
+why_name why.BadSync = codes "BadSync"
+
+-- Results
+
+abbrev pub timer_text : Bool → List ℕ
+timer_text true = codes "fired"
+timer_text false = codes "idle"
+
+abbrev pub data_text : List ℕ → List ℕ
+data_text bytes = codes "took data " ++ hex_text bytes
+
+-- what was taken, with the data that was delivered from the bytes of its frame
+abbrev pub taken_text : List ℕ → Option (ℕ × ℕ) → List ℕ
+taken_text bytes None = codes "took"
+taken_text bytes (Some place) = data_text (slice_range bytes place.0 place.1)
+
+abbrev pub byte_text : ℕ → List ℕ
+byte_text byte = codes " " ++ decimal byte
+
+-- a Reset that was sent, with its code and the three bytes of its data
+abbrev pub reset_text : ℕ → List ℕ → List ℕ
+reset_text code detail = codes "sent reset " ++ decimal code ++ flat_map byte_text detail
+
+-- an outcome of a frame with these bytes; a line whose outcome is not built is refused, and prints none
+abbrev pub outcome_text : List ℕ → Outcome → List ℕ
+outcome_text bytes (Took delivered) = taken_text bytes delivered
+outcome_text bytes (Dropped why) = codes "dropped " ++ why_name why
+outcome_text bytes (Synced number) = codes "synced " ++ decimal number
+outcome_text bytes (WasReset code) = codes "was reset " ++ decimal code
+outcome_text bytes (SentReset code detail) = reset_text code detail
+outcome_text bytes NotBuilt = []
+
+abbrev pub seen_text : List ℕ → Seen → List ℕ
+seen_text bytes (Called (Ok _)) = codes "ok"
+seen_text bytes (Called (Err fault)) = codes "refused " ++ refusal_name fault
+seen_text bytes (Fired fired) = timer_text fired
+seen_text bytes (Received outcome) = outcome_text bytes outcome
+
+-- an event, under the number of its own line in the input
+abbrev pub told_text : ℕ → Event → List ℕ
+told_text number event = decimal number ++ codes " " ++ event_text event
+
+-- what was seen, behind its event
+abbrev pub result_text : List ℕ → Seen → List ℕ
+result_text bytes seen = codes ": " ++ seen_text bytes seen ++ codes "\n"
+
+-- its line, with what was seen of it
+abbrev pub seen_line : ℕ → Event → Seen → List ℕ → List ℕ
+seen_line number event seen bytes = told_text number event ++ result_text bytes seen
+
+-- Data that is delivered stands in the frame.
+
+abbrev pub IsPlaceIn : List ℕ → Option (ℕ × ℕ) → Type 0
+IsPlaceIn bytes None = Unit {0}
+IsPlaceIn bytes (Some place) = (place.0 ≤ place.1) × (place.1 ≤ length bytes)
+
+abbrev pub HasItsData : List ℕ → Outcome → Type 0
+HasItsData bytes (Took delivered) = IsPlaceIn bytes delivered
+HasItsData bytes (Dropped why) = Unit {0}
+HasItsData bytes (Synced number) = Unit {0}
+HasItsData bytes (WasReset code) = Unit {0}
+HasItsData bytes (SentReset code detail) = Unit {0}
+HasItsData bytes NotBuilt = Unit {0}
+
+abbrev pub IsSeenOf : List ℕ → Seen → Type 0
+IsSeenOf bytes (Called result) = Unit {0}
+IsSeenOf bytes (Fired fired) = Unit {0}
+IsSeenOf bytes (Received outcome) = HasItsData bytes outcome

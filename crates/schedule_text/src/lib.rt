@@ -1,0 +1,32 @@
+//! The lines of schedules and replays as text: what each says, where it is wrong, and how an event and what was seen of
+//! it are printed (own).
+//!
+//! Each line stands by itself: nothing here knows the lines before it, the limits of a whole input, or the ends. Reading
+//! takes no memory.
+#![tactic(auto)]
+
+mod digits;
+mod event;
+mod frames;
+mod laws;
+mod line;
+mod names;
+mod numbers;
+mod printing;
+mod reading;
+#[cfg(test)]
+mod tests;
+mod text;
+mod unbuilt;
+mod words;
+
+pub use crate::event::{Event, Payload, Refusal, Seen, Timer, Values};
+pub use crate::frames::read_frame;
+pub use crate::laws::{
+    lines_are_their_forms, printed_events_are_read, the_first_fault_is_answered,
+    the_first_fault_of_a_frame_is_answered, words_stand_at_their_columns,
+};
+pub use crate::line::{FrameLine, Line, LineFault, LineWhy};
+pub use crate::printing::{print_event, print_seen};
+pub use crate::reading::read_line;
+pub use crate::unbuilt::is_unbuilt;
