@@ -1,5 +1,5 @@
 -- Every step of a proper end has an effect. What a call or a timer does is one of three: nothing, a change of phase alone, or a packet.
-use Rattle.std.proofs.Common.{◌≡◌, inl, inr, refl, ap, Bool, true, false, List, [], Option, Some, None, Ok, Err, Result}
+use Rattle.std.proofs.Common.{◌≡◌, inl, inr, refl, ap, Bool, true, false, [], None}
 use Rattle.std.proofs.lemmas.Bool.{false≢true}
 use Rattle.dccp_packets.specs.Grammar.{has_forms, packet_type}
 use Rattle.dccp_packets.specs.Kinds.{ack_of}

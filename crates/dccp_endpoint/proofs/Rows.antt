@@ -1,5 +1,5 @@
 -- Worked packets, computed from the definitions: what the standard's numbers and the RFC 1071 sum come to by hand, as bytes.
-use Rattle.std.proofs.Common.{◌≡◌, refl, ℕ, ◌+◌, ◌-◌, ◌*◌, nat_le, if◌then◌else◌, Bool, true, false, List, [], ◌∷◌, Option, Some, None, Ok, Err, codes}
+use Rattle.std.proofs.Common.{◌≡◌, refl, ℕ, ◌+◌, ◌-◌, ◌*◌, nat_le, if◌then◌else◌, true, false, List, [], ◌∷◌, Option, Some, None, Ok, Err, codes}
 use Rattle.dccp_packets.specs.declared.reading.Malformed.TheVariants as malformed
 use Rattle.dccp_sum.specs.declared.packet_sum.SumFault.TheVariants as sums
 use Rattle.dccp_states.specs.declared.phase.Phase.{Phase}

@@ -1,5 +1,5 @@
 -- What a step of an end is, and what it sends (RFC 4340, section 7.1).
-use Rattle.std.specs.Prelude.{ℕ, ◌+◌, Bool, true, false, List, [], ◌∷◌, Option, Some, None, Result, Ok, Err}
+use Rattle.std.specs.Prelude.{ℕ, ◌+◌, List, [], ◌∷◌, Option, Some, None}
 use Rattle.seq_circle.specs.Circle.{residue}
 use Rattle.congestion_trait.specs.Calls.{Call}
 use Rattle.dccp_packets.specs.declared.header.Kind.TheVariants as kind

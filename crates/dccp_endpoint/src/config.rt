@@ -19,12 +19,15 @@ pub(crate) fn number(n: u64) -> Seq48
 /// One end's side of a connection: who it is, between which addresses and ports, and its first sequence number.
 #[derive(Clone, Copy, Debug, PartialEq, Eq)]
 pub struct Config {
+    /// Which of the two ends it is.
     pub role: Role,
     /// The addresses of the packets that it sends.
     pub pseudo_out: Pseudo,
     /// The addresses of the packets that it receives.
     pub pseudo_in: Pseudo,
+    /// The source port of the packets that it sends.
     pub own_port: u16,
+    /// The source port of the packets that it receives.
     pub peer_port: u16,
     /// The Service Code that the client asks for and the server offers (RFC 4340, section 8.1.2).
     pub service: u32,

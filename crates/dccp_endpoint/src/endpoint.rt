@@ -11,7 +11,8 @@ mod receiving;
 mod sending;
 
 /// One end of a connection. Its readers show the phase, the marks, the features' values and what is in flight; `open`
-/// begins a connection at a client; `receive` takes any bytes that arrive. Each call that takes an Outbox empties it
+/// begins a connection at a client, `close` and `abort` end one; `timer` says that a timer has run out, and `receive` takes
+/// any bytes that arrive. Each call that takes an Outbox empties it
 /// first and leaves at most one frame there. A refused call leaves the end unchanged and the box empty. Only `new` may
 /// take memory.
 #[derive(Drop)]

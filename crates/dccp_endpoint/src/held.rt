@@ -14,6 +14,8 @@ pub enum Stand {
 /// A row's value and where its negotiation stands.
 #[derive(Clone, Copy, Debug, PartialEq, Eq)]
 pub struct Held {
+    /// The value that is in force.
     pub value: u64,
+    /// Where its negotiation stands.
     pub stand: Stand,
 }

@@ -35,15 +35,19 @@ pub enum Outcome {
     WasReset(u8),
     /// It was answered with a Reset of this code and detail (RFC 4340, section 5.6).
     SentReset { code: u8, detail: [u8; 3] },
-    /// It needs a part of the protocol that is not built yet. The end is unchanged.
+    /// It carries data, or options of the negotiation where they count: neither is built yet. The end is unchanged.
     NotBuilt,
 }
 
 /// What a Reset tells of the packet that it answers: its code and the bytes Data 1 to 3 (RFC 4340, section 5.6).
 #[derive(Clone, Copy, Debug, PartialEq, Eq)]
 pub struct Fault {
+    /// The Reset Code.
     pub code: u8,
+    /// Data 1.
     pub first: u8,
+    /// Data 2.
     pub second: u8,
+    /// Data 3.
     pub third: u8,
 }

@@ -86,7 +86,7 @@ impl Endpoint {
     /// packet's numbers are not valid, and where it is unexpected it has raised the greatest numbers received. A Reset has the
     /// code and the detail that `SentReset` has. Without a connection (codes 3 and 8) it changes nothing. In REQUEST, where the
     /// packet is neither a Reset nor a Response that acknowledges within the window (code 4), it takes the next number, and
-    /// nothing else changes. Otherwise (codes 5, 6 and 8) the packet's numbers were taken, the end closes, and the Reset takes
+    /// nothing else changes. Otherwise (codes 1, 5, 6 and 8) the packet's numbers were taken, the end closes, and the Reset takes
     /// the next number and acknowledges the greatest number received. A packet that is `Took` moves the phase and is answered
     /// by the table of phases, and no data is delivered yet.
     pub fn receive(&mut self, bytes: &[u8], out: &mut Outbox) -> Outcome
@@ -374,7 +374,7 @@ impl Endpoint {
         self.phase = phase;
     }
 
-    // What the table of phases sends. Step 16: no data is delivered yet.
+    // What the table of phases sends; a Reset has left at step 9. Step 16: no data is delivered yet.
     fn reply(&mut self, packet: &IncomingPacket<'_>, reply: Reply, out: &mut Outbox) -> Outcome
         requires { out.old ≡ None }
         ensures { record { after = self.new; frame = out.new; calls = []; answer = result } ≡ replies self.old packet.now reply }
