@@ -94,8 +94,8 @@ module _ (e : EndState) (frames : List SentFrame) (log : List Logged) (processed
 acting : (x y : Party) (given : Input) (f : Effect) → IsStep x y given f → IsOrdered x → IsOrdered (after_by x f)
 acting x y given f step o =
     let next =
-        sent-next (end_of x) x.half.frames x.log (length x.half.processed) (floor_of (end_after (end_of x) f)) o.logged o.greatest step.room
-        given f f.sending step.because.sends step.because.says
+    sent-next (end_of x) x.half.frames x.log (length x.half.processed) (floor_of (end_after (end_of x) f)) o.logged o.greatest step.room
+    given f f.sending step.because.sends step.because.says
     in
     record {
       proper =

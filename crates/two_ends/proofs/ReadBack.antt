@@ -102,8 +102,10 @@ numbered-from : (config : Config) (before first count : ℕ) (frames : List Sent
     → first ≡ config.iss + before → count ≡ before + length log → AreNumbered config.role config.iss before frames count
 numbered-from config before _ count _ _ (NoFrames first) from is = omega (arith, is)
 numbered-from config before _ count _ _ (Numbered first frame frames l log here rest) from is =
-    inl (subst (λ (n : ℕ). IsNumberedFrame config.role (residue n) frame.bytes) from (numbered-frame config first frame l here),
-    numbered-from config (before + 1) (first + 1) count frames log rest (omega (arith, from)) (omega (arith, is)))
+    inl (
+      subst (λ (n : ℕ). IsNumberedFrame config.role (residue n) frame.bytes) from (numbered-frame config first frame l here),
+      numbered-from config (before + 1) (first + 1) count frames log rest (omega (arith, from)) (omega (arith, is)),
+    )
 numbered-from config before _ count _ _ (Unnumbered first frame frames log here rest) from is =
     inr (reset-frame config frame here, numbered-from config before first count frames log rest from is)
 

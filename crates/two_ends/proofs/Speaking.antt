@@ -1,10 +1,10 @@
 -- No packet of a side carries options yet, and no side processed a number.
-use Rattle.std.proofs.Common.{◌≡◌, refl, ap, sym, ◌∙◌, subst, ℕ, List, [], ◌++◌, Some, Ok, slice_get, map}
+use Rattle.std.proofs.Common.{◌≡◌, refl, ap, ◌∙◌, ℕ, List, [], Some, Ok, slice_get, map}
 use Rattle.std.proofs.lemmas.List.Elements.{All-append, All-cons, All-nil}
 use Rattle.std.specs.List.{All}
 use Rattle.dccp_options.specs.Written.{Item, entries_at}
 use Rattle.dccp_endpoint.specs.Causes.{SaysNothing}
-use Rattle.dccp_endpoint.specs.Effects.{Sending, Silent, Next, WithoutConnection}
+use Rattle.dccp_endpoint.specs.Effects.{Sending, Next}
 use Rattle.two_ends.specs.declared.frames.SentFrame.{SentFrame}
 use Rattle.two_ends.specs.Frames.{options_in}
 use Rattle.two_ends.proofs.Acting.{Party, Keeps, config_of, logged_by}

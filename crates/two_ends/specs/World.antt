@@ -1,12 +1,14 @@
 -- Two ends, all frames that they ever sent, and what happens to them (own). Losing, repeating and reordering frames is the
 -- choice of deliveries.
-use Rattle.std.specs.Prelude.{ℕ, ◌-◌, ◌^◌, ◌≤◌, Bool, nat_le, if◌then◌else◌, List, [], ◌∷◌, ◌++◌, length, Option, Some, None, Result, Ok, Err, slice_get}
+use Rattle.std.specs.Prelude.{ℕ, ◌-◌, ◌^◌, ◌≤◌, Bool, false, nat_le, if◌then◌else◌, List, [], ◌∷◌, ◌++◌, length, Option, Some, None, Result, Ok, Err, slice_get}
 use Rattle.dccp_endpoint.specs.End.{EndState, fresh, floor_of}
 use Rattle.dccp_endpoint.specs.Inputs.{Input, Answer, stepped}
 use Rattle.dccp_endpoint.specs.Inputs as input
 use Rattle.dccp_endpoint.specs.Steps.{Step}
 use Rattle.dccp_endpoint.specs.declared.config.Config.{Config}
 use Rattle.two_ends.specs.declared.frames.SentFrame.{SentFrame}
+use Rattle.two_ends.specs.declared.half.Call.{Call}
+use Rattle.two_ends.specs.declared.half.Call.TheVariants as call
 use Rattle.two_ends.specs.declared.event.Side.{Side}
 use Rattle.two_ends.specs.declared.event.Side.TheVariants.{Client, Server}
 use Rattle.two_ends.specs.declared.event.Event.{Event}
@@ -55,6 +57,9 @@ seen_of_call named (Err fault) = seen.Called (Err (named fault))
 abbrev pub seen_of : Answer → Seen
 seen_of (input.Received outcome) = seen.Received outcome
 seen_of (input.Opened result) = seen_of_call (λ fault. refusal.NotFresh) result
+seen_of (input.Closed result) = seen_of_call (λ fault. refusal.NotOpen) result
+seen_of (input.Aborted result) = seen_of_call (λ fault. refusal.NotLive) result
+seen_of (input.Fired applies) = seen.Fired applies
 
 -- one step of a side's end
 abbrev pub half_steps : Half → Input → HalfStep
@@ -91,9 +96,19 @@ pub data Happening : Type 0 where
   Calls : (side : Side) (given : Input) → Happening
   Delivers : (from : Side) (index : ℕ) → Happening
 
+-- a call as the end takes it; nothing is in flight yet when a timer runs out
+abbrev pub input_of : Call → Input
+input_of call.Open = input.Opens
+input_of call.Close = input.Closes
+input_of call.Abort = input.Aborts
+input_of (call.Fire timer) = input.Fires timer false
+
 abbrev pub happening_of : Event → Happening
-happening_of event.Open = Calls Client input.Opens
+happening_of event.Open = Calls Client (input_of call.Open)
 happening_of (event.Deliver from index) = Delivers from index
+happening_of (event.Timer side timer) = Calls side (input_of (call.Fire timer))
+happening_of (event.Close side) = Calls side (input_of call.Close)
+happening_of (event.Abort side) = Calls side (input_of call.Abort)
 
 abbrev pub takes_place : WorldState → Happening → Result WorldStep WorldFault
 takes_place w (Calls side given) = unless_full w side (half_steps (half_of w side) given)

@@ -1,14 +1,25 @@
 //! One side of the world: an end, the frames that it ever sent, and the numbers that it processed.
 ghost use Rattle.std.specs.Prelude.{◌≡◌, ◌≤◌, [], length};
+ghost use Rattle.dccp_endpoint.specs.Inputs.{stepped};
 ghost use Rattle.dccp_endpoint.specs.Receiving.{receives};
+ghost use Rattle.two_ends.specs.World.{input_of, seen_of};
 
 use crate::frames::{keep_frame, take_memory};
 use crate::{Refusal, Seen, SentFrame};
-use dccp_endpoint::{Config, Endpoint, Outcome};
+use dccp_endpoint::{AbortFault, CloseFault, Config, Endpoint, OpenFault, Outcome, Timer};
 use dccp_packets::Outbox;
 use seq_circle::NoMemory;
 use std::alloc::Global;
 use std::marker::Model;
+
+/// A call of an end.
+#[derive(Clone, Copy, Debug, PartialEq, Eq)]
+pub(crate) enum Call {
+    Open,
+    Close,
+    Abort,
+    Fire(Timer),
+}
 
 #[derive(Drop)]
 pub(crate) struct HalfWorld {
@@ -33,8 +44,8 @@ impl Model for HalfWorld {
 
 impl HalfWorld {
     ghost use Rattle.std.specs.Prelude.{◌≡◌, ◌≤◌, ◌<◌, length, IfOk, OnErr, Ok};
-    ghost use Rattle.dccp_endpoint.specs.Inputs.{Arrives, Opens};
-    ghost use Rattle.two_ends.specs.World.{half_at_start, half_steps};
+    ghost use Rattle.dccp_endpoint.specs.Inputs.{Arrives};
+    ghost use Rattle.two_ends.specs.World.{half_at_start, half_steps, input_of};
 
     pub(crate) fn new(alloc: Global, config: Config) -> Result<HalfWorld, NoMemory>
         ensures { IfOk result (λ half. half ≡ half_at_start config) }
@@ -67,17 +78,14 @@ impl HalfWorld {
         &self.processed
     }
 
-    // The client opens. All memory that the step may need is taken before the end is touched.
-    pub(crate) fn open(&mut self) -> Result<Seen, NoMemory>
-        ensures ok { IfOk result (λ seen. record { half = self.new; seen = seen } ≡ half_steps self.old Opens) }
+    // One call of the end. All memory that the step may need is taken before the end is touched.
+    pub(crate) fn call(&mut self, call: Call) -> Result<Seen, NoMemory>
+        ensures ok { IfOk result (λ seen. record { half = self.new; seen = seen } ≡ half_steps self.old (input_of call)) }
         ensures err { OnErr result (self.new ≡ self.old) }
     {
         take_memory(&mut self.frames, &mut self.spare)?;
         let mut out = Outbox::new();
-        let answer = match self.end.open(&mut out) {
-            Ok(()) => Ok(()),
-            Err(_) => Err(Refusal::NotFresh),
-        };
+        let seen = answer(&mut self.end, call, &mut out);
         let processed = self.processed.len() as u64;
         let floor = self.end.floor();
         keep_frame(
@@ -88,7 +96,7 @@ impl HalfWorld {
             processed,
             floor,
         );
-        Ok(Seen::Called(answer))
+        Ok(seen)
     }
 
     // A frame of the other side arrives.
@@ -111,6 +119,29 @@ impl HalfWorld {
             floor,
         );
         Ok(Seen::Received(outcome))
+    }
+}
+
+// What is seen of a call of the end alone.
+fn answer(end: &mut Endpoint, call: Call, out: &mut Outbox) -> Seen
+    ensures after { end.new ≡ (stepped end.old (input_of call)).after }
+    ensures sent { out.new ≡ (stepped end.old (input_of call)).frame }
+    ensures seen { result ≡ seen_of (stepped end.old (input_of call)).answer }
+{
+    match call {
+        Call::Open => match end.open(out) {
+            Ok(()) => Seen::Called(Ok(())),
+            Err(OpenFault::NotFresh) => Seen::Called(Err(Refusal::NotFresh)),
+        },
+        Call::Close => match end.close(out) {
+            Ok(()) => Seen::Called(Ok(())),
+            Err(CloseFault::NotOpen) => Seen::Called(Err(Refusal::NotOpen)),
+        },
+        Call::Abort => match end.abort(out) {
+            Ok(()) => Seen::Called(Ok(())),
+            Err(AbortFault::NotLive) => Seen::Called(Err(Refusal::NotLive)),
+        },
+        Call::Fire(timer) => Seen::Fired(end.timer(timer, out)),
     }
 }
 

@@ -1,9 +1,9 @@
 //! The two sides together, and exactly what an event makes of them.
 ghost use Rattle.std.specs.Prelude.{◌≡◌, ◌≢◌, ◌↔◌, Ok, Err, None, IfOk, IfSome, IsSome, OnErr, true, false, slice_get};
-ghost use Rattle.dccp_endpoint.specs.Inputs.{Arrives, Opens};
-ghost use Rattle.two_ends.specs.World.{is_full, half_steps};
+ghost use Rattle.dccp_endpoint.specs.Inputs.{Arrives};
+ghost use Rattle.two_ends.specs.World.{is_full, half_steps, input_of};
 
-use crate::half::HalfWorld;
+use crate::half::{Call, HalfWorld};
 use crate::{Event, Seen, SentFrame, Side, WorldFault};
 use dccp_endpoint::{Config, Endpoint};
 use seq_circle::NoMemory;
@@ -28,8 +28,8 @@ impl Model for Sides {
 }
 
 impl Sides {
-    ghost use Rattle.std.specs.Prelude.{◌≡◌, ◌↔◌, ◌⊎◌, IfOk, IfErr, OnErr, Ok, Err, slice_get, Option, Some, None};
-    ghost use Rattle.two_ends.specs.World.{at_start, happens, half_of, unless_full, half_steps, arrives, LacksFrame, ActorIsFull};
+    ghost use Rattle.std.specs.Prelude.{◌≡◌, ◌≢◌, ◌↔◌, ◌⊎◌, true, IfOk, IfErr, OnErr, Ok, Err, slice_get, Option, Some, None};
+    ghost use Rattle.two_ends.specs.World.{at_start, happens, half_of, unless_full, half_steps, arrives, input_of, is_full, takes_place, Calls, LacksFrame, ActorIsFull};
 
     pub(crate) fn new(alloc: Global, client: Config, server: Config) -> Result<Sides, NoMemory>
         ensures { IfOk result (λ sides. sides ≡ at_start client server) }
@@ -58,7 +58,10 @@ impl Sides {
         ensures err { OnErr result (self.new ≡ self.old) }
     {
         match *event {
-            Event::Open => open(&mut self.client),
+            Event::Open => self.call(Side::Client, Call::Open),
+            Event::Timer { side, timer } => self.call(side, Call::Fire(timer)),
+            Event::Close { side } => self.call(side, Call::Close),
+            Event::Abort { side } => self.call(side, Call::Abort),
             Event::Deliver {
                 from: Side::Client,
                 index,
@@ -67,6 +70,18 @@ impl Sides {
                 from: Side::Server,
                 index,
             } => deliver(self.server.frames(), index, &mut self.client),
+        }
+    }
+
+    fn call(&mut self, side: Side, call: Call) -> Result<Seen, WorldFault>
+        ensures ok { IfOk result (λ seen. takes_place self.old (Calls side (input_of call)) ≡ Ok (record { world = self.new; seen = seen })) }
+        ensures there { result ≢ Err WorldFault.NoSuchFrame }
+        ensures full { (result ≡ Err WorldFault.Full) ↔ (is_full (half_of self.old side) ≡ true) }
+        ensures err { OnErr result (self.new ≡ self.old) }
+    {
+        match side {
+            Side::Client => call_half(&mut self.client, call),
+            Side::Server => call_half(&mut self.server, call),
         }
     }
 }
@@ -78,8 +93,8 @@ fn is_full(half: &HalfWorld) -> bool
     MOST_FRAMES <= half.frames().len()
 }
 
-fn open(half: &mut HalfWorld) -> Result<Seen, WorldFault>
-    ensures ok { IfOk result (λ seen. (is_full half.old ≡ false) × (record { half = half.new; seen = seen } ≡ half_steps half.old Opens)) }
+fn call_half(half: &mut HalfWorld, call: Call) -> Result<Seen, WorldFault>
+    ensures ok { IfOk result (λ seen. (is_full half.old ≡ false) × (record { half = half.new; seen = seen } ≡ half_steps half.old (input_of call))) }
     ensures full { (result ≡ Err WorldFault.Full) ↔ (is_full half.old ≡ true) }
     ensures there { result ≢ Err WorldFault.NoSuchFrame }
     ensures err { OnErr result (half.new ≡ half.old) }
@@ -87,7 +102,7 @@ fn open(half: &mut HalfWorld) -> Result<Seen, WorldFault>
     if is_full(half) {
         return Err(WorldFault::Full);
     }
-    match half.open() {
+    match half.call(call) {
         Ok(seen) => Ok(seen),
         Err(NoMemory) => Err(WorldFault::NoMemory),
     }

@@ -4,7 +4,7 @@ use Rattle.two_ends.proofs.Reaching.{step-reached, leaves}
 use Rattle.two_ends.proofs.world.World.step.Goals as goal
 
 pub invariant_of-self : goal.invariant_of-self
-invariant_of-self c = step-reached _ c.args.event.now _ c.step.result (leaves _ _ _ c.step.result c.step.ensures.ok c.step.ensures.err) c.self.invariant
+invariant_of-self c = step-reached _ c.args.event.now _ c.step.result (leaves _ c.args.event.now _ c.step.result c.step.ensures.ok c.step.ensures.err) c.self.invariant
 
 pub returns-clause-safe : goal.returns-clause-safe
 returns-clause-safe c = reached-safe c.every_step_has_one_effect.ensures _ (invariant_of-self c)
