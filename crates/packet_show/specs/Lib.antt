@@ -1,0 +1,6 @@
+pub mod Flows
+pub mod Line
+pub mod Lines
+pub mod Names
+pub mod Network
+pub mod Text

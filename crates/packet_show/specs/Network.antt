@@ -1,0 +1,93 @@
+-- Where a captured record carries DCCP: Ethernet, IPv4 (RFC 791, section 3.1) and IPv6 (RFC 8200, section 3).
+use Rattle.std.specs.Prelude.{ℕ, ◌+◌, ◌-◌, ◌*◌, ◌/◌, ◌%◌, Bool, ◌&&◌, ◌==◌, nat_le, nat_lt, if◌then◌else◌, List, length, take, drop, slice_index, Option, Some, None}
+use Rattle.byteorder.specs.Endian.{big_number}
+use Rattle.dccp_sum.specs.declared.pseudo_header.Pseudo.{Pseudo}
+use Rattle.dccp_sum.specs.declared.pseudo_header.Pseudo.TheVariants.{V4, V6}
+use Rattle.packet_show.specs.declared.network.Datagram.{Datagram}
+
+-- The addresses, the DCCP bytes that were captured, and whether these are all that the IP length leaves.
+pub record Carried : Type 0 where
+  pub pseudo : Pseudo
+  pub bytes : List ℕ
+  pub whole : Bool
+
+-- the same, apart from where the bytes lie
+abbrev pub carried_by : Datagram → Carried
+carried_by d = record { pseudo = d.pseudo; bytes = d.bytes.now; whole = d.whole }
+
+-- the number in some bytes from a place on, most significant first
+abbrev pub number_at : ℕ → ℕ → List ℕ → ℕ
+number_at place count bytes = big_number count (drop place bytes)
+
+-- some bytes from a place on
+abbrev pub bytes_at : ℕ → ℕ → List ℕ → List ℕ
+bytes_at place count bytes = take count (drop place bytes)
+
+-- the IP version: the first four bits
+abbrev pub version : List ℕ → ℕ
+version bytes = slice_index bytes 0 / 16
+
+-- the length of an IPv4 header, which is counted in words of four bytes
+abbrev pub v4_header : List ℕ → ℕ
+v4_header bytes = 4 * (slice_index bytes 0 % 16)
+
+-- the total length of an IPv4 packet
+abbrev pub v4_total : List ℕ → ℕ
+v4_total bytes = number_at 2 2 bytes
+
+-- no fragment: the flag More Fragments and the offset, the low 14 of 16 bits, are zero
+abbrev pub is_unfragmented : List ℕ → Bool
+is_unfragmented bytes = number_at 6 2 bytes % 16384 == 0
+
+-- IPv4 that carries DCCP, protocol 33, in one piece, with its header captured whole and a total length that holds it
+abbrev pub is_v4 : List ℕ → Bool
+is_v4 bytes =
+    nat_le 20 (length bytes) && version bytes == 4
+    && nat_le 20 (v4_header bytes) && nat_le (v4_header bytes) (length bytes) && nat_le (v4_header bytes) (v4_total bytes)
+    && is_unfragmented bytes
+    && slice_index bytes 9 == 33
+
+-- the DCCP packet behind an IPv4 header
+abbrev pub behind_v4 : List ℕ → Carried
+behind_v4 bytes = record {
+  pseudo = V4 (bytes_at 12 4 bytes) (bytes_at 16 4 bytes);
+  bytes = bytes_at (v4_header bytes) (v4_total bytes - v4_header bytes) bytes;
+  whole = nat_le (v4_total bytes) (length bytes);
+}
+
+abbrev pub in_v4 : List ℕ → Option Carried
+in_v4 bytes = if is_v4 bytes then Some (behind_v4 bytes) else None
+
+-- the payload length of an IPv6 packet
+abbrev pub v6_payload : List ℕ → ℕ
+v6_payload bytes = number_at 4 2 bytes
+
+-- IPv6 whose next header is DCCP, 33, with its header captured whole
+abbrev pub is_v6 : List ℕ → Bool
+is_v6 bytes = nat_le 40 (length bytes) && version bytes == 6 && slice_index bytes 6 == 33
+
+-- the DCCP packet behind an IPv6 header
+abbrev pub behind_v6 : List ℕ → Carried
+behind_v6 bytes = record {
+  pseudo = V6 (bytes_at 8 16 bytes) (bytes_at 24 16 bytes);
+  bytes = bytes_at 40 (v6_payload bytes) bytes;
+  whole = nat_le (40 + v6_payload bytes) (length bytes);
+}
+
+abbrev pub in_v6 : List ℕ → Option Carried
+in_v6 bytes = if is_v6 bytes then Some (behind_v6 bytes) else None
+
+-- IP of the version that it says
+abbrev pub in_ip : List ℕ → Option Carried
+in_ip bytes = if is_v4 bytes then in_v4 bytes else in_v6 bytes
+
+-- Ethernet: 14 bytes, the last two of which are 0800 for IPv4 or 86dd for IPv6
+abbrev pub in_frame : ℕ → List ℕ → Option Carried
+in_frame kind bytes = if kind == 2048 then in_v4 bytes else if kind == 34525 then in_v6 bytes else None
+
+abbrev pub in_ethernet : List ℕ → Option Carried
+in_ethernet bytes = if nat_lt (length bytes) 14 then None else in_frame (number_at 12 2 bytes) (drop 14 bytes)
+
+-- DCCP in a record of this link type: 1 is Ethernet, 101 begins with IP
+abbrev pub carried : ℕ → List ℕ → Option Carried
+carried link bytes = if link == 1 then in_ethernet bytes else if link == 101 then in_ip bytes else None

@@ -1,0 +1,229 @@
+//! Flows, and the lines of their packets.
+ghost use Rattle.std.specs.Prelude.{◌≡◌, ◌≤◌, length, [], IfOk, OnOk, OnErr, true};
+ghost use Rattle.byteorder.specs.Endian.{big_number};
+ghost use Rattle.capture_reader.specs.Records.{entry_of};
+ghost use Rattle.packet_show.specs.Network.{carried_by};
+ghost use Rattle.packet_show.specs.Flows.{version_of, from_end, to_end, is_before, flow_between, flow_of, number_of, with_flow};
+ghost use Rattle.packet_show.specs.Lines.{shows, shows_packet, shows_malformed, parts_by, Shows};
+
+use crate::line::Line;
+use crate::network::{Datagram, carried};
+use crate::packet::{put_malformed, put_packet};
+use byteorder::{BigEndian, ByteOrder};
+use capture_reader::Record;
+use dccp_packets::{Malformed, Packet, decode};
+use dccp_sum::Pseudo;
+use indexmap::IndexSet;
+use seq_circle::NoMemory;
+use std::alloc::Global;
+use std::marker::Model;
+use std::mem;
+
+/// Whether a record has a line.
+#[derive(Clone, Copy, Debug, PartialEq, Eq)]
+pub enum Shown {
+    /// Its line was written.
+    Line,
+    /// It carries no DCCP, or not enough of it, and nothing was written.
+    Skipped,
+}
+
+// One end: its address as a number, and its port.
+type End = (u128, u16);
+
+// The version of IP, and both ends, the lesser first.
+type Flow = (u8, End, End);
+
+/// The flows that were seen, in the order in which they were first seen (own). A flow is the pair of both ends, in either
+/// direction. Contracts see the list of flows.
+#[derive(Drop)]
+pub struct Flows {
+    alloc: Global,
+    seen: IndexSet<Flow>,
+}
+
+impl Model for Flows {
+    ghost use Rattle.std.specs.Prelude.{List};
+    ghost use Rattle.packet_show.specs.Flows.{Flow};
+
+    ghost Value = { List Flow };
+
+    ghost view = { λ f. f.seen.keys };
+}
+
+fn v4_number(address: [u8; 4]) -> u128
+    ensures { result ≡ big_number 4 address }
+{
+    u128::from(BigEndian::read_u32(&address))
+}
+
+fn v6_number(address: [u8; 16]) -> u128
+    ensures { result ≡ big_number 16 address }
+{
+    BigEndian::read_u128(&address)
+}
+
+fn version_of(pseudo: &Pseudo) -> u8
+    ensures { result ≡ version_of pseudo.now }
+{
+    match pseudo {
+        Pseudo::V4 { .. } => 4,
+        Pseudo::V6 { .. } => 6,
+    }
+}
+
+fn from_end(pseudo: &Pseudo, port: u16) -> End
+    ensures { result ≡ from_end pseudo.now port }
+{
+    match *pseudo {
+        Pseudo::V4 { from, .. } => (v4_number(from), port),
+        Pseudo::V6 { from, .. } => (v6_number(from), port),
+    }
+}
+
+fn to_end(pseudo: &Pseudo, port: u16) -> End
+    ensures { result ≡ to_end pseudo.now port }
+{
+    match *pseudo {
+        Pseudo::V4 { to, .. } => (v4_number(to), port),
+        Pseudo::V6 { to, .. } => (v6_number(to), port),
+    }
+}
+
+fn is_before(a: End, b: End) -> bool
+    ensures { result ≡ is_before a b }
+{
+    a.0 < b.0 || (a.0 == b.0 && a.1 < b.1)
+}
+
+fn flow_between(version: u8, a: End, b: End) -> Flow
+    ensures { result ≡ flow_between version a b }
+{
+    if is_before(b, a) {
+        return (version, b, a);
+    }
+    (version, a, b)
+}
+
+// The flow of a packet between these addresses and ports.
+fn flow_of(pseudo: &Pseudo, from: u16, to: u16) -> Flow
+    ensures { result ≡ flow_of pseudo.now from to }
+{
+    flow_between(
+        version_of(pseudo),
+        from_end(pseudo, from),
+        to_end(pseudo, to),
+    )
+}
+
+impl Flows {
+    /// No flow yet. It takes no memory.
+    pub fn new(alloc: Global) -> Flows
+        ensures { result ≡ [] }
+    {
+        Flows {
+            alloc,
+            seen: IndexSet::new(alloc),
+        }
+    }
+
+    /// How many flows were numbered.
+    pub fn count(&self) -> u64
+        ensures { result ≡ length self.now }
+    {
+        self.seen.len() as u64
+    }
+
+    // The number of a flow, also of one that was not seen yet.
+    fn number_of(&self, flow: &Flow) -> u64
+        ensures { result ≡ number_of flow.now self.now }
+    {
+        let count = self.seen.len();
+        match self.seen.get_index_of(flow) {
+            Some(index) => index as u64 + 1,
+            None => count as u64 + 1,
+        }
+    }
+
+    // Notes that a flow was seen.
+    fn note(&mut self, flow: Flow) -> Result<(), NoMemory>
+        ensures ok { OnOk result (self.new ≡ with_flow flow self.old) }
+        ensures unchanged { OnErr result (self.new ≡ self.old) }
+    {
+        match self.seen.insert_full(flow) {
+            Ok(_) => Ok(()),
+            Err(_) => Err(NoMemory),
+        }
+    }
+
+    // Writes the line of a packet.
+    fn show_packet(
+        &mut self,
+        item: &Record<'_>,
+        there: &Datagram<'_>,
+        packet: &Packet<'_>,
+        to: &mut Vec<u8>,
+    ) -> Result<Shown, NoMemory>
+        requires low { 8 ≤ length there.now.bytes.now }
+        requires high { length there.now.bytes.now ≤ 65535 }
+        requires options { length packet.now.options.now ≤ 1008 }
+        ensures ok { IfOk result (λ shown. Shows (shows_packet self.old (entry_of item.now) (carried_by there.now) (parts_by packet.now)
+            (flow_of there.now.pseudo packet.now.header.from packet.now.header.to)) to.old.items to.new.items self.new shown) }
+        ensures unchanged { OnErr result (self.new ≡ self.old) }
+        ensures text_unchanged { OnErr result (to.new.items ≡ to.old.items) }
+    {
+        let flow = flow_of(&there.pseudo, packet.header.from, packet.header.to);
+        let number = self.number_of(&flow);
+        let mut line = Line::new(mem::replace(to, Vec::new(self.alloc)));
+        if put_packet(&mut line, item, there, packet, number).is_err() || self.note(flow).is_err() {
+            *to = line.cancel();
+            return Err(NoMemory);
+        }
+        *to = line.finish();
+        Ok(Shown::Line)
+    }
+
+    // Writes the line of bytes that are no packet.
+    fn show_malformed(
+        &self,
+        item: &Record<'_>,
+        fault: Malformed,
+        to: &mut Vec<u8>,
+    ) -> Result<Shown, NoMemory>
+        ensures ok { IfOk result (λ shown. Shows (shows_malformed self.now (entry_of item.now) true fault) to.old.items to.new.items self.now shown) }
+        ensures text_unchanged { OnErr result (to.new.items ≡ to.old.items) }
+    {
+        let mut line = Line::new(mem::replace(to, Vec::new(self.alloc)));
+        if put_malformed(&mut line, item, fault).is_err() {
+            *to = line.cancel();
+            return Err(NoMemory);
+        }
+        *to = line.finish();
+        Ok(Shown::Line)
+    }
+
+    /// Writes the line of a record at the text's end: of a DCCP packet over IPv4 or IPv6, or of bytes that are none though
+    /// they are there to the IP length. It is skipped, and nothing is written, exactly where there is no such packet: the
+    /// record is no IP, a fragment, of another protocol, has no whole IP header or one that does not hold together, or
+    /// bytes are missing to the IP length and those that are there are no packet. A packet's line has the number of its
+    /// flow, which is the next one where the flow was not seen before. After NoMemory flows and text are as before.
+    pub fn show(&mut self, item: &Record<'_>, to: &mut Vec<u8>) -> Result<Shown, NoMemory>
+        ensures ok { IfOk result (λ shown. Shows (shows self.old (entry_of item.now)) to.old.items to.new.items self.new shown) }
+        ensures unchanged { OnErr result (self.new ≡ self.old) }
+        ensures text_unchanged { OnErr result (to.new.items ≡ to.old.items) }
+    {
+        let Some(there) = carried(item.link, item.bytes) else {
+            return Ok(Shown::Skipped);
+        };
+        match decode(there.bytes) {
+            Ok(packet) => self.show_packet(item, &there, &packet, to),
+            Err(fault) => {
+                if there.whole {
+                    self.show_malformed(item, fault, to)
+                } else {
+                    Ok(Shown::Skipped)
+                }
+            }
+        }
+    }
+}

@@ -1,0 +1,21 @@
+//! The lines of a capture: for each record that carries a DCCP packet, what the packet says (RFC 4340; the lines are own).
+//!
+//! It finds DCCP in Ethernet, IPv4 and IPv6, and answers for no end. Memory is taken for flows that were not seen before,
+//! and for the text, which grows in place.
+#![tactic(auto)]
+
+#[cfg(test)]
+mod cases;
+mod flows;
+mod laws;
+mod line;
+mod names;
+mod network;
+mod numbers;
+mod options;
+mod packet;
+#[cfg(test)]
+mod tests;
+
+pub use crate::flows::{Flows, Shown};
+pub use crate::laws::a_flow_has_both_directions;

@@ -1,0 +1,96 @@
+//! Tables of names, a line a case.
+ghost use Rattle.std.specs.Prelude.{◌≡◌};
+ghost use Rattle.packet_show.specs.Names.{type_name, malformed_name, sum_name, option_name, option_form};
+
+use dccp_options::kinds;
+use dccp_packets::{Malformed, PacketType};
+use dccp_sum::SumFault;
+
+// The first option type that is a CCID's own (RFC 4340, section 10.3).
+const FIRST_OF_CCIDS: u8 = 128;
+
+pub(crate) fn type_name(packet_type: PacketType) -> &'static [u8]
+    ensures { result.now ≡ type_name packet_type }
+{
+    match packet_type {
+        PacketType::Request => b"Request",
+        PacketType::Response => b"Response",
+        PacketType::Data => b"Data",
+        PacketType::Ack => b"Ack",
+        PacketType::DataAck => b"DataAck",
+        PacketType::CloseReq => b"CloseReq",
+        PacketType::Close => b"Close",
+        PacketType::Reset => b"Reset",
+        PacketType::Sync => b"Sync",
+        PacketType::SyncAck => b"SyncAck",
+    }
+}
+
+pub(crate) fn malformed_name(fault: Malformed) -> &'static [u8]
+    ensures { result.now ≡ malformed_name fault }
+{
+    match fault {
+        Malformed::Short => b"Short",
+        Malformed::ReservedType => b"ReservedType",
+        Malformed::OffsetSmall => b"OffsetSmall",
+        Malformed::OffsetLarge => b"OffsetLarge",
+        Malformed::ShortNumbers => b"ShortNumbers",
+    }
+}
+
+pub(crate) fn sum_name(checked: Result<(), SumFault>) -> &'static [u8]
+    ensures { result.now ≡ sum_name checked }
+{
+    match checked {
+        Ok(()) => b"ok",
+        Err(SumFault::Wrong) => b"wrong",
+        Err(SumFault::CoverageTooLarge) => b"coverage",
+    }
+}
+
+/// What stands behind an option's name.
+#[derive(Clone, Copy, Debug, PartialEq, Eq)]
+pub(crate) enum OptionForm {
+    /// Nothing.
+    Bare,
+    /// The data.
+    Data,
+    /// The feature's number, and the data behind it.
+    Feature,
+    /// The option's type, and the data.
+    Numbered,
+}
+
+pub(crate) fn option_name(kind: u8) -> &'static [u8]
+    ensures { result.now ≡ option_name kind }
+{
+    match kind {
+        kinds::SLOW_RECEIVER => b"slow-receiver",
+        kinds::CHANGE_L => b"change-l",
+        kinds::CONFIRM_L => b"confirm-l",
+        kinds::CHANGE_R => b"change-r",
+        kinds::CONFIRM_R => b"confirm-r",
+        kinds::INIT_COOKIE => b"init-cookie",
+        kinds::NDP_COUNT => b"ndp-count",
+        kinds::ACK_VECTOR_0 => b"ack-vector-0",
+        kinds::ACK_VECTOR_1 => b"ack-vector-1",
+        kinds::DATA_DROPPED => b"data-dropped",
+        kinds::TIMESTAMP => b"timestamp",
+        kinds::TIMESTAMP_ECHO => b"timestamp-echo",
+        kinds::ELAPSED_TIME => b"elapsed-time",
+        kinds::DATA_CHECKSUM => b"data-checksum",
+        FIRST_OF_CCIDS..=255 => b"ccid",
+        _ => b"option",
+    }
+}
+
+pub(crate) fn option_form(kind: u8) -> OptionForm
+    ensures { result ≡ option_form kind }
+{
+    match kind {
+        kinds::SLOW_RECEIVER => OptionForm::Bare,
+        kinds::CHANGE_L..=kinds::CONFIRM_R => OptionForm::Feature,
+        kinds::INIT_COOKIE..=kinds::DATA_CHECKSUM => OptionForm::Data,
+        _ => OptionForm::Numbered,
+    }
+}

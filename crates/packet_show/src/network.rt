@@ -1,0 +1,238 @@
+//! DCCP in captured records: Ethernet, IPv4 (RFC 791, section 3.1) and IPv6 (RFC 8200, section 3).
+ghost use Rattle.std.specs.Prelude.{◌≡◌, ◌+◌, ◌≤◌, length, take, drop, option_map, IfSome};
+ghost use Rattle.packet_show.specs.Network.{carried_by, bytes_at, version, v4_header, v4_total, is_unfragmented, is_v4, behind_v4, in_v4, v6_payload, is_v6, behind_v6, in_v6, in_ip, in_frame, in_ethernet, carried, number_at};
+
+use byteorder::{BigEndian, ByteOrder};
+use dccp_sum::Pseudo;
+
+/// A DCCP packet in a record, as far as it was captured.
+#[derive(Clone, Copy, Debug, PartialEq, Eq)]
+pub(crate) struct Datagram<'a> {
+    /// The addresses between which it travels.
+    pub(crate) pseudo: Pseudo,
+    /// The bytes that were captured of it.
+    pub(crate) bytes: &'a [u8],
+    /// Whether these are all that the IP length leaves.
+    pub(crate) whole: bool,
+}
+
+const ETHERNET: u32 = 1;
+
+const RAW_IP: u32 = 101;
+
+const ETHERNET_HEADER: usize = 14;
+
+const ETHERNET_TYPE: usize = 12;
+
+const TYPE_IPV4: u16 = 0x0800;
+
+const TYPE_IPV6: u16 = 0x86dd;
+
+const IPV4_SHORTEST: usize = 20;
+
+const IPV6_HEADER: usize = 40;
+
+// The low 14 bits of the fragment's field: More Fragments and the offset.
+const FRAGMENT: u16 = 1 << 14;
+
+const DCCP: u8 = 33;
+
+const WORD: usize = 4;
+
+// The number of 16 bits that stands there.
+fn read_u16(bytes: &[u8], place: usize) -> u16
+    requires { place + 2 ≤ length bytes.now }
+    ensures { result ≡ number_at place 2 bytes.now }
+{
+    BigEndian::read_u16(&bytes[place..])
+}
+
+// The address of IPv4 that stands there.
+fn v4_address(bytes: &[u8], place: usize) -> [u8; 4]
+    requires { place + 4 ≤ length bytes.now }
+    ensures { result ≡ bytes_at place 4 bytes.now }
+{
+    let mut address = [0; 4];
+    address.copy_from_slice(&bytes[place..place + 4]);
+    address
+}
+
+// The address of IPv6 that stands there.
+fn v6_address(bytes: &[u8], place: usize) -> [u8; 16]
+    requires { place + 16 ≤ length bytes.now }
+    ensures { result ≡ bytes_at place 16 bytes.now }
+{
+    let mut address = [0; 16];
+    address.copy_from_slice(&bytes[place..place + 16]);
+    address
+}
+
+// The bytes behind so many.
+fn behind(bytes: &[u8], count: usize) -> &[u8]
+    requires { count ≤ length bytes.now }
+    ensures { result.now ≡ drop count bytes.now }
+{
+    &bytes[count..]
+}
+
+// As many bytes as that, or all of fewer.
+fn front(bytes: &[u8], count: usize) -> &[u8]
+    ensures { result.now ≡ take count bytes.now }
+{
+    &bytes[..count.min(bytes.len())]
+}
+
+fn version(bytes: &[u8]) -> u8
+    requires { 1 ≤ length bytes.now }
+    ensures { result ≡ version bytes.now }
+{
+    bytes[0] / 16
+}
+
+fn v4_header(bytes: &[u8]) -> usize
+    requires { 1 ≤ length bytes.now }
+    ensures { result ≡ v4_header bytes.now }
+{
+    usize::from(bytes[0] % 16) * WORD
+}
+
+fn v4_total(bytes: &[u8]) -> usize
+    requires { 4 ≤ length bytes.now }
+    ensures value { result ≡ v4_total bytes.now }
+    ensures fits { result ≤ 65535 }
+{
+    usize::from(read_u16(bytes, 2))
+}
+
+fn is_unfragmented(bytes: &[u8]) -> bool
+    requires { 8 ≤ length bytes.now }
+    ensures { result ≡ is_unfragmented bytes.now }
+{
+    read_u16(bytes, 6) % FRAGMENT == 0
+}
+
+fn is_v4(bytes: &[u8]) -> bool
+    ensures { result ≡ is_v4 bytes.now }
+{
+    IPV4_SHORTEST <= bytes.len()
+        && version(bytes) == 4
+        && IPV4_SHORTEST <= v4_header(bytes)
+        && v4_header(bytes) <= bytes.len()
+        && v4_header(bytes) <= v4_total(bytes)
+        && is_unfragmented(bytes)
+        && bytes[9] == DCCP
+}
+
+fn behind_v4(bytes: &[u8]) -> Datagram<'_>
+    requires captured { 20 ≤ length bytes.now }
+    requires header { v4_header bytes.now ≤ length bytes.now }
+    requires total { v4_header bytes.now ≤ v4_total bytes.now }
+    ensures value { carried_by result ≡ behind_v4 bytes.now }
+    ensures fits { length result.bytes.now ≤ 65535 }
+{
+    let header = v4_header(bytes);
+    let total = v4_total(bytes);
+    let from = v4_address(bytes, 12);
+    let to = v4_address(bytes, 16);
+    Datagram {
+        pseudo: Pseudo::V4 { from, to },
+        bytes: front(behind(bytes, header), total - header),
+        whole: total <= bytes.len(),
+    }
+}
+
+fn in_v4(bytes: &[u8]) -> Option<Datagram<'_>>
+    ensures value { option_map carried_by result ≡ in_v4 bytes.now }
+    ensures fits { IfSome result (λ d. length d.bytes.now ≤ 65535) }
+{
+    if !is_v4(bytes) {
+        return None;
+    }
+    Some(behind_v4(bytes))
+}
+
+fn v6_payload(bytes: &[u8]) -> usize
+    requires { 6 ≤ length bytes.now }
+    ensures value { result ≡ v6_payload bytes.now }
+    ensures fits { result ≤ 65535 }
+{
+    usize::from(read_u16(bytes, 4))
+}
+
+fn is_v6(bytes: &[u8]) -> bool
+    ensures { result ≡ is_v6 bytes.now }
+{
+    IPV6_HEADER <= bytes.len() && version(bytes) == 6 && bytes[6] == DCCP
+}
+
+fn behind_v6(bytes: &[u8]) -> Datagram<'_>
+    requires { 40 ≤ length bytes.now }
+    ensures value { carried_by result ≡ behind_v6 bytes.now }
+    ensures fits { length result.bytes.now ≤ 65535 }
+{
+    let payload = v6_payload(bytes);
+    let from = v6_address(bytes, 8);
+    let to = v6_address(bytes, 24);
+    Datagram {
+        pseudo: Pseudo::V6 { from, to },
+        bytes: front(behind(bytes, IPV6_HEADER), payload),
+        whole: IPV6_HEADER + payload <= bytes.len(),
+    }
+}
+
+fn in_v6(bytes: &[u8]) -> Option<Datagram<'_>>
+    ensures value { option_map carried_by result ≡ in_v6 bytes.now }
+    ensures fits { IfSome result (λ d. length d.bytes.now ≤ 65535) }
+{
+    if !is_v6(bytes) {
+        return None;
+    }
+    Some(behind_v6(bytes))
+}
+
+fn in_ip(bytes: &[u8]) -> Option<Datagram<'_>>
+    ensures value { option_map carried_by result ≡ in_ip bytes.now }
+    ensures fits { IfSome result (λ d. length d.bytes.now ≤ 65535) }
+{
+    if is_v4(bytes) {
+        return in_v4(bytes);
+    }
+    in_v6(bytes)
+}
+
+fn in_frame(kind: u16, bytes: &[u8]) -> Option<Datagram<'_>>
+    ensures value { option_map carried_by result ≡ in_frame kind bytes.now }
+    ensures fits { IfSome result (λ d. length d.bytes.now ≤ 65535) }
+{
+    match kind {
+        TYPE_IPV4 => in_v4(bytes),
+        TYPE_IPV6 => in_v6(bytes),
+        _ => None,
+    }
+}
+
+fn in_ethernet(bytes: &[u8]) -> Option<Datagram<'_>>
+    ensures value { option_map carried_by result ≡ in_ethernet bytes.now }
+    ensures fits { IfSome result (λ d. length d.bytes.now ≤ 65535) }
+{
+    if bytes.len() < ETHERNET_HEADER {
+        return None;
+    }
+    in_frame(
+        read_u16(bytes, ETHERNET_TYPE),
+        behind(bytes, ETHERNET_HEADER),
+    )
+}
+
+/// The DCCP packet in a record of this link type, or None exactly where there is none: it is no IPv4 or IPv6 of protocol
+/// 33, a fragment, or an IP header that was not captured whole or does not hold together.
+pub(crate) fn carried(link: u32, bytes: &[u8]) -> Option<Datagram<'_>>
+    ensures value { option_map carried_by result ≡ carried link bytes.now }
+    ensures fits { IfSome result (λ d. length d.bytes.now ≤ 65535) }
+{
+    match link {
+        ETHERNET => in_ethernet(bytes),
+        RAW_IP => in_ip(bytes),
+        _ => None,
+    }
+}
