@@ -2,7 +2,7 @@
 --
 -- A step that may fail has a fault, and the rest has one whatever the step gives, so the two in their order are the first
 -- fault of both. Each form is so many steps.
-use Rattle.std.proofs.Common.{◌≡◌, refl, sym, ap, ◌∙◌, ℕ, ◌+◌, ◌^◌, List, [], ◌∷◌, length, Bool, true, false, ◌==◌, ◌&&◌, ◌||◌, if◌then◌else◌, nat_lt, Option, Some, None, is_some, Result, Ok, Err}
+use Rattle.std.proofs.Common.{◌≡◌, refl, sym, ap, ◌∙◌, ℕ, ◌^◌, List, [], ◌∷◌, length, Bool, true, false, ◌==◌, ◌&&◌, ◌||◌, if◌then◌else◌, nat_lt, Option, Some, None, is_some, Result, Ok, Err}
 use Rattle.std.specs.Prelude.{codes, ◌↔◌}
 use Rattle.std.specs.Str.{bytes_eq}
 use Rattle.feature_lists.specs.Wishes.{is_ours, wish_of}
@@ -12,9 +12,7 @@ use Rattle.feature_lists.specs.declared.wishes.PreferFault.{PreferFault}
 use Rattle.feature_lists.specs.declared.wishes.Wanted.{Wanted}
 use Rattle.two_ends.specs.declared.event.Side.{Side}
 use Rattle.two_ends.specs.declared.event.Side.TheVariants.{Client, Server}
-use Rattle.schedule_text.specs.declared.event.Event.{Event}
 use Rattle.schedule_text.specs.declared.event.Event.TheVariants as event
-use Rattle.schedule_text.specs.declared.event.Timer.{Timer}
 use Rattle.schedule_text.specs.declared.line.Line.{Line}
 use Rattle.schedule_text.specs.declared.line.Line.TheVariants as line
 use Rattle.schedule_text.specs.declared.line.LineFault.{LineFault}
@@ -25,8 +23,8 @@ use Rattle.schedule_text.specs.declared.names.Form.TheVariants as form
 use Rattle.schedule_text.specs.Names.{form_of, side_of, place_of, timer_of}
 use Rattle.schedule_text.specs.Numbers.{number_below, indices, values_of, feature_of}
 use Rattle.schedule_text.specs.Digits.{flaw_of}
-use Rattle.schedule_text.specs.Words.{WordAt, WordsLeft, first_word, later, later_by, word_at, words_of}
-use Rattle.schedule_text.specs.Reading.{◌>>=◌, ◌>>◌, fault_at, present, needed, form_word, side_word, place_word, timer_word, number_word, feature_word, values_word, delivery, index_of, named, name_word, digits_or_flaw, digits_word, hex_word, mandatory_or_other, mandatory_first, mandatory_word, none_left, ended, wished, offered, plain_line, iss_line, set_line, offer_line, open_line, deliver_line, send_line, prefer_line, timer_line, close_line, abort_line, line_of, read_words, first_other, text_or_other, clean, says_nothing, read_clean, read_line}
+use Rattle.schedule_text.specs.Words.{WordAt, WordsLeft, first_word, later, words_of}
+use Rattle.schedule_text.specs.Reading.{◌>>=◌, ◌>>◌, fault_at, present, needed, form_word, side_word, place_word, timer_word, number_word, feature_word, values_word, delivery, index_of, named, name_word, digits_or_flaw, digits_word, hex_word, mandatory_first, mandatory_word, none_left, ended, wished, offered, plain_line, iss_line, set_line, offer_line, open_line, deliver_line, send_line, prefer_line, timer_line, close_line, abort_line, line_of, read_words, first_other, text_or_other, clean, says_nothing, read_clean, read_line}
 use Rattle.schedule_text.specs.Faults.{first_or, unless, word_fault, a_side, a_place, a_timer, a_number, a_feature, some_values, name_cause, names_frame, a_name, bad_digit, digits_fault, some_bytes, maybe_first, maybe_mandatory, judges_of, nothing_more, words_fault, refused_wish, refused_set, refused_offer, end_fault, form_fault, spoken_fault, no_text, line_fault}
 
 -- the fault of a result, if it is one

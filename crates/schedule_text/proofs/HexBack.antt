@@ -1,16 +1,16 @@
 -- Digits that are printed of bytes are read as these bytes.
-use Rattle.std.proofs.Common.{◌≡◌, refl, sym, ap, ◌∙◌, ℕ, zero, suc, ◌+◌, ◌*◌, ◌≤◌, ◌<◌, ◌%◌, ◌/◌, List, [], ◌∷◌, length, Bool, true, false, ◌&&◌, ◌==◌, not, cond, if◌then◌else◌, slice_index, Option, Some, None, Result, Ok, Err, is_some, arith}
+use Rattle.std.proofs.Common.{◌≡◌, refl, sym, ap, ◌∙◌, ℕ, zero, suc, ◌+◌, ◌≤◌, ◌<◌, ◌%◌, ◌/◌, List, [], ◌∷◌, length, Bool, true, false, ◌&&◌, ◌==◌, not, cond, if◌then◌else◌, slice_index, Some, None, Result, Ok, Err, arith}
 use Rattle.std.specs.Prelude.{codes}
 use Rattle.std.specs.List.{list_all, position_from}
 use Rattle.std.specs.Result.{result_unwrap_or}
 use Rattle.std.specs.Str.{bytes_eq}
 use Rattle.std.specs.Cmp.Lexicographic.{bytes_decides}
 use Rattle.std.proofs.lemmas.Bool.Decides.{nat_tests}
-use Rattle.hex.specs.Hex.{IsBytes, encode_lower, encode_with, lower_digits, is_hex_digit, decode_of, decode_pairs, decode_sized}
+use Rattle.hex.specs.Hex.{IsBytes, encode_lower, encode_with, lower_digits, is_hex_digit, decode_pairs, decode_sized}
 use Rattle.hex.specs.declared.error.FromHexError.TheVariants.{OddLength, InvalidStringLength}
 use Rattle.hex.proofs.HexLemmas.{length-encode_with, decode_of-encode_lower, decode_of-even}
 use Rattle.schedule_text.specs.declared.line.LineFault.{LineFault}
-use Rattle.schedule_text.specs.Digits.{first_other, flaw_or_odd, flaw_of, bytes_of}
+use Rattle.schedule_text.specs.Digits.{flaw_or_odd, flaw_of, bytes_of}
 use Rattle.schedule_text.specs.Words.{word_at_column}
 use Rattle.schedule_text.specs.Reading.{◌>>◌, digits_or_flaw, digits_word, hex_word}
 use Rattle.schedule_text.specs.Printing.{hex_text}

@@ -1,12 +1,12 @@
 -- Digits of either case are the bytes that they spell, in both directions.
-use Rattle.std.proofs.Common.{◌≡◌, refl, sym, ap, ◌∙◌, subst, ℕ, zero, suc, ◌+◌, ◌-◌, ◌*◌, ◌/◌, ◌%◌, ◌≤◌, ◌<◌, List, [], ◌∷◌, length, Bool, true, false, ◌&&◌, ◌==◌, not, cond, if◌then◌else◌, nat_le, Option, Some, None, is_some, Result, Ok, Err, slice_index, arith}
+use Rattle.std.proofs.Common.{◌≡◌, refl, sym, ap, ◌∙◌, subst, ℕ, ◌+◌, ◌-◌, ◌*◌, ◌/◌, ◌%◌, ◌≤◌, ◌<◌, List, [], ◌∷◌, length, Bool, true, false, ◌&&◌, ◌==◌, not, cond, if◌then◌else◌, nat_le, Option, Some, None, is_some, Result, Ok, Err, arith}
 use Rattle.std.specs.Prelude.{codes}
 use Rattle.std.specs.List.{list_all, position_from}
 use Rattle.std.specs.Result.{result_unwrap_or}
 use Rattle.std.specs.Str.{bytes_eq}
 use Rattle.std.specs.Cmp.Lexicographic.{bytes_decides}
 use Rattle.std.proofs.lemmas.Bool.Decides.{nat_tests}
-use Rattle.hex.specs.Hex.{IsBytes, hex_digit_value, is_hex_digit, digit_or_error, value_at, pair_value, decode_pairs, decode_sized, ◌>>=◌ as then_read}
+use Rattle.hex.specs.Hex.{hex_digit_value, is_hex_digit, digit_or_error, value_at, pair_value, decode_pairs, decode_sized, ◌>>=◌ as then_read}
 use Rattle.hex.specs.declared.error.FromHexError.{FromHexError}
 use Rattle.schedule_text.specs.declared.line.LineFault.{LineFault}
 use Rattle.schedule_text.specs.declared.line.LineWhy.TheVariants as why
@@ -253,3 +253,10 @@ hex-text text (byte ∷ bytes) digits few =
     let are = are-read text (byte ∷ bytes) digits in
     let size = are.size in
     record { word = all-weaker is_hex_digit is_word_byte digit-word text are.all; size = omega arith }
+
+-- digits without a flaw decode
+pub decodes-flawless : (text : List ℕ) → flaw_of text ≡ None → (bytes : List ℕ) × (decode_sized text (length text / 2) ≡ Ok bytes)
+decodes-flawless text none =
+    let whole = flawless-by text (first_other text) refl none in
+    let back = decoded 0 text whole.all whole.even in
+    (back.bytes, sized-pairs text whole.even ∙ back.decodes)

@@ -1,7 +1,7 @@
 -- A line that is printed is read again.
-use Rattle.std.proofs.Common.{◌≡◌, refl, sym, ap, ◌∙◌, ℕ, ◌+◌, ◌*◌, ◌≤◌, ◌<◌, ◌^◌, List, [], ◌∷◌, ◌++◌, length, length-append, Bool, true, false, ◌&&◌, if◌then◌else◌, Option, Result, Ok, Err, arith}
-use Rattle.std.specs.Prelude.{codes, decimal, map, All, IsOk}
-use Rattle.std.specs.List.{list_all, join_with_byte}
+use Rattle.std.proofs.Common.{◌≡◌, refl, ap, ◌∙◌, ℕ, ◌+◌, ◌*◌, ◌≤◌, ◌<◌, ◌^◌, List, [], ◌∷◌, length, length-append, Bool, true, false, ◌&&◌, Result, Ok, Err, arith}
+use Rattle.std.specs.Prelude.{codes, decimal, All, IsOk}
+use Rattle.std.specs.List.{list_all}
 use Rattle.std.proofs.lemmas.List.Elements.{All-head, All-tail}
 use Rattle.std.proofs.lemmas.List.Folds.{list_all-append}
 use Rattle.std.proofs.lemmas.Fmt.{length-decimal-le}
@@ -21,13 +21,12 @@ use Rattle.schedule_text.specs.declared.event.Timer.TheVariants as timer
 use Rattle.schedule_text.specs.declared.line.Line.{Line}
 use Rattle.schedule_text.specs.declared.line.Line.TheVariants as line
 use Rattle.schedule_text.specs.declared.line.LineFault.{LineFault}
-use Rattle.schedule_text.specs.declared.line.LineWhy.TheVariants as why
 use Rattle.schedule_text.specs.Names.{side_name, place_name, timer_name}
 use Rattle.schedule_text.specs.Words.{word_at_column, placed, words_left}
-use Rattle.schedule_text.specs.Reading.{◌>>=◌, ◌>>◌, fault_at, side_word, place_word, timer_word, number_word, feature_word, values_word, hex_word, name_word, mandatory_or_other, wished, offered, iss_line, set_line, offer_line, deliver_line, send_line, prefer_line, timer_line, read_line}
-use Rattle.schedule_text.specs.Printing.{hex_text, values_text, frame_name, event_words, mandatory_words, line_words, joined, event_text}
+use Rattle.schedule_text.specs.Reading.{◌>>=◌, ◌>>◌, place_word, timer_word, number_word, feature_word, values_word, hex_word, wished, offered, iss_line, set_line, offer_line, send_line, prefer_line, timer_line, read_line}
+use Rattle.schedule_text.specs.Printing.{hex_text, values_text, frame_name, mandatory_words, line_words, joined, event_text}
 use Rattle.schedule_text.specs.Range.{AreValues, IsSendable, IsPrintable, IsSayable}
-use Rattle.schedule_text.proofs.WordTexts.{if-true, and-true, is_word, is_word_byte, decimal-word, read-joined}
+use Rattle.schedule_text.proofs.WordTexts.{and-true, is_word, is_word_byte, decimal-word, read-joined}
 use Rattle.schedule_text.proofs.ReadBack.{side-read, place-read, timer-read, number-word-read, number-of-small, feature-length, feature-word-read, values-word-read, name-word-read}
 use Rattle.schedule_text.proofs.HexBack.{hex-word-read, hex-is-word, hex-length}
 

@@ -1,6 +1,6 @@
 -- A line is accepted exactly where it is the words of what it says.
-use Rattle.std.proofs.Common.{◌≡◌, refl, sym, ap, ◌∙◌, subst, ℕ, ◌+◌, ◌*◌, ◌≤◌, ◌<◌, List, [], ◌∷◌, ◌++◌, length, Bool, true, false, ◌&&◌, ◌==◌, not, cond, if◌then◌else◌, nat_lt, Option, Some, None, Result, Ok, Err, arith}
-use Rattle.std.specs.Prelude.{codes, decimal, IsOk, ◌↔◌}
+use Rattle.std.proofs.Common.{◌≡◌, refl, sym, ap, ◌∙◌, subst, ℕ, ◌+◌, ◌≤◌, List, [], ◌∷◌, length, Bool, true, false, ◌&&◌, ◌==◌, not, cond, if◌then◌else◌, nat_lt, Option, Some, None, Result, Ok, Err, arith}
+use Rattle.std.specs.Prelude.{codes, decimal, IsOk}
 use Rattle.std.specs.List.{list_all, position_from}
 use Rattle.std.specs.Str.{bytes_eq}
 use Rattle.std.specs.Cmp.Lexicographic.{bytes_decides}
@@ -12,7 +12,6 @@ use Rattle.feature_lists.specs.declared.wishes.PreferFault.{PreferFault}
 use Rattle.feature_lists.specs.declared.wishes.Wanted.{Wanted}
 use Rattle.two_ends.specs.declared.event.Side.{Side}
 use Rattle.two_ends.specs.declared.event.Side.TheVariants.{Client, Server}
-use Rattle.schedule_text.specs.declared.event.Event.{Event}
 use Rattle.schedule_text.specs.declared.event.Event.TheVariants as event
 use Rattle.schedule_text.specs.declared.line.Line.{Line}
 use Rattle.schedule_text.specs.declared.line.Line.TheVariants as line
@@ -22,10 +21,9 @@ use Rattle.schedule_text.specs.declared.names.Form.{Form}
 use Rattle.schedule_text.specs.declared.names.Form.TheVariants as form
 use Rattle.schedule_text.specs.Names.{form_name, side_name, place_name, timer_name}
 use Rattle.schedule_text.specs.Words.{word_at_column, words_left, words_of, placed, pieces, first_word, later}
-use Rattle.schedule_text.specs.Reading.{◌>>=◌, ◌>>◌, fault_at, form_word, side_word, place_word, timer_word, number_word, feature_word, values_word, name_word, hex_word, mandatory_or_other, mandatory_word, present, ended, wished, offered, plain_line, iss_line, set_line, offer_line, open_line, deliver_line, send_line, prefer_line, timer_line, close_line, abort_line, line_of, read_words, is_text, first_other, text_or_other, clean, says_nothing, read_clean, read_line}
-use Rattle.schedule_text.specs.Printing.{joined, frame_name, values_text, mandatory_words, line_words}
-use Rattle.schedule_text.specs.Range.{IsSayable}
-use Rattle.schedule_text.specs.Forms.{SpellsBytes, IsSending, IsLine}
+use Rattle.schedule_text.specs.Reading.{◌>>=◌, ◌>>◌, fault_at, form_word, side_word, place_word, timer_word, number_word, feature_word, values_word, name_word, hex_word, mandatory_word, ended, wished, offered, iss_line, set_line, offer_line, deliver_line, send_line, prefer_line, timer_line, close_line, abort_line, line_of, read_words, is_text, first_other, text_or_other, clean, says_nothing, read_clean, read_line}
+use Rattle.schedule_text.specs.Printing.{joined, frame_name, values_text, mandatory_words}
+use Rattle.schedule_text.specs.Forms.{SpellsBytes, IsLine}
 use Rattle.schedule_text.proofs.FirstFaults.{by-presence-ok}
 use Rattle.schedule_text.proofs.WordTexts.{if-true, clean-text, read-joined}
 use Rattle.schedule_text.proofs.ReadBack.{side-read}

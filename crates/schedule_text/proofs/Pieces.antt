@@ -1,6 +1,6 @@
 -- The first piece of a text, and the pieces behind it.
 use Rattle.std.proofs.lemmas.Grind.{common_steps}
-use Rattle.std.proofs.Common.{◌≡◌, refl, ap, ◌∙◌, ℕ, suc, ◌+◌, ◌-◌, ◌==◌, List, [], ◌∷◌, length, take, drop, Bool, true, false, cond, Option, Some, None, arith}
+use Rattle.std.proofs.Common.{◌≡◌, refl, ap, ◌∙◌, ℕ, suc, ◌+◌, ◌-◌, ◌==◌, List, [], ◌∷◌, length, take, drop, Bool, true, false, cond, Some, None, arith}
 use Rattle.std.specs.List.{slice_split, onto_first, position_from}
 use Rattle.schedule_text.specs.Words.{pieces, placed, is_over}
 

@@ -1,13 +1,10 @@
 -- What is printed is read again, word by word.
-use Rattle.std.proofs.Common.{◌≡◌, refl, sym, ap, ◌∙◌, subst, ℕ, zero, suc, ◌+◌, ◌*◌, ◌≤◌, ◌<◌, ◌^◌, ◌%◌, ◌/◌, List, [], ◌∷◌, ◌++◌, length, length-append, Bool, true, false, ◌&&◌, ◌==◌, not, cond, if◌then◌else◌, nat_le, nat_lt, Option, Some, None, Result, Ok, Err, arith}
-use Rattle.std.specs.Prelude.{codes, decimal, map, All, option_and_then, IsOk}
-use Rattle.std.specs.List.{list_all, slice_split, join_with_byte, position_from}
-use Rattle.std.specs.Result.{result_unwrap_or}
-use Rattle.std.specs.Str.{bytes_eq}
+use Rattle.std.proofs.Common.{◌≡◌, refl, ap, ◌∙◌, ℕ, ◌≤◌, ◌<◌, ◌^◌, List, [], ◌∷◌, length, length-append, true, false, ◌==◌, nat_le, Some, None, Result, Ok, Err, arith}
+use Rattle.std.specs.Prelude.{decimal, map, All, option_and_then}
+use Rattle.std.specs.List.{list_all, join_with_byte}
 use Rattle.std.proofs.lemmas.Bool.Decides.{nat_tests}
 use Rattle.std.proofs.lemmas.List.Elements.{All-head, All-tail}
 use Rattle.std.proofs.lemmas.Fmt.{decimal_nonempty, length-decimal-le}
-use Rattle.hex.specs.Hex.{IsBytes, encode_lower, is_hex_digit, decode_sized, decode_pairs}
 use Rattle.feature_lists.specs.Features.{number_of, feature_numbered}
 use Rattle.feature_lists.specs.declared.features.Feature.{Feature}
 use Rattle.feature_lists.specs.declared.features.Feature.TheVariants as f
@@ -15,18 +12,15 @@ use Rattle.feature_lists.specs.declared.features.Place.{Place}
 use Rattle.feature_lists.specs.declared.features.Place.TheVariants.{Here, There}
 use Rattle.two_ends.specs.declared.event.Side.{Side}
 use Rattle.two_ends.specs.declared.event.Side.TheVariants.{Client, Server}
-use Rattle.schedule_text.specs.declared.event.Event.{Event}
 use Rattle.schedule_text.specs.declared.event.Event.TheVariants as event
 use Rattle.schedule_text.specs.declared.event.Timer.{Timer}
 use Rattle.schedule_text.specs.declared.event.Timer.TheVariants as timer
-use Rattle.schedule_text.specs.declared.line.Line.{Line}
-use Rattle.schedule_text.specs.declared.line.Line.TheVariants as line
 use Rattle.schedule_text.specs.declared.line.LineFault.{LineFault}
 use Rattle.schedule_text.specs.declared.line.LineWhy.TheVariants as why
 use Rattle.schedule_text.specs.Names.{side_name, place_name, timer_name}
-use Rattle.schedule_text.specs.Numbers.{number_below, sequence_numbers, indices, with_number, numbers_of, at_most_nine, values_of, feature_of}
-use Rattle.schedule_text.specs.Words.{WordAt, word_at_column, pieces}
-use Rattle.schedule_text.specs.Reading.{◌>>=◌, ◌>>◌, present, needed, side_word, place_word, timer_word, number_word, feature_word, values_word, delivery, index_of, named, name_word}
+use Rattle.schedule_text.specs.Numbers.{number_below, sequence_numbers, with_number, numbers_of, at_most_nine, values_of, feature_of}
+use Rattle.schedule_text.specs.Words.{word_at_column, pieces}
+use Rattle.schedule_text.specs.Reading.{◌>>◌, present, needed, side_word, place_word, timer_word, number_word, feature_word, values_word, delivery, named, name_word}
 use Rattle.schedule_text.specs.Printing.{values_text, frame_name}
 use Rattle.schedule_text.specs.Range.{AreValues}
 use Rattle.schedule_text.proofs.Numerals.{number-read}

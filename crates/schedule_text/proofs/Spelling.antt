@@ -2,10 +2,9 @@
 --
 -- A step that gave something gave it for its first word, and the rest of the words gave the rest; so the words of an accepted
 -- line are found one after another. What each word was read as says how it is spelled.
-use Rattle.std.proofs.Common.{◌≡◌, refl, sym, ap, ◌∙◌, subst, ℕ, zero, suc, ◌+◌, ◌-◌, ◌*◌, ◌/◌, ◌%◌, ◌^◌, ◌≤◌, ◌<◌, List, [], ◌∷◌, ◌++◌, length, Bool, true, false, ◌&&◌, ◌==◌, not, cond, if◌then◌else◌, nat_le, nat_lt, Option, Some, None, is_some, Result, Ok, Err, arith}
-use Rattle.std.specs.Prelude.{codes, decimal, map, All, option_and_then, IsOk}
-use Rattle.std.specs.List.{list_all, slice_split, join_with_byte, position_from}
-use Rattle.std.specs.Result.{result_unwrap_or}
+use Rattle.std.proofs.Common.{◌≡◌, refl, sym, ap, ◌∙◌, subst, ℕ, ◌+◌, ◌^◌, ◌≤◌, ◌<◌, List, [], ◌∷◌, length, Bool, true, false, ◌==◌, if◌then◌else◌, nat_le, Option, Some, None, Result, Ok, Err, arith}
+use Rattle.std.specs.Prelude.{decimal, map, All, option_and_then}
+use Rattle.std.specs.List.{join_with_byte}
 use Rattle.std.specs.Str.{bytes_eq}
 use Rattle.std.specs.Cmp.Lexicographic.{bytes_decides}
 use Rattle.std.proofs.lemmas.Bool.Decides.{nat_tests}
@@ -23,14 +22,13 @@ use Rattle.schedule_text.specs.declared.event.Event.TheVariants as event
 use Rattle.schedule_text.specs.declared.event.Timer.{Timer}
 use Rattle.schedule_text.specs.declared.event.Timer.TheVariants as timer
 use Rattle.schedule_text.specs.declared.line.LineFault.{LineFault}
-use Rattle.schedule_text.specs.declared.line.LineWhy.{LineWhy}
 use Rattle.schedule_text.specs.declared.line.LineWhy.TheVariants as why
 use Rattle.schedule_text.specs.declared.names.Form.{Form}
 use Rattle.schedule_text.specs.declared.names.Form.TheVariants as form
 use Rattle.schedule_text.specs.Names.{form_name, form_of, side_name, side_of, place_name, place_of, timer_name, timer_of}
-use Rattle.schedule_text.specs.Numbers.{number_below, sequence_numbers, indices, with_number, numbers_of, at_most_nine, values_of, feature_of}
+use Rattle.schedule_text.specs.Numbers.{number_below, sequence_numbers, with_number, numbers_of, at_most_nine, values_of, feature_of}
 use Rattle.schedule_text.specs.Words.{WordAt, WordsLeft, word_at_column, words_left, placed, pieces, first_word, later}
-use Rattle.schedule_text.specs.Reading.{◌>>=◌, ◌>>◌, fault_at, present, needed, form_word, side_word, place_word, timer_word, number_word, feature_word, values_word, delivery, index_of, named, name_word, ended}
+use Rattle.schedule_text.specs.Reading.{◌>>=◌, ◌>>◌, fault_at, form_word, side_word, place_word, timer_word, number_word, feature_word, values_word, delivery, index_of, named, name_word, ended}
 use Rattle.schedule_text.specs.Printing.{values_text, frame_name}
 use Rattle.schedule_text.specs.Range.{AreValues}
 use Rattle.schedule_text.proofs.Numerals.{number-spelled}

@@ -1,16 +1,15 @@
 -- Words that are joined are parted again, and a line of them is clean.
-use Rattle.std.proofs.Common.{◌≡◌, refl, sym, ap, ◌∙◌, ℕ, zero, suc, ◌+◌, ◌*◌, ◌≤◌, ◌<◌, ◌^◌, ◌%◌, ◌/◌, List, [], ◌∷◌, ◌++◌, length, length-append, Bool, true, false, ◌&&◌, ◌==◌, not, cond, if◌then◌else◌, nat_le, nat_lt, Option, Some, None, Result, Ok, Err, arith}
-use Rattle.std.specs.Prelude.{codes, decimal}
+use Rattle.std.proofs.Common.{◌≡◌, refl, sym, ap, ◌∙◌, ℕ, ◌+◌, ◌≤◌, ◌<◌, ◌^◌, ◌%◌, List, [], ◌∷◌, ◌++◌, length, length-append, Bool, true, false, ◌&&◌, ◌==◌, not, cond, if◌then◌else◌, nat_le, nat_lt, Some, None, Result, Ok, Err, arith}
+use Rattle.std.specs.Prelude.{decimal}
 use Rattle.std.specs.List.{list_all, slice_split, onto_first, join_with_byte, position_from}
 use Rattle.std.proofs.lemmas.Bool.Decides.{nat_tests}
 use Rattle.std.proofs.lemmas.List.Folds.{list_all-append}
 use Rattle.std.proofs.lemmas.Fmt.{decimal_by_steps}
-use Rattle.schedule_text.specs.declared.line.Line.{Line}
 use Rattle.schedule_text.specs.declared.line.Line.TheVariants as line
 use Rattle.schedule_text.specs.declared.line.LineFault.{LineFault}
 use Rattle.schedule_text.specs.declared.line.LineWhy.TheVariants as why
 use Rattle.schedule_text.specs.Numbers.{is_digit}
-use Rattle.schedule_text.specs.Words.{pieces, placed, words_left, words_of}
+use Rattle.schedule_text.specs.Words.{placed, words_left, words_of}
 use Rattle.schedule_text.specs.Reading.{◌>>◌, fault_at, is_text, first_other, text_or_other, clean, says_nothing, read_clean, read_line, read_words}
 use Rattle.schedule_text.specs.Printing.{joined}
 

@@ -4,7 +4,7 @@ use Rattle.std.specs.Str.{bytes_eq}
 use Rattle.schedule_text.specs.declared.line.FrameLine.{FrameLine}
 use Rattle.schedule_text.specs.declared.line.LineFault.{LineFault}
 use Rattle.schedule_text.specs.declared.line.LineWhy.TheVariants as why
-use Rattle.schedule_text.specs.Words.{WordAt, WordsLeft, first_word, later, words_of}
+use Rattle.schedule_text.specs.Words.{WordsLeft, first_word, later, words_of}
 use Rattle.schedule_text.specs.Digits.{bytes_of}
 use Rattle.schedule_text.specs.Reading.{◌>>=◌, ◌>>◌, fault_at, digits_word, ended, clean, says_nothing, first_other}
 use Rattle.schedule_text.specs.Faults.{first_or, digits_fault, nothing_more, no_text}

@@ -1,5 +1,5 @@
 -- What a line says, or the first of its faults (own).
-use Rattle.std.specs.Prelude.{ℕ, suc, ◌+◌, ◌%◌, Bool, true, false, ◌==◌, ◌&&◌, not, nat_lt, nat_le, if◌then◌else◌, List, [], ◌∷◌, length, codes, Option, Some, None, Result, Ok, Err}
+use Rattle.std.specs.Prelude.{ℕ, ◌+◌, Bool, true, false, ◌==◌, ◌&&◌, not, nat_lt, nat_le, if◌then◌else◌, List, [], ◌∷◌, length, codes, Option, Some, None, Result, Ok, Err}
 use Rattle.std.specs.List.{position_from}
 use Rattle.std.specs.Str.{bytes_eq}
 use Rattle.feature_lists.specs.Wishes.{is_ours, wish_of}
@@ -23,7 +23,7 @@ use Rattle.schedule_text.specs.declared.names.Form.TheVariants as form
 use Rattle.schedule_text.specs.Names.{form_of, side_of, place_of, timer_of}
 use Rattle.schedule_text.specs.Numbers.{number_below, sequence_numbers, indices, values_of, feature_of}
 use Rattle.schedule_text.specs.Digits.{flaw_of, bytes_of}
-use Rattle.schedule_text.specs.Words.{WordAt, WordsLeft, first_of, first_word, later, later_by, word_at, words_of}
+use Rattle.schedule_text.specs.Words.{WordAt, WordsLeft, later_by, word_at, words_of}
 
 -- the first fault of what follows, or what it gives
 infixl 10 ◌>>=◌

@@ -7,11 +7,11 @@ use feature_lists::{Feature, Place};
 use std::marker::Model;
 use two_ends::Side;
 
-/// The most bytes of a payload: what one line has room for, and so more than an end takes (own).
-pub(crate) const MOST_BYTES: usize = 2048;
+// The most bytes of a payload: as many as one line has digits for, and so more than an end takes.
+const MOST_BYTES: usize = 2048;
 
-/// The most numbers of a list: one more than an end takes (own).
-pub(crate) const MOST_VALUES: usize = 9;
+// The most numbers of a list: one more than an end takes.
+const MOST_VALUES: usize = 9;
 
 /// The data that is handed to an end to be sent: at most 2,048 bytes, in the value itself. Contracts see the list of bytes.
 #[derive(Debug, Drop)]
@@ -40,7 +40,7 @@ impl Payload {
     }
 
     // These bytes, which are not too many.
-    pub(crate) fn within(bytes: &[u8]) -> Payload
+    fn within(bytes: &[u8]) -> Payload
         requires { length bytes.now ≤ 2048 }
         ensures { result ≡ bytes.now }
     {

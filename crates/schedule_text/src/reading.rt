@@ -5,7 +5,7 @@ ghost use Rattle.schedule_text.specs.Words.{later};
 ghost use Rattle.schedule_text.specs.Reading as spec;
 ghost use Rattle.feature_lists.specs.Wishes.{is_ours, wish_of};
 
-use crate::digits::{bytes_of, flaw_of};
+use crate::digits::{bytes_of, flaw_of, payload_of};
 use crate::names::{Form, form_of, place_of, side_of, timer_of};
 use crate::numbers::{feature_of, index_of, sequence_number_of, values_of};
 use crate::words::{Word, Words};
@@ -146,7 +146,7 @@ impl Word<'_> {
         ensures { result ≡ spec.hex_word (word_of self.now) }
     {
         if self.text == b"-".as_slice() {
-            Ok(Payload::within(&[]))
+            Ok(payload_of(&[]))
         } else {
             self.digits()
         }

@@ -1,4 +1,4 @@
-use Rattle.std.proofs.Common.{◌≡◌, refl, sym, ap, ◌∙◌, ℕ, ◌≤◌, List, [], ◌∷◌, ◌++◌, length, length-append, Option, arith}
+use Rattle.std.proofs.Common.{refl, sym, ap, ℕ, List, [], ◌∷◌, length, length-append, Option, arith}
 use Rattle.std.specs.Borrow.{Bor}
 use Rattle.schedule_text.specs.Numbers.{numbers_of}
 use Rattle.schedule_text.specs.Rest.{pieces_left}
