@@ -1,0 +1,10 @@
+pub mod Frames
+pub mod Facts
+pub mod Marks
+pub mod Listing
+pub mod Vectors
+pub mod Told
+pub mod Steps
+pub mod Reaching
+pub mod Reachable
+pub mod Exchange

@@ -1,0 +1,69 @@
+-- The laws for two sides of which only that moves reach them is known, and not which.
+use Rattle.std.proofs.Math.Logic.{∥∥₁_elim, ∥∥₁_map}
+use Rattle.std.proofs.Props.{props}
+use Rattle.mark_agreement.specs.View.{Side}
+use Rattle.mark_agreement.specs.Moves.{Moves, fresh, IsReachable}
+use Rattle.mark_agreement.specs.Moves.Reached.{Starts}
+use Rattle.mark_agreement.specs.Facts.{IsSound, IsHeeded}
+use Rattle.mark_agreement.specs.Laws.{ArePlaces, IsOnce, IsTruthful, IsTold, IsHeard}
+use Rattle.mark_agreement.specs.Exchange.{server_exchanged, client_exchanged}
+use Rattle.mark_agreement.proofs.Exchange.{exchanged}
+use Rattle.mark_agreement.proofs.Steps.{reached_keeps}
+use Rattle.mark_agreement.proofs.Reaching.{places_are, is_once, is_truthful, server_reaches, client_reaches}
+
+pub start_is_reachable : IsReachable fresh fresh
+start_is_reachable = ∣ Starts ∣₁
+
+pub reachable_after_server : (server client after : Side) → Moves client.frames server after → IsReachable server client
+    → IsReachable after client
+reachable_after_server server client after moves reachable = ∥∥₁_map reachable (server_reaches client server after moves)
+
+pub reachable_after_client : (server client after : Side) → Moves server.frames client after → IsReachable server client
+    → IsReachable server after
+reachable_after_client server client after moves reachable = ∥∥₁_map reachable (client_reaches server client after moves)
+
+pub exchange_is_reachable : IsReachable server_exchanged client_exchanged
+exchange_is_reachable = ∣ exchanged ∣₁
+
+module _ (server client : Side) (reachable : IsReachable server client) where
+  pub servers_once : IsOnce server client.frames
+  servers_once = ∥∥₁_elim reachable (hlevel props) (λ reached. is_once server client (reached_keeps server client reached).here)
+
+  pub clients_once : IsOnce client server.frames
+  clients_once = ∥∥₁_elim reachable (hlevel props) (λ reached. is_once client server (reached_keeps server client reached).there)
+
+  pub servers_places : ArePlaces server
+  servers_places = ∥∥₁_elim reachable (hlevel props) (λ reached. places_are server client (reached_keeps server client reached).here)
+
+  pub clients_places : ArePlaces client
+  clients_places = ∥∥₁_elim reachable (hlevel props) (λ reached. places_are client server (reached_keeps server client reached).there)
+
+  pub servers_truthful : IsTruthful server
+  servers_truthful = ∥∥₁_elim reachable (hlevel props) (λ reached. is_truthful server client (reached_keeps server client reached).here)
+
+  pub clients_truthful : IsTruthful client
+  clients_truthful = ∥∥₁_elim reachable (hlevel props) (λ reached. is_truthful client server (reached_keeps server client reached).there)
+
+  pub servers_told : IsTold server client
+  servers_told n some from below = ∥∥₁_map reachable (λ reached. (reached_keeps server client reached).here.settled n some from below)
+
+  pub clients_told : IsTold client server
+  clients_told n some from below = ∥∥₁_map reachable (λ reached. (reached_keeps server client reached).there.settled n some from below)
+
+  pub servers_heard : IsHeard server client
+  servers_heard = ∥∥₁_elim reachable (hlevel props) (λ reached. (reached_keeps server client reached).here.reported)
+
+  pub clients_heard : IsHeard client server
+  clients_heard = ∥∥₁_elim reachable (hlevel props) (λ reached. (reached_keeps server client reached).there.reported)
+
+  pub servers_sound : IsSound server client.frames
+  servers_sound = ∥∥₁_elim reachable (hlevel props) (λ reached. (reached_keeps server client reached).here.sound)
+
+  pub clients_sound : IsSound client server.frames
+  clients_sound = ∥∥₁_elim reachable (hlevel props) (λ reached. (reached_keeps server client reached).there.sound)
+
+  pub servers_heeded : IsHeeded server client.frames
+  servers_heeded = ∥∥₁_elim reachable (hlevel props) (λ reached. (reached_keeps server client reached).here.heeded)
+
+  pub clients_heeded : IsHeeded client server.frames
+  clients_heeded = ∥∥₁_elim reachable (hlevel props) (λ reached. (reached_keeps server client reached).there.heeded)

@@ -1,0 +1,5 @@
+pub mod View
+pub mod Moves
+pub mod Facts
+pub mod Laws
+pub mod Exchange

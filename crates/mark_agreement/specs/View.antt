@@ -1,0 +1,63 @@
+-- The two ends of a connection as a pair of sides, by what they mark, acknowledge and tell (own; Ack Vectors are RFC 4340's,
+-- section 11.4). A frame goes by its count: a side's first numbered frame has count 1, and 0 is none.
+use Rattle.std.specs.Prelude.{ℕ, ◌+◌, ◌-◌, ◌==◌, max, Bool, false, List, [], ◌∷◌, ◌++◌, slice_index_or, if◌then◌else◌}
+
+-- one numbered frame
+pub record Frame : Type 0 where
+  -- it is an Ack or a DataAck
+  pub is_ack : Bool
+  -- the count of the peer's frame that it acknowledges, or 0
+  pub acknowledged : ℕ
+  -- it carries an Ack Vector
+  pub has_vector : Bool
+  -- and the vector reaches down to the floor
+  pub is_whole : Bool
+  -- its sender's floor, and how many frames its sender had processed, both once it was sent
+  pub floor : ℕ
+  pub processed : ℕ
+  -- what the vector says of a count, from the acknowledged one down: that the frame was received
+  pub says : ℕ → Bool
+
+-- one side of the pair: what it sent, and what it took of its peer's frames, by their counts
+pub record Side : Type 0 where
+  -- its numbered frames, oldest first
+  pub frames : List Frame
+  -- the first frame that it took (ISR), and the greatest (GSR); 0 before that
+  pub first : ℕ
+  pub greatest : ℕ
+  -- it speaks of no count below its floor any more
+  pub floor : ℕ
+  -- its phase is CLOSED, after it had another
+  pub closed : Bool
+  -- the frames that it processed, in order
+  pub processed : List ℕ
+  -- where among them a frame stands, from 1; 0 where it was not processed
+  pub place : ℕ → ℕ
+  -- the set of marks, from the floor up
+  pub marked : ℕ → Bool
+  -- which of its own frames it believes received
+  pub reported : ℕ → Bool
+
+abbrev pub no_frame : Frame
+no_frame =
+    record { is_ack = false; acknowledged = 0; has_vector = false; is_whole = false; floor = 0; processed = 0; says = λ n. false }
+
+-- the frame with this count
+abbrev pub frame_at : List Frame → ℕ → Frame
+frame_at frames count = slice_index_or (no_frame ∷ frames) count no_frame
+
+-- one frame more
+abbrev pub with_frame : List Frame → Frame → List Frame
+with_frame frames frame = frames ++ frame ∷ []
+
+-- the frame that was processed at this place, from 1 on
+abbrev pub processed_at : List ℕ → ℕ → ℕ
+processed_at processed place = slice_index_or (0 ∷ processed) place 0
+
+-- A mark reaches 2,047 below its count: the floor that it leads to, if that is not higher already (own).
+abbrev pub floor_with : ℕ → ℕ → ℕ
+floor_with floor count = max floor (count - 2047)
+
+-- the places with one more frame processed
+abbrev pub placed_with : (ℕ → ℕ) → ℕ → ℕ → ℕ → ℕ
+placed_with place processed count n = if n == count then processed + 1 else place n
