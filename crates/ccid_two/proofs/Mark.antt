@@ -5,15 +5,13 @@ use Rattle.std.proofs.lemmas.Bool.{and_parts, and_from, not-true}
 use Rattle.seq_circle.specs.Circle.{distance, is_before}
 use Rattle.congestion_trait.specs.declared.flight.Entry.{Entry}
 use Rattle.congestion_trait.specs.declared.flight.Standing.TheVariants.{Out, Reported, Lost}
-use Rattle.congestion_trait.specs.Flight.{States, sent, after_report, reported, lost_if, is_passed, is_past, is_congested, is_received, is_out, is_newly_marked, is_newly_lost, acked_count}
+use Rattle.congestion_trait.specs.Flight.{States, sent, after_report, reported, lost_if, is_passed, is_past, is_congested, is_out, is_newly_marked, is_newly_lost, acked_count}
+use Rattle.dccp_options.specs.Vectors.{is_received}
 use Rattle.congestion_trait.specs.Calls.{Call, Starts, Sends, Reports, TimesOut, after_call, run}
+use Rattle.congestion_trait.proofs.Standings.{same_number}
 use Rattle.ccid_two.specs.Window.{State, fresh, with_report, capped, adjusted, ccid_control}
 use Rattle.ccid_two.specs.Mark.{NonePast, IsInOrder, told}
 use Rattle.ccid_two.proofs.Range.{IsSound, IsGrown, grown, sound_report, sound_run, sound_fresh}
-
-same_number : (received passed : Bool) (e : Entry) → (lost_if passed (cond received (record e { standing = Reported }) e)).number ≡ e.number
-same_number true passed e = refl
-same_number false passed e = elim (is_out e.standing && passed) as (λ b. (cond b (record e { standing = Lost }) e).number ≡ e.number) [ true ↦ refl | false ↦ refl ]
 
 -- a report changes no number
 none_past_report : (states : States) (mark : Option ℕ) (entries : List Entry) → NonePast mark entries → NonePast mark (after_report states entries)

@@ -1,8 +1,9 @@
 //! What follows for CCID 2 from its rules.
-ghost use Rattle.std.specs.Prelude.{◌≡◌, ℕ, ◌<◌, ◌≤◌, List, IsTrue};
+ghost use Rattle.std.specs.Prelude.{◌≡◌, ℕ, ◌<◌, ◌≤◌, ◌⊎◌, ◌↔◌, List, IsTrue};
 ghost use Rattle.congestion_trait.specs.Flight.{States, is_congested};
 ghost use Rattle.congestion_trait.specs.Calls.{Call, run};
 ghost use Rattle.ccid_two.specs.Window.{State, fresh, with_report, ccid_control};
+ghost use Rattle.ccid_two.specs.Kinds.{kinds_control};
 ghost use Rattle.ccid_two.specs.Mark.{IsInOrder, told};
 
 /// After any calls from the start the window lies in 1 to 1,024 and the threshold in 2 to 1,024.
@@ -29,4 +30,9 @@ pub fn one_mark_one_halving()
         let after = with_report state states ratio in
         IsInOrder fresh calls → IsTrue (is_congested states state.mark state.flight)
         → after.window ≤ (told after reports).window }
+{}
+
+/// The choice of kinds knows CCID 2 and CCID 248, and no other.
+pub fn kinds_know_two_and_248()
+    ensures { (ccid : ℕ) → IsTrue (kinds_control.is_known ccid) ↔ ((ccid ≡ 2) ⊎ (ccid ≡ 248)) }
 {}

@@ -12,6 +12,7 @@ mod window;
 
 pub use crate::kinds::{Kind, Kinds};
 pub use crate::laws::{
-    one_mark_one_halving, only_losses_past_the_mark_halve, window_stays_in_range,
+    kinds_know_two_and_248, one_mark_one_halving, only_losses_past_the_mark_halve,
+    window_stays_in_range,
 };
 pub use crate::window::Ccid2;

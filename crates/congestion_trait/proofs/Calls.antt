@@ -6,10 +6,10 @@ use Rattle.std.proofs.lemmas.List.{length_push, get_or_push, get_or_append_left,
 use Rattle.congestion_trait.specs.declared.flight.Entry.{Entry}
 use Rattle.congestion_trait.specs.declared.flight.Standing.{Standing}
 use Rattle.congestion_trait.specs.declared.flight.Standing.TheVariants.{Out, Reported}
-use Rattle.congestion_trait.specs.Flight.{sent, Has}
+use Rattle.congestion_trait.specs.Flight.{sent, Has, IsListed}
 use Rattle.congestion_trait.specs.Control.{Control, IsLawful}
 use Rattle.congestion_trait.specs.Calls.{Call, Starts, Sends, Reports, TimesOut, after_call, run, sends, tells}
-use Rattle.congestion_trait.proofs.Standings.{reported_before_or_received, out_before}
+use Rattle.congestion_trait.proofs.Standings.{reported_before_or_received, out_before, listed_before}
 
 -- what stands in a list that lost its front and was given one more stood there, or is the last
 has_sent : (entries : List Entry) (next number excess : ℕ) (standing : Standing)
@@ -27,23 +27,30 @@ has_sent entries next number excess standing h =
     (λ past. inr (sym (get_or_push entries new it (excess + h.0) (omega arith)) ∙ read))
     (cases_lt (excess + h.0) (length entries))
 
-reported_sent : (entries : List Entry) (next number : ℕ) → Has (sent entries next) number Reported → Has entries number Reported
+pub reported_sent : (entries : List Entry) (next number : ℕ) → Has (sent entries next) number Reported → Has entries number Reported
 reported_sent entries next number h =
     ⊎_elim (λ before. before)
     (λ is. let standings : Out ≡ Reported = ap (λ (e : Entry). e.standing) is in cc)
     (has_sent entries next number (length (entries ++ record { number = next; standing = Out } ∷ []) - 2048) Reported h)
 
-out_sent : (entries : List Entry) (next number : ℕ) → Has (sent entries next) number Out → Has entries number Out ⊎ (number ≡ next)
+pub out_sent : (entries : List Entry) (next number : ℕ) → Has (sent entries next) number Out → Has entries number Out ⊎ (number ≡ next)
 out_sent entries next number h =
     ⊎_elim (λ before. inl before)
     (λ is. inr (sym (ap (λ (e : Entry). e.number) is)))
     (has_sent entries next number (length (entries ++ record { number = next; standing = Out } ∷ []) - 2048) Out h)
 
+pub listed_sent : (entries : List Entry) (next number : ℕ) → IsListed (sent entries next) number → IsListed entries number ⊎ (number ≡ next)
+listed_sent entries next number h =
+    ⊎_elim (λ before. inl (h.0, before))
+    (λ is. inr (sym (ap (λ (e : Entry). e.number) is)))
+    (has_sent entries next number (length (entries ++ record { number = next; standing = Out } ∷ []) - 2048) h.0 h.1)
+
 nothing_there : (number : ℕ) (standing : Standing) (entries : List Entry) → entries ≡ [] → Has entries number standing → ⊥
 nothing_there number standing entries none h = let few = ap length none in omega (arith, few, h.1)
 
 module _ {S : Type 0} (control : Control S) (lawful : IsLawful control) where
-  out_after : (state : S) (call : Call) (number : ℕ)
+  -- a number that is Out after a call was Out before, or the call sends it
+  pub out_after : (state : S) (call : Call) (number : ℕ)
       → Has (control.flight (after_call control state call)) number Out → Has (control.flight state) number Out ⊎ IsTrue (sends number call)
   out_after state (Starts ccid) number h = absurd (nothing_there number Out _ (lawful.start_empties state ccid) h)
   out_after state (Sends next) number h =
@@ -53,7 +60,8 @@ module _ {S : Type 0} (control : Control S) (lawful : IsLawful control) where
       inl (out_before states (control.flight state) number (subst (λ l. Has l number Out) (lawful.report_settles state states ratio) h))
   out_after state TimesOut number h = absurd (nothing_there number Out _ (lawful.timeout_empties state) h)
 
-  reported_after : (state : S) (call : Call) (number : ℕ)
+  -- a number that is Reported after a call was Reported before, or the call tells that it was received
+  pub reported_after : (state : S) (call : Call) (number : ℕ)
       → Has (control.flight (after_call control state call)) number Reported → Has (control.flight state) number Reported ⊎ IsTrue (tells number call)
   reported_after state (Starts ccid) number h = absurd (nothing_there number Reported _ (lawful.start_empties state ccid) h)
   reported_after state (Sends next) number h =
@@ -62,6 +70,17 @@ module _ {S : Type 0} (control : Control S) (lawful : IsLawful control) where
       reported_before_or_received states (control.flight state) number
       (subst (λ l. Has l number Reported) (lawful.report_settles state states ratio) h)
   reported_after state TimesOut number h = absurd (nothing_there number Reported _ (lawful.timeout_empties state) h)
+
+  -- a number that stands in the list after a call stood there before, or the call sends it
+  pub listed_after : (state : S) (call : Call) (number : ℕ)
+      → IsListed (control.flight (after_call control state call)) number → IsListed (control.flight state) number ⊎ IsTrue (sends number call)
+  listed_after state (Starts ccid) number h = absurd (nothing_there number h.0 _ (lawful.start_empties state ccid) h.1)
+  listed_after state (Sends next) number h =
+      ⊎_elim (λ before. inl before) (λ same. inr (eq-eqb number next same))
+      (listed_sent (control.flight state) next number (subst (λ l. IsListed l number) (lawful.sending_adds state next) h))
+  listed_after state (Reports states ratio) number h =
+      inl (listed_before states (control.flight state) number (subst (λ l. IsListed l number) (lawful.report_settles state states ratio) h))
+  listed_after state TimesOut number h = absurd (nothing_there number h.0 _ (lawful.timeout_empties state) h.1)
 
   or_first : (x y : Bool) → x ≡ true → (x || y) ≡ true
   or_first x y is = ap (λ b. b || y) is
@@ -78,6 +97,15 @@ module _ {S : Type 0} (control : Control S) (lawful : IsLawful control) where
       ⊎_elim (λ now. ⊎_elim (λ before. inl before) (λ here. inr (or_first (sends number call) (list_any (sends number) rest) here)) (out_after state call number now))
       (λ later. inr (or_second (sends number call) (list_any (sends number) rest) later))
       (out_run (after_call control state call) rest number h)
+
+  -- a number that stands in the list stood there before the calls, or one of them sends it
+  pub listed_run : (state : S) (calls : List Call) (number : ℕ)
+      → IsListed (control.flight (run control state calls)) number → IsListed (control.flight state) number ⊎ IsTrue (list_any (sends number) calls)
+  listed_run state [] number h = inl h
+  listed_run state (call ∷ rest) number h =
+      ⊎_elim (λ now. ⊎_elim (λ before. inl before) (λ here. inr (or_first (sends number call) (list_any (sends number) rest) here)) (listed_after state call number now))
+      (λ later. inr (or_second (sends number call) (list_any (sends number) rest) later))
+      (listed_run (after_call control state call) rest number h)
 
   -- a number that is Reported was Reported before the calls, or one of them tells that it was received
   pub reported_run : (state : S) (calls : List Call) (number : ℕ)

@@ -3,3 +3,4 @@ pub mod Settled
 pub mod Settling
 pub mod Standings
 pub mod Calls
+pub mod Numbers

@@ -8,7 +8,8 @@ use Rattle.std.proofs.lemmas.Option.{get_or_from_slice_get, slice_get_within}
 use Rattle.congestion_trait.specs.declared.flight.Entry.{Entry}
 use Rattle.congestion_trait.specs.declared.flight.Standing.{Standing}
 use Rattle.congestion_trait.specs.declared.flight.Standing.TheVariants.{Out, Reported, Lost}
-use Rattle.congestion_trait.specs.Flight.{States, pipe_of, after_report, acked_count, is_congested, is_out, is_reported, is_received, is_unmarked, is_marked, is_past, reported, lost_if, is_passed, is_newly_acked}
+use Rattle.dccp_options.specs.Vectors.{is_received, is_unmarked, is_marked}
+use Rattle.congestion_trait.specs.Flight.{States, pipe_of, after_report, acked_count, is_congested, is_out, is_reported, is_past, reported, lost_if, is_passed, is_newly_acked}
 use Rattle.congestion_trait.specs.Walk.{AllReported}
 
 -- an entry that is Reported

@@ -7,7 +7,8 @@ use Rattle.congestion_trait.specs.declared.flight.Entry.{Entry}
 use Rattle.congestion_trait.specs.declared.flight.Standing.{Standing}
 use Rattle.congestion_trait.specs.declared.flight.Standing.TheVariants.{Out, Reported, Lost}
 use Rattle.congestion_trait.specs.declared.walk.Walk.{Walk}
-use Rattle.congestion_trait.specs.Flight.{States, pipe_of, reported_count, after_report, acked_count, is_congested, is_out, is_reported, is_received, is_unmarked, is_marked, is_past, is_newly_lost, is_newly_marked, is_newly_acked, reported, lost_if, is_passed, with_losses}
+use Rattle.dccp_options.specs.Vectors.{is_received, is_unmarked, is_marked}
+use Rattle.congestion_trait.specs.Flight.{States, pipe_of, reported_count, after_report, acked_count, is_congested, is_out, is_reported, is_past, is_newly_lost, is_newly_marked, is_newly_acked, reported, lost_if, is_passed, with_losses}
 use Rattle.congestion_trait.specs.Walk.{standing_after, one_if, IsAlong}
 
 lost_where : (test : Bool) (x : Entry) → cond test (record x { standing = Lost }) x ≡ record x { standing = cond test Lost x.standing }

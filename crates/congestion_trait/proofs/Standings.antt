@@ -1,10 +1,11 @@
 -- Which numbers stand how in a flight list after a report, and how the pipe falls.
-use Rattle.std.proofs.Common.{◌≡◌, ℕ, zero, suc, ◌+◌, ◌<◌, Bool, true, false, ◌&&◌, ◌||◌, cond, List, [], ◌∷◌, map, length, get_or, refl, sym, ap, subst, inl, inr, ◌⊎◌, ⊎_elim, IsTrue, arith}
+use Rattle.std.proofs.Common.{◌≡◌, ℕ, zero, suc, ◌+◌, ◌<◌, Bool, true, false, ◌&&◌, ◌||◌, cond, List, [], ◌∷◌, map, length, get_or, refl, sym, ap, ◌∙◌, subst, inl, inr, ◌⊎◌, ⊎_elim, IsTrue, arith}
 use Rattle.std.proofs.lemmas.List.Sums.{sum_by-cons}
 use Rattle.congestion_trait.specs.declared.flight.Entry.{Entry}
 use Rattle.congestion_trait.specs.declared.flight.Standing.{Standing}
 use Rattle.congestion_trait.specs.declared.flight.Standing.TheVariants.{Out, Reported, Lost}
-use Rattle.congestion_trait.specs.Flight.{States, pipe_of, after_report, is_out, is_received, reported, lost_if, is_passed, Has, leaving_count}
+use Rattle.dccp_options.specs.Vectors.{is_received}
+use Rattle.congestion_trait.specs.Flight.{States, pipe_of, after_report, is_out, reported, lost_if, is_passed, Has, IsListed, leaving_count}
 use Rattle.congestion_trait.proofs.Settling.{settled-is}
 
 -- an entry that is not Lost in the end was not changed into Lost
@@ -54,6 +55,29 @@ out_at told (entry ∷ later) number (suc k) within is = has_later entry later n
 -- a report makes nothing Out
 pub out_before : (told : States) (entries : List Entry) (number : ℕ) → Has (after_report told entries) number Out → Has entries number Out
 out_before told entries number h = out_at told entries number h.0 h.1 h.2
+
+-- a report changes no number
+pub same_number : (received passed : Bool) (entry : Entry)
+    → (lost_if passed (cond received (record entry { standing = Reported }) entry)).number ≡ entry.number
+same_number true passed entry = refl
+same_number false passed entry = elim (is_out entry.standing && passed) as (λ b. (cond b (record entry { standing = Lost }) entry).number ≡ entry.number) [ true ↦ refl | false ↦ refl ]
+
+listed_later : (entry : Entry) (later : List Entry) (number : ℕ) → IsListed later number → IsListed (entry ∷ later) number
+listed_later entry later number h = (h.0, has_later entry later number h.0 h.1)
+
+listed_at : (told : States) (entries : List Entry) (number : ℕ) (standing : Standing) (k : ℕ) → k < length (after_report told entries)
+    → get_or (after_report told entries) k (record { number = number; standing = standing }) ≡ record { number = number; standing = standing }
+    → IsListed entries number
+listed_at told [] number standing k within is = absurd (omega arith)
+listed_at told (entry ∷ later) number standing zero within is =
+    let numbers = sym (same_number (is_received (told entry.number)) (is_passed (map (reported told) later)) entry) ∙ ap (λ (e : Entry). e.number) is in
+    (entry.standing, (0, omega arith, ap {B = Entry} (λ n. record { number = n; standing = entry.standing }) numbers))
+listed_at told (entry ∷ later) number standing (suc k) within is =
+    listed_later entry later number (listed_at told later number standing k (omega arith) is)
+
+-- a report adds no number
+pub listed_before : (told : States) (entries : List Entry) (number : ℕ) → IsListed (after_report told entries) number → IsListed entries number
+listed_before told entries number h = listed_at told entries number h.0 h.1.0 h.1.1 h.1.2
 
 -- one entry's part of the pipe
 pipe_at : (received passed : Bool) (standing : Standing)

@@ -1,6 +1,7 @@
 -- Calls of a congestion control, one after another.
 use Rattle.std.specs.Prelude.{ℕ, Bool, false, ◌==◌, List, [], ◌∷◌}
-use Rattle.congestion_trait.specs.Flight.{States, is_received}
+use Rattle.dccp_options.specs.Vectors.{is_received}
+use Rattle.congestion_trait.specs.Flight.{States}
 use Rattle.congestion_trait.specs.Control.{Control}
 
 -- a call that changes the state

@@ -1,8 +1,9 @@
 -- The flight list of a sender, and what a report makes of it (RFC 4341, section 5; the three standings are own).
 use Rattle.std.specs.Prelude.{ℕ, ◌+◌, Bool, true, false, not, ◌&&◌, ◌||◌, nat_le, List, [], ◌∷◌, ◌++◌, map, count_by, Contains, Option, Some, None, if◌then◌else◌}
+use Rattle.std.specs.List.{filter}
 use Rattle.circular_buffer.specs.Buffer.{keep_last}
 use Rattle.seq_circle.specs.Circle.{is_before}
-pub use Rattle.dccp_options.specs.Vectors.{is_unmarked, is_marked, is_received}
+use Rattle.dccp_options.specs.Vectors.{is_unmarked, is_marked, is_received}
 use Rattle.congestion_trait.specs.declared.flight.Entry.{Entry}
 use Rattle.congestion_trait.specs.declared.flight.Standing.{Standing}
 use Rattle.congestion_trait.specs.declared.flight.Standing.TheVariants.{Out, Reported, Lost}
@@ -86,6 +87,14 @@ is_congested states mark (entry ∷ later) =
 -- some entry of the list has this number and stands so
 abbrev pub Has : List Entry → ℕ → Standing → Type 0
 Has entries number standing = Contains entries (record { number = number; standing = standing })
+
+-- some entry of the list has this number, however it stands
+abbrev pub IsListed : List Entry → ℕ → Type 0
+IsListed entries number = (standing : Standing) × Has entries number standing
+
+-- the numbers that are Reported, in the order of sending
+abbrev pub numbers_reported : List Entry → List ℕ
+numbers_reported entries = map (λ entry. entry.number) (filter (λ entry. is_reported entry.standing) entries)
 
 -- this report takes the entry out of the pipe: it was Out, and is received or passed
 abbrev pub leaves_pipe : States → Entry → List Entry → Bool

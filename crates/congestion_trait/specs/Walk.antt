@@ -2,12 +2,12 @@
 use Rattle.std.specs.Prelude.{◌≡◌, ℕ, ◌-◌, ◌<◌, ◌≤◌, Bool, false, ◌&&◌, nat_lt, List, [], ◌∷◌, ◌++◌, map, take, drop, length, Option, Some, None, slice_get, IsTrue, if◌then◌else◌}
 use Rattle.std.specs.List.{list_all}
 use Rattle.dccp_options.specs.declared.report.Run.{Run}
-use Rattle.dccp_options.specs.Vectors.{Report}
+use Rattle.dccp_options.specs.Vectors.{Report, is_received}
 use Rattle.congestion_trait.specs.declared.flight.Standing.{Standing}
 use Rattle.congestion_trait.specs.declared.flight.Standing.TheVariants.{Reported, Lost}
 use Rattle.congestion_trait.specs.declared.flight.Entry.{Entry}
 use Rattle.congestion_trait.specs.declared.walk.Walk.{Walk}
-use Rattle.congestion_trait.specs.Flight.{States, is_out, is_reported, is_received, after_report, acked_count, is_congested, reported_count, reported, pipe_of}
+use Rattle.congestion_trait.specs.Flight.{States, is_out, is_reported, after_report, acked_count, is_congested, reported_count, reported, pipe_of}
 
 -- the state that runs give a place, counted from the first run's highest number down
 abbrev pub run_state : List Run → ℕ → Option ℕ

@@ -1,10 +1,12 @@
 //! What follows for every kind of congestion control.
-ghost use Rattle.std.specs.Prelude.{◌≡◌, ℕ, ◌+◌, ◌⊎◌, IsTrue, map, List};
+ghost use Rattle.std.specs.Prelude.{◌≡◌, ℕ, ◌+◌, ◌⊎◌, ◌↔◌, IsTrue, map, List};
 ghost use Rattle.congestion_trait.specs.declared.flight.Entry.{Entry};
 ghost use Rattle.congestion_trait.specs.declared.flight.Standing.TheVariants.{Out, Reported};
-ghost use Rattle.std.specs.List.{list_any};
-ghost use Rattle.congestion_trait.specs.Calls.{Call, run, sends, tells};
-ghost use Rattle.congestion_trait.specs.Flight.{States, Has, is_received, after_report, leaving_count, pipe_of};
+ghost use Rattle.congestion_trait.specs.declared.flight.Standing.{Standing};
+ghost use Rattle.std.specs.List.{list_any, Contains};
+ghost use Rattle.congestion_trait.specs.Calls.{Call, after_call, run, sends, tells};
+ghost use Rattle.dccp_options.specs.Vectors.{is_received};
+ghost use Rattle.congestion_trait.specs.Flight.{States, Has, IsListed, numbers_reported, after_report, leaving_count, pipe_of};
 
 use crate::congestion::Congestion;
 
@@ -47,4 +49,20 @@ pub fn standings_after_calls<C: Congestion>()
     ensures reported { (state : C) (calls : List Call) (number : ℕ)
         → Has (C.control.flight (run C.control state calls)) number Reported
         → Has (C.control.flight state) number Reported ⊎ IsTrue (list_any (tells number) calls) }
+{}
+
+/// Every entry's number was sent: after one call, and after any calls, a number stands in the list only where it stood there
+/// before or where a call sends it.
+pub fn every_entry_was_sent<C: Congestion>()
+    ensures call { (state : C) (call : Call) (number : ℕ)
+        → IsListed (C.control.flight (after_call C.control state call)) number
+        → IsListed (C.control.flight state) number ⊎ IsTrue (sends number call) }
+    ensures calls { (state : C) (calls : List Call) (number : ℕ)
+        → IsListed (C.control.flight (run C.control state calls)) number
+        → IsListed (C.control.flight state) number ⊎ IsTrue (list_any (sends number) calls) }
+{}
+
+/// The list of the numbers that are Reported holds just those.
+pub fn numbers_reported_are_reported()
+    ensures { (entries : List Entry) (number : ℕ) → Contains (numbers_reported entries) number ↔ Has entries number Reported }
 {}

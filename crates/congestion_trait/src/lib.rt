@@ -17,5 +17,6 @@ pub use crate::congestion::Congestion;
 pub use crate::fixed::FixedWindow;
 pub use crate::flight::{Entry, Flight, FlightNews, Standing};
 pub use crate::laws::{
-    in_flight_falls_once, only_reports_report, only_sending_puts_out, standings_after_calls,
+    every_entry_was_sent, in_flight_falls_once, numbers_reported_are_reported, only_reports_report,
+    only_sending_puts_out, standings_after_calls,
 };

@@ -1,8 +1,8 @@
 //! What a report makes of the entries, from the newest to the oldest.
 ghost use Rattle.std.specs.Prelude.{◌≡◌, ℕ, ◌+◌, ◌<◌, ◌≤◌, ◌&&◌, ◌||◌, not, nat_le, length, take, slice_get, slice_set, Some, Option};
 ghost use Rattle.circular_buffer.specs.Buffer.{buffer};
-ghost use Rattle.dccp_options.specs.Vectors.{state_at};
-ghost use Rattle.congestion_trait.specs.Flight.{pipe_of, reported_count, after_report, acked_count, is_congested, is_out, is_reported, is_received, is_unmarked, is_marked, is_past};
+ghost use Rattle.dccp_options.specs.Vectors.{state_at, is_received, is_unmarked, is_marked};
+ghost use Rattle.congestion_trait.specs.Flight.{pipe_of, reported_count, after_report, acked_count, is_congested, is_out, is_reported, is_past};
 ghost use Rattle.congestion_trait.specs.Walk.{standing_after, one_if, AllReported};
 
 use crate::cursor::Cursor;
