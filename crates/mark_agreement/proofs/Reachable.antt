@@ -5,8 +5,9 @@ use Rattle.mark_agreement.specs.View.{Side}
 use Rattle.mark_agreement.specs.Moves.{Moves, fresh, IsReachable}
 use Rattle.mark_agreement.specs.Moves.Reached.{Starts}
 use Rattle.mark_agreement.specs.Facts.{IsSound, IsHeeded}
-use Rattle.mark_agreement.specs.Laws.{ArePlaces, IsOnce, IsTruthful, IsTold, IsHeard}
+use Rattle.mark_agreement.specs.Laws.{ArePlaces, IsOnce, IsTruthful, IsTold, IsToldAlone, IsHeard}
 use Rattle.mark_agreement.specs.Exchange.{server_exchanged, client_exchanged}
+use Rattle.mark_agreement.proofs.Told.{far_alone}
 use Rattle.mark_agreement.proofs.Exchange.{exchanged}
 use Rattle.mark_agreement.proofs.Steps.{reached_keeps}
 use Rattle.mark_agreement.proofs.Reaching.{places_are, is_once, is_truthful, server_reaches, client_reaches}
@@ -49,6 +50,12 @@ module _ (server client : Side) (reachable : IsReachable server client) where
 
   pub clients_told : IsTold client server
   clients_told n some from below = ∥∥₁_map reachable (λ reached. (reached_keeps server client reached).there.settled n some from below)
+
+  pub servers_alone : IsToldAlone server
+  servers_alone silent n some from below = ∥∥₁_map (servers_told n some from below) (far_alone server.frames server.place client.place n silent)
+
+  pub clients_alone : IsToldAlone client
+  clients_alone silent n some from below = ∥∥₁_map (clients_told n some from below) (far_alone client.frames client.place server.place n silent)
 
   pub servers_heard : IsHeard server client
   servers_heard = ∥∥₁_elim reachable (hlevel props) (λ reached. (reached_keeps server client reached).here.reported)

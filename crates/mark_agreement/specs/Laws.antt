@@ -1,5 +1,5 @@
 -- What holds of a side towards its peer, whatever moves both made (own; the words are those of RFC 4340, section 11.4).
-use Rattle.std.specs.Prelude.{◌≡◌, ℕ, ◌+◌, ◌<◌, ◌≤◌, ◌↔◌, true, List, length, slice_index}
+use Rattle.std.specs.Prelude.{◌≡◌, ℕ, ◌+◌, ◌<◌, ◌≤◌, ◌↔◌, true, false, List, length, slice_index}
 use Rattle.mark_agreement.specs.View.{Frame, Side, frame_at, processed_at}
 
 -- among the first frames that a side processed, as many as this, is the one with this count
@@ -28,10 +28,16 @@ pub record IsTruthful (side : Side) : Type 0 where
   pub none_after : (k n : ℕ) → (frame_at side.frames k).has_vector ≡ true
       → IsAmong side.place (frame_at side.frames k).processed n → n ≤ (frame_at side.frames k).acknowledged
 
--- Why a side need not speak of a count any more: it lies more than 2,047 below one that the side processed, or a whole vector of
--- the side told of it and the peer processed its frame.
+-- the count lies more than 2,047 below one that the side processed
+pub record IsFarBelow (place : ℕ → ℕ) (n : ℕ) : Type 0 where
+  pub processed : ℕ
+  pub is_processed : 0 < place processed
+  pub far : n + 2047 < processed
+
+-- Why a side need not speak of a count any more: it lies far below one that the side processed, or a whole vector of the side told
+-- of it and the peer processed its frame.
 pub data IsSettled (frames : List Frame) (place heard : ℕ → ℕ) (n : ℕ) : Type 0 where
-  Far : (processed : ℕ) → 0 < place processed → n + 2047 < processed → IsSettled frames place heard n
+  Far : IsFarBelow place n → IsSettled frames place heard n
   WasTold : (k : ℕ) → (frame_at frames k).has_vector ≡ true → (frame_at frames k).is_whole ≡ true
       → (frame_at frames k).floor ≤ n → n ≤ (frame_at frames k).acknowledged → 0 < heard k → IsSettled frames place heard n
 
@@ -42,6 +48,11 @@ IsSettledFor side peer n = IsSettled side.frames side.place peer.place n
 -- every count from the first up to the floor is settled
 abbrev pub IsTold : Side → Side → Type 0
 IsTold side peer = (n : ℕ) → 0 < side.first → side.first ≤ n → n < side.floor → ∥ IsSettledFor side peer n ∥₁
+
+-- the same of a side that sent no vector
+abbrev pub IsToldAlone : Side → Type 0
+IsToldAlone side = ((k : ℕ) → (frame_at side.frames k).has_vector ≡ false) → (n : ℕ) → 0 < side.first → side.first ≤ n → n < side.floor
+    → ∥ IsFarBelow side.place n ∥₁
 
 -- what a side believes received, its peer processed
 abbrev pub IsHeard : Side → Side → Type 0

@@ -3,7 +3,7 @@ ghost use Rattle.std.specs.Prelude.{◌≡◌, ℕ, List, true};
 ghost use Rattle.mark_agreement.specs.View.{Frame, Side};
 ghost use Rattle.mark_agreement.specs.Moves.{Moves, fresh, IsReachable};
 ghost use Rattle.mark_agreement.specs.Facts.{IsSound, IsHeeded};
-ghost use Rattle.mark_agreement.specs.Laws.{ArePlaces, IsOnce, IsTruthful, IsTold, IsHeard};
+ghost use Rattle.mark_agreement.specs.Laws.{ArePlaces, IsOnce, IsTruthful, IsTold, IsToldAlone, IsHeard};
 ghost use Rattle.mark_agreement.specs.Exchange.{server_exchanged, client_exchanged};
 
 /// Two sides are reachable at the start, and after each step of either that is a list of moves.
@@ -33,10 +33,13 @@ pub fn vectors_are_truthful()
 {}
 
 /// What falls below a side's floor lies more than 2,047 below a frame that it processed, or the peer was told of it by a whole
-/// vector (own; RFC 4340, section 11.4.2, lets a receiver forget what was acknowledged).
+/// vector (own; RFC 4340, section 11.4.2, lets a receiver forget what was acknowledged). Of a side that sent no vector it is the
+/// first (`servers_alone`, `clients_alone`).
 pub fn what_falls_below_the_floor_is_settled()
     ensures servers { (server client : Side) → IsReachable server client → IsTold server client }
     ensures clients { (server client : Side) → IsReachable server client → IsTold client server }
+    ensures servers_alone { (server client : Side) → IsReachable server client → IsToldAlone server }
+    ensures clients_alone { (server client : Side) → IsReachable server client → IsToldAlone client }
 {}
 
 /// What a side believes received, the other side processed.
