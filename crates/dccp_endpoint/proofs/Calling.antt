@@ -1,5 +1,5 @@
 -- Every step of a proper end has an effect. What a call or a timer does is one of three: nothing, a change of phase alone, or a packet.
-use Rattle.std.proofs.Common.{◌≡◌, inl, inr, refl, ap, Bool, true, false, [], None}
+use Rattle.std.proofs.Common.{◌≡◌, inl, refl, ap, Bool, true, false, [], None}
 use Rattle.std.proofs.lemmas.Bool.{false≢true}
 use Rattle.dccp_packets.specs.Grammar.{has_forms, packet_type}
 use Rattle.dccp_packets.specs.Kinds.{ack_of}
@@ -14,61 +14,35 @@ use Rattle.dccp_states.specs.declared.phase.Phase.TheVariants as phase
 use Rattle.dccp_states.specs.declared.phase.Role.{Role}
 use Rattle.dccp_states.specs.declared.phase.Role.TheVariants as role
 use Rattle.dccp_endpoint.specs.Calling.{aborts, aborts_in, closes, closes_in, closes_now, aborts_now, fires, fires_in, opens, opens_as}
-use Rattle.dccp_endpoint.specs.Causes.{Acknowledges, Acks, ByCall, EveryStepHasOneEffect, Greatest, HasEffect, Keeps, LeavesIt, NotNow, Nothing, Others, Rests, StaysSo, is_acking, is_code_without_connection, is_without_connection}
+use Rattle.dccp_endpoint.specs.Causes.{Acknowledges, ByCall, EveryStepHasOneEffect, Greatest, HasEffect, Keeps, LeavesIt, NotNow, Nothing, StaysSo, is_acking, is_code_without_connection, is_without_connection}
 use Rattle.dccp_endpoint.specs.Drafts.{alone}
 use Rattle.dccp_endpoint.specs.Effects.{Next, Silent, Unheard, effect_of, end_after, frame_by}
 use Rattle.dccp_endpoint.specs.End.{EndState, IsProper, is_begun, is_connected, is_live, is_phase_of}
 use Rattle.dccp_endpoint.specs.Inputs.{Input, Arrives, Opens, Closes, Aborts, Fires}
-use Rattle.dccp_endpoint.specs.Steps.{Step, detail_of, without_detail}
+use Rattle.dccp_endpoint.specs.Steps.{Step, sends, detail_of, without_detail}
 use Rattle.dccp_endpoint.specs.declared.calls.Timer.{Timer}
 use Rattle.dccp_endpoint.specs.declared.calls.Timer.TheVariants as timers
-use Rattle.dccp_endpoint.proofs.Deriving.{Ready, caused, rest, says-alone}
+use Rattle.dccp_endpoint.proofs.Deriving.{Ready, ack-caused, has-by, next-caused, rest, silent-caused}
 use Rattle.dccp_endpoint.proofs.Walking.{receives-told}
 
--- nothing is heard, and nothing goes out
+abbrev Has : {A : Type 0} → EndState → Input → Step A → Type 0
+Has e given step = HasEffect e given step.after step.frame step.calls
+
 silent-has : (e : EndState) (given : Input) (ph : Phase) → Ready e given Unheard None false ph false → (is_begun ph ≡ true → is_begun e.phase ≡ true)
     → HasEffect e given (end_after e (effect_of Unheard None false ph false Silent)) None []
-silent-has e given ph ready begun =
-    record {
-      effect = effect_of Unheard None false ph false Silent;
-      after_is = refl;
-      frame_is = refl;
-      calls_are = refl;
-      because = caused e given Unheard None false ph false Silent ready (λ is. inl (begun is)) tt Rests;
-    }
+silent-has e given ph ready begun = has-by e given _ (silent-caused e given Unheard None false ph ready begun)
 
 idle-has : (e : EndState) (given : Input) → IsProper e → HasEffect e given e None []
 idle-has e given proper = silent-has e given e.phase (rest e given proper) (λ is. is)
 
--- a packet goes out that is no Ack and no DataAck
 next-has : (e : EndState) (given : Input) (ph : Phase) (called : Bool) (k : Kind) → Ready e given Unheard None false ph called → has_forms true k ≡ true
     → HasDetail k → is_acking (packet_type k) ≡ false → Acknowledges e given e.marks.gsr (ack_of k) → is_without_connection e.config.role k ≡ false
     → HasEffect e given (end_after e (effect_of Unheard None false ph called (Next (alone k)))) (frame_by e (Next (alone k))) []
 next-has e given ph called k ready long detail other acknowledges numbered =
-    record {
-      effect = effect_of Unheard None false ph called (Next (alone k));
-      after_is = refl;
-      frame_is = refl;
-      calls_are = refl;
-      because =
-          caused e given Unheard None false ph called (Next (alone k)) ready (λ is. inr tt) (says-alone k long detail)
-          (Others (alone k) other acknowledges numbered);
-    }
+    has-by e given _ (next-caused e given Unheard None false ph called k ready long detail other acknowledges numbered)
 
-ack-has : (e : EndState) (given : Input) → IsProper e → is_connected e.phase ≡ true
-    → HasEffect e given (end_after e (effect_of Unheard None false e.phase false (Next (alone (kind.Ack (Long e.marks.gsr))))))
-    (frame_by e (Next (alone (kind.Ack (Long e.marks.gsr))))) []
-ack-has e given proper connected =
-    let packet : Kind = kind.Ack (Long e.marks.gsr) in
-    record {
-      effect = effect_of Unheard None false e.phase false (Next (alone packet));
-      after_is = refl;
-      frame_is = refl;
-      calls_are = refl;
-      because =
-          caused e given Unheard None false e.phase false (Next (alone packet)) (rest e given proper) (λ is. inr tt) (says-alone packet refl tt)
-          (Acks (alone packet) refl refl connected refl refl);
-    }
+ack-has : (e : EndState) (given : Input) → IsProper e → is_connected e.phase ≡ true → Has e given (sends e (alone (kind.Ack (Long e.marks.gsr))) true)
+ack-has e given proper connected = has-by e given _ (ack-caused e given Unheard None false e.phase (rest e given proper) connected)
 
 -- the end is in a phase without a connection
 shut-ready : (e : EndState) (given : Input) → Ready e given Unheard None false phase.Closed false
@@ -81,9 +55,6 @@ shut-ready e given =
       opening = StaysSo (λ is. cc is);
       opened = NotNow;
     }
-
-abbrev Has : {A : Type 0} → EndState → Input → Step A → Type 0
-Has e given step = HasEffect e given step.after step.frame step.calls
 
 -- open
 opens-has : (e : EndState) → IsProper e → (r : Role) → e.config.role ≡ r → (opened : Bool) → e.opened ≡ opened → Has e Opens (opens_as e r opened)

@@ -6,14 +6,14 @@ use Rattle.dccp_packets.specs.declared.header.Kind.{Kind}
 use Rattle.dccp_packets.specs.declared.header.Kind.TheVariants as kind
 use Rattle.dccp_packets.specs.declared.header.Number.TheVariants.{Long}
 use Rattle.dccp_states.specs.declared.phase.Phase.{Phase}
-use Rattle.dccp_endpoint.specs.Causes.{Acknowledges, HasNext, IsAcknowledging, IsCaused, IsFirst, IsHearing, IsOpened, IsOpening, IsSending, IsSilentDraft, SaysNothing, Keeps, LeavesIt, StaysSo, NotNow, Rests, Acks, Others, is_acking, is_without_connection}
+use Rattle.dccp_endpoint.specs.Causes.{HasEffect, Acknowledges, HasNext, IsAcknowledging, IsCaused, IsFirst, IsHearing, IsOpened, IsOpening, IsSending, IsSilentDraft, SaysNothing, Keeps, LeavesIt, StaysSo, NotNow, Rests, Acks, Others, is_acking, is_without_connection}
 use Rattle.dccp_endpoint.specs.Drafts.{alone}
-use Rattle.dccp_endpoint.specs.Effects.{Hearing, Unheard, Sending, Silent, Next, effect_of, end_after, greatest_by}
+use Rattle.dccp_endpoint.specs.Effects.{Effect, frame_by, Hearing, Unheard, Sending, Silent, Next, effect_of, end_after, greatest_by}
 use Rattle.dccp_endpoint.specs.End.{EndState, IsProper, is_begun, is_connected, is_live, is_phase_of}
 use Rattle.dccp_packets.specs.Kinds.{ack_of}
 use Rattle.dccp_endpoint.specs.Inputs.{Input, Arrives}
 use Rattle.dccp_endpoint.specs.Outcomes.{HasCause, HasEffectOf, HasForm}
-use Rattle.dccp_endpoint.specs.Steps.{Step, idle, sends}
+use Rattle.dccp_endpoint.specs.Steps.{Step, sends}
 use Rattle.dccp_endpoint.specs.declared.outcome.Outcome.{Outcome}
 use Rattle.dccp_endpoint.proofs.OwnFrames.{alone-sendable}
 
@@ -58,62 +58,32 @@ pub record Told (e : EndState) (bytes : List ℕ) (step : Step Outcome) : Type 0
   pub cause : HasCause e bytes step.answer
   pub effect : HasEffectOf e (Arrives bytes) step.answer step.after step.frame step.calls
 
+-- the step of an effect, where it is known why that is so
+pub has-by : (e : EndState) (given : Input) (f : Effect) → IsCaused e given f → HasEffect e given (end_after e f) (frame_by e f.sending) f.calls
+has-by e given f because = record { effect = f; after_is = refl; frame_is = refl; calls_are = refl; because = because }
+
+pub told-by : (e : EndState) (bytes : List ℕ) (f : Effect) (outcome : Outcome) → IsCaused e (Arrives bytes) f → HasCause e bytes outcome
+    → HasForm e (Arrives bytes) outcome f
+    → Told e bytes (record { after = end_after e f; frame = frame_by e f.sending; calls = f.calls; answer = outcome })
+told-by e bytes f outcome because cause form =
+    record { cause = cause; effect = record { effect = f; after_is = refl; frame_is = refl; calls_are = refl; because = because; form = form } }
+
 -- nothing goes out
-pub silent-told : (e : EndState) (bytes : List ℕ) (h : Hearing) (ack : Option ℕ) (opens : Bool) (ph : Phase) (outcome : Outcome)
-    → Ready e (Arrives bytes) h ack opens ph false → (is_begun ph ≡ true → is_begun e.phase ≡ true) → HasCause e bytes outcome
-    → HasForm e (Arrives bytes) outcome (effect_of h ack opens ph false Silent)
-    → Told e bytes (idle (end_after e (effect_of h ack opens ph false Silent)) outcome)
-silent-told e bytes h ack opens ph outcome ready begun cause form =
-    record {
-      cause = cause;
-      effect = record {
-        effect = effect_of h ack opens ph false Silent;
-        after_is = refl;
-        frame_is = refl;
-        calls_are = refl;
-        because = caused e (Arrives bytes) h ack opens ph false Silent ready (λ is. inl (begun is)) tt Rests;
-        form = form;
-      };
-    }
+pub silent-caused : (e : EndState) (given : Input) (h : Hearing) (ack : Option ℕ) (opens : Bool) (ph : Phase) → Ready e given h ack opens ph false
+    → (is_begun ph ≡ true → is_begun e.phase ≡ true) → IsCaused e given (effect_of h ack opens ph false Silent)
+silent-caused e given h ack opens ph ready begun = caused e given h ack opens ph false Silent ready (λ is. inl (begun is)) tt Rests
 
 -- a packet goes out that is no Ack and no DataAck
-pub next-told : (e : EndState) (bytes : List ℕ) (h : Hearing) (ack : Option ℕ) (opens : Bool) (ph : Phase) (k : Kind) (outcome : Outcome)
-    → Ready e (Arrives bytes) h ack opens ph false → has_forms true k ≡ true → HasDetail k → is_acking (packet_type k) ≡ false
-    → Acknowledges e (Arrives bytes) (greatest_by e.marks.gsr h) (ack_of k) → is_without_connection e.config.role k ≡ false → HasCause e bytes outcome
-    → HasForm e (Arrives bytes) outcome (effect_of h ack opens ph false (Next (alone k)))
-    → Told e bytes (sends (end_after e (effect_of h ack opens ph false Silent)) (alone k) outcome)
-next-told e bytes h ack opens ph k outcome ready long detail other acknowledges numbered cause form =
-    record {
-      cause = cause;
-      effect = record {
-        effect = effect_of h ack opens ph false (Next (alone k));
-        after_is = refl;
-        frame_is = refl;
-        calls_are = refl;
-        because =
-            caused e (Arrives bytes) h ack opens ph false (Next (alone k)) ready (λ is. inr tt) (says-alone k long detail)
-            (Others (alone k) other acknowledges numbered);
-        form = form;
-      };
-    }
+pub next-caused : (e : EndState) (given : Input) (h : Hearing) (ack : Option ℕ) (opens : Bool) (ph : Phase) (called : Bool) (k : Kind)
+    → Ready e given h ack opens ph called → has_forms true k ≡ true → HasDetail k → is_acking (packet_type k) ≡ false
+    → Acknowledges e given (greatest_by e.marks.gsr h) (ack_of k) → is_without_connection e.config.role k ≡ false
+    → IsCaused e given (effect_of h ack opens ph called (Next (alone k)))
+next-caused e given h ack opens ph called k ready long detail other acknowledges numbered =
+    caused e given h ack opens ph called (Next (alone k)) ready (λ is. inr tt) (says-alone k long detail) (Others (alone k) other acknowledges numbered)
 
 -- an Ack goes out
-pub ack-told : (e : EndState) (bytes : List ℕ) (h : Hearing) (ack : Option ℕ) (opens : Bool) (ph : Phase) (outcome : Outcome)
-    → Ready e (Arrives bytes) h ack opens ph false → is_connected ph ≡ true → HasCause e bytes outcome
-    → HasForm e (Arrives bytes) outcome (effect_of h ack opens ph false (Next (alone (kind.Ack (Long (greatest_by e.marks.gsr h))))))
-    → Told e bytes (sends (end_after e (effect_of h ack opens ph false Silent)) (alone (kind.Ack (Long (greatest_by e.marks.gsr h)))) outcome)
-ack-told e bytes h ack opens ph outcome ready connected cause form =
+pub ack-caused : (e : EndState) (given : Input) (h : Hearing) (ack : Option ℕ) (opens : Bool) (ph : Phase) → Ready e given h ack opens ph false
+    → is_connected ph ≡ true → IsCaused e given (effect_of h ack opens ph false (Next (alone (kind.Ack (Long (greatest_by e.marks.gsr h))))))
+ack-caused e given h ack opens ph ready connected =
     let packet : Kind = kind.Ack (Long (greatest_by e.marks.gsr h)) in
-    record {
-      cause = cause;
-      effect = record {
-        effect = effect_of h ack opens ph false (Next (alone packet));
-        after_is = refl;
-        frame_is = refl;
-        calls_are = refl;
-        because =
-            caused e (Arrives bytes) h ack opens ph false (Next (alone packet)) ready (λ is. inr tt) (says-alone packet refl tt)
-            (Acks (alone packet) refl refl connected refl refl);
-        form = form;
-      };
-    }
+    caused e given h ack opens ph false (Next (alone packet)) ready (λ is. inr tt) (says-alone packet refl tt) (Acks (alone packet) refl refl connected refl refl)

@@ -28,7 +28,7 @@ use Rattle.dccp_endpoint.specs.declared.outcome.Outcome.{Outcome}
 use Rattle.dccp_endpoint.specs.declared.outcome.Outcome.TheVariants.{Dropped, NotBuilt, SentReset, Synced, Took, WasReset}
 use Rattle.dccp_endpoint.specs.declared.outcome.Why.{Why}
 use Rattle.dccp_endpoint.specs.declared.outcome.Why.TheVariants as why
-use Rattle.dccp_endpoint.proofs.Phases.{accept-type}
+use Rattle.dccp_endpoint.proofs.Phases.{enters-so}
 
 -- step 1
 abbrev given_bytes : Input → List ℕ
@@ -112,7 +112,7 @@ valid-goes e bytes a entered valid = by valid.is_valid where
   by (OpensConnection is ours same) =
       enters-goes e bytes a entrance.Accept valid.came is
       ∙ ap (λ (b : Bool). from e a (opens_connection a e b) (takes_answer a entrance.Accept ∷ checks_numbers a entrance.Accept ∷ ends_by_reset a a.kind ∷ behind_6 a)) ours
-      ∙ entered-goes e a (started e phase.Respond a) entered (λ reset. cc (accept-type e.phase a.kind is, reset)) same
+      ∙ entered-goes e a (started e phase.Respond a) entered (λ reset. cc ((enters-so e.phase a.kind entrance.Accept is).1, reset)) same
   by (ResponseToRequest is no_reset fits same) =
       in-request-goes e bytes a true valid.came is fits ∙ ap (answering e a) (answers-other a e a.kind no_reset)
       ∙ entered-goes e a (started e e.phase a) entered no_reset same

@@ -1,9 +1,10 @@
--- Each role keeps to its phases (RFC 4340, section 4.3).
-use Rattle.std.proofs.Common.{◌≡◌, refl, ap, sym, subst, true}
+-- What the tables of phases say, by their lines, and that each role keeps to its phases (RFC 4340, section 4.3).
+use Rattle.std.proofs.Common.{◌≡◌, ◌≢◌, refl, ap, subst, true}
 use Rattle.dccp_packets.specs.declared.header.PacketType.{PacketType}
 use Rattle.dccp_packets.specs.declared.header.PacketType.TheVariants as types
 use Rattle.dccp_states.specs.Entrance.{gate}
 use Rattle.dccp_states.specs.Phases.{after}
+use Rattle.dccp_states.specs.declared.entrance.Entrance.{Entrance}
 use Rattle.dccp_states.specs.declared.entrance.Entrance.TheVariants as entrance
 use Rattle.dccp_states.specs.declared.phase.Phase.{Phase}
 use Rattle.dccp_states.specs.declared.phase.Phase.TheVariants as phase
@@ -11,122 +12,104 @@ use Rattle.dccp_states.specs.declared.phase.Role.{Role}
 use Rattle.dccp_states.specs.declared.phase.Role.TheVariants as role
 use Rattle.dccp_states.specs.declared.reply.Reply.{Reply}
 use Rattle.dccp_states.specs.declared.reply.Reply.TheVariants as reply
-use Rattle.dccp_endpoint.specs.End.{is_phase_of}
+use Rattle.dccp_endpoint.specs.End.{is_begun, is_connected, is_live, is_open, is_phase_of, phase_entered}
 
--- a packet may open a connection in LISTEN alone
-pub accept-phase : (ph : Phase) (t : PacketType) → gate ph t ≡ entrance.Accept → ph ≡ phase.Listen
-accept-phase phase.Closed types.Reset is = cc is
-accept-phase phase.Closed _ is = cc is
-accept-phase phase.Listen t is = refl
-accept-phase phase.Request types.Response is = cc is
-accept-phase phase.Request types.Reset is = cc is
-accept-phase phase.Request _ is = cc is
-accept-phase phase.Respond t is = cc is
-accept-phase phase.PartOpen t is = cc is
-accept-phase phase.Open t is = cc is
-accept-phase phase.CloseReq t is = cc is
-accept-phase phase.Closing t is = cc is
-accept-phase phase.TimeWait types.Reset is = cc is
-accept-phase phase.TimeWait _ is = cc is
+-- Where a packet enters: a Request in LISTEN, a Response or a Reset in REQUEST, and by the windows where a first number was received.
+abbrev Enters : Phase → PacketType → Entrance → Type 0
+Enters ph t entrance.Accept = (ph ≡ phase.Listen) × (t ≡ types.Request)
+Enters ph t entrance.InRequest = (ph ≡ phase.Request) × (t ≢ types.Reset → t ≡ types.Response)
+Enters ph t entrance.Check = is_live ph ≡ true
+Enters ph t _ = Unit {0}
 
--- and it is a Request
-pub accept-type : (ph : Phase) (t : PacketType) → gate ph t ≡ entrance.Accept → t ≡ types.Request
-accept-type ph types.Request is = refl
-accept-type phase.Closed types.Reset is = cc is
-accept-type phase.Closed _ is = cc is
-accept-type phase.Listen types.Reset is = cc is
-accept-type phase.Listen _ is = cc is
-accept-type phase.Request types.Response is = cc is
-accept-type phase.Request types.Reset is = cc is
-accept-type phase.Request _ is = cc is
-accept-type phase.Respond _ is = cc is
-accept-type phase.PartOpen _ is = cc is
-accept-type phase.Open _ is = cc is
-accept-type phase.CloseReq _ is = cc is
-accept-type phase.Closing _ is = cc is
-accept-type phase.TimeWait types.Reset is = cc is
-accept-type phase.TimeWait _ is = cc is
+enters-by : (ph : Phase) (t : PacketType) → Enters ph t (gate ph t)
+enters-by phase.Closed types.Reset = tt
+enters-by phase.Closed _ = tt
+enters-by phase.Listen types.Reset = tt
+enters-by phase.Listen types.Request = (refl, refl)
+enters-by phase.Listen _ = tt
+enters-by phase.Request types.Response = (refl, λ _. refl)
+enters-by phase.Request types.Reset = (refl, λ other. absurd (other refl))
+enters-by phase.Request _ = tt
+enters-by phase.TimeWait types.Reset = tt
+enters-by phase.TimeWait _ = tt
+enters-by _ t = refl
 
--- a Request is answered in REQUEST alone
-pub answer-phase : (ph : Phase) (t : PacketType) → gate ph t ≡ entrance.InRequest → ph ≡ phase.Request
-answer-phase phase.Closed types.Reset is = cc is
-answer-phase phase.Closed _ is = cc is
-answer-phase phase.Listen types.Reset is = cc is
-answer-phase phase.Listen types.Request is = cc is
-answer-phase phase.Listen _ is = cc is
-answer-phase phase.Request t is = refl
-answer-phase phase.Respond t is = cc is
-answer-phase phase.PartOpen t is = cc is
-answer-phase phase.Open t is = cc is
-answer-phase phase.CloseReq t is = cc is
-answer-phase phase.Closing t is = cc is
-answer-phase phase.TimeWait types.Reset is = cc is
-answer-phase phase.TimeWait _ is = cc is
+pub enters-so : (ph : Phase) (t : PacketType) (how : Entrance) → gate ph t ≡ how → Enters ph t how
+enters-so ph t how is = subst (Enters ph t) is (enters-by ph t)
 
--- by a Response or a Reset
-pub answer-type : (t : PacketType) → gate phase.Request t ≡ entrance.InRequest → (t ≡ types.Reset → ⊥) → t ≡ types.Response
-answer-type types.Response is no_reset = refl
-answer-type types.Reset is no_reset = absurd (no_reset refl)
-answer-type _ is no_reset = cc is
+pub check-live : (ph : Phase) (t : PacketType) → gate ph t ≡ entrance.Check → is_live ph ≡ true
+check-live ph t is = enters-so ph t entrance.Check is
 
 -- who waits for a Request is a server
-pub listens-server : (r : Role) → is_phase_of phase.Listen r ≡ true → r ≡ role.Server
-listens-server role.Client is = cc is
-listens-server role.Server is = refl
+pub listens-server : (r : Role) (ph : Phase) → ph ≡ phase.Listen → is_phase_of ph r ≡ true → r ≡ role.Server
+listens-server role.Client ph listens fits = cc (ap (λ (p : Phase). is_phase_of p role.Client) listens, fits)
+listens-server role.Server ph listens fits = refl
 
 -- and who has sent one is a client
-pub requests-client : (r : Role) → is_phase_of phase.Request r ≡ true → r ≡ role.Client
-requests-client role.Client is = refl
-requests-client role.Server is = cc is
+pub requests-client : (r : Role) (ph : Phase) → ph ≡ phase.Request → is_phase_of ph r ≡ true → r ≡ role.Client
+requests-client role.Client ph asks fits = refl
+requests-client role.Server ph asks fits = cc (ap (λ (p : Phase). is_phase_of p role.Server) asks, fits)
 
 pub accept_fits : (ph : Phase) (t : PacketType) (r : Role) → gate ph t ≡ entrance.Accept → is_phase_of ph r ≡ true → is_phase_of phase.Respond r ≡ true
-accept_fits ph t r is fits =
-    ap (is_phase_of phase.Respond) (listens-server r (subst (λ (p : Phase). is_phase_of p r ≡ true) (accept-phase ph t is) fits))
+accept_fits ph t r is fits = ap (is_phase_of phase.Respond) (listens-server r ph (enters-so ph t entrance.Accept is).0 fits)
+
+-- An Ack goes out where the handshake has got through, and the table closes where it answers by a Reset.
+abbrev FitsReply : Phase → Reply → Type 0
+FitsReply to reply.Ack = is_connected to ≡ true
+FitsReply to reply.ResetClosed = to ≡ phase.Closed
+FitsReply to _ = Unit {0}
+
+request-fits : (r : Role) → is_phase_of phase.Request r ≡ true → is_phase_of phase.PartOpen r ≡ true
+request-fits role.Client fits = refl
+request-fits role.Server fits = fits
+
+row-fits : (ph : Phase) (t : PacketType)
+    → ((r : Role) → is_phase_of ph r ≡ true → is_phase_of (after ph t).0 r ≡ true) × FitsReply (after ph t).0 (after ph t).1
+row-fits ph types.Reset = (λ r fits. refl, tt)
+row-fits phase.Request types.Response = (request-fits, refl)
+row-fits phase.Respond types.Ack = (λ r fits. refl, refl)
+row-fits phase.Respond types.DataAck = (λ r fits. refl, refl)
+row-fits phase.Respond types.SyncAck = (λ r fits. refl, refl)
+row-fits phase.Respond types.Sync = (λ r fits. refl, tt)
+row-fits phase.PartOpen types.Response = (λ r fits. fits, refl)
+row-fits phase.PartOpen types.Data = (λ r fits. refl, tt)
+row-fits phase.PartOpen types.Ack = (λ r fits. refl, tt)
+row-fits phase.PartOpen types.DataAck = (λ r fits. refl, tt)
+row-fits phase.PartOpen types.SyncAck = (λ r fits. refl, tt)
+row-fits phase.PartOpen types.CloseReq = (λ r fits. refl, tt)
+row-fits phase.Open types.CloseReq = (λ r fits. refl, tt)
+row-fits phase.Respond types.Close = (λ r fits. refl, refl)
+row-fits phase.PartOpen types.Close = (λ r fits. refl, refl)
+row-fits phase.Open types.Close = (λ r fits. refl, refl)
+row-fits phase.CloseReq types.Close = (λ r fits. refl, refl)
+row-fits phase.Closing types.Close = (λ r fits. refl, refl)
+row-fits phase.Closed _ = (λ r fits. fits, tt)
+row-fits phase.Listen _ = (λ r fits. fits, tt)
+row-fits phase.Request _ = (λ r fits. fits, tt)
+row-fits phase.Respond _ = (λ r fits. fits, tt)
+row-fits phase.PartOpen _ = (λ r fits. fits, tt)
+row-fits phase.Open _ = (λ r fits. fits, tt)
+row-fits phase.CloseReq _ = (λ r fits. fits, tt)
+row-fits phase.Closing _ = (λ r fits. fits, tt)
+row-fits phase.TimeWait _ = (λ r fits. fits, tt)
 
 -- the table of phases keeps to the role
 pub after_fits : (ph : Phase) (t : PacketType) (r : Role) → is_phase_of ph r ≡ true → is_phase_of (after ph t).0 r ≡ true
-after_fits ph types.Reset r fits = refl
-after_fits phase.Request types.Response role.Client fits = refl
-after_fits phase.Request types.Response role.Server fits = fits
-after_fits phase.Respond types.Ack r fits = refl
-after_fits phase.Respond types.DataAck r fits = refl
-after_fits phase.Respond types.SyncAck r fits = refl
-after_fits phase.Respond types.Sync r fits = refl
-after_fits phase.Respond types.Close r fits = refl
-after_fits phase.PartOpen types.Data r fits = refl
-after_fits phase.PartOpen types.Ack r fits = refl
-after_fits phase.PartOpen types.DataAck r fits = refl
-after_fits phase.PartOpen types.SyncAck r fits = refl
-after_fits phase.PartOpen types.CloseReq r fits = refl
-after_fits phase.PartOpen types.Close r fits = refl
-after_fits phase.Open types.CloseReq r fits = refl
-after_fits phase.Open types.Close r fits = refl
-after_fits phase.CloseReq types.Close r fits = refl
-after_fits phase.Closing types.Close r fits = refl
-after_fits phase.Closed _ r fits = fits
-after_fits phase.Listen _ r fits = fits
-after_fits phase.Request _ r fits = fits
-after_fits phase.Respond _ r fits = fits
-after_fits phase.PartOpen _ r fits = fits
-after_fits phase.Open _ r fits = fits
-after_fits phase.CloseReq _ r fits = fits
-after_fits phase.Closing _ r fits = fits
-after_fits phase.TimeWait _ r fits = fits
+after_fits ph t r fits = (row-fits ph t).0 r fits
 
--- the table closes where it answers by a Reset
-pub closing-closes : (ph : Phase) (t : PacketType) (to : Phase) → after ph t ≡ (to, reply.ResetClosed) → to ≡ phase.Closed
-closing-closes ph types.Reset to is = cc (ap (λ (row : Phase × Reply). row.1) is)
-closing-closes phase.Closed _ to is = cc (ap (λ (row : Phase × Reply). row.1) is)
-closing-closes phase.Listen _ to is = cc (ap (λ (row : Phase × Reply). row.1) is)
-closing-closes phase.Request _ to is = cc (ap (λ (row : Phase × Reply). row.1) is)
-closing-closes phase.Respond types.Close to is = sym (ap (λ (row : Phase × Reply). row.0) is)
-closing-closes phase.Respond _ to is = cc (ap (λ (row : Phase × Reply). row.1) is)
-closing-closes phase.PartOpen types.Close to is = sym (ap (λ (row : Phase × Reply). row.0) is)
-closing-closes phase.PartOpen _ to is = cc (ap (λ (row : Phase × Reply). row.1) is)
-closing-closes phase.Open types.Close to is = sym (ap (λ (row : Phase × Reply). row.0) is)
-closing-closes phase.Open _ to is = cc (ap (λ (row : Phase × Reply). row.1) is)
-closing-closes phase.CloseReq types.Close to is = sym (ap (λ (row : Phase × Reply). row.0) is)
-closing-closes phase.CloseReq _ to is = cc (ap (λ (row : Phase × Reply). row.1) is)
-closing-closes phase.Closing types.Close to is = sym (ap (λ (row : Phase × Reply). row.0) is)
-closing-closes phase.Closing _ to is = cc (ap (λ (row : Phase × Reply). row.1) is)
-closing-closes phase.TimeWait _ to is = cc (ap (λ (row : Phase × Reply). row.1) is)
+pub fits-reply : (ph : Phase) (t : PacketType) (to : Phase) (r : Reply) → after ph t ≡ (to, r) → FitsReply to r
+fits-reply ph t to r is = subst (λ (row : Phase × Reply). FitsReply row.0 row.1) is (row-fits ph t).1
+
+-- where a first number was received
+pub live-begun : (ph : Phase) → is_live ph ≡ true → is_begun ph ≡ true
+live-begun phase.Closed is = cc is
+live-begun phase.Listen is = cc is
+live-begun _ is = refl
+
+pub live-entered : (ph : Phase) → is_live ph ≡ true → phase_entered ph ≡ ph
+live-entered phase.Listen is = cc is
+live-entered _ is = refl
+
+pub open-is : (ph : Phase) → is_open ph ≡ true → ph ≡ phase.Open
+open-is phase.Open is = refl
+open-is _ is = cc is

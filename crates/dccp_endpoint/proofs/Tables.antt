@@ -1,88 +1,26 @@
--- What the tables of phases, types and numbers say, by their lines.
-use Rattle.std.proofs.Common.{◌≡◌, ◌⊎◌, inl, inr, refl, ap, sym, ◌∙◌, ℕ, Bool, true, false, not, ◌&&◌, if◌then◌else◌, List, [], ◌∷◌, length, Option, Some, None, Result, Ok, Err}
+-- What the tables of types, numbers and codes say, by their lines.
+use Rattle.std.proofs.Common.{◌≡◌, ◌⊎◌, inl, inr, refl, sym, ◌∙◌, ℕ, Bool, true, false, not, ◌&&◌, if◌then◌else◌, List, [], ◌∷◌, length, Option, Some, None, Result, Ok, Err}
 use Rattle.std.proofs.lemmas.Bool.{false≢true}
 use Rattle.dccp_options.specs.Grammar.{Entry}
 use Rattle.dccp_options.specs.declared.option.OptFault.{OptFault}
 use Rattle.dccp_packets.specs.declared.header.PacketType.{PacketType}
 use Rattle.dccp_packets.specs.declared.header.PacketType.TheVariants as types
-use Rattle.dccp_states.specs.Entrance.{gate}
-use Rattle.dccp_states.specs.Phases.{after}
 use Rattle.dccp_states.specs.Unexpected.{unexpected}
-use Rattle.dccp_states.specs.declared.entrance.Entrance.TheVariants as entrance
 use Rattle.dccp_states.specs.declared.phase.Phase.{Phase}
 use Rattle.dccp_states.specs.declared.phase.Phase.TheVariants as phase
 use Rattle.dccp_states.specs.declared.phase.Role.{Role}
 use Rattle.dccp_states.specs.declared.phase.Role.TheVariants as role
-use Rattle.dccp_states.specs.declared.reply.Reply.{Reply}
-use Rattle.dccp_states.specs.declared.reply.Reply.TheVariants as reply
 use Rattle.validity_windows.specs.Verdict.{gar_after, verdict}
 use Rattle.validity_windows.specs.declared.marks.Marks.{Marks}
 use Rattle.validity_windows.specs.declared.verdict.Verdict.TheVariants as verdicts
 use Rattle.dccp_endpoint.specs.Causes.{is_acking, is_code_without_connection}
 use Rattle.dccp_endpoint.specs.Effects.{gar_by}
-use Rattle.dccp_endpoint.specs.End.{is_begun, is_connected, is_live, is_open, phase_entered}
 use Rattle.dccp_endpoint.specs.Faults.{fault_of, first_fault, not_understood, or_later}
 use Rattle.dccp_options.specs.Kinds.{is_understood}
 use Rattle.dccp_endpoint.specs.Receiving.{is_other_service}
 use Rattle.dccp_packets.specs.ResetCodes.{number_of_code}
 use Rattle.dccp_packets.specs.declared.reset_code.ResetCode.TheVariants as codes
 use Rattle.dccp_endpoint.specs.declared.outcome.Fault.{Fault}
-
--- the windows are asked where a first number was received
-pub check-live : (ph : Phase) (t : PacketType) → gate ph t ≡ entrance.Check → is_live ph ≡ true
-check-live phase.Closed types.Reset is = cc is
-check-live phase.Closed _ is = cc is
-check-live phase.Listen types.Reset is = cc is
-check-live phase.Listen types.Request is = cc is
-check-live phase.Listen _ is = cc is
-check-live phase.Request types.Response is = cc is
-check-live phase.Request types.Reset is = cc is
-check-live phase.Request _ is = cc is
-check-live phase.TimeWait types.Reset is = cc is
-check-live phase.TimeWait _ is = cc is
-check-live phase.Respond t is = refl
-check-live phase.PartOpen t is = refl
-check-live phase.Open t is = refl
-check-live phase.CloseReq t is = refl
-check-live phase.Closing t is = refl
-
-pub live-begun : (ph : Phase) → is_live ph ≡ true → is_begun ph ≡ true
-live-begun phase.Respond is = refl
-live-begun phase.PartOpen is = refl
-live-begun phase.Open is = refl
-live-begun phase.CloseReq is = refl
-live-begun phase.Closing is = refl
-live-begun _ is = cc is
-
-pub live-entered : (ph : Phase) → is_live ph ≡ true → phase_entered ph ≡ ph
-live-entered phase.Respond is = refl
-live-entered phase.PartOpen is = refl
-live-entered phase.Open is = refl
-live-entered phase.CloseReq is = refl
-live-entered phase.Closing is = refl
-live-entered _ is = cc is
-
-pub open-is : (ph : Phase) → is_open ph ≡ true → ph ≡ phase.Open
-open-is phase.Open is = refl
-open-is _ is = cc is
-
--- an Ack goes out where the handshake has got through
-pub ack-connected : (ph : Phase) (t : PacketType) (to : Phase) → after ph t ≡ (to, reply.Ack) → is_connected to ≡ true
-ack-connected ph types.Reset to is = cc (ap (λ (row : Phase × Reply). row.1) is)
-ack-connected phase.Request types.Response to is = sym (ap (λ (row : Phase × Reply). is_connected row.0) is)
-ack-connected phase.Respond types.Ack to is = sym (ap (λ (row : Phase × Reply). is_connected row.0) is)
-ack-connected phase.Respond types.DataAck to is = sym (ap (λ (row : Phase × Reply). is_connected row.0) is)
-ack-connected phase.Respond types.SyncAck to is = sym (ap (λ (row : Phase × Reply). is_connected row.0) is)
-ack-connected phase.PartOpen types.Response to is = sym (ap (λ (row : Phase × Reply). is_connected row.0) is)
-ack-connected phase.Closed _ to is = cc (ap (λ (row : Phase × Reply). row.1) is)
-ack-connected phase.Listen _ to is = cc (ap (λ (row : Phase × Reply). row.1) is)
-ack-connected phase.Request _ to is = cc (ap (λ (row : Phase × Reply). row.1) is)
-ack-connected phase.Respond _ to is = cc (ap (λ (row : Phase × Reply). row.1) is)
-ack-connected phase.PartOpen _ to is = cc (ap (λ (row : Phase × Reply). row.1) is)
-ack-connected phase.Open _ to is = cc (ap (λ (row : Phase × Reply). row.1) is)
-ack-connected phase.CloseReq _ to is = cc (ap (λ (row : Phase × Reply). row.1) is)
-ack-connected phase.Closing _ to is = cc (ap (λ (row : Phase × Reply). row.1) is)
-ack-connected phase.TimeWait _ to is = cc (ap (λ (row : Phase × Reply). row.1) is)
 
 -- what a packet acknowledges raises GAR, but for a Sync
 abbrev pub raising : PacketType → Option ℕ → Option ℕ
@@ -95,10 +33,6 @@ gar-by gar _ None = refl
 gar-by gar _ (Some ack) = refl
 
 -- step 7 refuses no Ack and no DataAck
-and-false : (x later : Bool) → (x && (false && later)) ≡ false
-and-false true later = refl
-and-false false later = refl
-
 ack-expected : (r : Role) (ph : Phase) (later : Bool) → unexpected r ph types.Ack later ≡ false
 ack-expected role.Client phase.Respond later = refl
 ack-expected role.Server phase.Respond later = refl

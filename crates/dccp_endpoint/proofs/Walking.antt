@@ -5,7 +5,8 @@
 use Rattle.std.proofs.Common.{◌≡◌, ◌≢◌, ◌⊎◌, inl, inr, refl, ap, sym, ◌∙◌, subst, ℕ, Bool, true, false, not, ◌&&◌, List, [], ◌∷◌, Option, Some, None, Result, Ok, Err}
 use Rattle.std.proofs.lemmas.Bool.{false≢true}
 use Rattle.seq_circle.specs.Circle.{is_before, later_of}
-use Rattle.dccp_packets.specs.Grammar.{Parts, decoded, packet_type}
+use Rattle.dccp_packets.specs.Grammar.{Parts, decoded, has_forms, packet_type}
+use Rattle.dccp_packets.specs.Widths.{HasDetail}
 use Rattle.dccp_packets.specs.declared.header.Kind.{Kind}
 use Rattle.dccp_packets.specs.declared.header.Kind.TheVariants as kind
 use Rattle.dccp_packets.specs.declared.header.Number.{Number}
@@ -15,7 +16,6 @@ use Rattle.dccp_packets.specs.declared.header.PacketType.TheVariants as types
 use Rattle.dccp_packets.specs.declared.reading.Malformed.{Malformed}
 use Rattle.dccp_sum.specs.Checksum.{checked}
 use Rattle.dccp_sum.specs.declared.packet_sum.SumFault.{SumFault}
-use Rattle.dccp_states.specs.Entrance.{gate}
 use Rattle.dccp_states.specs.Phases.{after}
 use Rattle.dccp_states.specs.Unexpected.{unexpected}
 use Rattle.dccp_states.specs.declared.entrance.Entrance.{Entrance}
@@ -28,15 +28,15 @@ use Rattle.dccp_states.specs.declared.reply.Reply.{Reply}
 use Rattle.dccp_states.specs.declared.reply.Reply.TheVariants as reply
 use Rattle.validity_windows.specs.declared.verdict.Verdict.{Verdict}
 use Rattle.validity_windows.specs.declared.verdict.Verdict.TheVariants as verdicts
-use Rattle.dccp_endpoint.specs.Causes.{Acknowledges, Arrived, BecomesOpen, ByVerdict, ByWindow, Came, FitsPassing, Greatest, IsAcknowledging, IsHearing, IsOpening, Keeps, LeavesIt, NotNow, Raises, Refuses, Starts, StaysSo, entrance_of, is_code_without_connection, verdict_of}
+use Rattle.dccp_endpoint.specs.Causes.{IsCaused, is_acking, is_without_connection, Acknowledges, Arrived, BecomesOpen, ByVerdict, ByWindow, Came, FitsPassing, Greatest, IsAcknowledging, IsHearing, IsOpening, Keeps, LeavesIt, NotNow, Raises, Refuses, Starts, StaysSo, entrance_of, is_code_without_connection, verdict_of}
 use Rattle.dccp_endpoint.specs.Drafts.{alone}
-use Rattle.dccp_endpoint.specs.Effects.{Heard, Unheard, greatest_or, Passing, Refused, Shut, Sending, Silent, Taken, WithoutConnection, effect_of, effect_of_sending, end_after}
+use Rattle.dccp_endpoint.specs.Effects.{Effect, Next, frame_by, Heard, Unheard, greatest_or, Passing, Refused, Shut, Sending, Silent, Taken, WithoutConnection, effect_of, effect_of_sending, end_after}
 use Rattle.dccp_endpoint.specs.End.{EndState, IsProper, is_begun, is_live, is_open, is_phase_of, phase_entered}
 use Rattle.dccp_endpoint.specs.Faults.{first_fault, is_unbuilt}
 use Rattle.dccp_packets.specs.Kinds.{ack_of}
 use Rattle.dccp_endpoint.specs.Incoming.{Incoming, incoming}
 use Rattle.dccp_endpoint.specs.Inputs.{Arrives}
-use Rattle.dccp_endpoint.specs.Outcomes.{Answering, Closing, HasCause, IsNoAnswer, IsValidReset, replying, Correcting, IsAdmitted, IsReset, IsTaking, IsValid, IsValidPacket, Refusing, SyncsInvalid, SyncsUnexpected, OutOfWindow, Unexpected, NoConnection, OtherService, NoAnswer, OtherType, OtherRequest, WrongService, Faulted, AnswersClose, OpensConnection, ResponseToRequest, PacketInWindow, ResetToRequest, ResetInWindow, StrayWithoutConnection, StrayInRequest, is_for_another}
+use Rattle.dccp_endpoint.specs.Outcomes.{Answering, Closing, HasCause, IsNoAnswer, IsValidReset, replying, Correcting, IsAdmitted, IsReset, IsValid, IsValidPacket, Refusing, SyncsInvalid, SyncsUnexpected, OutOfWindow, Unexpected, NoConnection, OtherService, NoAnswer, OtherType, OtherRequest, WrongService, Faulted, AnswersClose, OpensConnection, ResponseToRequest, PacketInWindow, ResetToRequest, ResetInWindow, StrayWithoutConnection, StrayInRequest, is_for_another}
 use Rattle.dccp_endpoint.specs.Receiving.{Goes, acknowledges_in_window, answers, becomes_open, by_ports, by_sum, checks_numbers, checks_type, ends_as, ends_by_reset, expects, heeds, is_of_connection, is_own_service, is_unexpected, judged, long_number, moved_to, number_without_connection, opens_connection, packet_fault, raised, raises, reads, reads_options, received, receives, replies, resets, resets_without_connection, serves, started, takes_answer, the_steps, through, with_number, with_packet}
 use Rattle.dccp_packets.specs.ResetCodes.{number_of_code}
 use Rattle.dccp_packets.specs.declared.reset_code.ResetCode.TheVariants as codes
@@ -46,21 +46,23 @@ use Rattle.dccp_endpoint.specs.declared.outcome.Outcome.{Outcome}
 use Rattle.dccp_endpoint.specs.declared.outcome.Outcome.TheVariants.{Dropped, NotBuilt, SentReset, Synced, Took, WasReset}
 use Rattle.dccp_endpoint.specs.declared.outcome.Why.{Why}
 use Rattle.dccp_endpoint.specs.declared.outcome.Why.TheVariants as why
-use Rattle.dccp_endpoint.proofs.Deriving.{Ready, Told, ack-told, caused, next-told, rest, says-alone, silent-told}
-use Rattle.dccp_endpoint.proofs.Phases.{accept-phase, accept-type, after_fits, answer-phase, answer-type, closing-closes, listens-server, requests-client}
-use Rattle.dccp_endpoint.proofs.Tables.{IsNumberedFault, ack-connected, check-live, closed-code, first-numbered, gar-by, live-begun, live-entered, no-connection-code, open-is, other-service-asked, packet-error-code, raising, sync-acknowledges, unexpected-no-ack}
+use Rattle.dccp_endpoint.proofs.Deriving.{Ready, Told, ack-caused, caused, next-caused, rest, says-alone, silent-caused, told-by}
+use Rattle.dccp_endpoint.proofs.Phases.{after_fits, check-live, enters-so, fits-reply, listens-server, live-begun, live-entered, open-is, requests-client}
+use Rattle.dccp_endpoint.proofs.Tables.{IsNumberedFault, closed-code, first-numbered, gar-by, no-connection-code, other-service-asked, packet-error-code, raising, sync-acknowledges, unexpected-no-ack}
 
 -- a packet that leaves before it enters
 
 dropped-told : (e : EndState) (bytes : List ℕ) (w : Why) → IsProper e → HasCause e bytes (Dropped w) → Told e bytes (idle e (Dropped w))
 dropped-told e bytes w proper cause =
-    silent-told e bytes Unheard None false e.phase (Dropped w) (rest e (Arrives bytes) proper) (λ is. is) cause refl
+    told-by e bytes _ (Dropped w) (silent-caused e (Arrives bytes) Unheard None false e.phase (rest e (Arrives bytes) proper) (λ is. is)) cause refl
 
 synced-told : (e : EndState) (bytes : List ℕ) (a : Incoming) (n : ℕ) → IsProper e → Came e (Arrives bytes) a → entrance_of e a ≡ entrance.Check
     → verdict_of e a ≡ verdicts.SyncFor n → Told e bytes (sends e (alone (kind.Sync n)) (Synced n))
 synced-told e bytes a n proper came check bad =
-    next-told e bytes Unheard None false e.phase (kind.Sync n) (Synced n) (rest e (Arrives bytes) proper) refl tt refl
-    (either (sync-acknowledges e.marks a.kind a.number a.ack n bad)) refl (OutOfWindow a came check bad) SyncsInvalid where
+    told-by e bytes _ (Synced n)
+    (next-caused e (Arrives bytes) Unheard None false e.phase false (kind.Sync n) (rest e (Arrives bytes) proper) refl tt refl
+    (either (sync-acknowledges e.marks a.kind a.number a.ack n bad)) refl)
+    (OutOfWindow a came check bad) SyncsInvalid where
       either : (n ≡ a.number) ⊎ (n ≡ e.marks.gsr) → Acknowledges e (Arrives bytes) e.marks.gsr (Some n)
       either (inl is) = subst (λ (m : ℕ). Acknowledges e (Arrives bytes) e.marks.gsr (Some m)) (sym is) (Arrived a came)
       either (inr is) = subst (λ (m : ℕ). Acknowledges e (Arrives bytes) e.marks.gsr (Some m)) (sym is) Greatest
@@ -70,32 +72,24 @@ refused-told : (e : EndState) (bytes : List ℕ) (a : Incoming) (code : ℕ) →
     → Told e bytes (resets_without_connection e a (without_detail code))
 refused-told e bytes a code proper came is_code why =
     let sending : Sending = WithoutConnection (number_without_connection a.ack) (kind.Reset a.number code (detail_of (without_detail code))) in
-    record {
-      cause = record { fault = without_detail code; why = why; has_code = refl; has_detail = refl };
-      effect = record {
-        effect = effect_of_sending e sending;
-        after_is = refl;
-        frame_is = refl;
-        calls_are = refl;
-        because =
-            caused e (Arrives bytes) Unheard None false e.phase false sending (rest e (Arrives bytes) proper) (λ is. inl is) (says-alone _ refl refl)
-            (Refuses a code came is_code refl refl refl);
-        form = Refusing (number_without_connection a.ack) a.number is_code;
-      };
-    }
+    told-by e bytes (effect_of_sending e sending) _
+    (caused e (Arrives bytes) Unheard None false e.phase false sending (rest e (Arrives bytes) proper) (λ is. inl is) (says-alone _ refl refl)
+    (Refuses a code came is_code refl refl refl))
+    (record { fault = without_detail code; why = why; has_code = refl; has_detail = refl }) (Refusing (number_without_connection a.ack) a.number is_code)
 
 corrected-told : (e : EndState) (bytes : List ℕ) (a : Incoming) → IsProper e → Came e (Arrives bytes) a → IsNoAnswer e a
     → Told e bytes (resets e a.number (packet_fault a))
 corrected-told e bytes a proper came no_answer =
-    next-told e bytes Unheard None false e.phase (kind.Reset a.number (number_of_code codes.PacketError) (detail_of (packet_fault a)))
-    (SentReset (number_of_code codes.PacketError) (detail_of (packet_fault a))) (rest e (Arrives bytes) proper) refl refl refl (Arrived a came)
-    (packet-error-code e.config.role)
+    told-by e bytes _ (SentReset (number_of_code codes.PacketError) (detail_of (packet_fault a)))
+    (next-caused e (Arrives bytes) Unheard None false e.phase false (kind.Reset a.number (number_of_code codes.PacketError) (detail_of (packet_fault a)))
+    (rest e (Arrives bytes) proper) refl refl refl (Arrived a came) (packet-error-code e.config.role))
     (record { fault = packet_fault a; why = NoAnswer a came no_answer; has_code = refl; has_detail = refl }) (Correcting a.number refl)
 
 ended-told : (e : EndState) (bytes : List ℕ) (a : Incoming) → Came e (Arrives bytes) a → a.kind ≡ types.Reset → IsValidReset e a → is_begun e.phase ≡ true
     → Told e bytes (idle (in_phase e phase.TimeWait) (WasReset a.code))
 ended-told e bytes a came reset valid begun =
-    silent-told e bytes Unheard None false phase.TimeWait (WasReset a.code)
+    told-by e bytes _ (WasReset a.code)
+    (silent-caused e (Arrives bytes) Unheard None false phase.TimeWait
     (record {
       hears = Keeps (λ is. absurd (false≢true is));
       acks = LeavesIt;
@@ -104,7 +98,8 @@ ended-told e bytes a came reset valid begun =
       opening = StaysSo (λ is. cc is);
       opened = NotNow;
     })
-    (λ is. begun) (record { packet = a; came = came; is_reset = reset; is_valid = valid; has_code = refl }) refl
+    (λ is. begun))
+    (record { packet = a; came = came; is_reset = reset; is_valid = valid; has_code = refl }) refl
 
 -- a packet that entered
 
@@ -138,8 +133,9 @@ valid-packet e bytes a entry = record { came = entry.came; is_valid = entry.vali
 shut-told : (e : EndState) (bytes : List ℕ) (a : Incoming) (entry : Entry e bytes a) (fault : Fault) → is_code_without_connection e.config.role fault.code ≡ false
     → IsReset e bytes fault → Told e bytes (resets (in_phase (end_of e bytes a entry) phase.Closed) (end_of e bytes a entry).marks.gsr fault)
 shut-told e bytes a entry fault numbered why =
-    next-told e bytes (Heard entry.first a.number Shut) entry.ack false phase.Closed
-    (kind.Reset (end_of e bytes a entry).marks.gsr fault.code (detail_of fault)) (SentReset fault.code (detail_of fault))
+    told-by e bytes _ (SentReset fault.code (detail_of fault))
+    (next-caused e (Arrives bytes) (Heard entry.first a.number Shut) entry.ack false phase.Closed false
+    (kind.Reset (end_of e bytes a entry).marks.gsr fault.code (detail_of fault))
     (record {
       hears = entry.hears phase.Closed Shut (λ is. cc is) refl;
       acks = entry.acks;
@@ -148,8 +144,8 @@ shut-told e bytes a entry fault numbered why =
       opening = StaysSo (λ is. cc is);
       opened = NotNow;
     })
-    refl refl refl Greatest numbered (record { fault = fault; why = why; has_code = refl; has_detail = refl })
-    (Closing entry.first a.number entry.ack)
+    refl refl refl Greatest numbered)
+    (record { fault = fault; why = why; has_code = refl; has_detail = refl }) (Closing entry.first a.number entry.ack)
 
 -- where OSR is set
 opening-so : (e : EndState) (ph to : Phase) (opens was : Bool) → is_open to ≡ opens → is_open ph ≡ was → is_open ph ≡ is_open e.phase
@@ -174,16 +170,22 @@ taken-ready e bytes a entry to r row =
       opened = NotNow;
     }
 
-taken-cause : (e : EndState) (bytes : List ℕ) (a : Incoming) (entry : Entry e bytes a) (to : Phase) (r : Reply) → Row e bytes a entry to r → r ≢ reply.ResetClosed
-    → IsAdmitted e bytes a (end_of e bytes a entry) false → first_fault a.options ≡ None → HasCause e bytes (Took None)
-taken-cause e bytes a entry to r row no_reset admitted no_fault =
-    record { packet = a; entered = end_of e bytes a entry; admitted = admitted; no_fault = no_fault; to = to; answer = r; row = row; no_reset = no_reset; no_data = refl }
+abbrev taken_by : (e : EndState) (bytes : List ℕ) (a : Incoming) → Entry e bytes a → Phase → Sending → Effect
+taken_by e bytes a entry to s = effect_of (Heard entry.first a.number Taken) entry.ack (becomes_open entry.ph to) to false s
 
-abbrev taken-form : (e : EndState) (bytes : List ℕ) (a : Incoming) (entry : Entry e bytes a) (to : Phase) (r : Reply) → Row e bytes a entry to r
-    → IsTaking e (Arrives bytes) (effect_of (Heard entry.first a.number Taken) entry.ack (becomes_open entry.ph to) to false
-    (replying e (greatest_or entry.first a.number e.marks.gsr) a.number r))
-taken-form e bytes a entry to r row =
-    record { packet = a; came = entry.came; first = entry.first; ack = entry.ack; entered = entry.ph; is_entered = entry.entered; to = to; answer = r; row = row; is = refl }
+taken-told : (e : EndState) (bytes : List ℕ) (a : Incoming) (entry : Entry e bytes a) → IsAdmitted e bytes a (end_of e bytes a entry) false
+    → first_fault a.options ≡ None → (to : Phase) (r : Reply) → Row e bytes a entry to r → r ≢ reply.ResetClosed
+    → IsCaused e (Arrives bytes) (taken_by e bytes a entry to (replying e (greatest_or entry.first a.number e.marks.gsr) a.number r))
+    → Told e bytes (record {
+      after = end_after e (taken_by e bytes a entry to (replying e (greatest_or entry.first a.number e.marks.gsr) a.number r));
+      frame = frame_by e (replying e (greatest_or entry.first a.number e.marks.gsr) a.number r);
+      calls = [];
+      answer = Took None;
+    })
+taken-told e bytes a entry admitted no_fault to r row no_reset because =
+    told-by e bytes _ (Took None) because
+    (record { packet = a; entered = end_of e bytes a entry; admitted = admitted; no_fault = no_fault; to = to; answer = r; row = row; no_reset = no_reset; no_data = refl })
+    (record { packet = a; came = entry.came; first = entry.first; ack = entry.ack; entered = entry.ph; is_entered = entry.entered; to = to; answer = r; row = row; is = refl })
 
 -- where nothing goes out, the end had begun
 silent-begun : (e : EndState) (bytes : List ℕ) (a : Incoming) (entry : Entry e bytes a) (to : Phase) (r : Reply) → Row e bytes a entry to r → r ≢ reply.Response
@@ -198,41 +200,49 @@ closed-told : (e : EndState) (bytes : List ℕ) (a : Incoming) (entry : Entry e 
     → Told e bytes (replies (moved_to (end_of e bytes a entry) phase.Closed a.number) a reply.ResetClosed)
 closed-told e bytes a entry admitted no_fault row =
     let fault : Fault = without_detail (number_of_code codes.Closed) in
-    next-told e bytes (Heard entry.first a.number Taken) entry.ack false phase.Closed (kind.Reset (end_of e bytes a entry).marks.gsr (number_of_code codes.Closed) (detail_of fault))
-    (SentReset (number_of_code codes.Closed) (detail_of fault))
-    (taken-ready e bytes a entry phase.Closed reply.ResetClosed row) refl refl refl Greatest (closed-code e.config.role)
+    told-by e bytes _ (SentReset fault.code (detail_of fault))
+    (next-caused e (Arrives bytes) (Heard entry.first a.number Taken) entry.ack false phase.Closed false
+    (kind.Reset (end_of e bytes a entry).marks.gsr fault.code (detail_of fault)) (taken-ready e bytes a entry phase.Closed reply.ResetClosed row)
+    refl refl refl Greatest (closed-code e.config.role))
     (record { fault = fault; why = AnswersClose a (end_of e bytes a entry) phase.Closed admitted no_fault row; has_code = refl; has_detail = refl })
     (Answering entry.first a.number entry.ack refl)
+
+next-taken : (e : EndState) (bytes : List ℕ) (a : Incoming) (entry : Entry e bytes a) (to : Phase) (r : Reply) (k : Kind) → Row e bytes a entry to r
+    → has_forms true k ≡ true → HasDetail k → is_acking (packet_type k) ≡ false
+    → Acknowledges e (Arrives bytes) (greatest_or entry.first a.number e.marks.gsr) (ack_of k)
+    → is_without_connection e.config.role k ≡ false → IsCaused e (Arrives bytes) (taken_by e bytes a entry to (Next (alone k)))
+next-taken e bytes a entry to r k row long detail other acknowledges numbered =
+    next-caused e (Arrives bytes) (Heard entry.first a.number Taken) entry.ack (becomes_open entry.ph to) to false k (taken-ready e bytes a entry to r row)
+    long detail other acknowledges numbered
+
+silent-taken : (e : EndState) (bytes : List ℕ) (a : Incoming) (entry : Entry e bytes a) (to : Phase) (r : Reply) → Row e bytes a entry to r
+    → r ≢ reply.Response → IsCaused e (Arrives bytes) (taken_by e bytes a entry to Silent)
+silent-taken e bytes a entry to r row other =
+    silent-caused e (Arrives bytes) (Heard entry.first a.number Taken) entry.ack (becomes_open entry.ph to) to (taken-ready e bytes a entry to r row)
+    (λ _. silent-begun e bytes a entry to r row other)
 
 replied-told : (e : EndState) (bytes : List ℕ) (a : Incoming) (entry : Entry e bytes a) → IsAdmitted e bytes a (end_of e bytes a entry) false
     → first_fault a.options ≡ None → (to : Phase) (r : Reply) → Row e bytes a entry to r
     → Told e bytes (replies (moved_to (end_of e bytes a entry) to a.number) a r)
-replied-told e bytes a entry admitted no_fault to reply.Nothing row =
-    silent-told e bytes (Heard entry.first a.number Taken) entry.ack (becomes_open entry.ph to) to (Took None) (taken-ready e bytes a entry to reply.Nothing row)
-    (λ _. silent-begun e bytes a entry to reply.Nothing row (λ is. cc is))
-    (taken-cause e bytes a entry to reply.Nothing row (λ is. cc is) admitted no_fault) (taken-form e bytes a entry to reply.Nothing row)
-replied-told e bytes a entry admitted no_fault to reply.Response row =
-    next-told e bytes (Heard entry.first a.number Taken) entry.ack (becomes_open entry.ph to) to _ (Took None) (taken-ready e bytes a entry to reply.Response row)
-    refl tt refl Greatest refl (taken-cause e bytes a entry to reply.Response row (λ is. cc is) admitted no_fault) (taken-form e bytes a entry to reply.Response row)
-replied-told e bytes a entry admitted no_fault to reply.Ack row =
-    ack-told e bytes (Heard entry.first a.number Taken) entry.ack (becomes_open entry.ph to) to (Took None) (taken-ready e bytes a entry to reply.Ack row)
-    (ack-connected entry.ph a.kind to row)
-    (taken-cause e bytes a entry to reply.Ack row (λ is. cc is) admitted no_fault) (taken-form e bytes a entry to reply.Ack row)
-replied-told e bytes a entry admitted no_fault to reply.Close row =
-    next-told e bytes (Heard entry.first a.number Taken) entry.ack (becomes_open entry.ph to) to _ (Took None) (taken-ready e bytes a entry to reply.Close row)
-    refl tt refl Greatest refl (taken-cause e bytes a entry to reply.Close row (λ is. cc is) admitted no_fault) (taken-form e bytes a entry to reply.Close row)
-replied-told e bytes a entry admitted no_fault to reply.ResetClosed row =
-    let is_closed : to ≡ phase.Closed = closing-closes entry.ph a.kind to row in
-    subst (λ (p : Phase). Told e bytes (replies (moved_to (end_of e bytes a entry) p a.number) a reply.ResetClosed)) (sym is_closed)
-    (closed-told e bytes a entry admitted no_fault (row ∙ ap (λ (p : Phase). (p, reply.ResetClosed)) is_closed))
-replied-told e bytes a entry admitted no_fault to reply.SyncAck row =
-    next-told e bytes (Heard entry.first a.number Taken) entry.ack (becomes_open entry.ph to) to _ (Took None) (taken-ready e bytes a entry to reply.SyncAck row)
-    refl tt refl (Arrived a entry.came) refl
-    (taken-cause e bytes a entry to reply.SyncAck row (λ is. cc is) admitted no_fault) (taken-form e bytes a entry to reply.SyncAck row)
-replied-told e bytes a entry admitted no_fault to reply.Torn row =
-    silent-told e bytes (Heard entry.first a.number Taken) entry.ack (becomes_open entry.ph to) to (Took None) (taken-ready e bytes a entry to reply.Torn row)
-    (λ _. silent-begun e bytes a entry to reply.Torn row (λ is. cc is))
-    (taken-cause e bytes a entry to reply.Torn row (λ is. cc is) admitted no_fault) (taken-form e bytes a entry to reply.Torn row)
+replied-told e bytes a entry admitted none to reply.Nothing row =
+    taken-told e bytes a entry admitted none to reply.Nothing row (λ is. cc is) (silent-taken e bytes a entry to reply.Nothing row (λ is. cc is))
+replied-told e bytes a entry admitted none to reply.Torn row =
+    taken-told e bytes a entry admitted none to reply.Torn row (λ is. cc is) (silent-taken e bytes a entry to reply.Torn row (λ is. cc is))
+replied-told e bytes a entry admitted none to reply.Response row =
+    taken-told e bytes a entry admitted none to reply.Response row (λ is. cc is) (next-taken e bytes a entry to reply.Response _ row refl tt refl Greatest refl)
+replied-told e bytes a entry admitted none to reply.Close row =
+    taken-told e bytes a entry admitted none to reply.Close row (λ is. cc is) (next-taken e bytes a entry to reply.Close _ row refl tt refl Greatest refl)
+replied-told e bytes a entry admitted none to reply.SyncAck row =
+    taken-told e bytes a entry admitted none to reply.SyncAck row (λ is. cc is)
+    (next-taken e bytes a entry to reply.SyncAck (kind.SyncAck a.number) row refl tt refl (Arrived a entry.came) refl)
+replied-told e bytes a entry admitted none to reply.Ack row =
+    taken-told e bytes a entry admitted none to reply.Ack row (λ is. cc is)
+    (ack-caused e (Arrives bytes) (Heard entry.first a.number Taken) entry.ack (becomes_open entry.ph to) to (taken-ready e bytes a entry to reply.Ack row)
+    (fits-reply entry.ph a.kind to reply.Ack row))
+replied-told e bytes a entry admitted none to reply.ResetClosed row =
+    let closes : to ≡ phase.Closed = fits-reply entry.ph a.kind to reply.ResetClosed row in
+    subst (λ (p : Phase). Told e bytes (replies (moved_to (end_of e bytes a entry) p a.number) a reply.ResetClosed)) (sym closes)
+    (closed-told e bytes a entry admitted none (row ∙ ap (λ (p : Phase). (p, reply.ResetClosed)) closes))
 
 -- step 8
 heeded-told : (e : EndState) (bytes : List ℕ) (a : Incoming) (entry : Entry e bytes a) → IsAdmitted e bytes a (end_of e bytes a entry) false
@@ -246,7 +256,7 @@ heeded-told e bytes a entry admitted None is numbered =
 read-told : (e : EndState) (bytes : List ℕ) (a : Incoming) → IsProper e → (entry : Entry e bytes a) (unbuilt : Bool)
     → IsAdmitted e bytes a (end_of e bytes a entry) unbuilt → Told e bytes (ends_as e a (through (reads a (end_of e bytes a entry) unbuilt) []))
 read-told e bytes a proper entry true admitted =
-    silent-told e bytes Unheard None false e.phase NotBuilt (rest e (Arrives bytes) proper) (λ is. is)
+    told-by e bytes _ NotBuilt (silent-caused e (Arrives bytes) Unheard None false e.phase (rest e (Arrives bytes) proper) (λ is. is))
     (record { packet = a; entered = end_of e bytes a entry; admitted = admitted }) refl
 read-told e bytes a proper entry false admitted =
     heeded-told e bytes a entry admitted (first_fault a.options) refl (first-numbered e.config.role a.options)
@@ -257,8 +267,7 @@ served-told : (e : EndState) (bytes : List ℕ) (a : Incoming) → IsProper e �
     → Told e bytes (ends_as e a (through (serves a (end_of e bytes a entry) other) (reads_options a ∷ [])))
 served-told e bytes a proper entry expected true other =
     let asks : entry.ph ≡ phase.Request = other-service-asked (end_of e bytes a entry) entry.ph a.kind a.service other in
-    let client : e.config.role ≡ role.Client =
-    requests-client e.config.role (ap (λ (p : Phase). is_phase_of p e.config.role) (sym asks) ∙ entry.its_role) in
+    let client : e.config.role ≡ role.Client = requests-client e.config.role entry.ph asks entry.its_role in
     shut-told e bytes a entry (without_detail (number_of_code codes.BadServiceCode)) (ap (λ (r : Role). is_code_without_connection r (number_of_code codes.BadServiceCode)) client)
     (WrongService a (end_of e bytes a entry) (valid-packet e bytes a entry) expected other)
 served-told e bytes a proper entry expected false other =
@@ -330,9 +339,10 @@ placed r s p q t u later roles phases kinds fine out =
 opened-entry : (e : EndState) (bytes : List ℕ) (a : Incoming) → IsProper e → Came e (Arrives bytes) a → entrance_of e a ≡ entrance.Accept
     → is_own_service e a.service ≡ true → Entry e bytes a
 opened-entry e bytes a proper came is ours =
-    let listens : e.phase ≡ phase.Listen = accept-phase e.phase a.kind is in
-    let request : a.kind ≡ types.Request = accept-type e.phase a.kind is in
-    let server : e.config.role ≡ role.Server = listens-server e.config.role (ap (λ (p : Phase). is_phase_of p e.config.role) (sym listens) ∙ proper.phase_fits) in
+    let enters = enters-so e.phase a.kind entrance.Accept is in
+    let listens : e.phase ≡ phase.Listen = enters.0 in
+    let request : a.kind ≡ types.Request = enters.1 in
+    let server : e.config.role ≡ role.Server = listens-server e.config.role e.phase listens proper.phase_fits in
     record {
       came = came;
       first = true;
@@ -358,9 +368,10 @@ opened-entry e bytes a proper came is ours =
 answered-entry : (e : EndState) (bytes : List ℕ) (a : Incoming) → IsProper e → Came e (Arrives bytes) a → entrance_of e a ≡ entrance.InRequest
     → a.kind ≢ types.Reset → acknowledges_in_window e a ≡ true → Entry e bytes a
 answered-entry e bytes a proper came is no_reset fits =
-    let asks : e.phase ≡ phase.Request = answer-phase e.phase a.kind is in
-    let client : e.config.role ≡ role.Client = requests-client e.config.role (ap (λ (p : Phase). is_phase_of p e.config.role) (sym asks) ∙ proper.phase_fits) in
-    let response : a.kind ≡ types.Response = answer-type a.kind (ap (λ (p : Phase). gate p a.kind) (sym asks) ∙ is) no_reset in
+    let enters = enters-so e.phase a.kind entrance.InRequest is in
+    let asks : e.phase ≡ phase.Request = enters.0 in
+    let client : e.config.role ≡ role.Client = requests-client e.config.role e.phase asks proper.phase_fits in
+    let response : a.kind ≡ types.Response = enters.1 no_reset in
     record {
       came = came;
       first = true;
@@ -399,7 +410,8 @@ raised-entry e bytes a proper came is no_reset fits =
       begun = inl (live-begun e.phase live);
       same_open = refl;
       refused = λ out.
-          next-told e bytes (Heard false a.number Refused) (raising a.kind a.ack) false e.phase (kind.Sync a.number) (Synced a.number)
+          told-by e bytes _ (Synced a.number)
+          (next-caused e (Arrives bytes) (Heard false a.number Refused) (raising a.kind a.ack) false e.phase false (kind.Sync a.number)
           (record {
             hears = Raises a Refused came no_reset is fits (unexpected-no-ack e.config.role e.phase a.kind _ out);
             acks = acks;
@@ -408,7 +420,7 @@ raised-entry e bytes a proper came is no_reset fits =
             opening = StaysSo (λ so. so);
             opened = NotNow;
           })
-          refl tt refl (Arrived a came) refl
+          refl tt refl (Arrived a came) refl)
           (Unexpected a (entered_as e false e.phase a.number (raising a.kind a.ack)) (record { came = came; is_valid = entered }) out refl)
           (SyncsUnexpected (raising a.kind a.ack));
     }
@@ -439,7 +451,7 @@ answered-told : (e : EndState) (bytes : List ℕ) (a : Incoming) → IsProper e 
     → Told e bytes (ends_as e a (through (answers a e t fits) (checks_numbers a entrance.InRequest ∷ ends_by_reset a a.kind ∷ checks_type a ∷ reads_options a ∷ [])))
 unfolding answered-entry
 answered-told e bytes a proper came is types.Reset same true fits =
-    reset-told e bytes a came same (ResetToRequest is fits) (ap is_begun (answer-phase e.phase a.kind is))
+    reset-told e bytes a came same (ResetToRequest is fits) (ap is_begun (enters-so e.phase a.kind entrance.InRequest is).0)
 answered-told e bytes a proper came is types.Reset same false fits = dropped-told e bytes why.StrayReset proper (StrayInRequest a came is same fits)
 answered-told e bytes a proper came is _ same true fits =
     let no_reset : (a.kind ≡ types.Reset → ⊥) = λ reset. cc (same, reset) in
@@ -456,10 +468,10 @@ accepted-told : (e : EndState) (bytes : List ℕ) (a : Incoming) → IsProper e 
 unfolding opened-entry
 accepted-told e bytes a proper came is true ours =
     subst (Behind e bytes a a.kind) (sym (started-is e phase.Respond a))
-    (entry-told e bytes a proper (opened-entry e bytes a proper came is ours) a.kind (λ reset. cc (accept-type e.phase a.kind is, reset)))
+    (entry-told e bytes a proper (opened-entry e bytes a proper came is ours) a.kind (λ reset. cc ((enters-so e.phase a.kind entrance.Accept is).1, reset)))
 accepted-told e bytes a proper came is false other =
-    let listens : e.phase ≡ phase.Listen = accept-phase e.phase a.kind is in
-    let server : e.config.role ≡ role.Server = listens-server e.config.role (ap (λ (p : Phase). is_phase_of p e.config.role) (sym listens) ∙ proper.phase_fits) in
+    let server : e.config.role ≡ role.Server =
+    listens-server e.config.role e.phase (enters-so e.phase a.kind entrance.Accept is).0 proper.phase_fits in
     refused-told e bytes a (number_of_code codes.BadServiceCode) proper came (ap (λ (r : Role). is_code_without_connection r (number_of_code codes.BadServiceCode)) server)
     (OtherService a came is other)
 

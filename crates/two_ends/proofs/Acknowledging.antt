@@ -18,7 +18,7 @@ use Rattle.dccp_endpoint.specs.Effects.{Effect, Sending, Silent, Next, WithoutCo
 use Rattle.dccp_endpoint.specs.End.{first_phase, floor_of, is_begun}
 use Rattle.dccp_endpoint.specs.Incoming.{Incoming}
 use Rattle.dccp_endpoint.specs.Inputs.{Input}
-use Rattle.dccp_endpoint.proofs.Tables.{check-live, live-begun}
+use Rattle.dccp_endpoint.proofs.Phases.{check-live, live-begun}
 use Rattle.two_ends.proofs.Acting.{Party, IsStep, Keeps, after_by, config_of, end_of, logged_by, longer}
 use Rattle.two_ends.proofs.Logged.{Logged}
 use Rattle.two_ends.proofs.Numbering.{IsOrdered, few-logged}

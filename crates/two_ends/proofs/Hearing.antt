@@ -10,7 +10,7 @@ use Rattle.dccp_endpoint.specs.Effects.{Effect, Hearing, end_after, first_by, gr
 use Rattle.dccp_endpoint.specs.End.{EndState, first_phase, floor_of, is_live}
 use Rattle.dccp_endpoint.specs.Incoming.{Incoming}
 use Rattle.dccp_endpoint.specs.Inputs.{Input}
-use Rattle.dccp_endpoint.proofs.Tables.{check-live}
+use Rattle.dccp_endpoint.proofs.Phases.{check-live}
 use Rattle.two_ends.specs.Numbered.{Hears, IsHeard}
 use Rattle.two_ends.proofs.Acting.{Party, IsStep, Keeps, after_by, config_of, end_of, longer}
 use Rattle.two_ends.proofs.Numbering.{IsOrdered, few-logged}
