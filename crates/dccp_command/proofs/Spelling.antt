@@ -265,3 +265,4 @@ form-read text line.Plain form = subst (λ (t : List ℕ). read_line t ≡ Some 
 form-read text (line.Event event.Open) form = subst (λ (t : List ℕ). read_line t ≡ Some (line.Event event.Open)) (sym form) refl
 form-read text (line.Event (event.Deliver from index)) form =
     subst (λ (t : List ℕ). read_line t ≡ Some (line.Event (event.Deliver from index))) (sym form.0) (delivery-read from index form.1)
+form-read text (line.Event _) form = absurd form

@@ -14,3 +14,5 @@ HasForm line.Nothing text = (is_comment text ≡ true) × (length text ≤ 4096)
 HasForm line.Plain text = text ≡ codes "plain"
 HasForm (line.Event event.Open) text = text ≡ codes "open"
 HasForm (line.Event (event.Deliver from index)) text = (text ≡ codes "deliver " ++ frame_name from index) × (index < 2 ^ 47)
+-- no line has a timer, close or abort yet
+HasForm (line.Event _) text = ⊥

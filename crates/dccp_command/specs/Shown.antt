@@ -1,5 +1,5 @@
 -- The lines that `run` writes (own).
-use Rattle.std.specs.Prelude.{ℕ, ◌-◌, ◌++◌, List, [], ◌∷◌, codes, decimal, flat_map, slice_get, take, drop, Option, Some, None, Ok, Err}
+use Rattle.std.specs.Prelude.{ℕ, ◌-◌, ◌++◌, List, [], ◌∷◌, codes, decimal, flat_map, slice_get, take, drop, Option, Some, None, Ok, Err, true, false}
 use Rattle.hex.specs.Hex.{encode_lower}
 use Rattle.feature_lists.specs.Features.{number_of}
 use Rattle.feature_lists.specs.declared.features.Feature.{Feature}
@@ -16,9 +16,9 @@ use Rattle.two_ends.specs.declared.event.Side.TheVariants.{Client, Server}
 use Rattle.two_ends.specs.declared.event.Event.{Event}
 use Rattle.two_ends.specs.declared.event.Event.TheVariants as event
 use Rattle.two_ends.specs.declared.event.Seen.{Seen}
-use Rattle.two_ends.specs.declared.event.Seen.TheVariants.{Called, Received}
+use Rattle.two_ends.specs.declared.event.Seen.TheVariants.{Called, Fired, Received}
 use Rattle.dccp_command.specs.declared.fault.LineFault.{LineFault}
-use Rattle.dccp_command.specs.Text.{side_name, side_letter, phase_name, stand_mark, why_name, refusal_name, line_why_name, hex_text}
+use Rattle.dccp_command.specs.Text.{side_name, side_letter, phase_name, stand_mark, why_name, refusal_name, line_why_name, hex_text, timer_name}
 
 -- A frame's name is the letter of its sender and its index.
 abbrev pub frame_name : Side → ℕ → List ℕ
@@ -28,6 +28,9 @@ frame_name side index = side_letter side ++ decimal index
 abbrev pub event_text : Event → List ℕ
 event_text event.Open = codes "open"
 event_text (event.Deliver from index) = codes "deliver " ++ frame_name from index
+event_text (event.Timer side timer) = codes "timer " ++ side_name side ++ codes " " ++ timer_name timer
+event_text (event.Close side) = codes "close " ++ side_name side
+event_text (event.Abort side) = codes "abort " ++ side_name side
 
 abbrev pub byte_text : ℕ → List ℕ
 byte_text byte = codes " " ++ decimal byte
@@ -50,6 +53,8 @@ outcome_text bytes NotBuilt = []
 abbrev pub seen_text : List ℕ → Seen → List ℕ
 seen_text bytes (Called (Ok _)) = codes "ok"
 seen_text bytes (Called (Err fault)) = codes "refused " ++ refusal_name fault
+seen_text bytes (Fired true) = codes "fired"
+seen_text bytes (Fired false) = codes "idle"
 seen_text bytes (Received outcome) = outcome_text bytes outcome
 
 abbrev pub bytes_of : Option SentFrame → List ℕ
@@ -58,8 +63,8 @@ bytes_of (Some frame) = frame.bytes
 
 -- The bytes that an event brought to an end, in a world that has the frame; none for a call.
 abbrev pub arrived : WorldState → Event → List ℕ
-arrived w event.Open = []
 arrived w (event.Deliver from index) = bytes_of (slice_get (half_of w from).frames index)
+arrived w _ = []
 
 -- The line of an event, under the number of its own line.
 abbrev pub event_line : ℕ → Event → List ℕ → Seen → List ℕ

@@ -3,6 +3,8 @@ use Rattle.std.specs.Prelude.{ℕ, List, [], ◌∷◌, codes}
 use Rattle.hex.specs.Hex.{encode_lower}
 use Rattle.dccp_states.specs.declared.phase.Phase.{Phase}
 use Rattle.dccp_states.specs.declared.phase.Phase.TheVariants as phase
+use Rattle.dccp_endpoint.specs.declared.calls.Timer.{Timer}
+use Rattle.dccp_endpoint.specs.declared.calls.Timer.TheVariants as timer
 use Rattle.dccp_endpoint.specs.declared.held.Stand.{Stand}
 use Rattle.dccp_endpoint.specs.declared.held.Stand.TheVariants as stand
 use Rattle.dccp_endpoint.specs.declared.outcome.Why.{Why}
@@ -65,6 +67,16 @@ why_name why.BadSync = codes "BadSync"
 
 abbrev pub refusal_name : Refusal → List ℕ
 refusal_name refusal.NotFresh = codes "NotFresh"
+refusal_name refusal.NotOpen = codes "NotOpen"
+refusal_name refusal.NotLive = codes "NotLive"
+
+abbrev pub timer_name : Timer → List ℕ
+timer_name timer.Request = codes "request"
+timer_name timer.Ack = codes "ack"
+timer_name timer.Negotiate = codes "negotiate"
+timer_name timer.Rto = codes "rto"
+timer_name timer.Close = codes "close"
+timer_name timer.TimeWait = codes "timewait"
 
 -- why a line is refused
 abbrev pub line_why_name : LineWhy → List ℕ

@@ -10,7 +10,7 @@ use Rattle.two_ends.specs.Safe.{Safe}
 use Rattle.two_ends.specs.declared.event.Event.{Event}
 use Rattle.two_ends.specs.declared.event.Event.TheVariants as event
 use Rattle.two_ends.specs.declared.event.Seen.{Seen}
-use Rattle.two_ends.specs.declared.event.Seen.TheVariants.{Called, Received}
+use Rattle.two_ends.specs.declared.event.Seen.TheVariants.{Called, Fired, Received}
 use Rattle.two_ends.specs.declared.event.WorldFault.{WorldFault}
 use Rattle.two_ends.specs.declared.event.WorldFault.TheVariants as fault
 use Rattle.dccp_command.specs.declared.fault.LineFault.{LineFault}
@@ -79,6 +79,7 @@ took_place number before event after seen = Ok (record {
 -- A packet that needs what is not built yet is no accepted event.
 abbrev pub by_seen : ℕ → WorldState → Event → WorldState → Seen → Result Shown LineFault
 by_seen number before event after (Called answer) = took_place number before event after (Called answer)
+by_seen number before event after (Fired applies) = took_place number before event after (Fired applies)
 by_seen number before event after (Received NotBuilt) = Err not_built
 by_seen number before event after (Received outcome) = took_place number before event after (Received outcome)
 
@@ -98,7 +99,7 @@ by_shown play piece event (Err fault) = Refused fault
 -- The client opens only after `plain`, since no feature can be offered yet.
 abbrev pub is_built : Play → Event → Bool
 is_built play event.Open = play.plain
-is_built play (event.Deliver from index) = true
+is_built play _ = true
 
 abbrev pub says_event : Play → List ℕ → Event → Verdict
 says_event play piece event =

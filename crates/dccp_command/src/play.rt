@@ -104,7 +104,7 @@ impl Play {
     {
         match *event {
             Event::Open => self.plain,
-            Event::Deliver { .. } => true,
+            _ => true,
         }
     }
 

@@ -1,10 +1,10 @@
 //! The lines that `run` writes.
 ghost use Rattle.std.specs.Prelude.{◌≡◌, ◌++◌, List, ℕ, OnOk, Some, flat_map};
-ghost use Rattle.dccp_command.specs.Text.{side_name, side_letter, phase_name, stand_mark, malformed_name, sum_name, why_name, refusal_name, hex_text};
+ghost use Rattle.dccp_command.specs.Text.{side_name, side_letter, phase_name, stand_mark, malformed_name, sum_name, why_name, refusal_name, timer_name, hex_text};
 ghost use Rattle.dccp_command.specs.Shown.{frame_name, event_text, byte_text, data_of, outcome_text, seen_text, arrived, event_line, frame_line, sent_line, held_text, row_text, end_name, end_counts, end_rows, end_line, end_lines};
 
 use crate::text::{put, put_hex, put_number};
-use dccp_endpoint::{Endpoint, Held, Outcome, Phase, Stand, Why};
+use dccp_endpoint::{Endpoint, Held, Outcome, Phase, Stand, Timer, Why};
 use dccp_packets::Malformed;
 use dccp_sum::SumFault;
 use feature_lists::{Feature, Place};
@@ -106,6 +106,21 @@ fn refusal_name(fault: Refusal) -> &'static [u8]
 {
     match fault {
         Refusal::NotFresh => b"NotFresh",
+        Refusal::NotOpen => b"NotOpen",
+        Refusal::NotLive => b"NotLive",
+    }
+}
+
+fn timer_name(timer: Timer) -> &'static [u8]
+    ensures { result.now ≡ timer_name timer }
+{
+    match timer {
+        Timer::Request => b"request",
+        Timer::Ack => b"ack",
+        Timer::Negotiate => b"negotiate",
+        Timer::Rto => b"rto",
+        Timer::Close => b"close",
+        Timer::TimeWait => b"timewait",
     }
 }
 
@@ -124,6 +139,20 @@ fn put_event(text: &mut Vec<u8>, event: &Event) -> Result<(), NoMemory>
         Event::Deliver { from, index } => {
             put(text, b"deliver ")?;
             put_frame_name(text, from, index)
+        }
+        Event::Timer { side, timer } => {
+            put(text, b"timer ")?;
+            put(text, side_name(side))?;
+            put(text, b" ")?;
+            put(text, timer_name(timer))
+        }
+        Event::Close { side } => {
+            put(text, b"close ")?;
+            put(text, side_name(side))
+        }
+        Event::Abort { side } => {
+            put(text, b"abort ")?;
+            put(text, side_name(side))
         }
     }
 }
@@ -204,6 +233,8 @@ fn put_seen(text: &mut Vec<u8>, bytes: &[u8], seen: &Seen) -> Result<(), NoMemor
             put(text, b"refused ")?;
             put(text, refusal_name(*fault))
         }
+        Seen::Fired(true) => put(text, b"fired"),
+        Seen::Fired(false) => put(text, b"idle"),
         Seen::Received(outcome) => put_outcome(text, bytes, outcome),
     }
 }
@@ -213,11 +244,11 @@ pub(crate) fn arrived<'a>(world: &'a World, event: &Event) -> &'a [u8]
     ensures { result.now ≡ arrived world.now event.now }
 {
     match *event {
-        Event::Open => &[],
         Event::Deliver { from, index } => match world.frames(from).get(index as usize) {
             Some(frame) => frame.bytes.as_slice(),
             None => &[],
         },
+        _ => &[],
     }
 }
 

@@ -1,6 +1,6 @@
 //! Two ends over whole schedules.
 use crate::arriving::{REQUEST, RESPONSE};
-use dccp_endpoint::{Config, Outcome, Phase, Role};
+use dccp_endpoint::{Config, Outcome, Phase, Role, Timer};
 use seq_circle::Seq48;
 use std::alloc::Global;
 use std::test::Fail;
@@ -144,5 +144,60 @@ fn refused_events(rt: HostRuntime) -> Result<(), Fail> {
     assert!(rt; has_sent(alloc, &world, Side::Client, &[REQUEST])?);
     assert!(rt; has_sent(alloc, &world, Side::Server, &[])?);
     assert!(rt; world.processed(Side::Client).is_empty());
+    Ok(())
+}
+
+const OK: Seen = Seen::Called(Ok(()));
+
+const fn refused(by: Refusal) -> Seen {
+    Seen::Called(Err(by))
+}
+
+fn fires(side: Side, timer: Timer) -> Event {
+    Event::Timer { side, timer }
+}
+
+// The client closes; the server answers with a Reset, and both ends are CLOSED. What comes too late or too early is refused.
+#[test]
+fn refused_calls_and_closing(rt: HostRuntime) -> Result<(), Fail> {
+    let alloc = rt.alloc();
+    let mut world = usual(alloc)?;
+    let opening = [
+        (Event::Open, OK),
+        (from_client(0), TOOK),
+        (from_server(0), TOOK),
+        (from_client(1), TOOK),
+        (from_server(1), TOOK),
+    ];
+    let reset = Outcome::SentReset {
+        code: 1,
+        detail: [0, 0, 0],
+    };
+    let closing = [
+        (fires(Side::Client, Timer::Rto), Seen::Fired(false)),
+        (Event::Open, refused(Refusal::NotFresh)),
+        (Event::Close { side: Side::Client }, OK),
+        (from_client(2), Seen::Received(reset)),
+        (from_server(2), Seen::Received(Outcome::WasReset(1))),
+        (fires(Side::Client, Timer::TimeWait), Seen::Fired(true)),
+        (Event::Abort { side: Side::Client }, refused(Refusal::NotLive)),
+        (Event::Close { side: Side::Server }, refused(Refusal::NotOpen)),
+    ];
+    assert!(rt; is_seen(&mut world, &opening));
+    assert!(rt; is_seen(&mut world, &closing));
+    let client = [
+        REQUEST,
+        "9c4013890600234107000000000003e900000000000007d0",
+        "9c40138906001d3f0d000000000003ea00000000000007d1",
+    ];
+    let server = [
+        RESPONSE,
+        "13899c400600234007000000000007d100000000000003e9",
+        "13899c400700193a0f000000000007d200000000000003ea01000000",
+    ];
+    assert!(rt; has_sent(alloc, &world, Side::Client, &client)?);
+    assert!(rt; has_sent(alloc, &world, Side::Server, &server)?);
+    assert_eq!(rt; world.end(Side::Client).phase(), Phase::Closed);
+    assert_eq!(rt; world.end(Side::Server).phase(), Phase::Closed);
     Ok(())
 }

@@ -1,8 +1,10 @@
 -- Once a side has numbered a frame, GAR is the number of one of its own.
-use Rattle.std.proofs.Common.{◌≡◌, ◌≢◌, ◌⊎◌, inl, inr, refl, ap, sym, ◌∙◌, ℕ, ◌+◌, ◌-◌, ◌^◌, ◌<◌, ◌≤◌, List, [], ◌∷◌, ◌++◌, Option, Some, None, true, false, Bool, ◌&&◌, if◌then◌else◌, length, length-append, arith}
-use Rattle.seq_circle.specs.Circle.{residue, is_before, later_of, distance, is_within, down}
+use Rattle.std.proofs.Common.{◌≡◌, ◌≢◌, ◌⊎◌, inl, inr, refl, ap, sym, ◌∙◌, subst, ℕ, ◌+◌, ◌-◌, ◌^◌, ◌<◌, ◌≤◌, List, [], ◌∷◌, ◌++◌, Option, Some, None, true, false, Bool, ◌&&◌, if◌then◌else◌, length, length-append, arith}
+use Rattle.std.proofs.lemmas.Bool.Decides.{nat_tests}
+use Rattle.seq_circle.specs.Circle.{IsWithin, residue, is_before, distance, is_within}
 use Rattle.validity_windows.specs.Verdict.{verdict, is_ack_within, is_in_window, is_after_greatest, is_not_old}
 use Rattle.validity_windows.specs.Windows.{ack_low, ack_high}
+use Rattle.validity_windows.proofs.Counts.{ack-count, acked-count}
 use Rattle.validity_windows.specs.declared.marks.Marks.{Marks}
 use Rattle.validity_windows.specs.declared.verdict.Verdict.TheVariants as verdicts
 use Rattle.dccp_packets.specs.declared.header.PacketType.{PacketType}
@@ -34,17 +36,11 @@ pub record IsAcknowledged (x : Party) : Type 0 where
   pub gar : IsSent (config_of x).iss (length x.log) (end_of x).marks.gar
   pub begun : is_begun (end_of x).phase ≡ true → 1 ≤ length x.log
 
-within-place : (iss own lo ack : ℕ) → iss < 2 ^ 48 → lo < own → own < 2 ^ 47 → ack < 2 ^ 48
-    → is_within ack (residue (iss + lo)) (residue (iss + own + (2 ^ 48 - 1))) ≡ true → distance iss ack < own
-within-place iss own lo ack fits low few small within = grind arith
-
 place-again : (iss ack : ℕ) → iss < 2 ^ 48 → ack < 2 ^ 48 → ack ≡ residue (iss + distance iss ack)
 place-again iss ack fits small = omega arith
 
--- the low end of the window of acknowledgements, for each width that it may have
-low-place : (iss own width gss : ℕ) → iss < 2 ^ 48 → 1 ≤ own → own < 2 ^ 47 → 32 ≤ width → width < 2 ^ 46
-    → gss ≡ residue (iss + own + (2 ^ 48 - 1)) → later_of (down (residue (gss + 1)) width) iss ≡ residue (iss + (own - width))
-low-place iss own width gss fits some few least most is = grind arith
+is-within : (n low high : ℕ) → is_within n low high ≡ true → IsWithin n low high
+is-within n low high within = grind (arith, nat_tests)
 
 both-true : (x y : Bool) (number : ℕ) → (if x && y then verdicts.Valid else verdicts.SyncFor number) ≡ verdicts.Valid → y ≡ true
 both-true true true number valid = refl
@@ -72,25 +68,35 @@ module _ (x : Party) (o : IsOrdered x) (gar : IsSent (config_of x).iss (length x
   abbrev m : Marks
   m = (end_of x).marks
 
-  sent-by : (lo ack : ℕ) → lo < length x.log → ack < 2 ^ 48 → is_within ack (residue ((config_of x).iss + lo)) m.gss ≡ true → IsOwn ack
-  sent-by lo ack low small within =
-      let below : distance (config_of x).iss ack < length x.log =
-      within-place (config_of x).iss (length x.log) lo ack o.fits.iss low (few-logged x o) small
-      (ap (λ (high : ℕ). is_within ack (residue ((config_of x).iss + lo)) high) (sym o.greatest) ∙ within) in
-      record { place = distance (config_of x).iss ack; within = omega (arith, below); same = place-again (config_of x).iss ack o.fits.iss small }
+  abbrev first : ℕ
+  first = (config_of x).iss
 
-  low-is : ack_low m ≡ residue ((config_of x).iss + (length x.log - m.own_w))
-  low-is =
-      ap (λ (first : ℕ). later_of (down (residue (m.gss + 1)) m.own_w) first) o.first
-      ∙ low-place (config_of x).iss (length x.log) m.own_w m.gss o.fits.iss some (few-logged x o) o.proper.widths.own_least o.proper.widths.own_most o.greatest
+  abbrev last : ℕ
+  last = (config_of x).iss + (length x.log - 1)
+
+  first-is : m.iss ≡ residue first
+  first-is = o.first ∙ omega (arith, o.fits.iss)
+
+  last-is : m.gss ≡ residue last
+  last-is = o.greatest ∙ omega (arith, some)
+
+  own-number : (ack : ℕ) → ack < 2 ^ 48 → first + distance first ack ≤ last → IsOwn ack
+  own-number ack small below = record { place = distance first ack; within = omega (arith, below); same = place-again first ack o.fits.iss small }
+
+  inside : (ack low : ℕ) → ack < 2 ^ 48 → is_within ack low m.gss ≡ true → IsWithin (residue (first + distance first ack)) low m.gss
+  inside ack low small within = subst (λ (n : ℕ). IsWithin n low m.gss) (place-again first ack o.fits.iss small) (is-within ack low m.gss within)
 
   window-sent : (ack : ℕ) → ack < 2 ^ 48 → is_ack_within (ack_low m) (ack_high m) (Some ack) ≡ true → IsOwn ack
   window-sent ack small within =
-      sent-by (length x.log - m.own_w) ack (omega (arith, some, o.proper.widths.own_least)) small (ap (λ (low : ℕ). is_within ack low m.gss) (sym low-is) ∙ within)
+      own-number ack small
+      ((ack-count m first last (first + distance first ack) o.proper.widths first-is last-is (omega arith) (omega (arith, few-logged x o)) (omega arith) (omega arith)).0
+      (inside ack (ack_low m) small within)).1
 
   greatest-sent : (ack : ℕ) → ack < 2 ^ 48 → is_ack_within m.gar (ack_high m) (Some ack) ≡ true → IsOwn ack
   greatest-sent ack small within =
-      sent-by gar.place ack (omega (arith, gar.within, some)) small (ap (λ (low : ℕ). is_within ack low m.gss) (sym gar.same) ∙ within)
+      own-number ack small
+      ((acked-count m first (first + gar.place) last (first + distance first ack) gar.same last-is (omega arith) (omega (arith, gar.within)) (omega (arith, few-logged x o)) (omega arith) (omega arith)).0
+      (inside ack m.gar small within)).1
 
   valid-sent : (t : PacketType) (number ack : ℕ) → ack < 2 ^ 48 → verdict m t number (Some ack) ≡ verdicts.Valid → IsOwn ack
   valid-sent types.Sync number ack small valid = window-sent ack small (low-end-true (is_not_old m number) _ valid)
