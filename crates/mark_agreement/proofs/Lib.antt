@@ -8,3 +8,4 @@ pub mod Steps
 pub mod Reaching
 pub mod Reachable
 pub mod Exchange
+pub mod Sets

@@ -3,3 +3,4 @@ pub mod Moves
 pub mod Facts
 pub mod Laws
 pub mod Exchange
+pub mod Sets

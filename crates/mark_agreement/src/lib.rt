@@ -6,9 +6,11 @@
 #![tactic(auto)]
 
 mod laws;
+mod numbers;
 
 pub use crate::laws::{
     acknowledged_frames_were_taken, each_frame_is_processed_once, exchanges_tell,
     marks_are_what_was_processed, steps_stay_reachable, vectors_are_truthful,
     what_falls_below_the_floor_is_settled, what_is_reported_was_processed,
 };
+pub use crate::numbers::sets_follow_moves;
