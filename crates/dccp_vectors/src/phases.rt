@@ -1,4 +1,4 @@
-//! Every packet type in every phase that an end reaches by now, at both roles: the answer, the phase after and, of what is
+//! Every packet type in every phase that an end reaches without closing, at both roles: the answer, the phase after and, of what is
 //! sent, the type (RFC 4340, section 8.5).
 use crate::arriving::{
     Answered, LISTENING, OPEN_CLIENT, OPEN_SERVER, PART_OPEN, REQUEST, REQUESTING, RESPONDING,
@@ -184,7 +184,12 @@ fn server_in_respond(rt: HostRuntime) -> Result<(), Fail> {
             Phase::Respond,
             Some(PacketType::Sync),
         ),
-        (PacketType::Close, Answer::NotBuilt, Phase::Respond, None),
+        (
+            PacketType::Close,
+            Answer::SentReset(1, 0),
+            Phase::Closed,
+            Some(PacketType::Reset),
+        ),
         (PacketType::Reset, Answer::WasReset, Phase::TimeWait, None),
         (
             PacketType::Sync,
@@ -227,7 +232,12 @@ fn server_in_open(rt: HostRuntime) -> Result<(), Fail> {
             Phase::Open,
             Some(PacketType::Sync),
         ),
-        (PacketType::Close, Answer::NotBuilt, Phase::Open, None),
+        (
+            PacketType::Close,
+            Answer::SentReset(1, 0),
+            Phase::Closed,
+            Some(PacketType::Reset),
+        ),
         (PacketType::Reset, Answer::WasReset, Phase::TimeWait, None),
         (
             PacketType::Sync,
@@ -369,11 +379,16 @@ fn client_in_part_open(rt: HostRuntime) -> Result<(), Fail> {
         (PacketType::DataAck, Answer::NotBuilt, Phase::PartOpen, None),
         (
             PacketType::CloseReq,
-            Answer::NotBuilt,
-            Phase::PartOpen,
-            None,
+            Answer::Took,
+            Phase::Closing,
+            Some(PacketType::Close),
         ),
-        (PacketType::Close, Answer::NotBuilt, Phase::PartOpen, None),
+        (
+            PacketType::Close,
+            Answer::SentReset(1, 0),
+            Phase::Closed,
+            Some(PacketType::Reset),
+        ),
         (PacketType::Reset, Answer::WasReset, Phase::TimeWait, None),
         (
             PacketType::Sync,
@@ -405,8 +420,18 @@ fn client_in_open(rt: HostRuntime) -> Result<(), Fail> {
         (PacketType::Data, Answer::NotBuilt, Phase::Open, None),
         (PacketType::Ack, Answer::Took, Phase::Open, None),
         (PacketType::DataAck, Answer::NotBuilt, Phase::Open, None),
-        (PacketType::CloseReq, Answer::NotBuilt, Phase::Open, None),
-        (PacketType::Close, Answer::NotBuilt, Phase::Open, None),
+        (
+            PacketType::CloseReq,
+            Answer::Took,
+            Phase::Closing,
+            Some(PacketType::Close),
+        ),
+        (
+            PacketType::Close,
+            Answer::SentReset(1, 0),
+            Phase::Closed,
+            Some(PacketType::Reset),
+        ),
         (PacketType::Reset, Answer::WasReset, Phase::TimeWait, None),
         (
             PacketType::Sync,

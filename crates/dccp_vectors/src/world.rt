@@ -180,8 +180,14 @@ fn refused_calls_and_closing(rt: HostRuntime) -> Result<(), Fail> {
         (from_client(2), Seen::Received(reset)),
         (from_server(2), Seen::Received(Outcome::WasReset(1))),
         (fires(Side::Client, Timer::TimeWait), Seen::Fired(true)),
-        (Event::Abort { side: Side::Client }, refused(Refusal::NotLive)),
-        (Event::Close { side: Side::Server }, refused(Refusal::NotOpen)),
+        (
+            Event::Abort { side: Side::Client },
+            refused(Refusal::NotLive),
+        ),
+        (
+            Event::Close { side: Side::Server },
+            refused(Refusal::NotOpen),
+        ),
     ];
     assert!(rt; is_seen(&mut world, &opening));
     assert!(rt; is_seen(&mut world, &closing));

@@ -17,7 +17,7 @@ use Rattle.two_ends.specs.declared.event.WorldFault.{WorldFault}
 use Rattle.two_ends.specs.declared.event.WorldFault.TheVariants as fault
 use Rattle.two_ends.specs.declared.frames.SentFrame.{SentFrame}
 use Rattle.dccp_endpoint.specs.Drafts.{Fits}
-use Rattle.two_ends.specs.World.{Half, WorldState, WorldStep, Happening, Calls, Delivers, happening_of, kept, moved, half_of, half_at_start, half_steps, other, with_half, happens, arrives, takes_place, unless_full, is_full, world_after, run, at_start}
+use Rattle.two_ends.specs.World.{Half, WorldState, WorldStep, Happening, Calls, Delivers, happening_of, as_sent, moved, half_of, half_at_start, half_steps, other, with_half, happens, arrives, takes_place, unless_full, is_full, world_after, run, at_start}
 use Rattle.two_ends.proofs.Logged.{Logged}
 use Rattle.two_ends.proofs.ReadBack.{IsFromPeer}
 
@@ -45,7 +45,7 @@ abbrev pub half_after : Half → Effect → Half
 half_after half f =
     record half {
       end = end_after half.end f;
-      frames = half.frames ++ kept (length half.processed) (floor_of (end_after half.end f)) (frame_by half.end f.sending);
+      frames = half.frames ++ as_sent (length half.processed) (floor_of (end_after half.end f)) (frame_by half.end f.sending);
     }
 
 -- a side after a step with this effect
@@ -92,8 +92,8 @@ with_log logs Server log Server = log
 moved-after : {Answer : Type 0} (half : Half) (step : Step Answer) (f : Effect) → step.after ≡ end_after half.end f → step.frame ≡ frame_by half.end f.sending
     → moved half step ≡ half_after half f
 moved-after half step f after frame =
-    ap (λ (e : EndState). record half { end = e; frames = half.frames ++ kept (length half.processed) (floor_of e) step.frame }) after
-    ∙ ap (λ (sent : Option (List ℕ)). record half { end = end_after half.end f; frames = half.frames ++ kept (length half.processed) (floor_of (end_after half.end f)) sent }) frame
+    ap (λ (e : EndState). record half { end = e; frames = half.frames ++ as_sent (length half.processed) (floor_of e) step.frame }) after
+    ∙ ap (λ (sent : Option (List ℕ)). record half { end = end_after half.end f; frames = half.frames ++ as_sent (length half.processed) (floor_of (end_after half.end f)) sent }) frame
 
 not-full : (half : Half) → is_full half ≡ false → length half.frames < 2 ^ 47 - 1
 not-full half room = grind arith

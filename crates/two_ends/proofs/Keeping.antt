@@ -12,8 +12,8 @@ use Rattle.two_ends.specs.declared.event.Side.TheVariants.{Client, Server}
 use Rattle.two_ends.specs.declared.frames.SentFrame.{SentFrame}
 use Rattle.dccp_endpoint.specs.Drafts.{Fits}
 use Rattle.two_ends.specs.Frames.{options_in}
-use Rattle.two_ends.specs.Lists.{last_shown, or_earlier}
-use Rattle.two_ends.specs.Negotiated.{AreOfOneMind, Initial, is_change, side_changed, was_negotiated, list_said, last_list}
+use Rattle.two_ends.specs.Lists.{last_some, some_or}
+use Rattle.two_ends.specs.Negotiated.{AgreeOn, Initial, is_change, side_changed, was_negotiated, list_said, last_list}
 use Rattle.two_ends.specs.Numbered.{AreNumbered, Facts, Hears, IsAcknowledged, IsNumbered, SpeaksOnce}
 use Rattle.two_ends.specs.Pairs.{Pair, Nothing, said_by, said_in, said_times, place_at, times_said}
 use Rattle.two_ends.specs.Reached.{Reached}
@@ -30,13 +30,13 @@ use Rattle.two_ends.proofs.Resets.{resets-move-nothing}
 use Rattle.two_ends.proofs.Speaking.{IsQuiet, quiet, silent}
 
 -- A further fact is one file, and one line in each of these four.
-pub record IsKept (x y : Party) : Type 0 where
+pub record SideInvariant (x y : Party) : Type 0 where
   pub ordered : IsOrdered x
   pub hears : IsHearingPeer x y
   pub acknowledged : own.IsAcknowledged x
   pub quiet : IsQuiet x
 
-keeping : Keeps NoFact IsKept
+keeping : Keeps NoFact SideInvariant
 keeping =
     record {
       starts =
@@ -89,7 +89,7 @@ own-acknowledged x o k some =
 abbrev IsSilent : WorldState → Type 0
 IsSilent w = (side : Side) (index : ℕ) (frame : SentFrame) → slice_get (half_of w side).frames index ≡ Some frame → options_in frame.bytes ≡ []
 
-kept-silent : (w : WorldState) → IsHeld IsKept w → IsSilent w
+kept-silent : (w : WorldState) → IsHeld SideInvariant w → IsSilent w
 kept-silent w h side index frame there = silent (party_of w h.logs side) index frame (h.holds side).ordered (h.holds side).quiet there
 
 -- What has no options speaks at most once.
@@ -103,7 +103,7 @@ silent-speaks side bytes none =
       vectors_acknowledge = λ packet read unacknowledged. ap ack_vectors none;
     }
 
-kept-facts : EveryStepHasOneEffect → (w : WorldState) → IsHeld IsKept w → Facts w
+kept-facts : EveryStepHasOneEffect → (w : WorldState) → IsHeld SideInvariant w → Facts w
 kept-facts effects w h =
     record {
       numbered = λ side. numbered-half (party_of w h.logs side) (h.holds side).ordered;
@@ -124,10 +124,10 @@ no-frame test (frame ∷ frames) fails =
     ap (λ (here : Bool). here || list_any test frames) (fails 0 frame refl) ∙ no-frame test frames (λ index later there. fails (suc index) later there)
 
 none-shown : {B : Type 0} (shows : SentFrame → Option B) (frames : List SentFrame)
-    → ((index : ℕ) (frame : SentFrame) → slice_get frames index ≡ Some frame → shows frame ≡ None) → last_shown shows frames ≡ None
+    → ((index : ℕ) (frame : SentFrame) → slice_get frames index ≡ Some frame → shows frame ≡ None) → last_some shows frames ≡ None
 none-shown {B = B} shows [] fails = refl
 none-shown {B = B} shows (frame ∷ frames) fails =
-    ap (λ (later : Option B). or_earlier later (shows frame)) (none-shown shows frames (λ index later there. fails (suc index) later there)) ∙ fails 0 frame refl
+    ap (λ (later : Option B). some_or later (shows frame)) (none-shown shows frames (λ index later there. fails (suc index) later there)) ∙ fails 0 frame refl
 
 module _ (w : WorldState) (quiet : IsSilent w) (pair : Pair) where
   unchanged-by : (side : Side) → side_changed w pair side ≡ false
@@ -143,7 +143,7 @@ module _ (w : WorldState) (quiet : IsSilent w) (pair : Pair) where
       none-shown (λ (frame : SentFrame). list_said (said_by pair side frame.bytes)) (half_of w side).frames
       (λ index frame there. ap list_said (says-nothing pair side frame.bytes (quiet side index frame there)))
 
-  of-one-mind : AreOfOneMind w pair
+  of-one-mind : AgreeOn w pair
   of-one-mind =
       record {
         equal = refl;
@@ -167,7 +167,7 @@ quiet-truthful w quiet side index frame ack bytes there carries =
 quiet-told : (w : WorldState) → Told w
 quiet-told w side n fits below = absurd (omega arith)
 
-kept-safe : (w : WorldState) → IsHeld IsKept w → Safe w
+kept-safe : (w : WorldState) → IsHeld SideInvariant w → Safe w
 kept-safe w h =
     record {
       agree = λ pair settled. of-one-mind w (kept-silent w h) pair;
@@ -179,9 +179,9 @@ kept-safe w h =
     }
 
 module _ (effects : EveryStepHasOneEffect) where
-  run-kept : (client server : Config) (events : List Event) → Fits client → Fits server → IsHeld IsKept (run (at_start client server) events)
+  run-kept : (client server : Config) (events : List Event) → Fits client → Fits server → IsHeld SideInvariant (run (at_start client server) events)
   run-kept client server events client_fits server_fits =
-      run-held IsKept keeping (λ x y k. k.ordered.proper) effects client server events client_fits server_fits
+      run-held SideInvariant keeping (λ x y k. k.ordered.proper) effects client server events client_fits server_fits
 
   pub run-safe : (client server : Config) (events : List Event) → Fits client → Fits server → Safe (run (at_start client server) events)
   run-safe client server events client_fits server_fits = kept-safe _ (run-kept client server events client_fits server_fits)

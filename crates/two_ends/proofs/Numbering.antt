@@ -13,7 +13,7 @@ use Rattle.dccp_endpoint.specs.End.{EndState, IsProper, first_phase, floor_of, i
 use Rattle.dccp_endpoint.specs.Inputs.{Input}
 use Rattle.two_ends.specs.declared.frames.SentFrame.{SentFrame}
 use Rattle.dccp_endpoint.specs.Drafts.{Fits}
-use Rattle.two_ends.specs.World.{kept}
+use Rattle.two_ends.specs.World.{as_sent}
 use Rattle.two_ends.proofs.Acting.{Party, IsStep, Keeps, NoFact, after_by, config_of, end_of, logged_by}
 use Rattle.two_ends.proofs.Logged.{Logged, AreLogged, NoFrames, logged-few, next-logged, unnumbered-logged}
 
@@ -50,7 +50,7 @@ pub record IsNext (e : EndState) (frames : List SentFrame) (log : List Logged) (
 module _ (e : EndState) (frames : List SentFrame) (log : List Logged) (processed floor : ℕ) (logged : AreLogged e.config e.config.iss frames log)
     (greatest : e.marks.gss ≡ residue (e.config.iss + length log + (2 ^ 48 - 1))) (room : length frames < 2 ^ 47 - 1) where
   numbered-next : (draft : Draft) → IsSendable draft → is_without_connection e.config.role draft.kind ≡ false
-      → IsNext e (frames ++ kept processed floor (frame_by e (Next draft))) (log ++ logged_by processed floor (Next draft)) (gss_by e (Next draft))
+      → IsNext e (frames ++ as_sent processed floor (frame_by e (Next draft))) (log ++ logged_by processed floor (Next draft)) (gss_by e (Next draft))
   numbered-next draft sendable connected =
       let number : residue (e.marks.gss + 1) ≡ residue (e.config.iss + length log) = after-greatest e.config.iss (length log) e.marks.gss greatest in
       let frame : SentFrame = record { bytes = frame_of e.config (residue (e.marks.gss + 1)) draft; processed = processed; floor = floor } in
@@ -70,7 +70,7 @@ module _ (e : EndState) (frames : List SentFrame) (log : List Logged) (processed
       }
 
   sent-next : (given : Input) (f : Effect) (s : Sending) → IsSending e given f s → SaysNothing s
-      → IsNext e (frames ++ kept processed floor (frame_by e s)) (log ++ logged_by processed floor s) (gss_by e s)
+      → IsNext e (frames ++ as_sent processed floor (frame_by e s)) (log ++ logged_by processed floor s) (gss_by e s)
   sent-next given f Silent Rests says =
       record {
         logged = subst (λ (fs : List SentFrame). AreLogged e.config e.config.iss fs (log ++ [])) (sym (append-nil frames)) (subst (λ (l : List Logged). AreLogged e.config e.config.iss frames l) (sym (append-nil log)) logged);

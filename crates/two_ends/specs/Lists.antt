@@ -2,10 +2,10 @@
 use Rattle.std.specs.Prelude.{List, [], ◌∷◌, Option, Some, None}
 
 -- what the last member shows that shows something
-abbrev pub or_earlier : {A : Type 0} → Option A → Option A → Option A
-or_earlier (Some last) earlier = Some last
-or_earlier None earlier = earlier
+abbrev pub some_or : {A : Type 0} → Option A → Option A → Option A
+some_or (Some last) earlier = Some last
+some_or None earlier = earlier
 
-abbrev pub last_shown : {A B : Type 0} → (A → Option B) → List A → Option B
-last_shown shows [] = None
-last_shown shows (x ∷ xs) = or_earlier (last_shown shows xs) (shows x)
+abbrev pub last_some : {A B : Type 0} → (A → Option B) → List A → Option B
+last_some shows [] = None
+last_some shows (x ∷ xs) = some_or (last_some shows xs) (shows x)

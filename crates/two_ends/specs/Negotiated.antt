@@ -8,7 +8,7 @@ use Rattle.dccp_endpoint.specs.declared.held.Stand.TheVariants.{Stable}
 use Rattle.two_ends.specs.declared.frames.SentFrame.{SentFrame}
 use Rattle.two_ends.specs.declared.event.Side.{Side}
 use Rattle.two_ends.specs.declared.event.Side.TheVariants.{Client, Server}
-use Rattle.two_ends.specs.Lists.{last_shown}
+use Rattle.two_ends.specs.Lists.{last_some}
 use Rattle.two_ends.specs.World.{WorldState, half_of}
 use Rattle.two_ends.specs.Pairs.{Pair, Saying, Nothing, Change, Confirm, held_at, said_by}
 
@@ -37,7 +37,7 @@ list_said (Confirm values) = confirmed_list values
 
 -- the list in the last frame of a side that carries one for the pair
 abbrev pub last_list : WorldState → Pair → Side → Option (List ℕ)
-last_list w pair side = last_shown (λ (frame : SentFrame). list_said (said_by pair side frame.bytes)) (half_of w side).frames
+last_list w pair side = last_some (λ (frame : SentFrame). list_said (said_by pair side frame.bytes)) (half_of w side).frames
 
 -- the value of a feature that is not negotiable, in as many bytes as its Change carries
 abbrev pub value_said : Saying → Option ℕ
@@ -47,7 +47,7 @@ value_said (Confirm values) = None
 
 -- the value in the location's last Change
 abbrev pub last_value : WorldState → Pair → Option ℕ
-last_value w pair = last_shown (λ (frame : SentFrame). value_said (said_by pair pair.location frame.bytes)) (half_of w pair.location).frames
+last_value w pair = last_some (λ (frame : SentFrame). value_said (said_by pair pair.location frame.bytes)) (half_of w pair.location).frames
 
 abbrev pub IsServerPriority : Pair → Type 0
 IsServerPriority pair = (described pair.feature).is_server_priority ≡ true
@@ -62,7 +62,7 @@ IsSettled w pair = ((held_at w pair Client).stand ≡ Stable) × ((held_at w pai
 -- They hold one value. Where the feature was negotiated by lists, each side has sent one, and if the last ones share an
 -- entry, the value is their reconciliation, the server's first. A value that is not negotiable is the last one that its
 -- location sent.
-pub record AreOfOneMind (w : WorldState) (pair : Pair) : Type 0 where
+pub record AgreeOn (w : WorldState) (pair : Pair) : Type 0 where
   pub equal : (held_at w pair Client).value ≡ (held_at w pair Server).value
   pub both_sent : IsServerPriority pair → IsTrue (was_negotiated w pair)
       → IsSome (last_list w pair Client) × IsSome (last_list w pair Server)
@@ -71,7 +71,7 @@ pub record AreOfOneMind (w : WorldState) (pair : Pair) : Type 0 where
   pub is_last_sent : IsNotNegotiable pair → IsTrue (was_negotiated w pair) → last_value w pair ≡ Some (held_at w pair pair.location).value
 
 abbrev pub Agree : WorldState → Type 0
-Agree w = (pair : Pair) → IsSettled w pair → AreOfOneMind w pair
+Agree w = (pair : Pair) → IsSettled w pair → AgreeOn w pair
 
 -- A list stands in some frame of a side.
 pub record HasSent (w : WorldState) (pair : Pair) (side : Side) (list : List ℕ) : Type 0 where

@@ -71,11 +71,11 @@ pub record ToldIn (w : WorldState) (side : Side) (n : ℕ) : Type 0 where
   pub reaches : IsWithin n frame.floor ack
 
 -- why a side need not speak of a number any more: it lies more than 2,047 below one that it processed, or the other side was told
-pub data IsSettledNumber (w : WorldState) (side : Side) (n : ℕ) : Type 0 where
-  Far : (processed : ℕ) → Contains (half_of w side).processed processed → IsBefore n (floor_under processed) → IsSettledNumber w side n
-  WasTold : ToldIn w side n → IsSettledNumber w side n
+pub data NeedsNoReport (w : WorldState) (side : Side) (n : ℕ) : Type 0 where
+  Far : (processed : ℕ) → Contains (half_of w side).processed processed → IsBefore n (floor_under processed) → NeedsNoReport w side n
+  WasTold : ToldIn w side n → NeedsNoReport w side n
 
 -- every number from the first received up to the floor
 abbrev pub Told : WorldState → Type 0
 Told w = (side : Side) (n : ℕ) → n < 2 ^ 48 → distance (half_of w side).end.marks.isr n < distance (half_of w side).end.marks.isr (floor_of (half_of w side).end)
-    → IsSettledNumber w side n
+    → NeedsNoReport w side n

@@ -41,13 +41,13 @@ pub record WorldStep : Type 0 where
   pub seen : Seen
 
 -- a frame as it is kept: how many numbers its sender had processed, that step's included, and its floor
-abbrev pub kept : ℕ → ℕ → Option (List ℕ) → List SentFrame
-kept processed floor None = []
-kept processed floor (Some bytes) = record { bytes = bytes; processed = processed; floor = floor } ∷ []
+abbrev pub as_sent : ℕ → ℕ → Option (List ℕ) → List SentFrame
+as_sent processed floor None = []
+as_sent processed floor (Some bytes) = record { bytes = bytes; processed = processed; floor = floor } ∷ []
 
 -- a step of the end, with its frame at the list's end
 abbrev pub moved : {Answer : Type 0} → Half → Step Answer → Half
-moved half step = record half { end = step.after; frames = half.frames ++ kept (length half.processed) (floor_of step.after) step.frame }
+moved half step = record half { end = step.after; frames = half.frames ++ as_sent (length half.processed) (floor_of step.after) step.frame }
 
 -- what is seen of a call, where a refusal has this name
 abbrev pub seen_of_call : {Fault : Type 0} → (Fault → Refusal) → Result (Unit {0}) Fault → Seen

@@ -1,6 +1,6 @@
 //! Frames that were sent.
 ghost use Rattle.std.specs.Prelude.{◌≡◌, ◌<◌, ◌≤◌, ◌++◌, [], length, OnOk, vec_len, vec_capacity};
-ghost use Rattle.two_ends.specs.World.{kept};
+ghost use Rattle.two_ends.specs.World.{as_sent};
 
 use dccp_packets::Outbox;
 use seq_circle::{NoMemory, Seq48};
@@ -28,7 +28,7 @@ impl Model for FrameBytes {
 }
 
 impl FrameBytes {
-    // The vector has the bytes; no memory is taken.
+    // The vector itself is kept: no memory is taken.
     fn of(bytes: Vec<u8>) -> FrameBytes
         requires { length bytes.items ≤ 2044 }
         ensures { result ≡ bytes.items }
@@ -82,7 +82,7 @@ pub(crate) fn keep_frame(
     requires place { vec_len frames.old < vec_capacity frames.old }
     requires room { 2044 ≤ vec_capacity spare.old }
     requires empty { spare.old.items ≡ [] }
-    ensures sent { frames.new.items ≡ frames.old.items ++ kept processed floor out.now }
+    ensures sent { frames.new.items ≡ frames.old.items ++ as_sent processed floor out.now }
     ensures still_empty { spare.new.items ≡ [] }
 {
     let Some(frame) = out.frame() else { return };

@@ -1,4 +1,4 @@
-//! The world.
+//! The world: two ends and every frame that either ever sent, with what holds after every schedule.
 ghost use Rattle.std.specs.Prelude.{◌≡◌, ◌<◌, ◌^◌, List};
 ghost use Rattle.dccp_endpoint.specs.Drafts.{Fits};
 ghost use Rattle.two_ends.specs.World.{at_start, run};
@@ -110,7 +110,7 @@ impl World {
     }
 }
 
-// What the types of its fields keep of every configuration.
+// The types of the fields keep their widths; each call here gives one to the prover.
 fn config_fits(config: &Config)
     ensures { Fits config.now }
 {
