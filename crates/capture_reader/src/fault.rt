@@ -1,7 +1,8 @@
 //! Why a capture is refused.
 use thiserror::Error;
 
-/// Why a capture ended early (own). Of a file header the first cause that holds is answered, in this order.
+/// Why a capture ended early (own). Of a whole file header the first of BadMagic, BadVersion and BadLink that holds is
+/// answered.
 #[derive(Clone, Copy, Debug, PartialEq, Eq, Error)]
 pub enum CaptureFault {
     /// The first four bytes are no magic number of a classic capture, in either byte order.

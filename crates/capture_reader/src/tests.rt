@@ -120,7 +120,7 @@ fn capture_cut_short(rt: HostRuntime) -> Result<(), Fail> {
     Ok(())
 }
 
-// Appends a record with these bytes, in the byte order of the capture.
+// Appends a record with these bytes, in the byte order of the capture, of a packet that had one byte more.
 fn push_record(
     capture: &mut Vec<u8>,
     big: bool,
@@ -128,12 +128,10 @@ fn push_record(
     fraction: u32,
     bytes: &[u8],
 ) -> Result<(), Fail> {
-    for number in [
-        seconds,
-        fraction,
-        bytes.len() as u32,
-        bytes.len() as u32 + 1,
-    ] {
+    let Ok(size) = u32::try_from(bytes.len()) else {
+        return Err(Fail::from("a short record"));
+    };
+    for number in [seconds, fraction, size, size.wrapping_add(1)] {
         let digits = if big {
             number.to_be_bytes()
         } else {
@@ -184,10 +182,10 @@ fn byte_orders_and_resolutions(rt: HostRuntime) -> Result<(), Fail> {
             Ok(captures) => captures,
             Err(_) => return Err(Fail::from("a capture")),
         };
-        for (number, seconds, fraction, bytes) in [
-            (1u64, 1u32, 2u32, b"first".as_slice()),
-            (2, 3, 4_000_000_000, b"".as_slice()),
-            (3, 4_294_967_295, 5, b"the third".as_slice()),
+        for (number, seconds, fraction, original, bytes) in [
+            (1u64, 1u32, 2u32, 6u32, b"first".as_slice()),
+            (2, 3, 4_000_000_000, 1, b"".as_slice()),
+            (3, 4_294_967_295, 5, 10, b"the third".as_slice()),
         ] {
             match captures.next() {
                 Ok(Some(record)) => {
@@ -196,7 +194,7 @@ fn byte_orders_and_resolutions(rt: HostRuntime) -> Result<(), Fail> {
                         (number, seconds, fraction)
                     );
                     assert_eq!(rt; (record.nanos, record.link), (nanos, link));
-                    assert_eq!(rt; record.original, bytes.len() as u32 + 1);
+                    assert_eq!(rt; record.original, original);
                     assert_eq!(rt; record.bytes, bytes);
                 }
                 _ => return Err(Fail::from("a record")),
@@ -214,8 +212,9 @@ fn every_prefix_of_three_records(rt: HostRuntime) -> Result<(), Fail> {
     push_record(&mut capture, true, 3, 4, b"")?;
     push_record(&mut capture, true, 5, 6, b"bc")?;
     assert_eq!(rt; capture.len(), 75);
-    for size in 24..76 {
-        let source = source_of(rt.alloc(), &capture[..size], 1)?;
+    for size in 24..76usize {
+        let front = capture.get(..size).ok_or("a capture of 75 bytes")?;
+        let source = source_of(rt.alloc(), front, 1)?;
         let summary = summed(rt.alloc(), source);
         let (records, end) = match size {
             24 => (0, None),
@@ -323,7 +322,8 @@ fn records_of_the_greatest_length(rt: HostRuntime) -> Result<(), Fail> {
             (4, 524_298, None)
         );
     }
-    let source = source_of(rt.alloc(), &capture[..capture.len() - 22], 4096)?;
+    capture.truncate(capture.len().saturating_sub(22));
+    let source = source_of(rt.alloc(), &capture, 4096)?;
     let summary = summed(rt.alloc(), source);
     assert_eq!(rt;
         (summary.records, summary.end),

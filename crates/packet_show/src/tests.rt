@@ -49,6 +49,14 @@ fn every_option(rt: HostRuntime) -> Result<(), Fail> {
     Ok(())
 }
 
+// A packet of this type behind an Ethernet header.
+fn frame_of(alloc: Global, kind: [u8; 2], packet: &[u8]) -> Result<Vec<u8>, Fail> {
+    let mut frame = [2; 12].to_vec(alloc)?;
+    frame.extend_from_slice(&kind)?;
+    frame.extend_from_slice(packet)?;
+    Ok(frame)
+}
+
 #[test]
 fn networks_sums_and_malformed_packets(rt: HostRuntime) -> Result<(), Fail> {
     for (name, bytes, line) in CARRIED {
@@ -56,16 +64,14 @@ fn networks_sums_and_malformed_packets(rt: HostRuntime) -> Result<(), Fail> {
         let text = text_of(rt.alloc(), &record_of(101, &bytes))?;
         assert_eq!(rt; text.as_slice(), line.as_bytes(), "{name}");
         // The same behind an Ethernet header, where its type is that of the version.
-        let mut frame = [7; 12].to_vec(rt.alloc())?;
-        frame.extend_from_slice(if bytes[0] < 0x60 {
-            &[8, 0]
-        } else {
-            &[0x86, 0xdd]
-        })?;
-        frame.extend_from_slice(&bytes)?;
+        let kind = match bytes.first() {
+            Some(first) if *first < 0x60 => [8, 0],
+            _ => [0x86, 0xdd],
+        };
+        let frame = frame_of(rt.alloc(), kind, &bytes)?;
         let text = text_of(rt.alloc(), &record_of(1, &frame))?;
         assert_eq!(rt; text.as_slice(), line.as_bytes(), "{name} in Ethernet");
-        frame[12] = 9;
+        let frame = frame_of(rt.alloc(), [8, 6], &bytes)?;
         let text = text_of(rt.alloc(), &record_of(1, &frame))?;
         assert_eq!(rt;
             text.as_slice(),
@@ -144,34 +150,43 @@ fn flows_in_the_order_seen(rt: HostRuntime) -> Result<(), Fail> {
     let one = [10, 0, 0, 1, 1];
     let two = [10, 0, 0, 2, 1];
     let mut flows = Flows::new(rt.alloc());
-    let mut text = b"before\n".to_vec(rt.alloc())?;
     for (from, to, wanted) in [
-        (one, two, " flow 1 10.0.0.1 1 > 10.0.0.2 1 "),
-        (two, one, " flow 1 10.0.0.2 1 > 10.0.0.1 1 "),
-        (one, [10, 0, 0, 3, 1], " flow 2 "),
-        ([10, 0, 0, 1, 2], two, " flow 3 "),
-        (one, [10, 0, 0, 2, 2], " flow 4 "),
-        (two, [10, 0, 0, 1, 2], " flow 3 "),
-        (one, one, " flow 5 "),
-        (one, two, " flow 1 "),
+        (
+            one,
+            two,
+            "before 1 1.500000 flow 1 10.0.0.1 1 > 10.0.0.2 1 Data",
+        ),
+        (
+            two,
+            one,
+            "before 1 1.500000 flow 1 10.0.0.2 1 > 10.0.0.1 1 Data",
+        ),
+        (one, [10, 0, 0, 3, 1], "before 1 1.500000 flow 2 "),
+        ([10, 0, 0, 1, 2], two, "before 1 1.500000 flow 3 "),
+        (one, [10, 0, 0, 2, 2], "before 1 1.500000 flow 4 "),
+        (two, [10, 0, 0, 1, 2], "before 1 1.500000 flow 3 "),
+        (one, one, "before 1 1.500000 flow 5 "),
+        (one, two, "before 1 1.500000 flow 1 "),
     ] {
-        let start = text.len();
+        let mut text = b"before ".to_vec(rt.alloc())?;
         let bytes = data_between(from, to);
         assert_eq!(rt;
             flows.show(&record_of(101, &bytes), &mut text),
             Ok(Shown::Line)
         );
-        let line = &text[start..];
-        let wanted = wanted.as_bytes();
-        assert!(rt; line.len() > 10 && line[10..].starts_with(wanted));
+        assert!(rt; text.as_slice().starts_with(wanted.as_bytes()), "{wanted}");
     }
     assert_eq!(rt; flows.count(), 5);
-    assert!(rt; text.as_slice().starts_with(b"before\n1 1.5"));
+    let mut text = Vec::new(rt.alloc());
     let mut short = data_between(two, [10, 0, 0, 9, 9]);
     short[24] = 9;
     assert_eq!(rt;
         flows.show(&record_of(101, &short), &mut text),
         Ok(Shown::Line)
+    );
+    assert_eq!(rt;
+        text.as_slice(),
+        b"1 1.500000 malformed OffsetLarge\n".as_slice()
     );
     assert_eq!(rt; flows.count(), 5, "a malformed packet has no flow");
     Ok(())
@@ -282,8 +297,10 @@ fn capture_of_one_packet(rt: HostRuntime) -> Result<(), Fail> {
 #[test]
 fn capture_cut_short(rt: HostRuntime) -> Result<(), Fail> {
     let capture = bytes_of(rt.alloc(), &[RAW_IP, RECORD, IP, REQUEST])?;
-    for size in [0, 79] {
-        let told = shown_of(rt.alloc(), &capture[..size], 4096)?;
+    let mut capture = capture;
+    for size in [79, 0] {
+        capture.truncate(size);
+        let told = shown_of(rt.alloc(), &capture, 4096)?;
         assert_eq!(rt; told.text.len(), 0);
         assert_eq!(rt;
             (told.shown, told.end),
@@ -302,13 +319,13 @@ fn push_frame(
     packet: &[u8],
     captured: usize,
 ) -> Result<(), Fail> {
-    let mut frame = Vec::new(alloc);
-    frame.extend_from_slice(&[2; 12])?;
-    frame.extend_from_slice(&kind)?;
-    frame.extend_from_slice(packet)?;
+    let mut frame = frame_of(alloc, kind, packet)?;
     frame.truncate(captured);
+    let Ok(size) = u32::try_from(frame.len()) else {
+        return Err(Fail::from("a short record"));
+    };
     capture.extend_from_slice(&[1, 0, 0, 0, 2, 0, 0, 0])?;
-    capture.extend_from_slice(&(frame.len() as u32).to_le_bytes())?;
+    capture.extend_from_slice(&size.to_le_bytes())?;
     capture.extend_from_slice(&[0, 1, 0, 0])?;
     capture.extend_from_slice(&frame)?;
     Ok(())
