@@ -2,4 +2,4 @@ pub mod Ending
 pub mod FirstLine
 pub mod HexText
 pub mod LoopInvariant
-mod Spelling
+pub mod Telling

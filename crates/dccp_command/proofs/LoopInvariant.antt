@@ -3,7 +3,7 @@ use Rattle.std.proofs.Common.{◌≡◌, refl, sym, ap, ◌∙◌, subst, lit<, 
 use Rattle.dccp_endpoint.specs.Usual.{usual}
 use Rattle.dccp_states.specs.declared.phase.Role.TheVariants as role
 use Rattle.two_ends.specs.declared.event.Event.{Event}
-use Rattle.dccp_command.specs.declared.fault.LineFault.{LineFault}
+use Rattle.schedule_text.specs.declared.line.LineFault.{LineFault}
 use Rattle.dccp_command.specs.declared.play.Play.{Play}
 use Rattle.dccp_command.specs.Lines.{lines_of}
 use Rattle.dccp_command.specs.Shown.{end_lines, refusal_line}

@@ -1,5 +1,5 @@
 -- The lines that `run` writes (own).
-use Rattle.std.specs.Prelude.{ℕ, ◌-◌, ◌++◌, List, [], ◌∷◌, codes, decimal, flat_map, slice_get, take, drop, Option, Some, None, Ok, Err, true, false}
+use Rattle.std.specs.Prelude.{ℕ, ◌++◌, List, [], ◌∷◌, codes, decimal, flat_map, slice_get, Option, Some, None}
 use Rattle.hex.specs.Hex.{encode_lower}
 use Rattle.feature_lists.specs.Features.{number_of}
 use Rattle.feature_lists.specs.declared.features.Feature.{Feature}
@@ -7,55 +7,16 @@ use Rattle.feature_lists.specs.declared.features.Feature.TheVariants as feature
 use Rattle.feature_lists.specs.declared.features.Place.TheVariants.{Here, There}
 use Rattle.dccp_endpoint.specs.End.{EndState, held_of, window_of, in_flight_of}
 use Rattle.dccp_endpoint.specs.declared.held.Held.{Held}
-use Rattle.dccp_endpoint.specs.declared.outcome.Outcome.{Outcome}
-use Rattle.dccp_endpoint.specs.declared.outcome.Outcome.TheVariants.{Took, Dropped, Synced, WasReset, SentReset, NotBuilt}
 use Rattle.two_ends.specs.World.{WorldState, half_of}
 use Rattle.two_ends.specs.declared.frames.SentFrame.{SentFrame}
 use Rattle.two_ends.specs.declared.event.Side.{Side}
 use Rattle.two_ends.specs.declared.event.Side.TheVariants.{Client, Server}
 use Rattle.two_ends.specs.declared.event.Event.{Event}
 use Rattle.two_ends.specs.declared.event.Event.TheVariants as event
-use Rattle.two_ends.specs.declared.event.Seen.{Seen}
-use Rattle.two_ends.specs.declared.event.Seen.TheVariants.{Called, Fired, Received}
-use Rattle.dccp_command.specs.declared.fault.LineFault.{LineFault}
-use Rattle.dccp_command.specs.Text.{side_name, side_letter, phase_name, stand_mark, why_name, refusal_name, line_why_name, hex_text, timer_name}
-
--- A frame's name is the letter of its sender and its index.
-abbrev pub frame_name : Side → ℕ → List ℕ
-frame_name side index = side_letter side ++ decimal index
-
--- An event as its line has it.
-abbrev pub event_text : Event → List ℕ
-event_text event.Open = codes "open"
-event_text (event.Deliver from index) = codes "deliver " ++ frame_name from index
-event_text (event.Timer side timer) = codes "timer " ++ side_name side ++ codes " " ++ timer_name timer
-event_text (event.Close side) = codes "close " ++ side_name side
-event_text (event.Abort side) = codes "abort " ++ side_name side
-
-abbrev pub byte_text : ℕ → List ℕ
-byte_text byte = codes " " ++ decimal byte
-
--- Of these bytes those from one place up to another.
-abbrev pub data_of : List ℕ → ℕ × ℕ → List ℕ
-data_of bytes place = take (place.1 - place.0) (drop place.0 bytes)
-
--- What became of a packet of these bytes, with the data that it delivered.
-abbrev pub outcome_text : List ℕ → Outcome → List ℕ
-outcome_text bytes (Took None) = codes "took"
-outcome_text bytes (Took (Some place)) = codes "took data " ++ hex_text (data_of bytes place)
-outcome_text bytes (Dropped why) = codes "dropped " ++ why_name why
-outcome_text bytes (Synced number) = codes "synced " ++ decimal number
-outcome_text bytes (WasReset code) = codes "was reset " ++ decimal code
-outcome_text bytes (SentReset code detail) = codes "sent reset " ++ decimal code ++ flat_map byte_text detail
-outcome_text bytes NotBuilt = []
-
--- What was seen of an event that brought these bytes to an end, or of a call.
-abbrev pub seen_text : List ℕ → Seen → List ℕ
-seen_text bytes (Called (Ok _)) = codes "ok"
-seen_text bytes (Called (Err fault)) = codes "refused " ++ refusal_name fault
-seen_text bytes (Fired true) = codes "fired"
-seen_text bytes (Fired false) = codes "idle"
-seen_text bytes (Received outcome) = outcome_text bytes outcome
+use Rattle.schedule_text.specs.Names.{side_name}
+use Rattle.schedule_text.specs.Printing.{frame_name}
+use Rattle.schedule_text.specs.declared.line.LineFault.{LineFault}
+use Rattle.dccp_command.specs.Text.{phase_name, stand_mark, line_why_name}
 
 abbrev pub bytes_of : Option SentFrame → List ℕ
 bytes_of None = []
@@ -65,10 +26,6 @@ bytes_of (Some frame) = frame.bytes
 abbrev pub arrived : WorldState → Event → List ℕ
 arrived w (event.Deliver from index) = bytes_of (slice_get (half_of w from).frames index)
 arrived w _ = []
-
--- The line of an event, under the number of its own line.
-abbrev pub event_line : ℕ → Event → List ℕ → Seen → List ℕ
-event_line number event bytes seen = decimal number ++ codes " " ++ event_text event ++ codes ": " ++ seen_text bytes seen ++ codes "\n"
 
 -- The line of a frame that was sent.
 abbrev pub frame_line : Side → ℕ → Option SentFrame → List ℕ

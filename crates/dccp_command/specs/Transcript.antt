@@ -1,25 +1,27 @@
 -- What `run` writes of an input: the lines of its accepted lines, then the two end lines or the line of the first refusal (own).
-use Rattle.std.specs.Prelude.{◌≡◌, ℕ, ◌+◌, ◌^◌, ◌<◌, ◌++◌, Bool, true, false, nat_le, nat_lt, if◌then◌else◌, List, [], ◌∷◌, length, take, Option, Some, None, is_some, Result, Ok, Err}
+use Rattle.std.specs.Prelude.{◌≡◌, ℕ, ◌+◌, ◌^◌, ◌<◌, ◌++◌, Bool, true, false, nat_le, nat_lt, min, if◌then◌else◌, List, [], ◌∷◌, length, take, Option, Some, None, is_some, Result, Ok, Err}
 use Rattle.dccp_endpoint.specs.Usual.{usual}
 use Rattle.dccp_endpoint.specs.declared.config.Config.{Config}
 use Rattle.dccp_states.specs.declared.phase.Role.TheVariants as role
-use Rattle.dccp_endpoint.specs.declared.outcome.Outcome.TheVariants.{NotBuilt}
 use Rattle.two_ends.specs.World.{WorldState, WorldStep, at_start, happens, half_of, actor, run}
 use Rattle.dccp_endpoint.specs.Drafts.{Fits}
 use Rattle.two_ends.specs.Safe.{Safe}
 use Rattle.two_ends.specs.declared.event.Event.{Event}
-use Rattle.two_ends.specs.declared.event.Event.TheVariants as event
-use Rattle.two_ends.specs.declared.event.Seen.{Seen}
-use Rattle.two_ends.specs.declared.event.Seen.TheVariants.{Called, Fired, Received}
+use Rattle.two_ends.specs.declared.event.Side.{Side}
+use Rattle.two_ends.specs.declared.event.Side.TheVariants.{Client, Server}
 use Rattle.two_ends.specs.declared.event.WorldFault.{WorldFault}
 use Rattle.two_ends.specs.declared.event.WorldFault.TheVariants as fault
-use Rattle.dccp_command.specs.declared.fault.LineFault.{LineFault}
-use Rattle.dccp_command.specs.declared.fault.LineWhy.TheVariants as line_why
-use Rattle.dccp_command.specs.declared.schedule.Line.{Line}
-use Rattle.dccp_command.specs.declared.schedule.Line.TheVariants as line
+use Rattle.schedule_text.specs.Results.{seen_line}
+use Rattle.schedule_text.specs.declared.event.Event as text_event
+use Rattle.schedule_text.specs.declared.line.Line.{Line}
+use Rattle.schedule_text.specs.declared.line.Line.TheVariants as line
+use Rattle.schedule_text.specs.declared.line.LineFault.{LineFault}
+use Rattle.schedule_text.specs.declared.line.LineWhy.{LineWhy}
+use Rattle.schedule_text.specs.declared.line.LineWhy.TheVariants as why
 use Rattle.dccp_command.specs.declared.play.Play.{Play}
-use Rattle.dccp_command.specs.Lines.{lines_of, text_of, read_line}
-use Rattle.dccp_command.specs.Shown.{arrived, event_line, sent_line, end_lines, refusal_line}
+use Rattle.dccp_command.specs.Lines.{lines_of, text_of}
+use Rattle.dccp_command.specs.Built.{not_built, read_built, built_event, seen_told, is_told}
+use Rattle.dccp_command.specs.Shown.{arrived, sent_line, end_lines, refusal_line}
 
 -- The most bytes of an input.
 abbrev pub most_bytes : ℕ
@@ -50,74 +52,83 @@ pub data Verdict : Type 0 where
   Accepted : (text : List ℕ) (events : List Event) (next : Play) → Verdict
   Refused : (fault : LineFault) → Verdict
 
-abbrev pub not_built : LineFault
-not_built = record { column = 1; why = line_why.NotBuilt }
+-- The fault of a whole line, at its first byte.
+abbrev pub whole_line : LineWhy → LineFault
+whole_line cause = record { column = 1; why = cause }
 
 -- A delivery names no frame; its name stands behind `deliver `.
 abbrev pub no_such_frame : LineFault
-no_such_frame = record { column = 9; why = line_why.NoSuchFrame }
+no_such_frame = record { column = 9; why = why.NoSuchFrame }
 
 abbrev pub says_nothing : Play → List ℕ → Verdict
 says_nothing play piece = Accepted [] [] (behind play piece)
 
--- `plain` stands before all events.
-abbrev pub says_plain : Play → List ℕ → Verdict
-says_plain play piece = if is_some play.world then Refused not_built else Accepted [] [] (record (behind play piece) { plain = true })
+-- A line that stands before all events changes the configurations.
+abbrev pub configures : Play → Play → Verdict
+configures play next = if is_some play.world then Refused (whole_line why.HeaderLate) else Accepted [] [] next
+
+abbrev pub without_offers : Play → Play
+without_offers play = record play { plain = true }
+
+abbrev pub with_iss : Side → ℕ → Play → Play
+with_iss Client number play = record play { client = record play.client { iss = number } }
+with_iss Server number play = record play { server = record play.server { iss = number } }
 
 -- The text of an event that took place, and the world after it.
 pub record Shown : Type 0 where
   pub text : List ℕ
   pub world : WorldState
 
--- An event that took place, with the frame that its actor sent.
-abbrev pub took_place : ℕ → WorldState → Event → WorldState → Seen → Result Shown LineFault
-took_place number before event after seen = Ok (record {
-  text = event_line number event (arrived after event) seen ++ sent_line after (actor event) (length (half_of before (actor event)).frames);
-  world = after;
-})
+-- An event that took place, with the frame that its actor sent; its line tells it as that line said it.
+abbrev pub took_place : ℕ → text_event.Event → WorldState → Event → WorldStep → Shown
+took_place number said before event step = record {
+  text =
+      seen_line number said (seen_told step.seen) (arrived step.world event)
+      ++ sent_line step.world (actor event) (length (half_of before (actor event)).frames);
+  world = step.world;
+}
 
--- A packet that needs what is not built yet is no accepted event.
-abbrev pub by_seen : ℕ → WorldState → Event → WorldState → Seen → Result Shown LineFault
-by_seen number before event after (Called answer) = took_place number before event after (Called answer)
-by_seen number before event after (Fired applies) = took_place number before event after (Fired applies)
-by_seen number before event after (Received NotBuilt) = Err not_built
-by_seen number before event after (Received outcome) = took_place number before event after (Received outcome)
-
-abbrev pub by_step : ℕ → WorldState → Event → Result WorldStep WorldFault → Result Shown LineFault
-by_step number before event (Ok step) = by_seen number before event step.world step.seen
-by_step number before event (Err fault.NoSuchFrame) = Err no_such_frame
-by_step number before event (Err _) = Err not_built
+abbrev pub by_step : ℕ → text_event.Event → WorldState → Event → Result WorldStep WorldFault → Result Shown LineFault
+by_step number said before event (Ok step) =
+    if is_told step.seen (arrived step.world event) then Ok (took_place number said before event step) else Err not_built
+by_step number said before event (Err fault.NoSuchFrame) = Err no_such_frame
+by_step number said before event (Err _) = Err (whole_line why.TooManyEvents)
 
 -- An event of a world, under the number of its line.
-abbrev pub event_shown : ℕ → WorldState → Event → Result Shown LineFault
-event_shown number before event = by_step number before event (happens before event)
+abbrev pub event_shown : ℕ → text_event.Event → WorldState → Event → Result Shown LineFault
+event_shown number said before event = by_step number said before event (happens before event)
 
 abbrev pub by_shown : Play → List ℕ → Event → Result Shown LineFault → Verdict
 by_shown play piece event (Ok shown) = Accepted shown.text (event ∷ []) (record (behind play piece) { events = play.events + 1; world = Some shown.world })
 by_shown play piece event (Err fault) = Refused fault
 
--- The client opens only after `plain`, since no feature can be offered yet.
-abbrev pub is_built : Play → Event → Bool
-is_built play event.Open = play.plain
-is_built play _ = true
+abbrev pub by_event : Play → List ℕ → text_event.Event → Option Event → Verdict
+by_event play piece said None = Refused not_built
+by_event play piece said (Some event) = by_shown play piece event (event_shown play.number said (world_of play) event)
 
-abbrev pub says_event : Play → List ℕ → Event → Verdict
-says_event play piece event =
-    if nat_lt play.events most_events
-    then (if is_built play event then by_shown play piece event (event_shown play.number (world_of play) event) else Refused not_built)
-    else Refused not_built
+abbrev pub says_event : Play → List ℕ → text_event.Event → Verdict
+says_event play piece said =
+    if nat_lt play.events most_events then by_event play piece said (built_event said play.plain)
+    else Refused (whole_line why.TooManyEvents)
 
-abbrev pub by_line : Play → List ℕ → Option Line → Verdict
-by_line play piece None = Refused not_built
-by_line play piece (Some line.Nothing) = says_nothing play piece
-by_line play piece (Some line.Plain) = says_plain play piece
-by_line play piece (Some (line.Event event)) = says_event play piece event
+abbrev pub by_line : Play → List ℕ → Result Line LineFault → Verdict
+by_line play piece (Err fault) = Refused fault
+by_line play piece (Ok line.Nothing) = says_nothing play piece
+by_line play piece (Ok line.Plain) = configures play (without_offers (behind play piece))
+by_line play piece (Ok (line.Iss side number)) = configures play (with_iss side number (behind play piece))
+by_line play piece (Ok (line.Set side place feature values)) = Refused not_built
+by_line play piece (Ok (line.Offer side place feature mandatory)) = Refused not_built
+by_line play piece (Ok (line.Event event)) = says_event play piece event
+
+-- The bytes up to a line's newline, or up to the one at which it is too long, lie within those that an input may have.
+abbrev pub is_within : Play → List ℕ → Bool
+is_within play piece = nat_le (play.read + min (length piece) 4097) most_bytes
 
 -- A line with its newline. Its faults are judged in this order: the bytes of the input, the line by itself, that it stands before all
 -- events, the count of events, what is not built, the frame that it names.
 abbrev pub judged : Play → List ℕ → Verdict
 judged play piece =
-    if nat_le (play.read + length piece) most_bytes then by_line play piece (read_line (text_of piece)) else Refused not_built
+    if is_within play piece then by_line play piece (read_built (text_of piece)) else Refused (whole_line why.TooMuchInput)
 
 -- A line was played so: an accepted one leaves its text at the text's end and leads on, a refused one leaves the text as it was.
 abbrev pub Judges : Verdict → List ℕ → List ℕ → Play → Result (Unit {0}) LineFault → Type 0

@@ -1,33 +1,32 @@
-//! Why lines are refused.
+//! The line of a refusal.
 ghost use Rattle.std.specs.Prelude.{◌≡◌, ◌++◌, ℕ, List, OnOk};
 ghost use Rattle.dccp_command.specs.Text.{line_why_name};
 ghost use Rattle.dccp_command.specs.Shown.{refusal_line};
 
 use crate::text::{put, put_number};
+use schedule_text::{LineFault, LineWhy};
 use seq_circle::NoMemory;
-
-/// Why a line is refused.
-#[derive(Clone, Copy, Debug, PartialEq, Eq)]
-pub(crate) enum LineWhy {
-    /// A delivery's index is not below the sender's count of frames.
-    NoSuchFrame,
-    /// It needs what is not built yet, or is refused for a reason that has no name yet.
-    NotBuilt,
-}
-
-/// Why a line is refused, and where: the column is that of a byte of the line, from 1.
-#[derive(Clone, Copy, Debug, PartialEq, Eq)]
-pub(crate) struct LineFault {
-    pub(crate) column: u32,
-    pub(crate) why: LineWhy,
-}
 
 fn line_why_name(why: LineWhy) -> &'static [u8]
     ensures { result.now ≡ line_why_name why }
 {
     match why {
-        LineWhy::NoSuchFrame => b"NoSuchFrame",
+        LineWhy::TooMuchInput => b"TooMuchInput",
+        LineWhy::LineTooLong => b"LineTooLong",
+        LineWhy::NotText => b"NotText",
         LineWhy::NotBuilt => b"NotBuilt",
+        LineWhy::Missing => b"Missing",
+        LineWhy::UnknownWord => b"UnknownWord",
+        LineWhy::BadNumber => b"BadNumber",
+        LineWhy::BadHex => b"BadHex",
+        LineWhy::Trailing => b"Trailing",
+        LineWhy::FrameTooLong => b"FrameTooLong",
+        LineWhy::SealShort => b"SealShort",
+        LineWhy::HeaderLate => b"HeaderLate",
+        LineWhy::BadList => b"BadList",
+        LineWhy::NotOurs => b"NotOurs",
+        LineWhy::TooManyEvents => b"TooManyEvents",
+        LineWhy::NoSuchFrame => b"NoSuchFrame",
     }
 }
 

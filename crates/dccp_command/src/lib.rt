@@ -4,11 +4,10 @@
 //! clock, starts no thread, and reads and writes nothing but the source and the sink that it is lent.
 #![tactic(auto)]
 
+mod built;
 mod fault;
-mod laws;
 mod lines;
 mod play;
-mod schedule;
 mod show;
 #[cfg(test)]
 mod tests;
@@ -17,6 +16,5 @@ mod top;
 mod transcript;
 mod words;
 
-pub use crate::laws::lines_are_their_forms;
 pub use crate::top::{Status, dccp};
 pub use crate::words::Form;

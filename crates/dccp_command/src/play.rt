@@ -1,18 +1,22 @@
 //! A schedule while it is played.
-ghost use Rattle.std.specs.Prelude.{◌≡◌, ◌+◌, ◌<◌, ◌^◌, ◌++◌, length, ℕ, List, IfOk, OnOk, Some, Ok};
+ghost use Rattle.std.specs.Prelude.{◌≡◌, ◌+◌, ◌<◌, ◌^◌, ◌++◌, length, ℕ, List, is_some, if◌then◌else◌, IfOk, OnOk, Some, Ok, Err};
+ghost use Rattle.dccp_command.specs.Built.{not_built};
 ghost use Rattle.dccp_command.specs.Shown.{end_lines};
-ghost use Rattle.dccp_command.specs.Transcript.{first_play, world_of, ArePeers, IsReady, IsBehind, Shows, event_shown, Judges, judged, by_line, behind, says_plain, says_event, is_built, not_built, no_such_frame};
+ghost use Rattle.dccp_command.specs.Transcript.{first_play, world_of, ArePeers, IsReady, IsBehind, Shows, event_shown, Judges, judged, by_line, is_within, behind, configures, without_offers, with_iss, says_event, whole_line, no_such_frame};
 
-use crate::fault::{LineFault, LineWhy};
+use crate::built::{built_event, is_told, not_built, read_built, seen_told};
 use crate::lines::text_of;
-use crate::schedule::{Line, read_line};
-use crate::show::{arrived, put_end_lines, put_event_line, put_sent_line};
-use dccp_endpoint::{Config, Outcome, Role};
-use seq_circle::NoMemory;
+use crate::show::{arrived, put_end_lines, put_sent_line};
+use dccp_endpoint::{Config, Role};
+use schedule_text::{Line, LineFault, LineWhy, print_seen};
+use seq_circle::{NoMemory, Seq48};
 use std::alloc::Global;
-use two_ends::{Event, Seen, World, WorldFault};
+use two_ends::{Event, Side, World, WorldFault};
 
 const MOST_BYTES: u64 = 16_777_216;
+
+// A line with more bytes is judged when this one was read.
+const ONE_TOO_MANY: usize = 4097;
 
 const MOST_EVENTS: u32 = 16_384;
 
@@ -64,18 +68,44 @@ impl Play {
         ensures verdict { IfOk result (λ answer. Judges (judged self.old line.now) text.old.items text.new.items self.new answer) }
         ensures onward { IfOk result (λ answer. answer ≡ Ok tt → IsBehind self.old line.now self.new) }
     {
-        if MOST_BYTES < self.read + line.len() as u64 {
-            return Ok(Err(not_built()));
+        if !self.is_within(line) {
+            return Ok(Err(whole_line(LineWhy::TooMuchInput)));
         }
-        match read_line(text_of(line)) {
-            None => Ok(Err(not_built())),
-            Some(Line::Nothing) => {
+        match read_built(text_of(line)) {
+            Err(fault) => Ok(Err(fault)),
+            Ok(said) => self.say(alloc, line, &said, text),
+        }
+    }
+
+    fn say(
+        &mut self,
+        alloc: Global,
+        line: &[u8],
+        said: &Line,
+        text: &mut Vec<u8>,
+    ) -> Result<Result<(), LineFault>, NoMemory>
+        requires { IsReady self.old line.now }
+        ensures verdict { IfOk result (λ answer. Judges (by_line self.old line.now (Ok said.now)) text.old.items text.new.items self.new answer) }
+        ensures onward { IfOk result (λ answer. answer ≡ Ok tt → IsBehind self.old line.now self.new) }
+    {
+        match said {
+            Line::Nothing => {
                 self.pass(line);
                 Ok(Ok(()))
             }
-            Some(Line::Plain) => Ok(self.say_plain(line)),
-            Some(Line::Event(event)) => self.say_event(alloc, line, &event, text),
+            Line::Plain => Ok(self.say_plain(line)),
+            Line::Iss { side, number } => Ok(self.say_iss(line, *side, *number)),
+            Line::Set { .. } | Line::Offer { .. } => Ok(Err(not_built())),
+            Line::Event(event) => self.say_event(alloc, line, event, text),
         }
+    }
+
+    // The bytes up to the line's newline, or to the one at which it is too long, are among those that an input may have.
+    fn is_within(&self, line: &[u8]) -> bool
+        requires { IsReady self.now line.now }
+        ensures { result ≡ is_within self.now line.now }
+    {
+        self.read + line.len().min(ONE_TOO_MANY) as u64 <= MOST_BYTES
     }
 
     fn pass(&mut self, line: &[u8])
@@ -86,47 +116,65 @@ impl Play {
         self.read += line.len() as u64;
     }
 
-    fn say_plain(&mut self, line: &[u8]) -> Result<(), LineFault>
-        requires { IsReady self.old line.now }
-        ensures verdict { (text : List ℕ) → Judges (says_plain self.old line.now) text text self.new result }
-        ensures onward { result ≡ Ok tt → IsBehind self.old line.now self.new }
+    // A line that stands before all events comes before the first.
+    fn check_header(&self) -> Result<(), LineFault>
+        ensures { result ≡ (if is_some self.now.world then Err (whole_line LineWhy.HeaderLate) else Ok tt) }
     {
         if self.world.is_some() {
-            return Err(not_built());
+            return Err(whole_line(LineWhy::HeaderLate));
         }
+        Ok(())
+    }
+
+    fn say_plain(&mut self, line: &[u8]) -> Result<(), LineFault>
+        requires { IsReady self.old line.now }
+        ensures verdict { (text : List ℕ) → Judges (configures self.old (without_offers (behind self.old line.now))) text text self.new result }
+        ensures onward { result ≡ Ok tt → IsBehind self.old line.now self.new }
+    {
+        self.check_header()?;
         self.pass(line);
         self.plain = true;
         Ok(())
     }
 
-    fn is_built(&self, event: &Event) -> bool
-        ensures { result ≡ is_built self.now event.now }
+    fn say_iss(&mut self, line: &[u8], side: Side, number: Seq48) -> Result<(), LineFault>
+        requires { IsReady self.old line.now }
+        ensures verdict { (text : List ℕ) → Judges (configures self.old (with_iss side number (behind self.old line.now))) text text self.new result }
+        ensures onward { result ≡ Ok tt → IsBehind self.old line.now self.new }
     {
-        match *event {
-            Event::Open => self.plain,
-            _ => true,
+        self.check_header()?;
+        self.pass(line);
+        // Contracts learn that a number fits where it is read.
+        let _ = number.get();
+        match side {
+            Side::Client => self.client.iss = number,
+            Side::Server => self.server.iss = number,
         }
+        Ok(())
     }
 
     fn say_event(
         &mut self,
         alloc: Global,
         line: &[u8],
-        event: &Event,
+        said: &schedule_text::Event,
         text: &mut Vec<u8>,
     ) -> Result<Result<(), LineFault>, NoMemory>
         requires { IsReady self.old line.now }
-        ensures verdict { IfOk result (λ answer. Judges (says_event self.old line.now event.now) text.old.items text.new.items self.new answer) }
+        ensures verdict { IfOk result (λ answer. Judges (says_event self.old line.now said.now) text.old.items text.new.items self.new answer) }
         ensures onward { IfOk result (λ answer. answer ≡ Ok tt → IsBehind self.old line.now self.new) }
     {
-        if MOST_EVENTS <= self.events || !self.is_built(event) {
-            return Ok(Err(not_built()));
+        if MOST_EVENTS <= self.events {
+            return Ok(Err(whole_line(LineWhy::TooManyEvents)));
         }
+        let Some(event) = built_event(said, self.plain) else {
+            return Ok(Err(not_built()));
+        };
         self.make_world(alloc)?;
         let Some(world) = &mut self.world else {
             unreachable!()
         };
-        let answer = show_event(world, self.number, event, text)?;
+        let answer = show_event(world, self.number, said, &event, text)?;
         if answer.is_ok() {
             self.pass(line);
             self.events += 1;
@@ -163,33 +211,35 @@ impl Play {
 fn show_event(
     world: &mut World,
     number: u64,
+    said: &schedule_text::Event,
     event: &Event,
     text: &mut Vec<u8>,
 ) -> Result<Result<(), LineFault>, NoMemory>
-    ensures { IfOk result (λ answer. Shows (event_shown number world.old event.now) text.old.items text.new.items world.new answer) }
+    ensures { IfOk result (λ answer. Shows (event_shown number said.now world.old event.now) text.old.items text.new.items world.new answer) }
 {
     let actor = event.actor();
     let before = world.frames(actor).len();
     match world.step(event) {
-        Ok(Seen::Received(Outcome::NotBuilt)) => Ok(Err(not_built())),
         Ok(seen) => {
-            put_event_line(text, number, event, arrived(world, event), &seen)?;
+            let bytes = arrived(world, event);
+            if !is_told(&seen, bytes) {
+                return Ok(Err(not_built()));
+            }
+            print_seen(number, said, &seen_told(&seen), bytes, text)?;
             put_sent_line(text, world, actor, before)?;
             Ok(Ok(()))
         }
         Err(WorldFault::NoSuchFrame) => Ok(Err(no_such_frame())),
-        Err(WorldFault::Full) => Ok(Err(not_built())),
+        Err(WorldFault::Full) => Ok(Err(whole_line(LineWhy::TooManyEvents))),
         Err(WorldFault::NoMemory) => Err(NoMemory),
     }
 }
 
-fn not_built() -> LineFault
-    ensures { result ≡ not_built }
+// The fault of a whole line, at its first byte.
+fn whole_line(why: LineWhy) -> LineFault
+    ensures { result ≡ whole_line why }
 {
-    LineFault {
-        column: 1,
-        why: LineWhy::NotBuilt,
-    }
+    LineFault { column: 1, why }
 }
 
 // The name of a frame stands behind `deliver `.

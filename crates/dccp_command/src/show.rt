@@ -1,15 +1,15 @@
 //! The lines that `run` writes.
 ghost use Rattle.std.specs.Prelude.{◌≡◌, ◌++◌, List, ℕ, OnOk, Some, flat_map};
-ghost use Rattle.dccp_command.specs.Text.{side_name, side_letter, phase_name, stand_mark, malformed_name, sum_name, why_name, refusal_name, timer_name, hex_text};
-ghost use Rattle.dccp_command.specs.Shown.{frame_name, event_text, byte_text, data_of, outcome_text, seen_text, arrived, event_line, frame_line, sent_line, held_text, row_text, end_name, end_counts, end_rows, end_line, end_lines};
+ghost use Rattle.schedule_text.specs.Names.{side_name};
+ghost use Rattle.schedule_text.specs.Printing.{side_letter, frame_name};
+ghost use Rattle.dccp_command.specs.Text.{phase_name, stand_mark};
+ghost use Rattle.dccp_command.specs.Shown.{arrived, frame_line, sent_line, held_text, row_text, end_name, end_counts, end_rows, end_line, end_lines};
 
 use crate::text::{put, put_hex, put_number};
-use dccp_endpoint::{Endpoint, Held, Outcome, Phase, Stand, Timer, Why};
-use dccp_packets::Malformed;
-use dccp_sum::SumFault;
+use dccp_endpoint::{Endpoint, Held, Phase, Stand};
 use feature_lists::{Feature, Place};
 use seq_circle::NoMemory;
-use two_ends::{Event, Refusal, Seen, SentFrame, Side, World};
+use two_ends::{Event, SentFrame, Side, World};
 
 const FEATURES: [Feature; 9] = [
     Feature::Ccid,
@@ -67,63 +67,6 @@ fn stand_mark(stand: Stand) -> &'static [u8]
     }
 }
 
-fn malformed_name(fault: Malformed) -> &'static [u8]
-    ensures { result.now ≡ malformed_name fault }
-{
-    match fault {
-        Malformed::Short => b"Short",
-        Malformed::ReservedType => b"ReservedType",
-        Malformed::OffsetSmall => b"OffsetSmall",
-        Malformed::OffsetLarge => b"OffsetLarge",
-        Malformed::ShortNumbers => b"ShortNumbers",
-    }
-}
-
-fn sum_name(fault: SumFault) -> &'static [u8]
-    ensures { result.now ≡ sum_name fault }
-{
-    match fault {
-        SumFault::CoverageTooLarge => b"CoverageTooLarge",
-        SumFault::Wrong => b"Wrong",
-    }
-}
-
-fn why_name(why: Why) -> &'static [u8]
-    ensures { result.now ≡ why_name why }
-{
-    match why {
-        Why::Malformed(fault) => malformed_name(fault),
-        Why::Sum(fault) => sum_name(fault),
-        Why::OtherFlow => b"OtherFlow",
-        Why::StrayReset => b"StrayReset",
-        Why::ShortOff => b"ShortOff",
-        Why::BadSync => b"BadSync",
-    }
-}
-
-fn refusal_name(fault: Refusal) -> &'static [u8]
-    ensures { result.now ≡ refusal_name fault }
-{
-    match fault {
-        Refusal::NotFresh => b"NotFresh",
-        Refusal::NotOpen => b"NotOpen",
-        Refusal::NotLive => b"NotLive",
-    }
-}
-
-fn timer_name(timer: Timer) -> &'static [u8]
-    ensures { result.now ≡ timer_name timer }
-{
-    match timer {
-        Timer::Request => b"request",
-        Timer::Ack => b"ack",
-        Timer::Negotiate => b"negotiate",
-        Timer::Rto => b"rto",
-        Timer::Close => b"close",
-        Timer::TimeWait => b"timewait",
-    }
-}
-
 fn put_frame_name(text: &mut Vec<u8>, side: Side, index: u64) -> Result<(), NoMemory>
     ensures { OnOk result (text.new.items ≡ text.old.items ++ frame_name side index) }
 {
@@ -131,143 +74,17 @@ fn put_frame_name(text: &mut Vec<u8>, side: Side, index: u64) -> Result<(), NoMe
     put_number(text, index)
 }
 
-fn put_event(text: &mut Vec<u8>, event: &Event) -> Result<(), NoMemory>
-    ensures { OnOk result (text.new.items ≡ text.old.items ++ event_text event.now) }
-{
-    match *event {
-        Event::Open => put(text, b"open"),
-        Event::Deliver { from, index } => {
-            put(text, b"deliver ")?;
-            put_frame_name(text, from, index)
-        }
-        Event::Timer { side, timer } => {
-            put(text, b"timer ")?;
-            put(text, side_name(side))?;
-            put(text, b" ")?;
-            put(text, timer_name(timer))
-        }
-        Event::Close { side } => {
-            put(text, b"close ")?;
-            put(text, side_name(side))
-        }
-        Event::Abort { side } => {
-            put(text, b"abort ")?;
-            put(text, side_name(side))
-        }
-    }
-}
-
-fn put_byte(text: &mut Vec<u8>, byte: u8) -> Result<(), NoMemory>
-    ensures { OnOk result (text.new.items ≡ text.old.items ++ byte_text byte) }
-{
-    put(text, b" ")?;
-    put_number(text, u64::from(byte))
-}
-
-fn put_detail(text: &mut Vec<u8>, detail: &[u8; 3]) -> Result<(), NoMemory>
-    ensures { OnOk result (text.new.items ≡ text.old.items ++ flat_map byte_text detail.now) }
-{
-    for byte in detail {
-        put_byte(text, *byte)?;
-    }
-    Ok(())
-}
-
-// The bytes from a place up to another, as far as there are such bytes.
-fn data_of(bytes: &[u8], place: (usize, usize)) -> &[u8]
-    ensures { result.now ≡ data_of bytes.now place }
-{
-    let (first, last) = place;
-    let end = last.min(bytes.len());
-    if first < end { &bytes[first..end] } else { &[] }
-}
-
-fn put_hex_text(text: &mut Vec<u8>, bytes: &[u8]) -> Result<(), NoMemory>
-    ensures { OnOk result (text.new.items ≡ text.old.items ++ hex_text bytes.now) }
-{
-    if bytes.is_empty() {
-        put(text, b"-")
-    } else {
-        put_hex(text, bytes)
-    }
-}
-
-fn put_outcome(text: &mut Vec<u8>, bytes: &[u8], outcome: &Outcome) -> Result<(), NoMemory>
-    ensures { OnOk result (text.new.items ≡ text.old.items ++ outcome_text bytes.now outcome.now) }
-{
-    match *outcome {
-        Outcome::Took { delivered: None } => put(text, b"took"),
-        Outcome::Took {
-            delivered: Some(place),
-        } => {
-            put(text, b"took data ")?;
-            put_hex_text(text, data_of(bytes, place))
-        }
-        Outcome::Dropped(why) => {
-            put(text, b"dropped ")?;
-            put(text, why_name(why))
-        }
-        Outcome::Synced(number) => {
-            put(text, b"synced ")?;
-            put_number(text, number.get())
-        }
-        Outcome::WasReset(code) => {
-            put(text, b"was reset ")?;
-            put_number(text, u64::from(code))
-        }
-        Outcome::SentReset { code, detail } => {
-            put(text, b"sent reset ")?;
-            put_number(text, u64::from(code))?;
-            put_detail(text, &detail)
-        }
-        Outcome::NotBuilt => Ok(()),
-    }
-}
-
-fn put_seen(text: &mut Vec<u8>, bytes: &[u8], seen: &Seen) -> Result<(), NoMemory>
-    ensures { OnOk result (text.new.items ≡ text.old.items ++ seen_text bytes.now seen.now) }
-{
-    match seen {
-        Seen::Called(Ok(())) => put(text, b"ok"),
-        Seen::Called(Err(fault)) => {
-            put(text, b"refused ")?;
-            put(text, refusal_name(*fault))
-        }
-        Seen::Fired(true) => put(text, b"fired"),
-        Seen::Fired(false) => put(text, b"idle"),
-        Seen::Received(outcome) => put_outcome(text, bytes, outcome),
-    }
-}
-
 /// The bytes of the frame that an event brought to an end; none for a call.
 pub(crate) fn arrived<'a>(world: &'a World, event: &Event) -> &'a [u8]
     ensures { result.now ≡ arrived world.now event.now }
 {
-    match *event {
-        Event::Deliver { from, index } => match world.frames(from).get(index as usize) {
-            Some(frame) => frame.bytes.as_slice(),
-            None => &[],
-        },
-        _ => &[],
+    let Event::Deliver { from, index } = event else {
+        return &[];
+    };
+    match world.frames(*from).get(*index as usize) {
+        Some(frame) => frame.bytes.as_slice(),
+        None => &[],
     }
-}
-
-/// Puts the line of an event that took place. `bytes` are those of the frame that arrived.
-pub(crate) fn put_event_line(
-    text: &mut Vec<u8>,
-    number: u64,
-    event: &Event,
-    bytes: &[u8],
-    seen: &Seen,
-) -> Result<(), NoMemory>
-    ensures { OnOk result (text.new.items ≡ text.old.items ++ event_line number event.now bytes.now seen.now) }
-{
-    put_number(text, number)?;
-    put(text, b" ")?;
-    put_event(text, event)?;
-    put(text, b": ")?;
-    put_seen(text, bytes, seen)?;
-    put(text, b"\n")
 }
 
 fn put_frame_line(

@@ -1,13 +1,9 @@
 //! The worked schedules, and the words and streams of whole calls.
-use crate::show::put_event_line;
 use crate::{Status, dccp};
-use dccp_endpoint::Outcome;
 use dccp_io::{MemorySink, MemorySource};
-use hex::FromHex;
 use std::alloc::Global;
 use std::test::Fail;
 use std::thread::Threads;
-use two_ends::{Event, Seen, Side};
 
 const HANDSHAKE: &[u8] = b"plain\nopen\ndeliver c0\ndeliver s0\ndeliver c1\n";
 
@@ -37,6 +33,83 @@ end server OPEN window 4 flight 0 1=2/2 2=0/0 3=100/100 4=0/0 5=2/2 6=0/0 7=0/0 
 const EMPTY_TEXT: &[u8] =
     b"end client CLOSED window 4 flight 0 1=2/2 2=0/0 3=100/100 4=0/0 5=2/2 6=0/0 7=0/0 8=0/0 9=0/0\n\
 end server LISTEN window 4 flight 0 1=2/2 2=0/0 3=100/100 4=0/0 5=2/2 6=0/0 7=0/0 8=0/0 9=0/0\n";
+
+const NUMBER_WRAP: &[u8] = b"plain\n\
+iss client 281474976710654\n\
+open\n\
+deliver c0\n\
+deliver s0\n\
+deliver c1\n\
+deliver s1\n\
+timer client ack\n\
+deliver c2\n";
+
+const NUMBER_WRAP_TEXT: &[u8] = b"3 open: ok\n\
+sent c0 9c401389050035d50100fffffffffffe0000002a\n\
+4 deliver c0: took\n\
+sent s0 13899c40070029fd03000000000007d00000fffffffffffe0000002a\n\
+5 deliver s0: took\n\
+sent c1 9c4013890600272a0700ffffffffffff00000000000007d0\n\
+6 deliver c1: took\n\
+sent s1 13899c400600272907000000000007d10000ffffffffffff\n\
+7 deliver s1: took\n\
+8 timer client ack: fired\n\
+sent c2 9c40138906002729070000000000000000000000000007d1\n\
+9 deliver c2: took\n\
+end client OPEN window 4 flight 0 1=2/2 2=0/0 3=100/100 4=0/0 5=2/2 6=0/0 7=0/0 8=0/0 9=0/0\n\
+end server OPEN window 4 flight 0 1=2/2 2=0/0 3=100/100 4=0/0 5=2/2 6=0/0 7=0/0 8=0/0 9=0/0\n";
+
+const OLDER_REQUEST_LAST: &[u8] = b"plain\n\
+open\n\
+timer client request\n\
+deliver c1\n\
+deliver c0\n";
+
+const OLDER_REQUEST_LAST_TEXT: &[u8] = b"2 open: ok\n\
+sent c0 9c401389050031ec01000000000003e80000002a\n\
+3 timer client request: fired\n\
+sent c1 9c401389050031eb01000000000003e90000002a\n\
+4 deliver c1: took\n\
+sent s0 13899c400700261303000000000007d000000000000003e90000002a\n\
+5 deliver c0: synced 1000\n\
+sent s1 13899c400600194111000000000007d100000000000003e8\n\
+end client REQUEST window 4 flight 0 1=2/2 2=0/0 3=100/100 4=0/0 5=2/2 6=0/0 7=0/0 8=0/0 9=0/0\n\
+end server RESPOND window 4 flight 0 1=2/2 2=0/0 3=100/100 4=0/0 5=2/2 6=0/0 7=0/0 8=0/0 9=0/0\n";
+
+const REFUSED_CALLS_AND_CLOSING: &[u8] = b"plain\n\
+open\n\
+deliver c0\n\
+deliver s0\n\
+deliver c1\n\
+deliver s1\n\
+open\n\
+close client\n\
+deliver c2\n\
+deliver s2\n\
+timer client timewait\n\
+abort client\n\
+close server\n";
+
+const REFUSED_CALLS_AND_CLOSING_TEXT: &[u8] = b"2 open: ok\n\
+sent c0 9c401389050031ec01000000000003e80000002a\n\
+3 deliver c0: took\n\
+sent s0 13899c400700261403000000000007d000000000000003e80000002a\n\
+4 deliver s0: took\n\
+sent c1 9c4013890600234107000000000003e900000000000007d0\n\
+5 deliver c1: took\n\
+sent s1 13899c400600234007000000000007d100000000000003e9\n\
+6 deliver s1: took\n\
+7 open: refused NotFresh\n\
+8 close client: ok\n\
+sent c2 9c40138906001d3f0d000000000003ea00000000000007d1\n\
+9 deliver c2: sent reset 1 0 0 0\n\
+sent s2 13899c400700193a0f000000000007d200000000000003ea01000000\n\
+10 deliver s2: was reset 1\n\
+11 timer client timewait: fired\n\
+12 abort client: refused NotLive\n\
+13 close server: refused NotOpen\n\
+end client CLOSED window 4 flight 0 1=2/2 2=0/0 3=100/100 4=0/0 5=2/2 6=0/0 7=0/0 8=0/0 9=0/0\n\
+end server CLOSED window 4 flight 0 1=2/2 2=0/0 3=100/100 4=0/0 5=2/2 6=0/0 7=0/0 8=0/0 9=0/0\n";
 
 const USAGE: &[u8] =
     b"usage: dccp run | replay --side server|client [--plain] | campaign --first F --seeds N --events E --workers W | show\n";
@@ -126,67 +199,92 @@ line 3 column 9: NoSuchFrame\n";
 }
 
 #[test]
-fn refused_lines(rt: HostRuntime) -> Result<(), Fail> {
-    let late_plain: &[u8] = b"2 open: ok\n\
-sent c0 9c401389050031ec01000000000003e80000002a\n\
-line 3 column 1: NotBuilt\n";
-    let first: &[u8] = b"line 1 column 1: NotBuilt\n";
-    let second: &[u8] = b"line 2 column 1: NotBuilt\n";
-    let too_long: &[u8] = &[b'#'; 4097];
+fn worked_schedules(rt: HostRuntime) -> Result<(), Fail> {
     for (schedule, want) in [
-        (b"walk\n".as_slice(), first),
-        (b"open\n".as_slice(), first),
-        (b"plain\nopen\nplain\n".as_slice(), late_plain),
-        (b"# \x7f\n".as_slice(), first),
-        (b"plain\n#\t\n".as_slice(), second),
-        (too_long, first),
-        (b"deliver c00\n".as_slice(), first),
-        (b"deliver x0\n".as_slice(), first),
-        (b"deliver c\n".as_slice(), first),
-        (b"deliver\n".as_slice(), first),
-        (b"deliver c140737488355328\n".as_slice(), first),
-        (
-            b"deliver c140737488355327\n".as_slice(),
-            b"line 1 column 9: NoSuchFrame\n".as_slice(),
-        ),
-        (b"plain x\n".as_slice(), first),
-        (b"plain\nopen \n".as_slice(), second),
-        (b"plain\ndeliver s0 x\n".as_slice(), second),
-        (b" plain\n".as_slice(), first),
+        (NUMBER_WRAP, NUMBER_WRAP_TEXT),
+        (OLDER_REQUEST_LAST, OLDER_REQUEST_LAST_TEXT),
+        (REFUSED_CALLS_AND_CLOSING, REFUSED_CALLS_AND_CLOSING_TEXT),
     ] {
         let (status, text) = played(&rt, rt.alloc(), schedule, ROOM)?;
-        assert_eq!(rt; status, Status::Input, "{schedule:?}");
+        assert_eq!(rt; status, Status::Done, "{schedule:?}");
         assert_eq!(rt; text.as_slice(), want, "{schedule:?}");
     }
     Ok(())
 }
 
-// A DataAck with one byte of data at its end.
+// Whether a schedule is refused and its answer ends with this line.
+fn ends_refused<R: Threads + Sync>(
+    rt: &R,
+    alloc: Global,
+    schedule: &[u8],
+    want: &[u8],
+) -> Result<bool, Fail> {
+    let (status, text) = played(rt, alloc, schedule, ROOM)?;
+    Ok(status == Status::Input && text.ends_with(want))
+}
+
+// The faults of a line by itself, each behind a schedule that has begun.
 #[test]
-fn delivered_data(rt: HostRuntime) -> Result<(), Fail> {
-    let frame = <[u8; 29]>::from_hex(
-        "9c4013890700503609000000000003ea00000000000007d126030000aa",
-    ).ok();
-    let bytes = frame.ok_or("no digits")?;
-    let event = Event::Deliver {
-        from: Side::Client,
-        index: 2,
-    };
-    for (delivered, want) in [
-        (None, b"9 deliver c2: took\n".as_slice()),
-        (Some((28, 29)), b"9 deliver c2: took data aa\n".as_slice()),
-        (Some((29, 29)), b"9 deliver c2: took data -\n".as_slice()),
+fn faults_of_a_line(rt: HostRuntime) -> Result<(), Fail> {
+    let too_long: &[u8] = &[b'#'; 4097];
+    for (schedule, want) in [
+        (too_long, b"line 1 column 4097: LineTooLong\n".as_slice()),
+        (b"plain\n#\t\n", b"line 2 column 2: NotText\n"),
+        (b"set\x7f", b"line 1 column 4: NotText\n"),
+        (b"set\n", b"line 1 column 1: NotBuilt\n"),
+        (b"#\nprefer client  x\n", b"line 2 column 1: NotBuilt\n"),
+        (b"settle\n", b"line 1 column 1: UnknownWord\n"),
+        (b" plain\n", b"line 1 column 1: Missing\n"),
+        (b"deliver\n", b"line 1 column 9: Missing\n"),
+        (b"deliver x0\n", b"line 1 column 9: UnknownWord\n"),
+        (b"deliver c00\n", b"line 1 column 9: BadNumber\n"),
         (
-            Some((24, 29)),
-            b"9 deliver c2: took data 26030000aa\n".as_slice(),
+            b"iss server 281474976710656",
+            b"line 1 column 12: BadNumber\n",
+        ),
+        (b"plain\nopen \n", b"line 2 column 6: Trailing\n"),
+    ] {
+        assert!(rt;
+            ends_refused(&rt, rt.alloc(), schedule, want)?,
+            "{schedule:?}"
+        );
+    }
+    Ok(())
+}
+
+// The faults that need the lines before, and which of two comes first.
+#[test]
+fn faults_of_a_place(rt: HostRuntime) -> Result<(), Fail> {
+    for (schedule, want) in [
+        (
+            b"plain\nopen\nplain\n".as_slice(),
+            b"line 3 column 1: HeaderLate\n".as_slice(),
+        ),
+        (
+            b"plain\nopen\niss client 1\n",
+            b"line 3 column 1: HeaderLate\n",
+        ),
+        (
+            b"plain\nopen\niss client 1 2\n",
+            b"line 3 column 14: Trailing\n",
+        ),
+        (b"iss client 1\nopen\n", b"line 2 column 1: NotBuilt\n"),
+        (b"timer client negotiate\n", b"line 1 column 1: NotBuilt\n"),
+        (b"timer server rto\n", b"line 1 column 1: NotBuilt\n"),
+        (b"timer server rto 1\n", b"line 1 column 18: Trailing\n"),
+        (
+            b"deliver c140737488355327\n",
+            b"line 1 column 9: NoSuchFrame\n",
+        ),
+        (
+            b"close client\ndeliver s0\n",
+            b"line 2 column 9: NoSuchFrame\n",
         ),
     ] {
-        let seen = Seen::Received(Outcome::Took { delivered });
-        let mut text = Vec::new(rt.alloc());
-        put_event_line(&mut text, 9, &event, &bytes, &seen)
-            .ok()
-            .ok_or("no memory")?;
-        assert_eq!(rt; text.as_slice(), want, "{delivered:?}");
+        assert!(rt;
+            ends_refused(&rt, rt.alloc(), schedule, want)?,
+            "{schedule:?}"
+        );
     }
     Ok(())
 }
