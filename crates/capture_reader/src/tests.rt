@@ -12,11 +12,9 @@ const ONE_PACKET: [u8; 80] = [
     0, 0, 0, 0, 3, 0xe8, 0, 0, 0, 0x2a,
 ];
 
-// A source over these bytes that gives at most `most` a call.
-fn source_of(alloc: Global, bytes: &[u8], most: usize) -> Result<MemorySource, Fail>
-    requires { 1 ≤ most }
-{
-    Ok(MemorySource::new(bytes.to_vec(alloc)?, Vec::new(alloc), most))
+// A source over these bytes that gives at most `most` a call, and at least one.
+fn source_of(alloc: Global, bytes: &[u8], most: usize) -> Result<MemorySource, Fail> {
+    Ok(MemorySource::new(bytes.to_vec(alloc)?, Vec::new(alloc), most.max(1)))
 }
 
 // How a capture is read: the sums of what its records tell, and its end.
@@ -242,7 +240,7 @@ fn every_prefix_of_three_records(rt: HostRuntime) -> Result<(), Fail> {
 #[test]
 fn the_limit_of_bytes(rt: HostRuntime) {
     for (count, room, size, fault) in [
-        (16, 4_294_967_272, 16, None),
+        (16_u8, 4_294_967_272, 16, None),
         (16, 4_294_967_272, 15, Some(CaptureFault::CutShort)),
         (16, 16, 16, None),
         (16, 15, 14, Some(CaptureFault::CutShort)),
@@ -254,7 +252,7 @@ fn the_limit_of_bytes(rt: HostRuntime) {
         (100, 4, 3, Some(CaptureFault::CutShort)),
     ] {
         assert_eq!(rt;
-            missing(count, room, size),
+            missing(usize::from(count), room, size),
             fault,
             "{count} of {size} where {room} count"
         );
@@ -262,11 +260,11 @@ fn the_limit_of_bytes(rt: HostRuntime) {
 }
 
 // How a file header with one byte changed is refused.
-fn refusal(alloc: Global, place: usize, byte: u8) -> Result<Option<CaptureFault>, Fail>
-    requires { place < 24 }
-{
+fn refusal(alloc: Global, place: usize, byte: u8) -> Result<Option<CaptureFault>, Fail> {
     let mut header = BIG_MICROS;
-    header[place] = byte;
+    if place < header.len() {
+        header[place] = byte;
+    }
     Ok(summed(alloc, source_of(alloc, &header, 100)?).end)
 }
 

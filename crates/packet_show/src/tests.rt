@@ -232,10 +232,8 @@ struct Told {
     end: Option<CaptureFault>,
 }
 
-fn shown_of(alloc: Global, bytes: &[u8], most: usize) -> Result<Told, Fail>
-    requires { 1 ≤ most }
-{
-    let source = MemorySource::new(bytes.to_vec(alloc)?, Vec::new(alloc), most);
+fn shown_of(alloc: Global, bytes: &[u8], most: usize) -> Result<Told, Fail> {
+    let source = MemorySource::new(bytes.to_vec(alloc)?, Vec::new(alloc), most.max(1));
     let mut told = Told {
         text: Vec::new(alloc),
         shown: 0,

@@ -1,5 +1,8 @@
 //! Lines with each fault at its column, lines that are taken, and what is printed. No value here comes from the program:
 //! columns are counted by hand from the table of faults, and some are those that a second implementation answered.
+ghost use Rattle.std.specs.Prelude.{◌≡◌, true};
+ghost use Rattle.schedule_text.specs.Results.{IsSeenOf};
+
 use crate::{
     Event, Line, LineFault, LineWhy, Payload, Refusal, Seen, Timer, Values, is_unbuilt,
     print_event, print_seen, read_frame, read_line,
@@ -207,18 +210,23 @@ fn a_line_of_4096_bytes_is_read(rt: HostRuntime) -> Result<(), Fail> {
     Ok(())
 }
 
+// The side and the number of a line `iss`.
+fn first_number(line: &Line) -> Option<(Side, u64)> {
+    match line {
+        Line::Iss { side, number } => Some((*side, number.get())),
+        _ => None,
+    }
+}
+
 #[test]
 fn lines_before_events(rt: HostRuntime) -> Result<(), Fail> {
     assert!(rt; matches!(read_line(b""), Ok(Line::Nothing)));
     assert!(rt; matches!(read_line(b"# open "), Ok(Line::Nothing)));
     assert!(rt; matches!(read_line(b"plain"), Ok(Line::Plain)));
-    match read_line(b"iss server 281474976710655") {
-        Ok(Line::Iss { side, number }) => {
-            assert_eq!(rt; side, Side::Server);
-            assert_eq!(rt; number.get(), 281_474_976_710_655);
-        }
-        _ => return Err(Fail::from("iss")),
-    }
+    let Ok(line) = read_line(b"iss server 281474976710655") else {
+        return Err(Fail::from("iss"));
+    };
+    assert_eq!(rt; first_number(&line), Some((Side::Server, 281_474_976_710_655)));
     match read_line(b"set client there 1 248,2") {
         Ok(
             Line::Set {
@@ -389,9 +397,30 @@ fn payloads_and_values_have_their_room(rt: HostRuntime) -> Result<(), Fail> {
     Ok(())
 }
 
-fn seen_text(alloc: Global, line: u64, event: &Event, seen: &Seen) -> Result<Vec<u8>, Fail> {
+// Data that is delivered stands in the frame.
+fn is_seen_of(frame: &[u8], seen: &Seen) -> bool
+    ensures { result ≡ true → IsSeenOf frame.now seen.now }
+{
+    match seen {
+        Seen::Received(Outcome::Took {
+            delivered: Some((first, past)),
+        }) => *first <= *past && *past <= frame.len(),
+        _ => true,
+    }
+}
+
+fn seen_text(
+    alloc: Global,
+    line: u64,
+    event: &Event,
+    seen: &Seen,
+    frame: &[u8],
+) -> Result<Vec<u8>, Fail> {
+    if !is_seen_of(frame, seen) {
+        return Err(Fail::from("no such data"));
+    }
     let mut text = Vec::new(alloc);
-    print_seen(line, event, seen, b"", &mut text)
+    print_seen(line, event, seen, frame, &mut text)
         .ok()
         .ok_or("no memory")?;
     Ok(text)
@@ -437,7 +466,7 @@ fn results_of_calls_and_timers(rt: HostRuntime) -> Result<(), Fail> {
         (Seen::Fired(false), b"7 open: idle\n"),
     ];
     for (seen, wanted) in &cases {
-        let text = seen_text(rt.alloc(), 7, &Event::Open, seen)?;
+        let text = seen_text(rt.alloc(), 7, &Event::Open, seen, b"")?;
         assert!(rt; text.as_slice() == *wanted, "{text:?}");
     }
     Ok(())
@@ -499,7 +528,7 @@ fn results_of_deliveries(rt: HostRuntime) -> Result<(), Fail> {
         (Outcome::Synced(number), b"3 deliver c0: synced 1000\n"),
     ];
     for (outcome, wanted) in &cases {
-        let text = seen_text(rt.alloc(), 3, &event, &Seen::Received(*outcome))?;
+        let text = seen_text(rt.alloc(), 3, &event, &Seen::Received(*outcome), b"")?;
         assert!(rt; text.as_slice() == *wanted, "{text:?}");
     }
     Ok(())
@@ -516,9 +545,9 @@ fn results_with_resets_and_data(rt: HostRuntime) -> Result<(), Fail> {
         code: 6,
         detail: [34, 6, 1],
     });
-    let text = seen_text(rt.alloc(), 10, &event, &was)?;
+    let text = seen_text(rt.alloc(), 10, &event, &was, b"")?;
     assert!(rt; text.as_slice() == b"10 deliver s12: was reset 6\n".as_slice());
-    let text = seen_text(rt.alloc(), 10, &event, &sent)?;
+    let text = seen_text(rt.alloc(), 10, &event, &sent, b"")?;
     assert!(rt; text.as_slice() == b"10 deliver s12: sent reset 6 34 6 1\n".as_slice());
     let frame = [1, 2, 0xaa, 0xbb];
     let places: [((usize, usize), &[u8]); 3] = [
@@ -530,10 +559,7 @@ fn results_with_resets_and_data(rt: HostRuntime) -> Result<(), Fail> {
         let seen = Seen::Received(Outcome::Took {
             delivered: Some(*place),
         });
-        let mut text = Vec::new(rt.alloc());
-        print_seen(10, &event, &seen, &frame, &mut text)
-            .ok()
-            .ok_or("no memory")?;
+        let text = seen_text(rt.alloc(), 10, &event, &seen, &frame)?;
         assert!(rt; text.as_slice() == *wanted, "{text:?}");
     }
     Ok(())
