@@ -226,7 +226,10 @@ fn lines_before_events(rt: HostRuntime) -> Result<(), Fail> {
     let Ok(line) = read_line(b"iss server 281474976710655") else {
         return Err(Fail::from("iss"));
     };
-    assert_eq!(rt; first_number(&line), Some((Side::Server, 281_474_976_710_655)));
+    assert_eq!(rt;
+        first_number(&line),
+        Some((Side::Server, 281_474_976_710_655))
+    );
     match read_line(b"set client there 1 248,2") {
         Ok(
             Line::Set {
@@ -402,9 +405,11 @@ fn is_seen_of(frame: &[u8], seen: &Seen) -> bool
     ensures { result ≡ true → IsSeenOf frame.now seen.now }
 {
     match seen {
-        Seen::Received(Outcome::Took {
-            delivered: Some((first, past)),
-        }) => *first <= *past && *past <= frame.len(),
+        Seen::Received(
+            Outcome::Took {
+                delivered: Some((first, past)),
+            },
+        ) => *first <= *past && *past <= frame.len(),
         _ => true,
     }
 }
