@@ -87,11 +87,13 @@ pub data IsAcknowledging (e : EndState) (given : Input) : Option ℕ → Type 0 
   ByVerdict : (ack : ℕ) (a : Incoming) → Came e given a → a.kind ≢ types.Reset → a.ack ≡ Some ack → entrance_of e a ≡ entrance.Check
       → verdict_of e a ≡ verdicts.Valid → IsAcknowledging e given (Some ack)
 
+-- a packet goes out under the next number
 abbrev pub HasNext : Sending → Type 0
 HasNext Silent = ⊥
 HasNext (Next packet) = Unit {0}
 HasNext (WithoutConnection number packet) = ⊥
 
+-- the first packet of the connection was heard
 abbrev pub IsFirst : Hearing → Type 0
 IsFirst Unheard = ⊥
 IsFirst (Heard first number how) = first ≡ true
@@ -123,6 +125,7 @@ abbrev pub is_code_without_connection : Role → ℕ → Bool
 is_code_without_connection role.Client code = code == (number_of_code codes.NoConnection)
 is_code_without_connection role.Server code = code == (number_of_code codes.NoConnection) || code == (number_of_code codes.BadServiceCode)
 
+-- the packet is such a Reset
 abbrev pub is_without_connection : Role → Kind → Bool
 is_without_connection who (kind.Reset ack code detail) = is_code_without_connection who code
 is_without_connection who _ = false
@@ -143,6 +146,7 @@ pub record IsSilentDraft (draft : Draft) : Type 0 where
   pub sendable : IsSendable draft
   pub no_options : draft.options ≡ []
 
+-- so it is with whatever goes out
 abbrev pub SaysNothing : Sending → Type 0
 SaysNothing Silent = Unit {0}
 SaysNothing (Next packet) = IsSilentDraft packet

@@ -69,7 +69,7 @@ effect_of hearing acknowledged opening phase opens sending =
 abbrev pub effect_of_sending : EndState → Sending → Effect
 effect_of_sending e sending = effect_of Unheard None false e.phase false sending
 
--- What each part makes of the old value.
+-- What each part makes of the old value. A first number takes the place of the old one; any other leaves ISR and raises GSR.
 abbrev pub first_or : Bool → ℕ → ℕ → ℕ
 first_or true number old = number
 first_or false number old = old
@@ -78,6 +78,7 @@ abbrev pub greatest_or : Bool → ℕ → ℕ → ℕ
 greatest_or true number old = number
 greatest_or false number old = later_of old number
 
+-- ISR, GSR and OSR by what was heard
 abbrev pub first_by : ℕ → Hearing → ℕ
 first_by old Unheard = old
 first_by old (Heard first number how) = first_or first number old
@@ -90,15 +91,18 @@ abbrev pub osr_by : ℕ → Hearing → Bool → ℕ
 osr_by old Unheard opening = old
 osr_by old (Heard first number how) opening = osr_after (first_or first number old) number opening
 
+-- GAR by what was acknowledged
 abbrev pub gar_by : ℕ → Option ℕ → ℕ
 gar_by old None = old
 gar_by old (Some ack) = later_of old ack
 
+-- GSS by what goes out
 abbrev pub gss_by : EndState → Sending → ℕ
 gss_by e Silent = e.marks.gss
 gss_by e (Next packet) = next_number e
 gss_by e (WithoutConnection number packet) = e.marks.gss
 
+-- whether `open` was ever taken
 abbrev pub opened_by : Bool → Bool → Bool
 opened_by old true = true
 opened_by old false = old

@@ -87,10 +87,12 @@ pub data IsValid (e : EndState) (a : Incoming) (entered : EndState) : Type 0 whe
   PacketInWindow : entrance_of e a ≡ entrance.Check → a.kind ≢ types.Reset → verdict_of e a ≡ verdicts.Valid → entered ≡ raised e a
       → IsValid e a entered
 
+-- the bytes are such a packet
 pub record IsValidPacket (e : EndState) (bytes : List ℕ) (a : Incoming) (entered : EndState) : Type 0 where
   pub came : Came e (Arrives bytes) a
   pub is_valid : IsValid e a entered
 
+-- it is a Response for another service than was asked for
 abbrev pub is_for_another : EndState → Incoming → Bool
 is_for_another entered a = is_other_service entered entered.phase a.kind a.service
 

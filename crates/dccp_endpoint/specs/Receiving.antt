@@ -55,25 +55,31 @@ long_number (Short number) = Err why.ShortOff
 abbrev pub is_of_connection : EndState → Header → Bool
 is_of_connection e header = (header.from == e.config.peer_port) && (header.to == e.config.own_port)
 
+-- the ports come before the form of the number
 abbrev pub by_ports : Number → Bool → Result ℕ Why
 by_ports number true = long_number number
 by_ports number false = Err why.OtherFlow
 
+-- the checksum comes before the ports
 abbrev pub by_sum : EndState → Header → Result (Unit {0}) SumFault → Result ℕ Why
 by_sum e header (Ok _) = by_ports header.number (is_of_connection e header)
 by_sum e header (Err fault) = Err (why.Sum fault)
 
+-- what the header and the checksum say of a packet: its long number, or why it is dropped
 abbrev pub checks_header : EndState → List ℕ → Header → Result ℕ Why
 checks_header e bytes header = by_sum e header (checked e.config.pseudo_in bytes)
 
+-- a packet that step 1 lets pass is read once
 abbrev pub with_number : EndState → List ℕ → Parts → Result ℕ Why → Result Incoming Why
 with_number e bytes p (Ok number) = Ok (incoming e bytes p number)
 with_number e bytes p (Err why) = Err why
 
+-- bytes that are no packet are dropped before the rest is asked
 abbrev pub with_packet : EndState → List ℕ → Result Parts Malformed → Result Incoming Why
 with_packet e bytes (Ok p) = with_number e bytes p (checks_header e bytes p.header)
 with_packet e bytes (Err fault) = Err (why.Malformed fault)
 
+-- step 1, whole
 abbrev pub arrives : EndState → List ℕ → Result Incoming Why
 arrives e bytes = with_packet e bytes (decoded bytes)
 
@@ -82,6 +88,7 @@ pub data Course : Type 0 where
   Goes : (x : EndState) → Course
   Leaves : (x : EndState) (exit : Exit) → Course
 
+-- a course as the end that a method leaves and the method's answer
 abbrev pub course : EndState → Result (Unit {0}) Exit → Course
 course x (Ok _) = Goes x
 course x (Err exit) = Leaves x exit
@@ -97,15 +104,17 @@ abbrev pub started : EndState → Phase → Incoming → EndState
 started e phase a =
     record e { phase = phase; marks = begun e.marks a.kind a.number a.ack }
 
--- Step 3: in LISTEN a Request for this service opens the connection.
+-- Step 3: in LISTEN a Request for this service opens the connection. Whether the end's service is meant:
 abbrev pub is_own_service : EndState → Option ℕ → Bool
 is_own_service e None = false
 is_own_service e (Some service) = service == e.config.service
 
+-- by whether the Request asks for the end's service
 abbrev pub opens_connection : Incoming → EndState → Bool → Course
 opens_connection a x true = Goes (started x phases.Respond a)
 opens_connection a x false = Leaves x (exits.ResetWithoutConnection codes.BadServiceCode)
 
+-- step 3, whole
 abbrev pub accepts_request : Incoming → Entrance → EndState → Course
 accepts_request a entrance.Accept x = opens_connection a x (is_own_service x a.service)
 accepts_request a _ x = Goes x
@@ -121,6 +130,7 @@ answers a x _ false = Leaves x exits.PacketError
 abbrev pub acknowledges_in_window : EndState → Incoming → Bool
 acknowledges_in_window e a = is_ack_within (ack_low e.marks) (ack_high e.marks) a.ack
 
+-- step 4, whole; in REQUEST any other type is an error
 abbrev pub takes_answer : Incoming → Entrance → EndState → Course
 takes_answer a entrance.InRequest x = answers a x a.kind (acknowledges_in_window x a)
 takes_answer a entrance.PacketError x = Leaves x exits.PacketError
@@ -130,15 +140,18 @@ takes_answer a _ x = Goes x
 abbrev pub raised : EndState → Incoming → EndState
 raised e a = record e { marks = taken e.marks a.kind a.number a.ack }
 
+-- by the type of a packet whose numbers are valid
 abbrev pub raises : Incoming → EndState → PacketType → Course
 raises a x types.Reset = Goes x
 raises a x _ = Goes (raised x a)
 
+-- by the verdict of the windows
 abbrev pub judged : Incoming → EndState → Verdict → Course
 judged a x verdicts.Valid = raises a x a.kind
 judged a x (verdicts.SyncFor number) = Leaves x (exits.Sync number)
 judged a x verdicts.Drop = Leaves x (exits.Drop why.BadSync)
 
+-- steps 5 and 6, whole
 abbrev pub checks_numbers : Incoming → Entrance → EndState → Course
 checks_numbers a entrance.Check x = judged a x (verdict x.marks a.kind a.number a.ack)
 checks_numbers a _ x = Goes x
@@ -149,22 +162,26 @@ ends_by_reset a types.Reset x = Leaves x (exits.TimeWait a.code)
 ends_by_reset a _ x = Goes x
 
 -- Step 7: a packet that its phase does not expect is answered with a Sync; a Response for another service than was asked for ends
--- the connection.
+-- the connection. Whether its phase expects it:
 abbrev pub is_unexpected : EndState → Incoming → Bool
 is_unexpected x a = unexpected x.config.role x.phase a.kind (not (is_before a.number x.marks.osr))
 
+-- whether it is a Response, in REQUEST, for another service
 abbrev pub is_other_service : EndState → Phase → PacketType → Option ℕ → Bool
 is_other_service e phases.Request types.Response service = not (is_own_service e service)
 is_other_service e _ _ service = false
 
+-- by whether the service is another
 abbrev pub serves : Incoming → EndState → Bool → Course
 serves a x true = Leaves x (exits.Shut (without_detail (number_of_code codes.BadServiceCode)))
 serves a x false = Goes x
 
+-- by whether the packet is unexpected
 abbrev pub expects : Incoming → EndState → Bool → Course
 expects a x true = Leaves x (exits.Sync a.number)
 expects a x false = serves a x (is_other_service x x.phase a.kind a.service)
 
+-- step 7, whole
 abbrev pub checks_type : Incoming → EndState → Course
 checks_type a x = expects a x (is_unexpected x a)
 
@@ -173,14 +190,16 @@ abbrev pub heeds : EndState → Option Fault → Course
 heeds x (Some fault) = Leaves x (exits.Shut fault)
 heeds x None = Goes x
 
+-- by whether the packet needs a part that is not built
 abbrev pub reads : Incoming → EndState → Bool → Course
 reads a x true = Leaves x exits.NotBuilt
 reads a x false = heeds x (first_fault a.options)
 
+-- step 8, whole
 abbrev pub reads_options : Incoming → EndState → Course
 reads_options a x = reads a x (is_unbuilt x.phase a.kind a.options)
 
--- the steps from 2 on, in their order, and what they make of a packet
+-- The steps from 2 on, in their order. Each is given the end as the one before it left it.
 abbrev pub the_steps : Incoming → Entrance → List (EndState → Course)
 the_steps a entrance =
     -- 2
@@ -199,19 +218,22 @@ the_steps a entrance =
     ∷ reads_options a
     ∷ []
 
+-- steps one after another, up to the one at which the packet leaves
 abbrev pub through : Course → List (EndState → Course) → Course
 through (Leaves x exit) steps = Leaves x exit
 through (Goes x) [] = Goes x
 through (Goes x) (step ∷ steps) = through (step x) steps
 
--- Steps 10 to 15: the phase moves by the table, and the number with which it becomes OPEN is OSR.
+-- Steps 10 to 15: the phase moves by the table, and the number with which it becomes OPEN is OSR. OSR is set in that case alone:
 abbrev pub osr_after : ℕ → ℕ → Bool → ℕ
 osr_after osr number true = number
 osr_after osr number false = osr
 
+-- whether the phase becomes OPEN
 abbrev pub becomes_open : Phase → Phase → Bool
 becomes_open old new = is_open new && not (is_open old)
 
+-- the end in its next phase
 abbrev pub moved_to : EndState → Phase → ℕ → EndState
 moved_to e phase number =
     record e { phase = phase; marks = record e.marks { osr = osr_after e.marks.osr number (becomes_open e.phase phase) } }
@@ -224,6 +246,7 @@ took = Took None
 abbrev pub resets : EndState → ℕ → Fault → Step Outcome
 resets e ack fault = sends e (reset_of ack fault) (SentReset fault.code (detail_of fault))
 
+-- what the table sends; a Reset has left at step 9
 abbrev pub replies : EndState → Incoming → Reply → Step Outcome
 replies e a reply.Nothing = idle e took
 replies e a reply.Response = sends e (alone (kind.Response e.marks.gsr e.config.service)) took
@@ -233,14 +256,17 @@ replies e a reply.ResetClosed = resets e e.marks.gsr (without_detail (number_of_
 replies e a reply.SyncAck = sends e (alone (kind.SyncAck a.number)) took
 replies e a reply.Torn = idle e took
 
+-- steps 10 to 16, whole, by the row of the table
 abbrev pub processes : EndState → Incoming → Phase × Reply → Step Outcome
 processes e a to = replies (moved_to e to.0 a.number) a to.1
 
--- A Reset without a connection takes its numbers from the packet, and the end stays as it is (own).
+-- A Reset without a connection takes its numbers from the packet, and the end stays as it is (own). Its number is the next after the
+-- acknowledgement:
 abbrev pub number_without_connection : Option ℕ → ℕ
 number_without_connection None = 0
 number_without_connection (Some ack) = residue (ack + 1)
 
+-- a Reset without a connection that tells of a fault
 abbrev pub resets_without_connection : EndState → Incoming → Fault → Step Outcome
 resets_without_connection e a fault =
     record {
@@ -250,7 +276,7 @@ resets_without_connection e a fault =
       answer = SentReset fault.code (detail_of fault);
     }
 
--- a Reset 4 tells of the packet's type
+-- Packet Error tells of the packet's type
 abbrev pub packet_fault : Incoming → Fault
 packet_fault a = record { code = (number_of_code codes.PacketError); first = code_of a.kind; second = 0; third = 0 }
 
@@ -264,13 +290,16 @@ leaves phase marks e a (exits.Shut fault) = resets (in_phase e phases.Closed) e.
 leaves phase marks e a (exits.TimeWait code) = idle (in_phase e phases.TimeWait) (WasReset code)
 leaves phase marks e a exits.NotBuilt = idle (record e { phase = phase; marks = marks }) NotBuilt
 
+-- what is done in the end, by the course of the steps
 abbrev pub ends_as : EndState → Incoming → Course → Step Outcome
 ends_as before a (Goes x) = processes x a (after x.phase a.kind)
 ends_as before a (Leaves x exit) = leaves before.phase before.marks x a exit
 
+-- steps 2 to 16, whole
 abbrev pub takes : EndState → Incoming → Step Outcome
 takes e a = ends_as e a (through (Goes e) (the_steps a (gate e.phase a.kind)))
 
+-- what step 1 lets pass is taken, and all else dropped
 abbrev pub received : EndState → Result Incoming Why → Step Outcome
 received e (Ok a) = takes e a
 received e (Err why) = idle e (Dropped why)

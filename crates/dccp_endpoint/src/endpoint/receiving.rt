@@ -45,7 +45,7 @@ fn without_detail(code: ResetCode) -> Fault
     }
 }
 
-// A Reset 4 tells of the packet's type.
+// Packet Error tells of the packet's type.
 fn packet_fault(packet: &IncomingPacket<'_>) -> Fault
     ensures { result ≡ packet_fault packet.now }
 {
