@@ -8,19 +8,9 @@ use Rattle.dccp_packets.specs.Grammar.{fixed_length}
 
 -- no fixed part is longer than a Response's
 pub fixed_part_is_short : (long : Bool) (kind : PacketType) → fixed_length long kind ≤ 28
-fixed_part_is_short long types.Request = omega arith
-fixed_part_is_short long types.Response = omega arith
 fixed_part_is_short true types.Data = omega arith
 fixed_part_is_short false types.Data = omega arith
-fixed_part_is_short true types.Ack = omega arith
-fixed_part_is_short false types.Ack = omega arith
-fixed_part_is_short true types.DataAck = omega arith
-fixed_part_is_short false types.DataAck = omega arith
-fixed_part_is_short long types.CloseReq = omega arith
-fixed_part_is_short long types.Close = omega arith
-fixed_part_is_short long types.Reset = omega arith
-fixed_part_is_short long types.Sync = omega arith
-fixed_part_is_short long types.SyncAck = omega arith
+fixed_part_is_short _ _ = omega arith
 
 -- as many bytes as there were take the place of all
 pub refill-same : (old new : List ℕ) → length new ≡ length old → refill (length old) old new ≡ new

@@ -25,17 +25,9 @@ listed false items none is = is
 listed true items none is =
     subst (λ (xs : List Item). options_of (padded (written xs)) true ≡ map Ok (entries_at 0 xs)) (sym (none refl)) refl
 
-type-kept : (k : Kind) → packet_type (kind_in_widths k) ≡ packet_type k
-type-kept (kind.Request service) = refl
-type-kept (kind.Response ack service) = refl
+pub type-kept : (k : Kind) → packet_type (kind_in_widths k) ≡ packet_type k
 type-kept kind.Data = refl
-type-kept (kind.Ack ack) = refl
-type-kept (kind.DataAck ack) = refl
-type-kept (kind.CloseReq ack) = refl
-type-kept (kind.Close ack) = refl
-type-kept (kind.Reset ack code detail) = refl
-type-kept (kind.Sync ack) = refl
-type-kept (kind.SyncAck ack) = refl
+type-kept _ = refl
 
 pub own_frames_read_in_widths : (config : Config) (number : ℕ) (draft : Draft) → IsSendable draft
     → ReadsAs (in_widths (header_of config number draft.kind)) config.pseudo_out draft (frame_of config number draft)

@@ -1,5 +1,6 @@
 -- Worked packets, computed from the definitions: what the standard's numbers and the RFC 1071 sum come to by hand, as bytes.
 use Rattle.std.proofs.Common.{◌≡◌, refl, ℕ, ◌+◌, ◌-◌, ◌*◌, nat_le, if◌then◌else◌, true, false, List, [], ◌∷◌, Option, Some, None, Ok, Err, codes}
+use Prim.Native.String.{String}
 use Rattle.dccp_packets.specs.declared.reading.Malformed.TheVariants as malformed
 use Rattle.dccp_sum.specs.declared.packet_sum.SumFault.TheVariants as sums
 use Rattle.dccp_states.specs.declared.phase.Phase.{Phase}
@@ -27,210 +28,175 @@ bytes [] = []
 bytes (digit_alone ∷ []) = []
 bytes (high ∷ low ∷ rest) = (16 * digit high + digit low) ∷ bytes rest
 
--- what is seen of a step: its answer, its frame and the phase after it
-record Seen : Type 0 where
-  answer : Outcome
-  frame : Option (List ℕ)
-  phase : Phase
-
-abbrev seen : Outcome → Option (List ℕ) → Phase → Seen
-seen answer frame phase = record { answer = answer; frame = frame; phase = phase }
-
-abbrev sent : List ℕ → Option (List ℕ)
-sent digits = Some (bytes digits)
+abbrev sent : String → Option (List ℕ)
+sent digits = Some (bytes (codes digits))
 
 -- a packet arrives
-abbrev took_in : EndState → List ℕ → EndState
-took_in e digits = (receives e (bytes digits)).after
+abbrev arrives : EndState → String → Step Outcome
+arrives e digits = receives e (bytes (codes digits))
 
-abbrev shows : Step Outcome → Seen
-shows step = seen step.answer step.frame step.after.phase
+-- what is seen of a step: its answer, its frame and the phase after it
+abbrev seen : {Answer : Type 0} → Step Answer → Answer × Option (List ℕ) × Phase
+seen step = (step.answer, step.frame, step.after.phase)
 
-abbrev shows_frame : EndState → List ℕ → Option (List ℕ)
-shows_frame e digits = (receives e (bytes digits)).frame
+-- the packets of a handshake, and of its end from the client's side
+abbrev request : String
+request = "9c401389050031ec01000000000003e80000002a"
 
-abbrev answered : EndState → List ℕ → Seen
-answered e digits = shows (receives e (bytes digits))
+abbrev response : String
+response = "13899c400700261403000000000007d000000000000003e80000002a"
 
--- what is seen of a call or a timer
-abbrev called : {Answer : Type 0} → Step Answer → Answer × (Option (List ℕ) × Phase)
-called step = (step.answer, (step.frame, step.after.phase))
+abbrev client_ack : String
+client_ack = "9c4013890600234107000000000003e900000000000007d0"
 
+abbrev server_ack : String
+server_ack = "13899c400600234007000000000007d100000000000003e9"
+
+abbrev close : String
+close = "9c40138906001d3f0d000000000003ea00000000000007d1"
+
+abbrev closed : String
+closed = "13899c400700193a0f000000000007d200000000000003ea01000000"
+
+-- the Response to the Request that came again
+abbrev response_again : String
+response_again = "13899c400700261303000000000007d100000000000003e80000002a"
+
+-- the ends on the way through it
 abbrev listening : EndState
 listening = fresh (usual Server)
 
 abbrev requesting : EndState
 requesting = (opens (fresh (usual Client))).after
 
--- a handshake, from both ends
-plain-handshake :
-    (answered listening (codes "9c401389050031ec01000000000003e80000002a")
-    ≡ seen (Took None) (sent (codes "13899c400700261403000000000007d000000000000003e80000002a")) phase.Respond)
-    × (answered (took_in listening (codes "9c401389050031ec01000000000003e80000002a")) (codes "9c4013890600234107000000000003e900000000000007d0")
-    ≡ seen (Took None) (sent (codes "13899c400600234007000000000007d100000000000003e9")) phase.Open)
-    × (answered requesting (codes "13899c400700261403000000000007d000000000000003e80000002a")
-    ≡ seen (Took None) (sent (codes "9c4013890600234107000000000003e900000000000007d0")) phase.PartOpen)
-    × (answered (took_in requesting (codes "13899c400700261403000000000007d000000000000003e80000002a")) (codes "13899c400600234007000000000007d100000000000003e9")
-    ≡ seen (Took None) None phase.Open)
-unfolding receives opens framed
-plain-handshake = (refl, refl, refl, refl)
+abbrev responding : EndState
+responding = (arrives listening request).after
 
--- what step 1 drops, and a Reset without a connection
+abbrev open_server : EndState
+open_server = (arrives responding client_ack).after
+
+abbrev open_client : EndState
+open_client = (arrives (arrives requesting response).after server_ack).after
+
+handshake :
+    (seen (opens (fresh (usual Client))) ≡ (Ok tt, sent request, phase.Request))
+    × (seen (arrives listening request) ≡ (Took None, sent response, phase.Respond))
+    × (seen (arrives requesting response) ≡ (Took None, sent client_ack, phase.PartOpen))
+    × (seen (arrives responding client_ack) ≡ (Took None, sent server_ack, phase.Open))
+    × (seen (arrives (arrives requesting response).after server_ack) ≡ (Took None, None, phase.Open))
+unfolding receives opens framed
+handshake = (refl, refl, refl, refl, refl)
+
+-- what step 1 drops, a Reset without a connection, No Connection, and Bad Service Code at a server
 dropped-in-listen :
-    (answered listening (codes "0102")
-    ≡ seen (Dropped (why.Malformed malformed.Short)) None phase.Listen)
-    × (answered listening (codes "9c401389050031ed01000000000003e80000002a")
-    ≡ seen (Dropped (why.Sum sums.Wrong)) None phase.Listen)
-    × (answered listening (codes "9c4013890503000001000000000003e80000002a01020304050607")
-    ≡ seen (Dropped (why.Sum sums.CoverageTooLarge)) None phase.Listen)
-    × (answered listening (codes "9c411389050031eb01000000000003e80000002a")
-    ≡ seen (Dropped why.OtherFlow) None phase.Listen)
-    × (answered listening (codes "9c40138904002647060003ea000007d1")
-    ≡ seen (Dropped why.ShortOff) None phase.Listen)
-    × (answered listening (codes "9c4013890700183d0f000000000003e900000000000007d002000000")
-    ≡ seen (Dropped why.StrayReset) None phase.Listen)
-unfolding receives opens framed
-dropped-in-listen = (refl, refl, refl, refl, refl, refl)
-
--- No Connection, and Bad Service Code at a server, without a connection
-reset-in-listen :
-    (answered listening (codes "9c4013890600234107000000000003e900000000000007d0")
-    ≡ seen (SentReset 3 (0 ∷ 0 ∷ 0 ∷ [])) (sent (codes "13899c400700173c0f000000000007d100000000000003e903000000")) phase.Listen)
-    × (answered listening (codes "9c401389050031eb01000000000003e80000002b")
-    ≡ seen (SentReset 8 (0 ∷ 0 ∷ 0 ∷ [])) (sent (codes "13899c4007001a0e0f0000000000000000000000000003e808000000")) phase.Listen)
-unfolding receives opens framed
-reset-in-listen = (refl, refl)
+    (seen (arrives listening "0102") ≡ (Dropped (why.Malformed malformed.Short), None, phase.Listen))
+    × (seen (arrives listening "9c401389050031ed01000000000003e80000002a") ≡ (Dropped (why.Sum sums.Wrong), None, phase.Listen))
+    × (seen (arrives listening "9c4013890503000001000000000003e80000002a01020304050607") ≡ (Dropped (why.Sum sums.CoverageTooLarge), None, phase.Listen))
+    × (seen (arrives listening "9c411389050031eb01000000000003e80000002a") ≡ (Dropped why.OtherFlow, None, phase.Listen))
+    × (seen (arrives listening "9c40138904002647060003ea000007d1") ≡ (Dropped why.ShortOff, None, phase.Listen))
+    × (seen (arrives listening "9c4013890700183d0f000000000003e900000000000007d002000000") ≡ (Dropped why.StrayReset, None, phase.Listen))
+    × (seen (arrives listening client_ack)
+    ≡ (SentReset 3 (0 ∷ 0 ∷ 0 ∷ []), sent "13899c400700173c0f000000000007d100000000000003e903000000", phase.Listen))
+    × (seen (arrives listening "9c401389050031eb01000000000003e80000002b")
+    ≡ (SentReset 8 (0 ∷ 0 ∷ 0 ∷ []), sent "13899c4007001a0e0f0000000000000000000000000003e808000000", phase.Listen))
+unfolding receives framed
+dropped-in-listen = (refl, refl, refl, refl, refl, refl, refl, refl)
 
 -- the options of a Request: Mandatory twice, one that is not understood under Mandatory, and two that are passed over
 options-in-request :
-    (answered listening (codes "9c401389060030e701000000000003e80000002a00000001")
-    ≡ seen (SentReset 5 (1 ∷ 0 ∷ 0 ∷ [])) (sent (codes "13899c400700153d0f000000000007d000000000000003e805010000")) phase.Closed)
-    × (answered listening (codes "9c4013890700217a01000000000003e80000002a0163040709000000")
-    ≡ seen (SentReset 6 (99 ∷ 7 ∷ 9 ∷ [])) (sent (codes "13899c4007000cd20f000000000007d000000000000003e806630709")) phase.Closed)
-    × (answered listening (codes "9c40138906002fe801000000000003e80000002a01000000")
-    ≡ seen (Took None) (sent (codes "13899c400700261403000000000007d000000000000003e80000002a")) phase.Respond)
-    × (answered listening (codes "9c401389060010e701000000000003e80000002a20010000")
-    ≡ seen (Took None) (sent (codes "13899c400700261403000000000007d000000000000003e80000002a")) phase.Respond)
-unfolding receives opens framed
+    (seen (arrives listening "9c401389060030e701000000000003e80000002a00000001")
+    ≡ (SentReset 5 (1 ∷ 0 ∷ 0 ∷ []), sent "13899c400700153d0f000000000007d000000000000003e805010000", phase.Closed))
+    × (seen (arrives listening "9c4013890700217a01000000000003e80000002a0163040709000000")
+    ≡ (SentReset 6 (99 ∷ 7 ∷ 9 ∷ []), sent "13899c4007000cd20f000000000007d000000000000003e806630709", phase.Closed))
+    × (seen (arrives listening "9c40138906002fe801000000000003e80000002a01000000") ≡ (Took None, sent response, phase.Respond))
+    × (seen (arrives listening "9c401389060010e701000000000003e80000002a20010000") ≡ (Took None, sent response, phase.Respond))
+unfolding receives framed
 options-in-request = (refl, refl, refl, refl)
 
 -- a Sync whose numbers are not valid, an Ack outside the window, early data, an option of the negotiation, and a Reset
 packets-in-respond :
-    (answered (took_in listening (codes "9c401389050031ec01000000000003e80000002a")) (codes "9c4013890600193c11000000000003e900000000000007d5")
-    ≡ seen (Dropped why.BadSync) None phase.Respond)
-    × (answered (took_in listening (codes "9c401389050031ec01000000000003e80000002a")) (codes "9c40138906001f5a07000000000007d000000000000007d0")
-    ≡ seen (Synced 2000) (sent (codes "13899c400600155911000000000007d100000000000007d0")) phase.Respond)
-    × (answered (took_in listening (codes "9c401389050031ec01000000000003e80000002a")) (codes "9c4013890400851705000000000003e9aa")
-    ≡ seen (Synced 1001) (sent (codes "13899c400600194011000000000007d100000000000003e9")) phase.Respond)
-    × (answered (took_in listening (codes "9c401389050031ec01000000000003e80000002a")) (codes "9c4013890800083107000000000003e900000000000007d020050102f8000000")
-    ≡ seen NotBuilt None phase.Respond)
-    × (answered (took_in listening (codes "9c401389050031ec01000000000003e80000002a")) (codes "9c4013890700183d0f000000000003e900000000000007d002000000")
-    ≡ seen (WasReset 2) None phase.TimeWait)
-unfolding receives opens framed
+    (seen (arrives responding "9c4013890600193c11000000000003e900000000000007d5") ≡ (Dropped why.BadSync, None, phase.Respond))
+    × (seen (arrives responding "9c40138906001f5a07000000000007d000000000000007d0")
+    ≡ (Synced 2000, sent "13899c400600155911000000000007d100000000000007d0", phase.Respond))
+    × (seen (arrives responding "9c4013890400851705000000000003e9aa")
+    ≡ (Synced 1001, sent "13899c400600194011000000000007d100000000000003e9", phase.Respond))
+    × (seen (arrives responding "9c4013890800083107000000000003e900000000000007d020050102f8000000") ≡ (NotBuilt, None, phase.Respond))
+    × (seen (arrives responding "9c4013890700183d0f000000000003e900000000000007d002000000") ≡ (WasReset 2, None, phase.TimeWait))
+unfolding receives framed
 packets-in-respond = (refl, refl, refl, refl, refl)
 
--- Data in REQUEST gets Packet Error
-data-in-request :
-    (answered requesting (codes "13899c4004002b3205000000000007d0")
-    ≡ seen (SentReset 4 (2 ∷ 0 ∷ 0 ∷ [])) (sent (codes "9c4013890700163b0f000000000003e900000000000007d004020000")) phase.Request)
+-- Data gets Packet Error; a Response for another service, a Reset of another Request, and a Reset
+packets-in-request :
+    (seen (arrives requesting "13899c4004002b3205000000000007d0")
+    ≡ (SentReset 4 (2 ∷ 0 ∷ 0 ∷ []), sent "9c4013890700163b0f000000000003e900000000000007d004020000", phase.Request))
+    × (seen (arrives requesting "13899c400700261303000000000007d000000000000003e80000002b")
+    ≡ (SentReset 8 (0 ∷ 0 ∷ 0 ∷ []), sent "9c4013890700123d0f000000000003e900000000000007d008000000", phase.Closed))
+    × (seen (arrives requesting "13899c400700183f0f000000000007d000000000000003e702000000") ≡ (Dropped why.StrayReset, None, phase.Request))
+    × (seen (arrives requesting "13899c400700183e0f000000000007d000000000000003e802000000") ≡ (WasReset 2, None, phase.TimeWait))
 unfolding receives opens framed
-data-in-request = refl
+packets-in-request = (refl, refl, refl, refl)
 
--- a Response for another service, a Reset of another Request, and a Reset
-answers-in-request :
-    (answered requesting (codes "13899c400700261303000000000007d000000000000003e80000002b")
-    ≡ seen (SentReset 8 (0 ∷ 0 ∷ 0 ∷ [])) (sent (codes "9c4013890700123d0f000000000003e900000000000007d008000000")) phase.Closed)
-    × (answered requesting (codes "13899c400700183f0f000000000007d000000000000003e702000000")
-    ≡ seen (Dropped why.StrayReset) None phase.Request)
-    × (answered requesting (codes "13899c400700183e0f000000000007d000000000000003e802000000")
-    ≡ seen (WasReset 2) None phase.TimeWait)
-unfolding receives opens framed
-answers-in-request = (refl, refl, refl)
+-- a Request that comes twice, and the older Response after the newer; the Request goes out again under the next number, and the first
+-- of the two comes last
+abbrev newer_answered : EndState
+newer_answered = (arrives requesting response_again).after
 
--- a Request that comes twice, and the older Response after the newer
 repeated-request :
-    (answered (took_in listening (codes "9c401389050031ec01000000000003e80000002a")) (codes "9c401389050031ec01000000000003e80000002a")
-    ≡ seen (Took None) (sent (codes "13899c400700261303000000000007d100000000000003e80000002a")) phase.Respond)
-    × (answered requesting (codes "13899c400700261303000000000007d100000000000003e80000002a")
-    ≡ seen (Took None) (sent (codes "9c4013890600234007000000000003e900000000000007d1")) phase.PartOpen)
-    × (answered (took_in requesting (codes "13899c400700261303000000000007d100000000000003e80000002a")) (codes "13899c400700261403000000000007d000000000000003e80000002a")
-    ≡ seen (Synced 2000) (sent (codes "9c4013890600194011000000000003ea00000000000007d0")) phase.PartOpen)
-    × (answered (took_in (took_in listening (codes "9c401389050031ec01000000000003e80000002a")) (codes "9c401389050031ec01000000000003e80000002a")) (codes "9c4013890600194011000000000003ea00000000000007d0")
-    ≡ seen (Took None) (sent (codes "13899c400600173e13000000000007d200000000000003ea")) phase.Open)
-    × (answered (took_in (took_in requesting (codes "13899c400700261303000000000007d100000000000003e80000002a")) (codes "13899c400700261403000000000007d000000000000003e80000002a")) (codes "13899c400600173e13000000000007d200000000000003ea")
-    ≡ seen (Took None) None phase.Open)
-unfolding receives opens framed
-repeated-request = (refl, refl, refl, refl, refl)
-
--- a Request in OPEN that is older than the one that opened
-older-request-last :
-    (answered (took_in listening (codes "9c401389050031eb01000000000003e90000002a")) (codes "9c401389050031ec01000000000003e80000002a")
-    ≡ seen (Synced 1000) (sent (codes "13899c400600194111000000000007d100000000000003e8")) phase.Respond)
-unfolding receives opens framed
-older-request-last = refl
-
--- the Request of a client that opens
-the-request : (opens (fresh (usual Client))).frame ≡ sent (codes "9c401389050031ec01000000000003e80000002a")
-unfolding opens framed
-the-request = refl
-
--- both ends of the handshake above, in OPEN
-abbrev open-client : EndState
-open-client = took_in (took_in requesting (codes "13899c400700261403000000000007d000000000000003e80000002a")) (codes "13899c400600234007000000000007d100000000000003e9")
-
-abbrev open-server : EndState
-open-server = took_in (took_in listening (codes "9c401389050031ec01000000000003e80000002a")) (codes "9c4013890600234107000000000003e900000000000007d0")
+    (seen (arrives responding request) ≡ (Took None, sent response_again, phase.Respond))
+    × (seen (arrives requesting response_again) ≡ (Took None, sent "9c4013890600234007000000000003e900000000000007d1", phase.PartOpen))
+    × (seen (arrives newer_answered response) ≡ (Synced 2000, sent "9c4013890600194011000000000003ea00000000000007d0", phase.PartOpen))
+    × (seen (arrives (arrives responding request).after "9c4013890600194011000000000003ea00000000000007d0")
+    ≡ (Took None, sent "13899c400600173e13000000000007d200000000000003ea", phase.Open))
+    × (seen (arrives (arrives newer_answered response).after "13899c400600173e13000000000007d200000000000003ea") ≡ (Took None, None, phase.Open))
+    × (seen (fires requesting timers.Request false) ≡ (true, sent "9c401389050031eb01000000000003e90000002a", phase.Request))
+    × (seen (arrives (arrives listening "9c401389050031eb01000000000003e90000002a").after request)
+    ≡ (Synced 1000, sent "13899c400600194111000000000007d100000000000003e8", phase.Respond))
+unfolding receives opens fires framed
+repeated-request = (refl, refl, refl, refl, refl, refl, refl)
 
 -- a client closes: Close, Reset 1, TIMEWAIT, CLOSED; and then nothing is left to close or to abort
-abbrev closing-client : EndState
-closing-client = (closes open-client).after
-
-abbrev torn-client : EndState
-torn-client = took_in closing-client (codes "13899c400700193a0f000000000007d200000000000003ea01000000")
+abbrev torn_client : EndState
+torn_client = (arrives (closes open_client).after closed).after
 
 client-closes :
-    (called (closes open-client) ≡ (Ok tt, (sent (codes "9c40138906001d3f0d000000000003ea00000000000007d1"), phase.Closing)))
-    × (answered open-server (codes "9c40138906001d3f0d000000000003ea00000000000007d1")
-    ≡ seen (SentReset 1 (0 ∷ 0 ∷ 0 ∷ [])) (sent (codes "13899c400700193a0f000000000007d200000000000003ea01000000")) phase.Closed)
-    × (answered closing-client (codes "13899c400700193a0f000000000007d200000000000003ea01000000") ≡ seen (WasReset 1) None phase.TimeWait)
-    × (called (fires torn-client timers.TimeWait false) ≡ (true, (None, phase.Closed)))
-    × (called (aborts torn-client) ≡ (Err NotLive, (None, phase.TimeWait)))
-    × (called (closes (took_in open-server (codes "9c40138906001d3f0d000000000003ea00000000000007d1"))) ≡ (Err NotOpen, (None, phase.Closed)))
+    (seen (closes open_client) ≡ (Ok tt, sent close, phase.Closing))
+    × (seen (arrives open_server close) ≡ (SentReset 1 (0 ∷ 0 ∷ 0 ∷ []), sent closed, phase.Closed))
+    × (seen (arrives (closes open_client).after closed) ≡ (WasReset 1, None, phase.TimeWait))
+    × (seen (fires torn_client timers.TimeWait false) ≡ (true, None, phase.Closed))
+    × (seen (aborts torn_client) ≡ (Err NotLive, None, phase.TimeWait))
+    × (seen (closes (arrives open_server close).after) ≡ (Err NotOpen, None, phase.Closed))
 unfolding receives opens closes aborts fires framed
 client-closes = (refl, refl, refl, refl, refl, refl)
 
 -- a server closes: CloseReq, Close, Reset 1; CloseReq goes out again by the timer
 server-closes :
-    (called (closes open-server) ≡ (Ok tt, (sent (codes "13899c4006001f3f0b000000000007d200000000000003e9"), phase.CloseReq)))
-    × (answered open-client (codes "13899c4006001f3f0b000000000007d200000000000003e9") ≡ seen (Took None) (sent (codes "9c40138906001d3e0d000000000003ea00000000000007d2")) phase.Closing)
-    × (answered (closes open-server).after (codes "9c40138906001d3e0d000000000003ea00000000000007d2") ≡ seen (SentReset 1 (0 ∷ 0 ∷ 0 ∷ [])) (sent (codes "13899c40070019390f000000000007d300000000000003ea01000000")) phase.Closed)
-    × (called (fires (closes open-server).after timers.Close false) ≡ (true, (sent (codes "13899c4006001f3e0b000000000007d300000000000003e9"), phase.CloseReq)))
+    (seen (closes open_server) ≡ (Ok tt, sent "13899c4006001f3f0b000000000007d200000000000003e9", phase.CloseReq))
+    × (seen (arrives open_client "13899c4006001f3f0b000000000007d200000000000003e9")
+    ≡ (Took None, sent "9c40138906001d3e0d000000000003ea00000000000007d2", phase.Closing))
+    × (seen (arrives (closes open_server).after "9c40138906001d3e0d000000000003ea00000000000007d2")
+    ≡ (SentReset 1 (0 ∷ 0 ∷ 0 ∷ []), sent "13899c40070019390f000000000007d300000000000003ea01000000", phase.Closed))
+    × (seen (fires (closes open_server).after timers.Close false) ≡ (true, sent "13899c4006001f3e0b000000000007d300000000000003e9", phase.CloseReq))
 unfolding receives opens closes fires framed
 server-closes = (refl, refl, refl, refl)
 
 -- an abort sends a Reset 2, and nothing before the other end was heard
 aborted :
-    (called (aborts open-client) ≡ (Ok tt, (sent (codes "9c4013890700183b0f000000000003ea00000000000007d102000000"), phase.Closed)))
-    × (called (aborts (took_in listening (codes "9c401389050031ec01000000000003e80000002a"))) ≡ (Ok tt, (sent (codes "13899c400700183d0f000000000007d100000000000003e802000000"), phase.Closed)))
-    × (called (aborts requesting) ≡ (Ok tt, (None, phase.Closed)))
+    (seen (aborts open_client) ≡ (Ok tt, sent "9c4013890700183b0f000000000003ea00000000000007d102000000", phase.Closed))
+    × (seen (aborts responding) ≡ (Ok tt, sent "13899c400700183d0f000000000007d100000000000003e802000000", phase.Closed))
+    × (seen (aborts requesting) ≡ (Ok tt, None, phase.Closed))
 unfolding receives opens aborts framed
 aborted = (refl, refl, refl)
 
--- the Request goes out again under the next number
-the-request-again : called (fires requesting timers.Request false) ≡ (true, (sent (codes "9c401389050031eb01000000000003e90000002a"), phase.Request))
-unfolding opens fires framed
-the-request-again = refl
-
 -- numbers go from 2^48 - 1 on to 0
-abbrev late-client : EndState
-late-client = (opens (fresh (record (usual Client) { iss = 281474976710654 }))).after
+abbrev late_client : EndState
+late_client = (opens (fresh (record (usual Client) { iss = 281474976710654 }))).after
 
-abbrev late-open : EndState
-late-open = took_in (took_in late-client (codes "13899c40070029fd03000000000007d00000fffffffffffe0000002a")) (codes "13899c400600272907000000000007d10000ffffffffffff")
+abbrev late_answered : Step Outcome
+late_answered = arrives late_client "13899c40070029fd03000000000007d00000fffffffffffe0000002a"
 
 number-wrap :
-    (shows_frame late-client (codes "13899c40070029fd03000000000007d00000fffffffffffe0000002a")
-    ≡ sent (codes "9c4013890600272a0700ffffffffffff00000000000007d0"))
-    × (called (fires late-open timers.Ack false) ≡ (true, (sent (codes "9c40138906002729070000000000000000000000000007d1"), phase.Open)))
+    (late_answered.frame ≡ sent "9c4013890600272a0700ffffffffffff00000000000007d0")
+    × (seen (fires (arrives late_answered.after "13899c400600272907000000000007d10000ffffffffffff").after timers.Ack false)
+    ≡ (true, sent "9c40138906002729070000000000000000000000000007d1", phase.Open))
 unfolding receives opens fires framed
 number-wrap = (refl, refl)
