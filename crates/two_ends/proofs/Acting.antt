@@ -38,42 +38,47 @@ logged_by processed floor Silent = []
 logged_by processed floor (Next draft) = record { draft = draft; processed = processed; floor = floor } ∷ []
 logged_by processed floor (WithoutConnection number kind) = []
 
-pub longer : (log : List Logged) (processed floor : ℕ) (s : Sending) → length log ≤ length (log ++ logged_by processed floor s)
-longer log processed floor s = omega (arith, length-append log (logged_by processed floor s))
+-- what a step keeps of its frame, and what it adds to the log
+abbrev pub sent_by : Half → Effect → List SentFrame
+sent_by half f = as_sent (length half.processed) (floor_of (end_after half.end f)) (frame_by half.end f.sending)
+
+abbrev pub drafted_by : Half → Effect → List Logged
+drafted_by half f = logged_by (length half.processed) (floor_of (end_after half.end f)) f.sending
 
 abbrev pub half_after : Half → Effect → Half
-half_after half f =
-    record half {
-      end = end_after half.end f;
-      frames = half.frames ++ as_sent (length half.processed) (floor_of (end_after half.end f)) (frame_by half.end f.sending);
-    }
-
--- a side after a step with this effect
-abbrev pub after_by : Party → Effect → Party
-after_by x f =
-    record {
-      half = half_after x.half f;
-      log = x.log ++ logged_by (length x.half.processed) (floor_of (end_after x.half.end f)) f.sending;
-    }
+half_after half f = record half { end = end_after half.end f; frames = half.frames ++ sent_by half f }
 
 abbrev pub at_beginning : Config → Party
 at_beginning config = record { half = half_at_start config; log = [] }
 
--- One step of x, with its effect. What arrives, if anything, is a frame of y.
-pub record IsStep (x y : Party) (given : Input) (f : Effect) : Type 0 where
-  pub room : length x.half.frames < 2 ^ 47 - 1
-  pub from_peer : IsFromPeer y.half.frames given
-  pub because : IsCaused x.half.end given f
+-- A step of a side, with its effect. What arrives, if anything, is a frame of its peer.
+pub record Act : Type 0 where
+  pub side : Party
+  pub peer : Party
+  pub given : Input
+  pub effect : Effect
+  pub room : length side.half.frames < 2 ^ 47 - 1
+  pub from_peer : IsFromPeer peer.half.frames given
+  pub because : IsCaused side.half.end given effect
+
+abbrev pub acted : Act → Party
+acted act = record { half = half_after act.side.half act.effect; log = act.side.log ++ drafted_by act.side.half act.effect }
+
+pub longer : (act : Act) → length act.side.log ≤ length (acted act).log
+longer act = omega (arith, length-append act.side.log (drafted_by act.side.half act.effect))
+
+-- a fact of a side and its peer, and of the peer and the side
+abbrev pub Both : (Party → Party → Type 0) → Party → Party → Type 0
+Both Fact x y = Fact x y × Fact y x
 
 -- a fact that needs no earlier one
 abbrev pub NoFact : Party → Party → Type 0
 NoFact x y = Unit {0}
 
--- Every step keeps the fact, of the side that acts and of the other, where earlier facts hold of both.
+-- Every step keeps the fact, of the side that acts and of its peer, where earlier facts hold of both.
 pub record Keeps (Earlier This : Party → Party → Type 0) : Type 0 where
   pub starts : (own peer : Config) → Fits own → Fits peer → This (at_beginning own) (at_beginning peer)
-  pub acting : (x y : Party) (given : Input) (f : Effect) → IsStep x y given f → Earlier x y → Earlier y x → This x y → This y x → This (after_by x f) y
-  pub waiting : (x y : Party) (given : Input) (f : Effect) → IsStep x y given f → Earlier x y → Earlier y x → This x y → This y x → This y (after_by x f)
+  pub acts : (act : Act) → Both Earlier act.side act.peer → Both This act.side act.peer → Both This (acted act) act.peer
 
 abbrev pub party_of : WorldState → (Side → List Logged) → Side → Party
 party_of w logs side = record { half = half_of w side; log = logs side }
@@ -81,7 +86,13 @@ party_of w logs side = record { half = half_of w side; log = logs side }
 -- A fact of both sides, with their logs.
 pub record IsHeld (This : Party → Party → Type 0) (w : WorldState) : Type 0 where
   pub logs : Side → List Logged
-  pub holds : (side : Side) → This (party_of w logs side) (party_of w logs (other side))
+  pub holds : Both This (party_of w logs Client) (party_of w logs Server)
+
+-- as it is seen from a side
+pub held_by : (This : Party → Party → Type 0) (w : WorldState) (h : IsHeld This w) (side : Side)
+    → Both This (party_of w h.logs side) (party_of w h.logs (other side))
+held_by This w h Client = h.holds
+held_by This w h Server = (h.holds.1, h.holds.0)
 
 abbrev with_log : (Side → List Logged) → Side → List Logged → Side → List Logged
 with_log logs Client log Client = log
@@ -89,11 +100,15 @@ with_log logs Client log Server = logs Server
 with_log logs Server log Client = logs Client
 with_log logs Server log Server = log
 
+-- A side takes another state.
+held-with : (This : Party → Party → Type 0) (w : WorldState) (logs : Side → List Logged) (side : Side) (x : Party)
+    → Both This x (party_of w logs (other side)) → IsHeld This (with_half w side x.half)
+held-with This w logs Client x both = record { logs = with_log logs Client x.log; holds = both }
+held-with This w logs Server x both = record { logs = with_log logs Server x.log; holds = (both.1, both.0) }
+
 moved-after : {Answer : Type 0} (half : Half) (step : Step Answer) (f : Effect) → step.after ≡ end_after half.end f → step.frame ≡ frame_by half.end f.sending
     → moved half step ≡ half_after half f
-moved-after half step f after frame =
-    ap (λ (e : EndState). record half { end = e; frames = half.frames ++ as_sent (length half.processed) (floor_of e) step.frame }) after
-    ∙ ap (λ (sent : Option (List ℕ)). record half { end = end_after half.end f; frames = half.frames ++ as_sent (length half.processed) (floor_of (end_after half.end f)) sent }) frame
+moved-after half step f after frame = rw (after, frame)
 
 not-full : (half : Half) → is_full half ≡ false → length half.frames < 2 ^ 47 - 1
 not-full half room = grind arith
@@ -117,42 +132,25 @@ frame-given w Client index frame there = record { index = index; frame = frame; 
 frame-given w Server index frame there = record { index = index; frame = frame; is_there = there; same = refl }
 
 module _ (This : Party → Party → Type 0) (keeps : Keeps NoFact This) (proper : (x y : Party) → This x y → IsProper x.half.end) (effects : EveryStepHasOneEffect) where
-  peer-holds : (w : WorldState) (h : IsHeld This w) (side : Side) → This (party_of w h.logs (other side)) (party_of w h.logs side)
-  peer-holds w h Client = h.holds Server
-  peer-holds w h Server = h.holds Client
-
-  both-hold : (w : WorldState) (logs : Side → List Logged) (side : Side) (x : Party) → This x (party_of w logs (other side)) → This (party_of w logs (other side)) x
-      → (s : Side) → This (party_of (with_half w side x.half) (with_log logs side x.log) s) (party_of (with_half w side x.half) (with_log logs side x.log) (other s))
-  both-hold w logs Client x here there Client = here
-  both-hold w logs Client x here there Server = there
-  both-hold w logs Server x here there Client = there
-  both-hold w logs Server x here there Server = here
-
   side-held : (w : WorldState) (side : Side) (given : Input) → is_full (half_of w side) ≡ false → IsFromPeer (half_of w (other side)).frames given → IsHeld This w
       → IsHeld This (with_half w side (half_steps (half_of w side) given).half)
   side-held w side given room from h =
       let x : Party = party_of w h.logs side in
       let y : Party = party_of w h.logs (other side) in
-      let has = effects x.half.end given (proper x y (h.holds side)) in
-      let step : IsStep x y given has.effect = record { room = not-full x.half room; from_peer = from; because = has.because } in
+      let now : Both This x y = held_by This w h side in
+      let has = effects x.half.end given (proper x y now.0) in
+      let act : Act =
+      record { side = x; peer = y; given = given; effect = has.effect; room = not-full x.half room; from_peer = from; because = has.because } in
       subst (λ (half : Half). IsHeld This (with_half w side half)) (sym (moved-after x.half (stepped x.half.end given) has.effect has.after_is has.frame_is))
-      (record {
-        logs = with_log h.logs side (after_by x has.effect).log;
-        holds =
-            both-hold w h.logs side (after_by x has.effect) (keeps.acting x y given has.effect step tt tt (h.holds side) (peer-holds w h side))
-            (keeps.waiting x y given has.effect step tt tt (h.holds side) (peer-holds w h side));
-      })
-
-  unless-held : (w : WorldState) (full : Bool) (step : Result WorldStep WorldFault) → IsHeld This w → (full ≡ false → IsHeld This (world_after w step))
-      → IsHeld This (world_after w (if full then Err fault.Full else step))
-  unless-held w true step h after = h
-  unless-held w false step h after = after refl
+      (held-with This w h.logs side (acted act) (keeps.acts act (tt, tt) now))
 
   full-held : (w : WorldState) (side : Side) (given : Input) → IsFromPeer (half_of w (other side)).frames given → IsHeld This w
       → IsHeld This (world_after w (unless_full w side (half_steps (half_of w side) given)))
-  full-held w side given from h =
-      unless-held w (is_full (half_of w side)) (Ok (record { world = with_half w side (half_steps (half_of w side) given).half; seen = (half_steps (half_of w side) given).seen }))
-      h (λ room. side-held w side given room from h)
+  full-held w side given from h = by (is_full (half_of w side)) refl where
+    by : (full : Bool) → is_full (half_of w side) ≡ full
+        → IsHeld This (world_after w (if full then Err fault.Full else Ok (record { world = with_half w side (half_steps (half_of w side) given).half; seen = (half_steps (half_of w side) given).seen })))
+    by true room = h
+    by false room = side-held w side given room from h
 
   arrives-held : (w : WorldState) (from : Side) (index : ℕ) (frame : Option SentFrame) → slice_get (half_of w from).frames index ≡ frame → IsHeld This w
       → IsHeld This (world_after w (arrives w from frame))
@@ -167,12 +165,8 @@ module _ (This : Party → Party → Type 0) (keeps : Keeps NoFact This) (proper
   held-from w [] h = h
   held-from w (e ∷ events) h = held-from (world_after w (happens w e)) events (takes-held w (happening_of e) (is-call e) h)
 
-  start-holds : (client server : Config) → Fits client → Fits server → (side : Side)
-      → This (party_of (at_start client server) (λ s. []) side) (party_of (at_start client server) (λ s. []) (other side))
-  start-holds client server client_fits server_fits Client = keeps.starts client server client_fits server_fits
-  start-holds client server client_fits server_fits Server = keeps.starts server client server_fits client_fits
-
   -- What the start has and each step keeps, holds after every schedule.
   pub run-held : (client server : Config) (events : List Event) → Fits client → Fits server → IsHeld This (run (at_start client server) events)
   run-held client server events client_fits server_fits =
-      held-from (at_start client server) events (record { logs = λ s. []; holds = start-holds client server client_fits server_fits })
+      let holds : Both This (at_beginning client) (at_beginning server) = (keeps.starts client server client_fits server_fits, keeps.starts server client server_fits client_fits) in
+      held-from (at_start client server) events (record { logs = λ s. []; holds = holds })

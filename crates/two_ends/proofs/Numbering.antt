@@ -1,21 +1,21 @@
 -- A side's numbered frames carry ISS, ISS + 1, and so on up to GSS, and its end is proper.
-use Rattle.std.proofs.Common.{◌≡◌, refl, ap, sym, ◌∙◌, subst, ℕ, ◌+◌, ◌-◌, ◌^◌, ◌<◌, List, [], ◌∷◌, ◌++◌, true, false, length, length-append, append-nil, arith}
+use Rattle.std.proofs.Common.{◌≡◌, refl, ap, sym, ◌∙◌, ℕ, ◌+◌, ◌-◌, ◌^◌, ◌<◌, ◌≤◌, List, Option, Some, None, true, false, length, length-append, arith}
 use Rattle.seq_circle.specs.Circle.{residue}
 use Rattle.dccp_packets.specs.Grammar.{packet_type}
 use Rattle.dccp_packets.specs.declared.header.Kind.{Kind}
 use Rattle.dccp_packets.specs.declared.header.Kind.TheVariants as kind
 use Rattle.dccp_states.specs.declared.phase.Role.{Role}
-use Rattle.dccp_states.specs.declared.phase.Role.TheVariants as role
 use Rattle.dccp_endpoint.specs.Causes.{IsSending, Rests, Acks, Others, Refuses, SaysNothing, is_acking, is_without_connection}
-use Rattle.dccp_endpoint.specs.Drafts.{Draft, IsSendable, alone, frame_of}
-use Rattle.dccp_endpoint.specs.Effects.{Effect, Sending, Silent, Next, WithoutConnection, end_after, frame_by, gss_by}
-use Rattle.dccp_endpoint.specs.End.{EndState, IsProper, first_phase, floor_of, is_phase_of}
-use Rattle.dccp_endpoint.specs.Inputs.{Input}
-use Rattle.two_ends.specs.declared.frames.SentFrame.{SentFrame}
 use Rattle.dccp_endpoint.specs.Drafts.{Fits}
+use Rattle.dccp_endpoint.specs.Effects.{Effect, Sending, Silent, Next, WithoutConnection, end_after, frame_by, gss_by}
+use Rattle.dccp_endpoint.specs.End.{EndState, IsProper, floor_of}
+use Rattle.dccp_endpoint.specs.Inputs.{Input}
+use Rattle.dccp_endpoint.specs.Steps.{next_number}
+use Rattle.dccp_endpoint.proofs.Phases.{begins}
+use Rattle.two_ends.specs.Numbered.{IsNumberOf}
 use Rattle.two_ends.specs.World.{as_sent}
-use Rattle.two_ends.proofs.Acting.{Party, IsStep, Keeps, NoFact, after_by, config_of, end_of, logged_by}
-use Rattle.two_ends.proofs.Logged.{Logged, AreLogged, NoFrames, logged-few, next-logged, unnumbered-logged}
+use Rattle.two_ends.proofs.Acting.{Act, Keeps, NoFact, Party, acted, config_of, drafted_by, end_of, logged_by, sent_by}
+use Rattle.two_ends.proofs.Logged.{AreLogged, NoFrames, Numbered, Unnumbered, logged-append, logged-few}
 
 pub record IsOrdered (x : Party) : Type 0 where
   pub proper : IsProper (end_of x)
@@ -27,76 +27,44 @@ pub record IsOrdered (x : Party) : Type 0 where
 
 -- fewer than half the circle's numbers are used
 pub few-logged : (x : Party) → IsOrdered x → length x.log < 2 ^ 47
-few-logged x o = omega (arith, logged-few (config_of x) (config_of x).iss x.half.frames x.log o.logged, o.few)
+few-logged x o = omega (arith, logged-few (config_of x) o.logged, o.few)
+
+abbrev pub more-sent : (iss count more number : ℕ) → count ≤ more → IsNumberOf iss count number → IsNumberOf iss more number
+more-sent iss count more number above s = record { place = s.place; was_sent = omega (arith, s.was_sent, above); same = s.same }
 
 -- An Ack and a DataAck have a connection.
 acking-connected : (r : Role) (k : Kind) → is_acking (packet_type k) ≡ true → is_without_connection r k ≡ false
 acking-connected r (kind.Reset ack code detail) is = cc is
 acking-connected r _ is = refl
 
--- the number after ISS - 1 + count
-after-greatest : (iss count gss : ℕ) → gss ≡ residue (iss + count + (2 ^ 48 - 1)) → residue (gss + 1) ≡ residue (iss + count)
-after-greatest iss count gss is = omega arith
+-- what goes out is logged under the next number, or not at all
+sent-logged : (e : EndState) (given : Input) (f : Effect) (s : Sending) (processed floor first : ℕ) → next_number e ≡ residue first → IsSending e given f s
+    → SaysNothing s → AreLogged e.config first (as_sent processed floor (frame_by e s)) (logged_by processed floor s)
+sent-logged e given f Silent processed floor first same Rests says = NoFrames
+sent-logged e given f (Next draft) processed floor first same (Acks _ acking ack connected owed unacked) says =
+    Numbered (next_number e) same
+    (record { sendable = says.sendable; of_connection = acking-connected e.config.role draft.kind acking; same = refl }) NoFrames
+sent-logged e given f (Next draft) processed floor first same (Others _ acking ack connected) says =
+    Numbered (next_number e) same (record { sendable = says.sendable; of_connection = connected; same = refl }) NoFrames
+sent-logged e given f (WithoutConnection number k) processed floor first same (Refuses a code came is unheard turns unmoved) says =
+    Unnumbered (record { number = number; kind = k; sendable = says.sendable; without_connection = is; same = refl }) NoFrames
 
-next-greatest : (iss count : ℕ) → residue (iss + count) ≡ residue (iss + (count + 1) + (2 ^ 48 - 1))
-next-greatest iss count = omega arith
+sent-greatest : (e : EndState) (s : Sending) (processed floor count : ℕ) → e.marks.gss ≡ residue (e.config.iss + count + (2 ^ 48 - 1))
+    → gss_by e s ≡ residue (e.config.iss + (count + length (logged_by processed floor s)) + (2 ^ 48 - 1))
+sent-greatest e Silent processed floor count is = omega (arith, is)
+sent-greatest e (Next draft) processed floor count is = omega (arith, is)
+sent-greatest e (WithoutConnection number k) processed floor count is = omega (arith, is)
 
--- the lists and GSS after a packet of the side
-pub record IsNext (e : EndState) (frames : List SentFrame) (log : List Logged) (gss : ℕ) : Type 0 where
-  pub logged : AreLogged e.config e.config.iss frames log
-  pub greatest : gss ≡ residue (e.config.iss + length log + (2 ^ 48 - 1))
-  pub few : length frames < 2 ^ 47
+sent-few : (processed floor : ℕ) (frame : Option (List ℕ)) → length (as_sent processed floor frame) ≤ 1
+sent-few processed floor None = omega arith
+sent-few processed floor (Some bytes) = omega arith
 
-module _ (e : EndState) (frames : List SentFrame) (log : List Logged) (processed floor : ℕ) (logged : AreLogged e.config e.config.iss frames log)
-    (greatest : e.marks.gss ≡ residue (e.config.iss + length log + (2 ^ 48 - 1))) (room : length frames < 2 ^ 47 - 1) where
-  numbered-next : (draft : Draft) → IsSendable draft → is_without_connection e.config.role draft.kind ≡ false
-      → IsNext e (frames ++ as_sent processed floor (frame_by e (Next draft))) (log ++ logged_by processed floor (Next draft)) (gss_by e (Next draft))
-  numbered-next draft sendable connected =
-      let number : residue (e.marks.gss + 1) ≡ residue (e.config.iss + length log) = after-greatest e.config.iss (length log) e.marks.gss greatest in
-      let frame : SentFrame = record { bytes = frame_of e.config (residue (e.marks.gss + 1)) draft; processed = processed; floor = floor } in
-      let own : Logged = record { draft = draft; processed = processed; floor = floor } in
-      record {
-        logged =
-            next-logged e.config e.config.iss frames log frame own logged
-            (record {
-              sendable = sendable;
-              of_connection = connected;
-              same = ap (λ (n : ℕ). record { bytes = frame_of e.config n draft; processed = processed; floor = floor }) number;
-            });
-        greatest =
-            number ∙ (next-greatest e.config.iss (length log)
-            ∙ ap (λ (n : ℕ). residue (e.config.iss + n + (2 ^ 48 - 1))) (sym (length-append log (own ∷ []))));
-        few = omega (arith, length-append frames (frame ∷ []));
-      }
-
-  sent-next : (given : Input) (f : Effect) (s : Sending) → IsSending e given f s → SaysNothing s
-      → IsNext e (frames ++ as_sent processed floor (frame_by e s)) (log ++ logged_by processed floor s) (gss_by e s)
-  sent-next given f Silent Rests says =
-      record {
-        logged = subst (λ (fs : List SentFrame). AreLogged e.config e.config.iss fs (log ++ [])) (sym (append-nil frames)) (subst (λ (l : List Logged). AreLogged e.config e.config.iss frames l) (sym (append-nil log)) logged);
-        greatest = greatest ∙ ap (λ (l : List Logged). residue (e.config.iss + length l + (2 ^ 48 - 1))) (sym (append-nil log));
-        few = omega (arith, length-append {A = SentFrame} frames []);
-      }
-  sent-next given f (Next draft) (Acks _ acking ack connected owed unacked) says =
-      numbered-next draft says.sendable (acking-connected e.config.role draft.kind acking)
-  sent-next given f (Next draft) (Others _ acking ack connected) says = numbered-next draft says.sendable connected
-  sent-next given f (WithoutConnection number k) (Refuses a code came is unheard turns same) says =
-      let frame : SentFrame = record { bytes = frame_of e.config number (alone k); processed = processed; floor = floor } in
-      record {
-        logged =
-            subst (λ (l : List Logged). AreLogged e.config e.config.iss (frames ++ frame ∷ []) l) (sym (append-nil log))
-            (unnumbered-logged e.config e.config.iss frames log frame logged
-            (record { number = number; kind = k; sendable = says.sendable; without_connection = is; same = refl }));
-        greatest = greatest ∙ ap (λ (l : List Logged). residue (e.config.iss + length l + (2 ^ 48 - 1))) (sym (append-nil log));
-        few = omega (arith, length-append frames (frame ∷ []));
-      }
-
-acting : (x y : Party) (given : Input) (f : Effect) → IsStep x y given f → IsOrdered x → IsOrdered (after_by x f)
-acting x y given f step o =
-    let next =
-    sent-next (end_of x) x.half.frames x.log (length x.half.processed) (floor_of (end_after (end_of x) f)) o.logged o.greatest step.room
-    given f f.sending step.because.sends step.because.says
-    in
+acting : (act : Act) → IsOrdered act.side → IsOrdered (acted act)
+acting act o =
+    let e : EndState = end_of act.side in
+    let processed : ℕ = length act.side.half.processed in
+    let floor : ℕ = floor_of (end_after e act.effect) in
+    let next : next_number e ≡ residue (e.config.iss + length act.side.log) = omega (arith, o.greatest) in
     record {
       proper =
           record {
@@ -107,18 +75,18 @@ acting x y given f step o =
                   peer_least = o.proper.widths.peer_least;
                   peer_most = o.proper.widths.peer_most;
                 };
-            phase_fits = step.because.moves.its_role;
+            phase_fits = act.because.moves.its_role;
           };
       fits = o.fits;
       first = o.first;
-      logged = next.logged;
-      greatest = next.greatest;
-      few = next.few;
+      logged =
+          logged-append e.config _ (sent_by act.side.half act.effect) (drafted_by act.side.half act.effect) refl o.logged
+          (sent-logged e act.given act.effect act.effect.sending processed floor _ next act.because.sends act.because.says);
+      greatest =
+          sent-greatest e act.effect.sending processed floor (length act.side.log) o.greatest
+          ∙ ap (λ (n : ℕ). residue (e.config.iss + n + (2 ^ 48 - 1))) (sym (length-append act.side.log (drafted_by act.side.half act.effect)));
+      few = omega (arith, act.room, sent-few processed floor (frame_by e act.effect.sending), length-append act.side.half.frames (sent_by act.side.half act.effect));
     }
-
-first-fits : (r : Role) → is_phase_of (first_phase r) r ≡ true
-first-fits role.Client = refl
-first-fits role.Server = refl
 
 pub numbering : Keeps NoFact (λ x y. IsOrdered x)
 numbering =
@@ -129,14 +97,13 @@ numbering =
             proper =
                 record {
                   widths = record { own_least = omega arith; own_most = omega arith; peer_least = omega arith; peer_most = omega arith };
-                  phase_fits = first-fits own.role;
+                  phase_fits = (begins own.role).in_role;
                 };
             fits = own_fits;
             first = refl;
-            logged = NoFrames own.iss;
+            logged = NoFrames;
             greatest = omega arith;
             few = omega arith;
           };
-      acting = λ x y given f step none also here there. acting x y given f step here;
-      waiting = λ x y given f step none also here there. there;
+      acts = λ act none (here, there). (acting act here, there);
     }

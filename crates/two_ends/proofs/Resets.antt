@@ -1,41 +1,31 @@
 -- A Reset that arrives moves nothing that was received or acknowledged, and no feature.
-use Rattle.std.proofs.Common.{◌≡◌, refl, ap, sym, ◌∙◌, subst, ℕ, List, Option, Some, None, true, false, Result, Ok, Err}
-use Rattle.std.specs.Result.{result_ok}
-use Rattle.dccp_packets.specs.Grammar.{Parts, decoded, packet_type}
+use Rattle.std.proofs.Common.{◌≡◌, refl, ap, sym, ◌∙◌, subst, ℕ, List, Option, Some, None, true, false}
+use Rattle.dccp_packets.specs.Grammar.{Parts, packet_type}
 use Rattle.dccp_packets.specs.declared.header.Kind.{Kind}
 use Rattle.dccp_packets.specs.declared.header.Kind.TheVariants as kind
 use Rattle.dccp_packets.specs.declared.header.PacketType.TheVariants as types
-use Rattle.dccp_packets.specs.declared.reading.Malformed.{Malformed}
 use Rattle.dccp_endpoint.specs.Causes.{Came, EveryStepHasOneEffect, IsAcknowledging, IsCaused, IsHearing, Keeps, Starts, Raises, LeavesIt, ByWindow, ByVerdict}
 use Rattle.dccp_endpoint.specs.Effects.{Effect, Hearing, Unheard, Heard, end_after, first_by, gar_by, greatest_by, osr_by}
 use Rattle.dccp_endpoint.specs.End.{EndState, IsProper}
 use Rattle.dccp_endpoint.specs.Incoming.{Incoming}
 use Rattle.dccp_endpoint.specs.Inputs.{Arrives, Input}
-use Rattle.two_ends.specs.Frames.{is_reset}
+use Rattle.two_ends.specs.Frames.{is_reset, packet_of}
 use Rattle.two_ends.specs.Numbered.{KeepsReceived, ResetsMoveNothing}
+use Rattle.two_ends.proofs.ReadBack.{the-packet}
 
 reset-type : (k : Kind) → is_reset k ≡ true → packet_type k ≡ types.Reset
 reset-type (kind.Reset ack code detail) is = refl
 reset-type _ is = cc is
 
-read-ok : (read : Result Parts Malformed) (p : Parts) → result_ok read ≡ Some p → read ≡ Ok p
-read-ok (Ok q) p is =
-    let some : Option.Some q ≡ Some p = is in
-    let same : q ≡ p = cc some in
-    ap Ok same
-read-ok (Err fault) p is = cc is
-
-same-bytes : (given bytes : List ℕ) → Input.Arrives given ≡ Arrives bytes → given ≡ bytes
-same-bytes given bytes is = cc is
-
 -- What came is the Reset.
-came-reset : (e : EndState) (bytes : List ℕ) (p : Parts) (a : Incoming) → result_ok (decoded bytes) ≡ Some p → is_reset p.header.kind ≡ true
+came-reset : (e : EndState) (bytes : List ℕ) (p : Parts) (a : Incoming) → packet_of bytes ≡ Some p → is_reset p.header.kind ≡ true
     → Came e (Arrives bytes) a → a.kind ≡ types.Reset
 came-reset e bytes p a read is came =
-    let mine : decoded bytes ≡ Ok came.packet = ap decoded (same-bytes bytes came.bytes came.is_given) ∙ came.is_packet in
-    let both : Result.Ok p ≡ Ok came.packet = sym (read-ok (decoded bytes) p read) ∙ mine in
-    let same : p ≡ came.packet = cc both in
-    ap (λ (x : Incoming). x.kind) came.same ∙ ap (λ (q : Parts). packet_type q.header.kind) (sym same) ∙ reset-type p.header.kind is
+    let given : Input.Arrives bytes ≡ Arrives came.bytes = came.is_given in
+    let same : came.bytes ≡ bytes = cc given in
+    ap (λ (x : Incoming). x.kind) came.same
+    ∙ ap (λ (q : Parts). packet_type q.header.kind) (the-packet e (Arrives bytes) a came p (ap packet_of same ∙ read))
+    ∙ reset-type p.header.kind is
 
 module _ (e : EndState) (given : Input) (reset : (a : Incoming) → Came e given a → a.kind ≡ types.Reset) where
   unheard : (f : Effect) (h : Hearing) → IsHearing e given f.phase h → h ≡ Unheard

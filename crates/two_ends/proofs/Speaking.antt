@@ -20,28 +20,27 @@ pub record IsQuiet (x : Party) : Type 0 where
   pub unprocessed : x.half.processed ≡ []
 
 sent-blank : (processed floor : ℕ) (s : Sending) → SaysNothing s → All IsBlank (logged_by processed floor s)
-sent-blank processed floor (Next draft) says =
-    All-cons IsBlank (record { draft = draft; processed = processed; floor = floor }) [] says.no_options (All-nil IsBlank)
+sent-blank processed floor (Next draft) says = All-cons IsBlank _ [] says.no_options (All-nil IsBlank)
 sent-blank processed floor _ says = All-nil IsBlank
 
 pub quiet : Keeps (λ x y. IsOrdered x) (λ x y. IsQuiet x)
 quiet =
     record {
       starts = λ own peer own_fits peer_fits. record { no_options = All-nil IsBlank; unprocessed = refl };
-      acting =
-          λ x y given f step own others here there.
-          record {
-            no_options = All-append IsBlank x.log (logged_by _ _ f.sending) here.no_options (sent-blank _ _ f.sending step.because.says);
-            unprocessed = here.unprocessed;
-          };
-      waiting = λ x y given f step own others here there. there;
+      acts = λ act earlier (here, there). (
+        record {
+          no_options = All-append IsBlank act.side.log _ here.no_options (sent-blank _ _ act.effect.sending act.because.says);
+          unprocessed = here.unprocessed;
+        },
+        there,
+      );
     }
 
 found-silent : (x : Party) (frame : SentFrame) → IsQuiet x → Found (config_of x) (config_of x).iss x.log frame → options_in frame.bytes ≡ []
-found-silent x frame q (AtPlace place l there is) =
-    logged-options (config_of x) _ frame l is ∙ ap (λ (items : List Item). map Ok (entries_at 0 items)) (at-place IsBlank x.log place l q.no_options there)
+found-silent x frame q (AtPlace place number l there same is) =
+    logged-options (config_of x) number frame l is ∙ ap (λ (items : List Item). map Ok (entries_at 0 items)) (at-place IsBlank x.log place l q.no_options there)
 found-silent x frame q (Nowhere is) = unlogged-options (config_of x) frame is
 
 -- No frame carries options.
 pub silent : (x : Party) (index : ℕ) (frame : SentFrame) → IsOrdered x → IsQuiet x → slice_get x.half.frames index ≡ Some frame → options_in frame.bytes ≡ []
-silent x index frame o q there = found-silent x frame q (found (config_of x) (config_of x).iss x.half.frames x.log index frame o.logged there)
+silent x index frame o q there = found-silent x frame q (found (config_of x) index frame o.logged there)

@@ -63,24 +63,21 @@ pub record IsUnset (e : EndState) : Type 0 where
   pub no_first : e.marks.isr ≡ 0
   pub no_greatest : e.marks.gsr ≡ 0
 
+-- The number is that of one of the first `count` numbered frames of a side whose first is ISS.
+pub record IsNumberOf (iss count number : ℕ) : Type 0 where
+  pub place : ℕ
+  pub was_sent : place < count
+  pub same : number ≡ residue (iss + place)
+
 -- ISR and GSR are numbers of numbered frames of the other side, whose first is ISS and which has sent `count`, and the frame
 -- of ISR is not the later one.
 pub record IsHeard (iss count isr gsr : ℕ) : Type 0 where
-  pub first : ℕ
-  pub greatest : ℕ
-  pub in_order : first ≤ greatest
-  pub was_sent : greatest < count
-  pub is_first : isr ≡ residue (iss + first)
-  pub is_greatest : gsr ≡ residue (iss + greatest)
+  pub first : IsNumberOf iss count isr
+  pub greatest : IsNumberOf iss count gsr
+  pub in_order : first.place ≤ greatest.place
 
 abbrev pub Hears : ℕ → ℕ → EndState → Type 0
 Hears iss count e = IsUnset e ⊎ IsHeard iss count e.marks.isr e.marks.gsr
-
--- GAR is the number of a numbered frame of its own side, whose first is ISS and which has sent `count`.
-pub record IsAcknowledged (iss count gar : ℕ) : Type 0 where
-  pub place : ℕ
-  pub was_sent : place < count
-  pub same : gar ≡ residue (iss + place)
 
 -- An end keeps the numbers that it received, what it knows acknowledged and its features.
 pub record KeepsReceived (before after : EndState) : Type 0 where
@@ -106,6 +103,7 @@ pub record Facts (w : WorldState) : Type 0 where
   pub numbered : (side : Side) → IsNumbered (half_of w side)
   pub heard : (side : Side) → Hears (half_of w (other side)).end.marks.iss (numbered (other side)).count (half_of w side).end
   pub unmoved : (side : Side) → ResetsMoveNothing (half_of w side).end
+  -- GAR is the number of a numbered frame of its own side
   pub acknowledged : (side : Side) → 1 ≤ (numbered side).count
-      → IsAcknowledged (half_of w side).end.marks.iss (numbered side).count (half_of w side).end.marks.gar
+      → IsNumberOf (half_of w side).end.marks.iss (numbered side).count (half_of w side).end.marks.gar
   pub spoken : (side : Side) (index : ℕ) (frame : SentFrame) → slice_get (half_of w side).frames index ≡ Some frame → SpeaksOnce side frame.bytes
