@@ -1,6 +1,5 @@
 -- No outcome of `receive` but its own has a cause: each cause is put into the steps, from the first on.
-use Rattle.std.proofs.Common.{◌≡◌, ◌≢◌, refl, ap, sym, ◌∙◌, ℕ, List, [], ◌∷◌, Option, Some, None, Bool, true, false, Result, Ok}
-use Rattle.dccp_packets.specs.Grammar.{Parts, decoded}
+use Rattle.std.proofs.Common.{◌≡◌, ◌≢◌, refl, ap, ◌∙◌, ℕ, List, [], ◌∷◌, None, Bool, true, false}
 use Rattle.dccp_packets.specs.declared.header.PacketType.{PacketType}
 use Rattle.dccp_packets.specs.declared.header.PacketType.TheVariants as types
 use Rattle.dccp_states.specs.declared.reply.Reply.{Reply}

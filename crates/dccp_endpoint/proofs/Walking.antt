@@ -31,17 +31,17 @@ use Rattle.validity_windows.specs.declared.verdict.Verdict.{Verdict}
 use Rattle.validity_windows.specs.declared.verdict.Verdict.TheVariants as verdicts
 use Rattle.dccp_endpoint.specs.Causes.{IsCaused, is_code_without_connection, Acknowledges, Arrived, BecomesOpen, ByVerdict, ByWindow, Came, FitsPassing, Greatest, IsAcknowledging, IsHearing, IsOpening, Keeps, LeavesIt, NotNow, Raises, Refuses, Starts, StaysSo, entrance_of, verdict_of}
 use Rattle.dccp_endpoint.specs.Drafts.{alone}
-use Rattle.dccp_endpoint.specs.Effects.{Effect, Next, Heard, Unheard, greatest_or, Passing, Refused, Shut, Sending, Silent, Taken, WithoutConnection, effect_of, end_after}
+use Rattle.dccp_endpoint.specs.Effects.{Heard, Passing, Refused, Shut, Silent, Taken, WithoutConnection, effect_of, end_after}
 use Rattle.dccp_endpoint.specs.End.{EndState, IsProper, is_begun, is_live, is_open, is_phase_of, phase_entered}
 use Rattle.dccp_endpoint.specs.Faults.{first_fault, is_unbuilt}
 use Rattle.dccp_endpoint.specs.Incoming.{Incoming, incoming}
 use Rattle.dccp_endpoint.specs.Inputs.{Input, Arrives}
 use Rattle.dccp_endpoint.specs.Outcomes.{Answering, Closing, HasCause, IsNoAnswer, IsValidReset, replying, Correcting, IsAdmitted, IsReset, IsValid, IsValidPacket, Refusing, SyncsInvalid, SyncsUnexpected, OutOfWindow, Unexpected, NoConnection, OtherService, NoAnswer, OtherType, OtherRequest, WrongService, Faulted, AnswersClose, OpensConnection, ResponseToRequest, PacketInWindow, ResetToRequest, ResetInWindow, StrayWithoutConnection, StrayInRequest, is_for_another}
-use Rattle.dccp_endpoint.specs.Receiving.{Course, Goes, acknowledges_in_window, answers, becomes_open, by_ports, by_sum, checks_numbers, checks_type, ends_as, ends_by_reset, expects, heeds, is_of_connection, is_own_service, is_unexpected, judged, long_number, moved_to, number_without_connection, opens_connection, packet_fault, raised, raises, reads, reads_options, received, receives, replies, resets, resets_without_connection, serves, started, takes_answer, the_steps, through, with_number, with_packet}
+use Rattle.dccp_endpoint.specs.Receiving.{Goes, acknowledges_in_window, answers, becomes_open, by_ports, by_sum, checks_numbers, checks_type, ends_as, ends_by_reset, expects, heeds, is_of_connection, is_own_service, is_unexpected, judged, long_number, moved_to, number_without_connection, opens_connection, packet_fault, raised, raises, reads, reads_options, received, receives, replies, resets, resets_without_connection, serves, started, takes_answer, the_steps, through, with_number, with_packet}
 use Rattle.dccp_endpoint.specs.Steps.{Step, in_phase, detail_of, idle, sends, without_detail}
 use Rattle.dccp_endpoint.specs.declared.outcome.Fault.{Fault}
 use Rattle.dccp_endpoint.specs.declared.outcome.Outcome.{Outcome}
-use Rattle.dccp_endpoint.specs.declared.outcome.Outcome.TheVariants.{Dropped, NotBuilt, SentReset, Synced, Took, WasReset}
+use Rattle.dccp_endpoint.specs.declared.outcome.Outcome.TheVariants.{Dropped, NotBuilt, Synced, Took, WasReset}
 use Rattle.dccp_endpoint.specs.declared.outcome.Why.{Why}
 use Rattle.dccp_endpoint.specs.declared.outcome.Why.TheVariants as why
 use Rattle.dccp_endpoint.proofs.Deriving.{Ready, Told, ack-caused, caused, left, next-caused, rest, says-alone, silent-caused, told-by}
