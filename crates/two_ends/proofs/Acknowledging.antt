@@ -1,7 +1,7 @@
 -- Once a side has numbered a frame, GAR is the number of one of its own.
-use Rattle.std.proofs.Common.{◌≡◌, ◌≢◌, inl, inr, refl, ap, sym, ◌∙◌, subst, ℕ, ◌+◌, ◌-◌, ◌^◌, ◌<◌, ◌≤◌, ◌++◌, Option, Some, true, false, Bool, ◌&&◌, if◌then◌else◌, length, length-append, arith}
+use Rattle.std.proofs.Common.{◌≡◌, ◌≢◌, inl, inr, refl, ap, sym, ◌∙◌, subst, ℕ, ◌+◌, ◌-◌, ◌^◌, ◌<◌, ◌≤◌, Option, Some, true, false, Bool, ◌&&◌, if◌then◌else◌, length, length-append, arith}
 use Rattle.std.proofs.lemmas.Bool.Decides.{nat_tests}
-use Rattle.seq_circle.specs.Circle.{IsWithin, residue, is_before, distance, is_within}
+use Rattle.seq_circle.specs.Circle.{IsWithin, residue, distance, is_within}
 use Rattle.validity_windows.specs.Verdict.{verdict, is_ack_within}
 use Rattle.validity_windows.specs.Windows.{ack_low, ack_high}
 use Rattle.validity_windows.proofs.Counts.{ack-count, acked-count}

@@ -2,7 +2,7 @@
 --
 -- A fact speaks of a side and its peer. It holds at the start, and a step of either side keeps it (`Keeps`), by facts that were proved
 -- before. `run-held` carries it through every schedule. Nothing here or there knows what an end does but its effect.
-use Rattle.std.proofs.Common.{◌≡◌, refl, ap, sym, ◌∙◌, subst, ◌-◌, ◌^◌, ◌<◌, ℕ, List, [], ◌∷◌, ◌++◌, Option, Some, None, true, false, Bool, if◌then◌else◌, Result, Ok, Err, slice_get, length, length-append, ◌≤◌, arith}
+use Rattle.std.proofs.Common.{◌≡◌, refl, sym, subst, ◌-◌, ◌^◌, ◌<◌, ℕ, List, [], ◌∷◌, ◌++◌, Option, Some, None, true, false, Bool, if◌then◌else◌, Ok, Err, slice_get, length, length-append, ◌≤◌, arith}
 use Rattle.dccp_endpoint.specs.Causes.{EveryStepHasOneEffect, IsCaused}
 use Rattle.dccp_endpoint.specs.Effects.{Effect, Sending, Silent, Next, WithoutConnection, end_after, frame_by}
 use Rattle.dccp_endpoint.specs.End.{EndState, IsProper, floor_of}
@@ -13,11 +13,10 @@ use Rattle.two_ends.specs.declared.event.Event.{Event}
 use Rattle.two_ends.specs.declared.event.Event.TheVariants as event
 use Rattle.two_ends.specs.declared.event.Side.{Side}
 use Rattle.two_ends.specs.declared.event.Side.TheVariants.{Client, Server}
-use Rattle.two_ends.specs.declared.event.WorldFault.{WorldFault}
 use Rattle.two_ends.specs.declared.event.WorldFault.TheVariants as fault
 use Rattle.two_ends.specs.declared.frames.SentFrame.{SentFrame}
 use Rattle.dccp_endpoint.specs.Drafts.{Fits}
-use Rattle.two_ends.specs.World.{Half, WorldState, WorldStep, Happening, Calls, Delivers, happening_of, as_sent, moved, half_of, half_at_start, half_steps, other, with_half, happens, arrives, takes_place, unless_full, is_full, world_after, run, at_start}
+use Rattle.two_ends.specs.World.{Half, WorldState, Happening, Calls, Delivers, happening_of, as_sent, moved, half_of, half_at_start, half_steps, other, with_half, happens, arrives, takes_place, unless_full, is_full, world_after, run, at_start}
 use Rattle.two_ends.proofs.Logged.{Logged}
 use Rattle.two_ends.proofs.ReadBack.{IsFromPeer}
 

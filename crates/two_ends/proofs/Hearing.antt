@@ -1,5 +1,5 @@
 -- What an end heard are numbers of its peer's log.
-use Rattle.std.proofs.Common.{◌≡◌, ◌≢◌, inl, inr, refl, ap, sym, ◌∙◌, ℕ, ◌+◌, ◌^◌, ◌<◌, ◌≤◌, true, false, Bool, if◌then◌else◌, length, arith}
+use Rattle.std.proofs.Common.{◌≡◌, ◌≢◌, inl, inr, refl, sym, ◌∙◌, ℕ, ◌+◌, ◌^◌, ◌<◌, ◌≤◌, true, false, Bool, if◌then◌else◌, length, arith}
 use Rattle.std.proofs.lemmas.Option.{slice_get_within}
 use Rattle.seq_circle.specs.Circle.{residue, is_before, later_of}
 use Rattle.dccp_packets.specs.declared.header.PacketType.TheVariants as types
@@ -9,7 +9,7 @@ use Rattle.dccp_endpoint.specs.End.{EndState, is_live}
 use Rattle.dccp_endpoint.specs.Incoming.{Incoming}
 use Rattle.dccp_endpoint.proofs.Phases.{begins, check-live}
 use Rattle.two_ends.specs.Numbered.{Hears, IsHeard, IsNumberOf}
-use Rattle.two_ends.proofs.Acting.{Act, Keeps, Party, acted, config_of, end_of, longer}
+use Rattle.two_ends.proofs.Acting.{Act, Keeps, Party, config_of, end_of, longer}
 use Rattle.two_ends.proofs.Numbering.{IsOrdered, few-logged, more-sent}
 use Rattle.two_ends.proofs.ReadBack.{from-log}
 
