@@ -26,20 +26,20 @@ begins role.Server = record { in_role = refl; not_live = refl; not_begun = refl 
 -- A Request opens in LISTEN.
 pub accept-so : (ph : Phase) (t : PacketType) → gate ph t ≡ entrance.Accept → (ph ≡ phase.Listen) × (t ≡ types.Request)
 accept-so phase.Listen types.Request is = (refl, refl)
-accept-so _ types.Reset is = (cc is, cc is)
-accept-so _ _ is = (cc is, cc is)
+accept-so _ types.Reset is = (cc, cc)
+accept-so _ _ is = (cc, cc)
 
 -- A Response or a Reset answers in REQUEST.
 pub answer-so : (ph : Phase) (t : PacketType) → gate ph t ≡ entrance.InRequest → (ph ≡ phase.Request) × (t ≢ types.Reset → t ≡ types.Response)
 answer-so phase.Request types.Response is = (refl, λ other. refl)
-answer-so _ types.Reset is = (cc is, λ other. absurd (other refl))
-answer-so _ _ is = (cc is, λ other. cc is)
+answer-so _ types.Reset is = (cc, λ other. absurd (other refl))
+answer-so _ _ is = (cc, λ other. cc)
 
 -- Windows are looked at where a first number was received.
 pub check-live : (ph : Phase) (t : PacketType) → gate ph t ≡ entrance.Check → is_live ph ≡ true
 check-live phase.Listen types.Request is = cc is
-check-live _ types.Reset is = cc is
-check-live _ _ is = cc is
+check-live _ types.Reset is = cc
+check-live _ _ is = cc
 
 -- who waits for a Request is a server
 pub listens-server : (r : Role) (ph : Phase) → ph ≡ phase.Listen → is_phase_of ph r ≡ true → r ≡ role.Server
@@ -59,7 +59,7 @@ pub after_fits : (ph : Phase) (t : PacketType) (r : Role) → is_phase_of ph r �
 after_fits phase.Request types.Response role.Client fits = refl
 after_fits phase.Request types.Response role.Server fits = fits
 after_fits _ types.Reset r fits = refl
-after_fits _ _ r fits = cc fits
+after_fits _ _ r fits = cc
 
 -- An Ack goes out where the handshake has got through, and the table closes where it answers by a Reset.
 abbrev FitsReply : Phase → Reply → Type 0

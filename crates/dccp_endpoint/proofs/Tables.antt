@@ -38,7 +38,7 @@ pub unexpected-no-ack : (r : Role) (ph : Phase) (t : PacketType) (later : Bool) 
 unexpected-no-ack role.Client phase.Respond types.Ack later is = cc is
 unexpected-no-ack role.Server phase.Respond types.Ack later is = cc is
 unexpected-no-ack _ _ types.DataAck later is = cc is
-unexpected-no-ack _ _ _ later is = cc is
+unexpected-no-ack _ _ _ later is = cc
 
 -- a Response for another service comes to REQUEST
 pub other-service-asked : (e : _) (ph : Phase) (t : PacketType) (service : Option ℕ) → is_other_service e ph t service ≡ true → ph ≡ phase.Request

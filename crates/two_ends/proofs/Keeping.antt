@@ -28,7 +28,7 @@ use Rattle.two_ends.proofs.ReadBack.{logged-numbered}
 use Rattle.two_ends.proofs.Resets.{resets-move-nothing}
 use Rattle.two_ends.proofs.Speaking.{IsQuiet, quiet, silent}
 
--- A further fact is one file, and one line in each of these five.
+-- A further fact is one file, a field here, and its line at the start and in a step.
 pub record SideInvariant (x y : Party) : Type 0 where
   pub ordered : IsOrdered x
   pub hears : IsHearingPeer x y
