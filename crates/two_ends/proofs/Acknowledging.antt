@@ -17,8 +17,8 @@ use Rattle.dccp_endpoint.specs.Incoming.{Incoming}
 use Rattle.dccp_endpoint.proofs.Phases.{answer-so, begins, check-live, live-begun}
 use Rattle.two_ends.specs.Numbered.{IsNumberOf}
 use Rattle.two_ends.proofs.Acting.{Act, Keeps, Party, acted, config_of, drafted_by, end_of, logged_by, longer}
-use Rattle.two_ends.proofs.Numbering.{IsOrdered, few-logged, more-sent}
-use Rattle.two_ends.proofs.ReadBack.{FitsAck, from-log, from-log-fits}
+use Rattle.two_ends.proofs.Numbering.{IsOrdered, came-logged, few-logged, more-sent}
+use Rattle.two_ends.proofs.ReadBack.{FitsAck, from-log-fits}
 
 -- The number is that of one of its frames; before the first frame that is the number of the first.
 abbrev pub IsOwn : Party → ℕ → Type 0
@@ -63,12 +63,16 @@ module _ (x : Party) (o : IsOrdered x) (k : KnowsAcknowledged x) (some : 1 ≤ l
   window-sent : (ack : ℕ) → ack < 2 ^ 48 → is_ack_within (ack_low m) (ack_high m) (Some ack) ≡ true → IsOwn x ack
   window-sent ack small within =
       own-number ack (ack_low m) small within
-      (λ inside. ((ack-count m first last (first + distance first ack) o.proper.widths (o.first ∙ omega (arith, o.fits.iss)) last-is (omega arith) (omega (arith, few-logged x o)) (omega arith) (omega arith)).0 inside).1)
+      (λ inside.
+      ((ack-count m first last (first + distance first ack) o.proper.widths (o.first ∙ omega (arith, o.fits.iss)) last-is
+      (omega arith) (omega (arith, few-logged x o)) (omega arith) (omega arith)).0 inside).1)
 
   greatest-sent : (ack : ℕ) → ack < 2 ^ 48 → is_ack_within m.gar (ack_high m) (Some ack) ≡ true → IsOwn x ack
   greatest-sent ack small within =
       own-number ack m.gar small within
-      (λ inside. ((acked-count m first (first + k.gar.place) last (first + distance first ack) k.gar.same last-is (omega arith) (omega (arith, k.gar.was_sent)) (omega (arith, few-logged x o)) (omega arith) (omega arith)).0 inside).1)
+      (λ inside.
+      ((acked-count m first (first + k.gar.place) last (first + distance first ack) k.gar.same last-is
+      (omega arith) (omega (arith, k.gar.was_sent)) (omega (arith, few-logged x o)) (omega arith) (omega arith)).0 inside).1)
 
   valid-sent : (t : PacketType) (number ack : ℕ) → ack < 2 ^ 48 → verdict m t number (Some ack) ≡ verdicts.Valid → IsOwn x ack
   valid-sent types.CloseReq number ack small valid = greatest-sent ack small (second-passed _ _ (verdicts.SyncFor number) valid (λ is. cc is))
@@ -89,7 +93,7 @@ begun-by _ processed floor next = absurd next
 
 module _ (act : Act) (own : IsOrdered act.side) (peer : IsOrdered act.peer) (k : KnowsAcknowledged act.side) where
   ack-small : (a : Incoming) (ack : ℕ) → Came (end_of act.side) act.given a → a.kind ≢ types.Reset → a.ack ≡ Some ack → ack < 2 ^ 48
-  ack-small a ack came other is = subst FitsAck is (from-log-fits (config_of act.peer).iss act.peer.log a (from-log (end_of act.side) act.given a came (config_of act.peer) act.peer.half.frames act.peer.log act.from_peer other peer.logged))
+  ack-small a ack came other is = subst FitsAck is (from-log-fits (config_of act.peer).iss act.peer.log a (came-logged act peer a came other))
 
   raised-by : (acknowledged : Option ℕ) → IsAcknowledging (end_of act.side) act.given acknowledged → IsOwn act.side (gar_by (end_of act.side).marks.gar acknowledged)
   raised-by _ LeavesIt = k.gar

@@ -147,7 +147,8 @@ module _ (This : Party → Party → Type 0) (keeps : Keeps NoFact This) (proper
       → IsHeld This (world_after w (unless_full w side (half_steps (half_of w side) given)))
   full-held w side given from h = by (is_full (half_of w side)) refl where
     by : (full : Bool) → is_full (half_of w side) ≡ full
-        → IsHeld This (world_after w (if full then Err fault.Full else Ok (record { world = with_half w side (half_steps (half_of w side) given).half; seen = (half_steps (half_of w side) given).seen })))
+        → IsHeld This (world_after w (if full then Err fault.Full
+        else Ok (record { world = with_half w side (half_steps (half_of w side) given).half; seen = (half_steps (half_of w side) given).seen })))
     by true room = h
     by false room = side-held w side given room from h
 

@@ -10,8 +10,7 @@ use Rattle.dccp_endpoint.specs.Incoming.{Incoming}
 use Rattle.dccp_endpoint.proofs.Phases.{begins, check-live}
 use Rattle.two_ends.specs.Numbered.{Hears, IsHeard, IsNumberOf}
 use Rattle.two_ends.proofs.Acting.{Act, Keeps, Party, config_of, end_of, longer}
-use Rattle.two_ends.proofs.Numbering.{IsOrdered, few-logged, more-sent}
-use Rattle.two_ends.proofs.ReadBack.{from-log}
+use Rattle.two_ends.proofs.Numbering.{IsOrdered, came-logged, few-logged, more-sent}
 
 abbrev pub IsHearingPeer : Party → Party → Type 0
 IsHearingPeer x y = Hears (config_of y).iss (length y.log) (end_of x)
@@ -38,7 +37,7 @@ module _ (act : Act) (peer : IsOrdered act.peer) where
   -- A packet of the peer, other than a Reset, has the number of its place.
   pub was-sent : (a : Incoming) → Came (end_of act.side) act.given a → a.kind ≢ types.Reset → IsNumberOf (config_of act.peer).iss (length act.peer.log) a.number
   was-sent a came other =
-      let from = from-log (end_of act.side) act.given a came (config_of act.peer) act.peer.half.frames act.peer.log act.from_peer other peer.logged in
+      let from = came-logged act peer a came other in
       record { place = from.place; was_sent = slice_get_within act.peer.log from.place from.logged from.is_there; same = from.read.number }
 
   hears-next : (f : Effect) (h : Hearing) → IsHearing (end_of act.side) act.given f.phase h → IsHearingPeer act.side act.peer

@@ -1,14 +1,16 @@
 -- A side's numbered frames carry ISS, ISS + 1, and so on up to GSS, and its end is proper.
-use Rattle.std.proofs.Common.{◌≡◌, refl, ap, sym, ◌∙◌, ℕ, ◌+◌, ◌-◌, ◌^◌, ◌<◌, ◌≤◌, List, Option, Some, None, true, false, length, length-append, arith}
+use Rattle.std.proofs.Common.{◌≡◌, ◌≢◌, refl, ap, sym, ◌∙◌, ℕ, ◌+◌, ◌-◌, ◌^◌, ◌<◌, ◌≤◌, List, Option, Some, None, true, false, length, length-append, arith}
 use Rattle.seq_circle.specs.Circle.{residue}
 use Rattle.dccp_packets.specs.Grammar.{packet_type}
 use Rattle.dccp_packets.specs.declared.header.Kind.{Kind}
 use Rattle.dccp_packets.specs.declared.header.Kind.TheVariants as kind
+use Rattle.dccp_packets.specs.declared.header.PacketType.TheVariants as types
 use Rattle.dccp_states.specs.declared.phase.Role.{Role}
-use Rattle.dccp_endpoint.specs.Causes.{IsSending, Rests, Acks, Others, Refuses, SaysNothing, is_acking, is_without_connection}
+use Rattle.dccp_endpoint.specs.Causes.{Came, IsSending, Rests, Acks, Others, Refuses, SaysNothing, is_acking, is_without_connection}
 use Rattle.dccp_endpoint.specs.Drafts.{Fits}
 use Rattle.dccp_endpoint.specs.Effects.{Effect, Sending, Silent, Next, WithoutConnection, end_after, frame_by, gss_by}
 use Rattle.dccp_endpoint.specs.End.{EndState, IsProper, floor_of}
+use Rattle.dccp_endpoint.specs.Incoming.{Incoming}
 use Rattle.dccp_endpoint.specs.Inputs.{Input}
 use Rattle.dccp_endpoint.specs.Steps.{next_number}
 use Rattle.dccp_endpoint.proofs.Phases.{begins}
@@ -16,6 +18,7 @@ use Rattle.two_ends.specs.Numbered.{IsNumberOf}
 use Rattle.two_ends.specs.World.{as_sent}
 use Rattle.two_ends.proofs.Acting.{Act, Keeps, NoFact, Party, acted, config_of, drafted_by, end_of, logged_by, sent_by}
 use Rattle.two_ends.proofs.Logged.{AreLogged, NoFrames, Numbered, Unnumbered, logged-append, logged-few}
+use Rattle.two_ends.proofs.ReadBack.{IsFromLog, from-log}
 
 pub record IsOrdered (x : Party) : Type 0 where
   pub proper : IsProper (end_of x)
@@ -31,6 +34,12 @@ few-logged x o = omega (arith, logged-few (config_of x) o.logged, o.few)
 
 abbrev pub more-sent : (iss count more number : ℕ) → count ≤ more → IsNumberOf iss count number → IsNumberOf iss more number
 more-sent iss count more number above s = record { place = s.place; was_sent = omega (arith, s.was_sent, above); same = s.same }
+
+-- A packet that comes, other than a Reset, is one that the peer logged.
+pub came-logged : (act : Act) → IsOrdered act.peer → (a : Incoming) → Came (end_of act.side) act.given a → a.kind ≢ types.Reset
+    → IsFromLog (config_of act.peer).iss act.peer.log a
+came-logged act peer a came other =
+    from-log (end_of act.side) act.given a came (config_of act.peer) act.peer.half.frames act.peer.log act.from_peer other peer.logged
 
 -- An Ack and a DataAck have a connection.
 acking-connected : (r : Role) (k : Kind) → is_acking (packet_type k) ≡ true → is_without_connection r k ≡ false
