@@ -1,0 +1,3 @@
+mod Sums
+mod Below
+mod Steps

@@ -1,0 +1,29 @@
+-- The rule over the word and the views of all claimers, and what a claim tells of the word that it read (own).
+use Rattle.std.specs.Prelude.{◌≡◌, ℕ, ◌^◌, ◌<◌, ◌≤◌, min, List, [], ◌∷◌, length, All, sum_by}
+use mathlib.Core.Option.{some}
+use lib.ListN.{get_elem?}
+use Rattle.atomic_table.specs.Table.{State, Me}
+use Rattle.campaign_claims.specs.declared.rule.View.{View}
+use Rattle.campaign_claims.specs.Numbers.{times, once_below}
+use Rattle.campaign_claims.specs.Views.{claimed}
+
+-- how many claims all have made together
+abbrev pub all_drawn : List View → ℕ
+all_drawn views = sum_by (λ v. v.drawn) views
+
+-- One view: no more claims than its share, no more numbers than claims; one that is not spent knows the limit n
+pub record Fits (n : ℕ) (v : View) : Type 0 where
+  pub within : v.drawn ≤ v.share
+  pub few : length v.numbers ≤ v.drawn
+  pub same : 0 < v.share → v.limit ≡ n
+
+-- The word counts all claims, the shares are 2^62 together, and the numbers below n that were passed stand in the views, each once, and no others
+pub record Counted (n : ℕ) (s : State ℕ View) : Type 0 where
+  pub word : s.words ≡ all_drawn s.views ∷ []
+  pub shares : sum_by (λ v. v.share) s.views ≡ 2 ^ 62
+  pub each : (k : ℕ) (v : View) → get_elem? s.views k ≡ some v → Fits n v
+  pub once : (x : ℕ) → sum_by (λ v. times x v.numbers) s.views ≡ once_below x (min n (all_drawn s.views))
+
+-- a claim that read this word: all numbers of its claimer lie below it
+abbrev pub Draws : Me ℕ View → ℕ → Me ℕ View → Type 0
+Draws v found w = (w ≡ (claimed v.0 found, v.1)) × All (λ x. x < found) v.0.numbers

@@ -1,0 +1,49 @@
+-- What a claimer knows, and what each step makes of it (own).
+use Rattle.std.specs.Prelude.{ℕ, ◌+◌, ◌-◌, ◌/◌, ◌^◌, List, [], ◌∷◌, ◌++◌, nat_lt, if◌then◌else◌}
+use Rattle.atomic_table.specs.Seated.{TableId}
+use Rattle.campaign_claims.specs.declared.rule.View.{View}
+
+-- a claimer: which claims it is of, and what it knows
+pub record Held : Type 0 where
+  pub claims : TableId
+  pub view : View
+
+abbrev pub held : TableId → View → Held
+held claims view = record { claims = claims; view = view }
+
+abbrev pub knows : List ℕ → ℕ → ℕ → ℕ → View
+knows numbers drawn share limit = record { numbers = numbers; drawn = drawn; share = share; limit = limit }
+
+-- the first claimer has every right to claim
+abbrev pub first : ℕ → View
+first limit = knows [] 0 (2 ^ 62) limit
+
+-- one claim more, which gave this number
+abbrev pub with_number : View → ℕ → View
+with_number v k = knows (v.numbers ++ k ∷ []) (v.drawn + 1) v.share v.limit
+
+-- one claim more, which gave none
+abbrev pub with_none : View → View
+with_none v = knows v.numbers (v.drawn + 1) v.share v.limit
+
+-- what a claim makes of a view, by the word that it read
+abbrev pub claimed : View → ℕ → View
+claimed v found = if nat_lt found v.limit then with_number v found else with_none v
+
+-- half of the claims that may still be made, rounded down
+abbrev pub half_left : View → ℕ
+half_left v = (v.share - v.drawn) / 2
+
+-- what is kept at a split, and what is given
+abbrev pub kept : View → View
+kept v = knows v.numbers v.drawn (v.share - half_left v) v.limit
+
+abbrev pub given : View → View
+given v = knows [] 0 (half_left v) v.limit
+
+-- two views in one, and what is left of the second
+abbrev pub both : View → View → View
+both v w = knows (v.numbers ++ w.numbers) (v.drawn + w.drawn) (v.share + w.share) v.limit
+
+abbrev pub spent : View
+spent = knows [] 0 0 0
