@@ -15,7 +15,8 @@ const INITIAL_WINDOW: u32 = 4;
 const LARGEST_WINDOW: u32 = 1024;
 
 /// TCP-like congestion control (RFC 4341, section 5): the window doubles in a round trip until it reaches the threshold, then
-/// grows by a packet in each, is halved once for all losses of a window, and falls to one packet at a timeout.
+/// grows by a packet in each, is halved once for all losses of a window, and falls to one packet at a timeout. An Ack Ratio of 0
+/// counts as 1.
 #[derive(Drop)]
 pub struct Ccid2 {
     flight: Flight,

@@ -1,10 +1,10 @@
 -- The numbers that are Reported, as a list.
-use Rattle.std.proofs.Common.{◌≡◌, ℕ, zero, suc, ◌<◌, Bool, true, false, cond, List, [], ◌∷◌, map, length, get_or, refl, sym, ap, ◌∙◌, subst, ◌↔◌, arith}
-use Rattle.std.specs.List.{filter, Contains}
+use Rattle.std.proofs.Common.{◌≡◌, ℕ, zero, suc, List, [], ◌∷◌, ap, ◌↔◌, arith}
+use Rattle.std.specs.List.{Contains}
 use Rattle.congestion_trait.specs.declared.flight.Entry.{Entry}
 use Rattle.congestion_trait.specs.declared.flight.Standing.{Standing}
 use Rattle.congestion_trait.specs.declared.flight.Standing.TheVariants.{Out, Reported, Lost}
-use Rattle.congestion_trait.specs.Flight.{is_reported, Has, numbers_reported}
+use Rattle.congestion_trait.specs.Flight.{Has, numbers_reported}
 
 number_later : (x : ℕ) (rest : List ℕ) (number : ℕ) → Contains rest number → Contains (x ∷ rest) number
 number_later x rest number h = (suc h.0, omega (arith, h.1), h.2)

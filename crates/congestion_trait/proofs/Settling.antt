@@ -1,7 +1,7 @@
 -- What a report makes of a list, entry by entry.
 use Rattle.std.proofs.Common.{◌≡◌, ℕ, suc, ◌+◌, ◌<◌, ◌≤◌, Bool, true, false, not, ◌&&◌, ◌||◌, leb, cond, List, [], ◌∷◌, ◌++◌, map, Option, Some, length, take, drop, get_or, slice_get, slice_set, refl, sym, ap, ◌∙◌, append_assoc, length-drop, subst, arith}
 use Rattle.std.proofs.lemmas.List.Sums.{sum_by-cons, count_by-le-length}
-use Rattle.std.proofs.lemmas.List.{take_more, drop_more, get_or_append_left, get_or-take, length-take-le, set_at, length-map}
+use Rattle.std.proofs.lemmas.List.{take_more, drop_more, get_or_append_left, get_or-take, length-take-le, set_at, length-map, take_all, drop_all, append-nil}
 use Rattle.std.proofs.lemmas.Option.{get_or_from_slice_get}
 use Rattle.congestion_trait.specs.declared.flight.Entry.{Entry}
 use Rattle.congestion_trait.specs.declared.flight.Standing.{Standing}
@@ -53,6 +53,7 @@ pub record IsStep (state mark : Option ℕ) (x : Entry) (walk next : Walk) (stan
       || walk.congested)
   pub reported : next.reported ≡ walk.reported + one_if (is_reported standing)
   pub out : next.out ≡ walk.out + one_if (is_out standing)
+  pub seen : next.seen ≡ walk.seen + one_if (is_out x.standing)
 
 -- a walk over these entries
 pub record IsWalk (told : States) (mark : Option ℕ) (later : List Entry) (walk : Walk) : Type 0 where
@@ -60,6 +61,7 @@ pub record IsWalk (told : States) (mark : Option ℕ) (later : List Entry) (walk
   pub congested : walk.congested ≡ is_congested told mark later
   pub reported : walk.reported ≡ reported_count (map (reported told) later)
   pub out : walk.out ≡ pipe_of (after_report told later)
+  pub seen : walk.seen ≡ pipe_of later
 
 module _ (told : States) (mark : Option ℕ) (later : List Entry) (x : Entry) (walk next : Walk) (standing : Standing)
     (so_far : IsWalk told mark later walk) (step : IsStep (told x.number) mark x walk next standing) where
@@ -97,8 +99,29 @@ module _ (told : States) (mark : Option ℕ) (later : List Entry) (x : Entry) (w
       (sym (lost_unreceived (is_received (told x.number)) (is_passed (map (reported told) later)) x))
       ∙ ap (λ c. is_past mark x.number && (is_newly_marked told x || is_newly_lost told x later) || c) so_far.congested
 
+  seen_more : next.seen ≡ pipe_of (x ∷ later)
+  seen_more =
+      let first = sum_by-cons (λ (e : Entry). cond (is_out e.standing) 1 0) x later in
+      omega (arith, first, step.seen, so_far.seen)
+
   pub walk_more : IsWalk told mark (x ∷ later) next
-  walk_more = record { acked = acked_more; congested = congested_more; reported = reported_more; out = out_more }
+  walk_more = record { acked = acked_more; congested = congested_more; reported = reported_more; out = out_more; seen = seen_more }
+
+-- what stands at the place below the walk, which it did not change
+module _ (told : States) (mark : Option ℕ) (old now : List Entry) (n i : ℕ) (x : Entry) (walk : Walk)
+    (one : n ≡ i + 1) (within : n ≤ length old) (along : IsAlong told mark old n now walk) (read : slice_get now i ≡ Some x) where
+  read_old : get_or old i x ≡ x
+  read_old =
+      let front_long : length (take n old) ≡ n = length-take-le n old within in
+      sym (get_or_append_left (take n old) (after_report told (drop n old)) x i (omega arith) ∙ get_or-take n old i x (omega arith))
+      ∙ sym (ap (λ l. get_or l i x) along.entries)
+      ∙ get_or_from_slice_get now i x x read
+
+  pub cut : drop i old ≡ x ∷ drop n old
+  cut = drop_more old i x (omega arith) ∙ ap (λ e. e ∷ drop (i + 1) old) read_old ∙ ap (λ k. x ∷ drop k old) (sym one)
+
+  pub front_cut : take n old ≡ take i old ++ x ∷ []
+  front_cut = ap (λ k. take k old) one ∙ take_more old i x (omega arith) ∙ ap (λ e. take i old ++ e ∷ []) read_old
 
 -- one entry further
 pub turn : (told : States) (mark state : Option ℕ) (old now : List Entry) (n i : ℕ) (x : Entry) (walk next : Walk) (standing : Standing)
@@ -107,19 +130,10 @@ pub turn : (told : States) (mark state : Option ℕ) (old now : List Entry) (n i
     → IsAlong told mark old i (slice_set now i (record x { standing = standing })) next
 turn told mark state old now n i x walk next standing one within along read same given =
     let step = subst (λ s. IsStep s mark x walk next standing) same given in
-    let front_long : length (take n old) ≡ n = length-take-le n old within in
-    let in_front : i < length (take n old) = omega arith in
-    let in_old : i < length old = omega arith in
-    let read_old : get_or old i x ≡ x =
-    sym (get_or_append_left (take n old) (after_report told (drop n old)) x i in_front ∙ get_or-take n old i x (omega arith))
-    ∙ sym (ap (λ l. get_or l i x) along.entries)
-    ∙ get_or_from_slice_get now i x x read in
-    let later_is : drop (i + 1) old ≡ drop n old = ap (λ k. drop k old) (sym one) in
-    let cut : drop i old ≡ x ∷ drop n old =
-    drop_more old i x in_old ∙ ap (λ e. e ∷ drop (i + 1) old) read_old ∙ ap (λ l. x ∷ l) later_is in
-    let front : take n old ≡ take i old ++ x ∷ [] =
-    ap (λ k. take k old) one ∙ take_more old i x in_old ∙ ap (λ e. take i old ++ e ∷ []) read_old in
-    let so_far : IsWalk told mark (drop n old) walk = record { acked = along.acked; congested = along.congested; reported = along.reported; out = along.out } in
+    let cut = cut told mark old now n i x walk one within along read in
+    let front = front_cut told mark old now n i x walk one within along read in
+    let so_far : IsWalk told mark (drop n old) walk =
+    record { acked = along.acked; congested = along.congested; reported = along.reported; out = along.out; seen = along.seen } in
     let more = walk_more told mark (drop n old) x walk next standing so_far step in
     let now_is : now ≡ take i old ++ x ∷ after_report told (drop n old) =
     along.entries ∙ ap (λ l. l ++ after_report told (drop n old)) front ∙ append_assoc (take i old) (x ∷ []) (after_report told (drop n old)) in
@@ -133,6 +147,7 @@ turn told mark state old now n i x walk next standing one within along read same
       congested = rw cut more.congested;
       reported = rw cut more.reported;
       out = rw cut more.out;
+      seen = rw cut more.seen;
     }
 
 pub length-with_losses : (entries : List Entry) → length (with_losses entries) ≡ length entries
@@ -145,7 +160,7 @@ length-after_report told entries = length-with_losses (map (reported told) entri
 -- while an entry is left, each count is below the length
 pub few_yet : (told : States) (mark : Option ℕ) (old now : List Entry) (n : ℕ) (walk : Walk)
     → 0 < n → n ≤ length old → length old ≤ 2048 → IsAlong told mark old n now walk
-    → (walk.acked < 2048) × (walk.reported < 2048) × (walk.out < 2048)
+    → (walk.acked < 2048) × (walk.reported < 2048) × (walk.out < 2048) × (walk.seen < 2048)
 few_yet told mark old now n walk some within few along =
     let rest = length-drop n old in
     let acked = count_by-le-length (λ (e : Entry). is_newly_acked told e) (drop n old) in
@@ -153,4 +168,24 @@ few_yet told mark old now n walk some within few along =
     let all = length-map (drop n old) (reported told) in
     let out = count_by-le-length (λ (e : Entry). is_out e.standing) (after_report told (drop n old)) in
     let same = length-after_report told (drop n old) in
-    (omega (arith, rest, acked, along.acked), omega (arith, rest, those, all, along.reported), omega (arith, rest, out, same, along.out))
+    let seen = count_by-le-length (λ (e : Entry). is_out e.standing) (drop n old) in (
+      omega (arith, rest, acked, along.acked),
+      omega (arith, rest, those, all, along.reported),
+      omega (arith, rest, out, same, along.out),
+      omega (arith, rest, seen, along.seen),
+    )
+
+-- before the newest entry
+pub begins : (told : States) (mark : Option ℕ) (old : List Entry)
+    → IsAlong told mark old (length old) old record { acked = 0; congested = false; reported = 0; out = 0; seen = 0 }
+begins told mark old =
+    let whole : take (length old) old ≡ old = take_all (length old) old (omega arith) in
+    let none : drop (length old) old ≡ [] = drop_all (length old) old (omega arith) in
+    record {
+      entries = sym (rw (none, whole) (append-nil old));
+      acked = rw none refl;
+      congested = rw none refl;
+      reported = rw none refl;
+      out = rw none refl;
+      seen = rw none refl;
+    }

@@ -1,12 +1,14 @@
 -- How a report is read along with a flight list, from the newest entry to the oldest.
-use Rattle.std.specs.Prelude.{◌≡◌, ℕ, ◌-◌, ◌<◌, ◌≤◌, Bool, false, ◌&&◌, nat_lt, List, [], ◌∷◌, ◌++◌, map, take, drop, length, Option, Some, None, slice_get, IsTrue, if◌then◌else◌}
-use Rattle.std.specs.List.{list_all}
+use Rattle.std.specs.Prelude.{◌≡◌, ℕ, ◌-◌, ◌^◌, ◌<◌, ◌≤◌, ⊤, Bool, false, not, ◌&&◌, ◌||◌, nat_lt, List, [], ◌∷◌, ◌++◌, map, take, drop, length, Option, Some, None, slice_get, IsTrue, if◌then◌else◌}
+use Rattle.std.specs.List.{list_all, AllByRecursion}
+use Rattle.seq_circle.specs.Circle.{distance}
 use Rattle.dccp_options.specs.declared.report.Run.{Run}
 use Rattle.dccp_options.specs.Vectors.{Report, is_received}
 use Rattle.congestion_trait.specs.declared.flight.Standing.{Standing}
 use Rattle.congestion_trait.specs.declared.flight.Standing.TheVariants.{Reported, Lost}
 use Rattle.congestion_trait.specs.declared.flight.Entry.{Entry}
 use Rattle.congestion_trait.specs.declared.walk.Walk.{Walk}
+use Rattle.congestion_trait.specs.declared.walk.Counts.{Counts}
 use Rattle.congestion_trait.specs.Flight.{States, is_out, is_reported, after_report, acked_count, is_congested, reported_count, reported, pipe_of}
 
 -- the state that runs give a place, counted from the first run's highest number down
@@ -45,14 +47,33 @@ pub record IsAlong (told : States) (mark : Option ℕ) (old : List Entry) (index
   pub congested : walk.congested ≡ is_congested told mark (drop index old)
   pub reported : walk.reported ≡ reported_count (map (reported told) (drop index old))
   pub out : walk.out ≡ pipe_of (after_report told (drop index old))
+  pub seen : walk.seen ≡ pipe_of (drop index old)
 
 -- every entry is Reported: no report changes any of them
 abbrev pub AllReported : List Entry → Type 0
 AllReported entries = IsTrue (list_all (λ entry. is_reported entry.standing) entries)
 
--- what the counts beside a list say of it, of whose first entries so many are Reported
-pub record IsKept (entries : List Entry) (capacity out settled : ℕ) : Type 0 where
+-- the report changes nothing of the entry: it is Reported, or it is Lost and not said to be received
+abbrev pub is_untouched : States → Entry → Bool
+is_untouched told entry = is_reported entry.standing || not (is_out entry.standing) && not (is_received (told entry.number))
+
+-- the report changes none of the entries
+abbrev pub AllUntouched : States → List Entry → Type 0
+AllUntouched told entries = IsTrue (list_all (λ entry. is_untouched told entry) entries)
+
+abbrev pub numbers : List Entry → List ℕ
+numbers entries = map (λ entry. entry.number) entries
+
+-- from each number up to each later one there are at most so many steps
+abbrev pub AreNear : ℕ → List ℕ → Type 0
+AreNear span [] = ⊤
+AreNear span (number ∷ later) =
+    (number < 2 ^ 48) × AllByRecursion (λ other. distance number other ≤ span) later × AreNear span later
+
+-- what the counts beside a list say of it
+pub record IsKept (entries : List Entry) (capacity : ℕ) (counts : Counts) : Type 0 where
   pub holds : capacity ≡ 2048
-  pub counted : out ≡ pipe_of entries
-  pub within : settled ≤ length entries
-  pub front : AllReported (take settled entries)
+  pub counted : counts.out ≡ pipe_of entries
+  pub within : counts.settled ≤ length entries
+  pub front : AllReported (take counts.settled entries)
+  pub near : counts.span < 2 ^ 48 → AreNear counts.span (numbers entries)

@@ -1,11 +1,14 @@
 //! Reads a report at falling numbers, without beginning anew at each.
-ghost use Rattle.std.specs.Prelude.{◌≡◌, ℕ, ◌+◌, ◌<◌, ◌≤◌};
+ghost use Rattle.std.specs.Prelude.{◌≡◌, ℕ, ◌+◌, ◌^◌, ◌<◌, ◌≤◌, ◌⊎◌, [], None, IfNone, IsNone, IsTrue, slice_get};
 ghost use Rattle.seq_circle.specs.Circle.{distance};
 ghost use Rattle.dccp_options.specs.Vectors.{state_at, states};
 ghost use Rattle.congestion_trait.specs.Walk.{IsAt, IsTop};
 
 use dccp_options::{AckReport, ReportRuns};
 use seq_circle::Seq48;
+
+// How many numbers there are.
+const CIRCLE: u64 = 1 << 48;
 
 // The highest number that a report gives a state.
 fn top_of(report: &AckReport<'_>) -> Option<Seq48>
@@ -62,6 +65,7 @@ impl<'a> Cursor<'a> {
         requires stands { IsAt (states report.now.bytes) self.old.start self.old.end self.old.state self.old.left }
         requires top { IsTop report.now self.old.top }
         ensures value { result ≡ state_at report.now.ack report.now.bytes number }
+        ensures none { IfNone result ((place : ℕ) → distance number report.now.ack ≤ place → slice_get (states report.now.bytes) place ≡ None) }
         ensures top { IsTop report.now self.new.top }
         ensures stands { IsAt (states report.now.bytes) self.new.start self.new.end self.new.state self.new.left }
     {
@@ -81,5 +85,23 @@ impl<'a> Cursor<'a> {
             }
         }
         Some(self.state)
+    }
+    // Tells whether a report that gives this number no state gives none to any number that lies at most so many steps before
+    // it.
+    pub fn ends_before(
+        &self,
+        report: &AckReport<'a>,
+        state: Option<u8>,
+        number: Seq48,
+        span: u64,
+    ) -> bool
+        requires top { IsTop report.now self.now.top }
+        ensures { IsTrue result → IsNone state × (span < 2 ^ 48) × ((report.now.bytes ≡ []) ⊎ (distance number report.now.ack + span < 2 ^ 48)) }
+    {
+        let near = match self.top {
+            Some(top) => span < CIRCLE - number.distance(top),
+            None => span < CIRCLE,
+        };
+        state.is_none() && near
     }
 }

@@ -1,11 +1,11 @@
 //! The flight list.
-ghost use Rattle.std.specs.Prelude.{◌≡◌, ℕ, ◌≤◌, [], length, IfOk, Option};
+ghost use Rattle.std.specs.Prelude.{◌≡◌, ℕ, ◌+◌, ◌-◌, ◌^◌, ◌<◌, ◌≤◌, [], ◌∷◌, ◌++◌, length, IfOk, Option, if◌then◌else◌};
 ghost use Rattle.std.specs.Option.{option_to_list};
 ghost use Rattle.dccp_options.specs.Vectors.{state_at};
 ghost use Rattle.congestion_trait.specs.Flight.{pipe_of, sent, after_report, acked_count, is_congested};
-ghost use Rattle.congestion_trait.specs.Walk.{was_out};
+ghost use Rattle.congestion_trait.specs.Walk.{was_out, numbers, AreNear};
 
-use crate::walk::{settle, settled_from};
+use crate::walk::{Counts, settle, settled_from};
 use circular_buffer::HeapCircularBuffer;
 use dccp_options::AckReport;
 use seq_circle::{NoMemory, Seq48};
@@ -13,6 +13,12 @@ use std::alloc::Global;
 use std::marker::Model;
 
 const CAPACITY: usize = 2048;
+
+const NOTHING: Counts = Counts {
+    out: 0,
+    settled: 0,
+    span: 0,
+};
 
 /// How a data packet that was sent stands (own).
 #[derive(Clone, Copy, Debug, PartialEq, Eq)]
@@ -48,9 +54,7 @@ pub struct FlightNews {
 #[derive(Drop)]
 pub struct Flight {
     entries: HeapCircularBuffer<Entry>,
-    out: u32,
-    // The entries before this place are Reported, so that no report has to look at them.
-    settled: usize,
+    counts: Counts,
 }
 
 impl Model for Flight {
@@ -63,7 +67,7 @@ impl Model for Flight {
 
     ghost use Rattle.congestion_trait.specs.Walk.{IsKept};
 
-    ghost invariant = { λ f. IsKept f.entries.items f.entries.capacity f.out f.settled };
+    ghost invariant = { λ f. IsKept f.entries.items f.entries.capacity f.counts };
 }
 
 impl Flight {
@@ -74,8 +78,7 @@ impl Flight {
         let entries = HeapCircularBuffer::with_capacity(alloc, CAPACITY)?;
         Ok(Flight {
             entries,
-            out: 0,
-            settled: 0,
+            counts: NOTHING,
         })
     }
 
@@ -84,51 +87,82 @@ impl Flight {
         ensures { self.new ≡ [] }
     {
         self.entries.clear();
-        self.out = 0;
-        self.settled = 0;
+        self.counts = NOTHING;
     }
 
     /// How many entries are Out.
     pub fn out(&self) -> u32
         ensures { result ≡ pipe_of self.now }
     {
-        self.out
+        self.counts.out
     }
 
     /// Notes a packet that was sent. The 2,049th drives the oldest out.
     pub fn sent(&mut self, number: Seq48)
         ensures { self.new ≡ sent self.old number }
     {
+        // Gives the prover that the list fits its block.
         let _len = self.entries.len();
+        let step = step_from_newest(&self.entries, number);
         let entry = Entry {
             number,
             standing: Standing::Out,
         };
         let driven_out = self.entries.push_back(entry);
-        if !was_out(&driven_out) {
-            self.out += 1;
-        }
-        self.settled = self.settled.saturating_sub(count_of(&driven_out));
+        self.counts = self.counts.with_sent(&driven_out, step);
     }
 
     /// Settles every entry by a report: those that it gives state 0 or 1 are Reported, and those that are still Out before
     /// three Reported ones are Lost (RFC 4341, section 5). `mark` is the recovery mark: what it covers shows no new congestion.
-    /// While numbers are sent in their order, the cost is that of the report's runs and of the entries from the oldest one
-    /// that is not Reported.
+    /// With None every loss and every marked packet does. While numbers are sent in their order, the cost is that of the
+    /// report's runs and of the entries down to the oldest that is Out or that they reach.
     pub fn report(&mut self, report: &AckReport<'_>, mark: Option<Seq48>) -> FlightNews
         ensures entries { self.new ≡ after_report (state_at report.now.ack report.now.bytes) self.old }
         ensures acked { result.acked ≡ acked_count (state_at report.now.ack report.now.bytes) self.old }
         ensures few { result.acked ≤ 2048 }
         ensures congested { result.congested ≡ is_congested (state_at report.now.ack report.now.bytes) mark self.old }
     {
+        // Gives the prover that the list fits its block.
         let _len = self.entries.len();
-        let walk = settle(&mut self.entries, self.settled, report, &mark);
-        self.out = walk.out;
-        self.settled = settled_from(&self.entries, self.settled);
+        let walk = settle(&mut self.entries, &self.counts, report, &mark);
+        self.counts.out = walk.out;
+        self.counts.settled = settled_from(&self.entries, self.counts.settled);
         FlightNews {
             acked: walk.acked,
             congested: walk.congested,
         }
+    }
+}
+
+impl Counts {
+    // One entry more is Out, so many steps up from the newest, and it may have driven another out.
+    fn with_sent(&self, driven_out: &Option<Entry>, step: u64) -> Counts
+        requires few { self.now.out ≤ 2048 }
+        ensures out { result.out ≡ (if was_out driven_out.now then self.now.out else self.now.out + 1) }
+        ensures settled { result.settled ≡ self.now.settled - length (option_to_list driven_out.now) }
+        ensures span { result.span < 2 ^ 48 → result.span ≡ self.now.span + step }
+    {
+        Counts {
+            out: if was_out(driven_out) {
+                self.out
+            } else {
+                self.out + 1
+            },
+            settled: self.settled.saturating_sub(count_of(driven_out)),
+            span: self.span.saturating_add(step),
+        }
+    }
+}
+
+// How many steps up a number is from the newest entry's.
+fn step_from_newest(entries: &HeapCircularBuffer<Entry>, number: Seq48) -> u64
+    ensures near { (span : ℕ) → AreNear span (numbers entries.now.items) → AreNear (span + result) (numbers entries.now.items ++ number ∷ []) }
+{
+    // Gives the prover that the number is below 2^48.
+    let _number = number.get();
+    match entries.back() {
+        Some(newest) => newest.number.distance(number),
+        None => 0,
     }
 }
 

@@ -3,7 +3,7 @@ ghost use Rattle.std.specs.Prelude.{◌≡◌, ℕ, ◌+◌, ◌<◌, ◌≤◌,
 ghost use Rattle.circular_buffer.specs.Buffer.{buffer};
 ghost use Rattle.dccp_options.specs.Vectors.{state_at, is_received, is_unmarked, is_marked};
 ghost use Rattle.congestion_trait.specs.Flight.{pipe_of, reported_count, after_report, acked_count, is_congested, is_out, is_reported, is_past};
-ghost use Rattle.congestion_trait.specs.Walk.{standing_after, one_if, AllReported};
+ghost use Rattle.congestion_trait.specs.Walk.{standing_after, one_if, AllReported, IsKept};
 
 use crate::cursor::Cursor;
 use crate::flight::{Entry, Standing};
@@ -18,13 +18,25 @@ const RECEIVED: u8 = 0;
 
 const MARKED: u8 = 1;
 
-// What the entries so far came to.
+// What is kept beside a list of entries, so that a report need not look at all of them.
+#[derive(Clone, Copy)]
+pub struct Counts {
+    // How many are Out.
+    pub out: u32,
+    // The entries before this place are Reported.
+    pub settled: usize,
+    // Below 2^48, no number is more steps up from an earlier one.
+    pub span: u64,
+}
+
+// What the entries so far came to; `seen` of them were Out before.
 #[derive(Clone, Copy)]
 pub struct Walk {
     pub acked: u32,
     pub congested: bool,
     pub reported: u32,
     pub out: u32,
+    pub seen: u32,
 }
 
 fn is_past(mark: &Option<Seq48>, number: Seq48) -> bool
@@ -76,7 +88,7 @@ fn set_standing(entries: &mut HeapCircularBuffer<Entry>, index: usize, standing:
 impl Walk {
     // Counts one entry, and tells how it stands after the report.
     fn step(&mut self, entry: &Entry, state: Option<u8>, mark: &Option<Seq48>) -> Standing
-        requires { (self.old.acked < 2048) × (self.old.reported < 2048) × (self.old.out < 2048) }
+        requires { (self.old.acked < 2048) × (self.old.reported < 2048) × (self.old.out < 2048) × (self.old.seen < 2048) }
         ensures standing { result ≡ standing_after state (nat_le 3 self.old.reported) entry.now.standing }
         ensures acked { self.new.acked ≡ self.old.acked + one_if (not (is_reported entry.now.standing) && is_unmarked state) }
         ensures congested { self.new.congested ≡ (is_past mark.now entry.now.number
@@ -85,6 +97,7 @@ impl Walk {
             || self.old.congested) }
         ensures reported { self.new.reported ≡ self.old.reported + one_if (is_reported result) }
         ensures out { self.new.out ≡ self.old.out + one_if (is_out result) }
+        ensures seen { self.new.seen ≡ self.old.seen + one_if (is_out entry.now.standing) }
     {
         let passed = self.reported >= PASSING;
         let after = standing_after(state, passed, entry.standing);
@@ -96,6 +109,9 @@ impl Walk {
         if news && congests && is_past(mark, entry.number) {
             self.congested = true;
         }
+        if entry.standing == Standing::Out {
+            self.seen += 1;
+        }
         match after {
             Standing::Out => self.out += 1,
             Standing::Reported => self.reported += 1,
@@ -105,16 +121,15 @@ impl Walk {
     }
 }
 
-// Settles the entries by a report, from the newest down to the first `settled`, which are Reported.
+// Settles the entries by a report, from the newest down to where no older one is Out or is reached by it.
 pub fn settle(
     entries: &mut HeapCircularBuffer<Entry>,
-    settled: usize,
+    counts: &Counts,
     report: &AckReport<'_>,
     mark: &Option<Seq48>,
 ) -> Walk
     requires few { length entries.old.items ≤ 2048 }
-    requires within { settled ≤ length entries.old.items }
-    requires front { AllReported (take settled entries.old.items) }
+    requires kept { IsKept entries.old.items entries.old.capacity counts.now }
     ensures entries { entries.new ≡ buffer (after_report (state_at report.now.ack report.now.bytes) entries.old.items) entries.old.capacity }
     ensures acked { result.acked ≡ acked_count (state_at report.now.ack report.now.bytes) entries.old.items }
     ensures congested { result.congested ≡ is_congested (state_at report.now.ack report.now.bytes) mark.now entries.old.items }
@@ -126,12 +141,20 @@ pub fn settle(
         congested: false,
         reported: 0,
         out: 0,
+        seen: 0,
     };
-    for index in (settled..entries.len()).rev() {
+    let mut index = entries.len();
+    // No entry before this place is changed.
+    let mut untouched = counts.settled;
+    while index > untouched {
+        index -= 1;
         let entry = entry_at(entries, index);
         let state = cursor.state(report, entry.number);
         let standing = walk.step(&entry, state, mark);
         set_standing(entries, index, standing);
+        if walk.seen == counts.out && cursor.ends_before(report, state, entry.number, counts.span) {
+            untouched = index;
+        }
     }
     walk
 }

@@ -80,6 +80,7 @@ fn main(rt: HostRuntime) -> io::Result<()> {
             ratios::marks(&rt, rounds / 64)?;
             for runs in ratios::SIZES {
                 ratios::measure(&rt, runs, rounds)?;
+                ratios::behind_a_loss(&rt, runs, rounds)?;
             }
             Ok(())
         }

@@ -13,6 +13,9 @@ use std::time::Instant;
 /// How many runs there are: a vector holds the first two whole, and the last fill the window.
 pub(crate) const SIZES: [u32; 3] = [30, 120, 1023];
 
+// Three received.
+const SMALL: [u8; 3] = [38, 3, 0x02];
+
 // How many successive numbers are marked.
 const WINDOW: u32 = 2048;
 
@@ -44,6 +47,20 @@ fn every_second(alloc: Global, runs: u32) -> io::Result<Received> {
         number = number.add(2);
     }
     let _ = received.took(number);
+    Ok(received)
+}
+
+// Every number from 0 to the newest but 1.
+fn all_but_one(alloc: Global, runs: u32) -> io::Result<Received> {
+    let Ok(mut received) = Received::new(alloc) else {
+        return Err(io::Error::other("no memory"));
+    };
+    let mut number = zero();
+    let _ = received.took(number);
+    for _ in 1..u64::from(runs) * 2 {
+        number = number.next();
+        let _ = received.took(number.next());
+    }
     Ok(received)
 }
 
@@ -143,4 +160,37 @@ pub(crate) fn measure(rt: &HostRuntime, runs: u32, rounds: u32) -> io::Result<()
     let start = Instant::now(rt)?;
     let sum = reports(&mut flight, &report, rounds);
     told(rt, ("report", runs), start, rounds, sum)
+}
+
+// Takes the report that a set's vector makes, and gives how many packets it acknowledged.
+fn take_report(flight: &mut Flight, received: &Received, ack: Seq48) -> io::Result<u32> {
+    let mut out = VectorBytes::new();
+    let _ = received.write(&mut out, ack);
+    let mut writer = OptWriter::new();
+    let _ = writer.put(false, 38, &out);
+    let Some(report) = AckReport::of(ack, options(writer.bytes(), false)) else {
+        return Err(io::Error::other("no vector"));
+    };
+    Ok(flight.report(&report, None).acked)
+}
+
+/// Prints the nanoseconds of so many reports of a small vector over a list whose second entry was lost and whose others are
+/// all Reported.
+pub(crate) fn behind_a_loss(rt: &HostRuntime, runs: u32, rounds: u32) -> io::Result<()> {
+    let ack = newest(runs);
+    let mut flight = all_sent(rt.alloc(), runs)?;
+    let received = all_but_one(rt.alloc(), runs)?;
+    let acked = take_report(&mut flight, &received, ack)?;
+    let Some(report) = AckReport::of(ack, options(&SMALL, false)) else {
+        return Err(io::Error::other("no vector"));
+    };
+    let start = Instant::now(rt)?;
+    let sum = reports(&mut flight, &report, rounds);
+    told(
+        rt,
+        ("old-loss", runs),
+        start,
+        rounds,
+        sum.wrapping_add(u64::from(acked)),
+    )
 }

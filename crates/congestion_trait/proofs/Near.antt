@@ -1,0 +1,169 @@
+-- Numbers with at most so many steps between them, and how a report's end below one of them tells of all before it.
+use Rattle.std.proofs.Common.{◌≡◌, ℕ, zero, suc, ◌+◌, ◌-◌, ◌^◌, ◌≤◌, ◌<◌, ◌⊎◌, Bool, true, false, not, ◌&&◌, ◌||◌, cond, List, [], ◌∷◌, ◌++◌, map, Option, Some, None, IsNone, IfNone, length, take, drop, slice_get, refl, sym, ap, ◌∙◌, subst, inl, inr, arith}
+use Rattle.std.specs.List.{list_all, AllByRecursion}
+use Rattle.std.proofs.lemmas.List.{take-append-drop, drop-map}
+use Rattle.std.proofs.lemmas.List.Sums.{sum_by-cons, sum_by-append}
+use mathlib.Core.List.{map-append}
+use Rattle.circular_buffer.specs.Buffer.{last_item}
+use Rattle.seq_circle.specs.Circle.{distance}
+use Rattle.dccp_options.specs.Vectors.{is_received, state_at, states}
+use Rattle.congestion_trait.specs.declared.flight.Entry.{Entry}
+use Rattle.congestion_trait.specs.declared.flight.Standing.{Standing}
+use Rattle.congestion_trait.specs.declared.flight.Standing.TheVariants.{Out, Reported, Lost}
+use Rattle.congestion_trait.specs.Flight.{States, pipe_of, sent, after_report, is_out, is_reported, reported, lost_if, is_passed}
+use Rattle.congestion_trait.specs.Walk.{is_untouched, AllUntouched, numbers, AreNear}
+
+all_more : (P Q : ℕ → Type 0) (xs : List ℕ) → ((x : ℕ) → P x → Q x) → AllByRecursion P xs → AllByRecursion Q xs
+all_more P Q [] each all = tt
+all_more P Q (x ∷ xs) each all = (each x all.0, all_more P Q xs each all.1)
+
+all_push : (P : ℕ → Type 0) (xs : List ℕ) (x : ℕ) → AllByRecursion P xs → P x → AllByRecursion P (xs ++ x ∷ [])
+all_push P [] x all last = (last, tt)
+all_push P (y ∷ ys) x all last = (all.0, all_push P ys x all.1 last)
+
+-- of the entries before and after one, that one too
+all_at : (P : ℕ → Type 0) (front : List Entry) (x : Entry) (rest : List Entry) → AllByRecursion P (numbers (front ++ x ∷ rest)) → P x.number
+all_at P [] x rest all = all.0
+all_at P (y ∷ ys) x rest all = all_at P ys x rest all.1
+
+near_more : (span step : ℕ) (xs : List ℕ) → AreNear span xs → AreNear (span + step) xs
+near_more span step [] near = tt
+near_more span step (x ∷ xs) near = (
+  near.0,
+  all_more (λ y. distance x y ≤ span) (λ y. distance x y ≤ span + step) xs (λ y h. omega arith) near.1,
+  near_more span step xs near.2,
+)
+
+near_drop : (span n : ℕ) (xs : List ℕ) → AreNear span xs → AreNear span (drop n xs)
+near_drop span zero xs near = near
+near_drop span (suc n) [] near = tt
+near_drop span (suc n) (x ∷ xs) near = near_drop span n xs near.2
+
+-- two ways of one are no shorter
+further : (x y z : ℕ) → x < 2 ^ 48 → y < 2 ^ 48 → z < 2 ^ 48 → distance x z ≤ distance x y + distance y z
+further x y z first second third = omega arith
+
+one_less : (n : ℕ) → suc (suc n) - 1 ≡ suc (suc n - 1)
+one_less n = omega arith
+
+last_later : (x y : Entry) (later : List Entry) → last_item (x ∷ y ∷ later) ≡ last_item (y ∷ later)
+last_later x y later = ap (λ n. slice_get (x ∷ y ∷ later) n) (one_less (length later))
+
+some_is : (x y : Entry) → Some x ≡ Some y → x ≡ y
+some_is x y is = cc
+
+cons_not_nil : (x : Entry) (xs : List Entry) → x ∷ xs ≡ [] → ⊥
+cons_not_nil x xs is = cc
+
+all_low : (span : ℕ) (xs : List ℕ) → AreNear span xs → AllByRecursion (λ x. x < 2 ^ 48) xs
+all_low span [] near = tt
+all_low span (x ∷ xs) near = (near.0, all_low span xs near.2)
+
+-- the last is one of them
+all_last : (P : ℕ → Type 0) (x : Entry) (later : List Entry) (last : Entry) → last_item (x ∷ later) ≡ Some last
+    → AllByRecursion P (numbers (x ∷ later)) → P last.number
+all_last P x [] last is all = subst (λ (e : Entry). P e.number) (some_is x last is) all.0
+all_last P x (y ∷ later) last is all = all_last P y later last (sym (last_later x y later) ∙ is) all.1
+
+none_last : (entries : List Entry) → last_item entries ≡ None → entries ≡ []
+none_last [] is = refl
+none_last (x ∷ []) is = cc
+none_last (x ∷ y ∷ later) is = absurd (cons_not_nil y later (none_last (y ∷ later) (sym (last_later x y later) ∙ is)))
+
+-- one number more, so many steps up from the last
+pub near_push : (span : ℕ) (x : Entry) (later : List Entry) (last : Entry) (number : ℕ) → number < 2 ^ 48 → last_item (x ∷ later) ≡ Some last
+    → AreNear span (numbers (x ∷ later)) → AreNear (span + distance last.number number) (numbers (x ∷ later) ++ number ∷ [])
+near_push span x [] last number low is near =
+    let same : x ≡ last = some_is x last is in
+    let here : distance x.number number ≤ span + distance last.number number = subst (λ (e : Entry). distance x.number number ≤ span + distance e.number number) same (omega arith) in
+    (near.0, (here, tt), (low, tt, tt))
+near_push span x (y ∷ later) last number low is near =
+    let is_later : last_item (y ∷ later) ≡ Some last = sym (last_later x y later) ∙ is in
+    let to_last : distance x.number last.number ≤ span = all_last (λ o. distance x.number o ≤ span) y later last is_later near.1 in
+    let last_low : last.number < 2 ^ 48 = all_last (λ o. o < 2 ^ 48) y later last is_later (all_low span (numbers (y ∷ later)) near.2) in
+    let triangle = further x.number last.number number near.0 last_low low in
+    let more = all_more (λ o. distance x.number o ≤ span) (λ o. distance x.number o ≤ span + distance last.number number) (numbers (y ∷ later)) (λ o h. omega arith) near.1 in
+    (near.0, all_push (λ o. distance x.number o ≤ span + distance last.number number) (numbers (y ∷ later)) number more (omega arith), near_push span y later last number low is_later near.2)
+
+pub near_first : (span number : ℕ) (entries : List Entry) → number < 2 ^ 48 → last_item entries ≡ None → AreNear (span + 0) (numbers entries ++ number ∷ [])
+near_first span number entries low is = rw (none_last entries is) (low, tt, tt)
+
+pub near_after : (span number : ℕ) (entries : List Entry) (last : Entry) → number < 2 ^ 48 → last_item entries ≡ Some last
+    → AreNear span (numbers entries) → AreNear (span + distance last.number number) (numbers entries ++ number ∷ [])
+near_after span number [] last low is near = cc
+near_after span number (x ∷ later) last low is near = near_push span x later last number low is near
+
+-- what is sent is near where the list with it was
+pub near_sent : (span number : ℕ) (entries : List Entry) → AreNear span (numbers entries ++ number ∷ []) → AreNear span (numbers (sent entries number))
+near_sent span number entries near =
+    let entry : Entry = record { number = number; standing = Out } in
+    let all : numbers (entries ++ entry ∷ []) ≡ numbers entries ++ number ∷ [] = map-append (λ (e : Entry). e.number) entries (entry ∷ []) in
+    let n = length (entries ++ entry ∷ []) - 2048 in
+    let kept : drop n (numbers (entries ++ entry ∷ [])) ≡ numbers (sent entries number) = drop-map (λ (e : Entry). e.number) n (entries ++ entry ∷ []) in
+    subst (AreNear span) kept (near_drop span n (numbers (entries ++ entry ∷ [])) (subst (AreNear span) (sym all) near))
+
+same_lost : (lost : Bool) (x : Entry) → (cond lost (record x { standing = Lost }) x).number ≡ x.number
+same_lost true x = refl
+same_lost false x = refl
+
+same_number : (received passed : Bool) (x : Entry)
+    → (lost_if passed (cond received (record x { standing = Reported }) x)).number ≡ x.number
+same_number true passed x = refl
+same_number false passed x = same_lost (is_out x.standing && passed) x
+
+-- a report changes no number
+pub numbers_after_report : (told : States) (entries : List Entry) → numbers (after_report told entries) ≡ numbers entries
+numbers_after_report told [] = refl
+numbers_after_report told (x ∷ later) =
+    ap (λ n. n ∷ numbers (after_report told later)) (same_number (is_received (told x.number)) (is_passed (map (reported told) later)) x)
+    ∙ ap (λ l. x.number ∷ l) (numbers_after_report told later)
+
+no_one : (b : Bool) (n : ℕ) → cond b 1 0 + n ≡ 0 → b ≡ false
+no_one true n none = absurd (omega arith)
+no_one false n none = refl
+
+untouched : (standing : Standing) (received : Bool) → is_out standing ≡ false → received ≡ false
+    → (is_reported standing || not (is_out standing) && not received) ≡ true
+untouched Out received out none = cc
+untouched Reported received out none = refl
+untouched Lost received out none = ap not none
+
+-- where no entry in front is Out, and the report has no state for a number at most so many steps before x's, it touches none of them
+untouched_before : (told : States) (span : ℕ) (front : List Entry) (x : Entry) (rest : List Entry) → AreNear span (numbers (front ++ x ∷ rest))
+    → pipe_of front ≡ 0 → ((number : ℕ) → number < 2 ^ 48 → distance number x.number ≤ span → told number ≡ None) → AllUntouched told front
+untouched_before told span [] x rest near none ends = refl
+untouched_before told span (y ∷ front) x rest near none ends =
+    let first = sum_by-cons (λ (e : Entry). cond (is_out e.standing) 1 0) y front in
+    let out : is_out y.standing ≡ false = no_one (is_out y.standing) (pipe_of front) (sym first ∙ none) in
+    let others : pipe_of front ≡ 0 = omega arith in
+    let close : distance y.number x.number ≤ span = all_at (λ o. distance y.number o ≤ span) front x rest near.1 in
+    let state = ends y.number near.0 close in
+    let here = untouched y.standing (is_received (told y.number)) out (ap is_received state) in
+    ap (λ b. b && list_all (λ e. is_untouched told e) front) here ∙ untouched_before told span front x rest near.2 others ends
+
+far : (ack x y span : ℕ) → x < 2 ^ 48 → y < 2 ^ 48 → distance y x ≤ span → distance x ack + span < 2 ^ 48 → distance x ack ≤ distance y ack
+far ack x y span first second close room = omega arith
+
+-- a report that gives x's number no state gives none to a number at most so many steps before it
+ends_at : (ack : ℕ) (bytes : List ℕ) (span x : ℕ) → x < 2 ^ 48 → (bytes ≡ []) ⊎ (distance x ack + span < 2 ^ 48)
+    → ((place : ℕ) → distance x ack ≤ place → slice_get (states bytes) place ≡ None)
+    → (number : ℕ) → number < 2 ^ 48 → distance number x ≤ span → state_at ack bytes number ≡ None
+ends_at ack bytes span x low (inl empty) none number fits close = rw empty refl
+ends_at ack bytes span x low (inr room) none number fits close = none (distance number ack) (far ack x number span low fits close room)
+
+pub untouched_below : (ack : ℕ) (bytes : List ℕ) (span i : ℕ) (old rest : List Entry) (x : Entry) → drop i old ≡ x ∷ rest
+    → AreNear span (numbers old) → pipe_of (drop i old) ≡ pipe_of old
+    → (bytes ≡ []) ⊎ (distance x.number ack + span < 2 ^ 48)
+    → ((place : ℕ) → distance x.number ack ≤ place → slice_get (states bytes) place ≡ None)
+    → AllUntouched (state_at ack bytes) (take i old)
+untouched_below ack bytes span i old rest x cut near seen room none =
+    let whole : take i old ++ x ∷ rest ≡ old = ap (λ l. take i old ++ l) (sym cut) ∙ take-append-drop i old in
+    let near_whole : AreNear span (numbers (take i old ++ x ∷ rest)) = subst (λ l. AreNear span (numbers l)) (sym whole) near in
+    let low : x.number < 2 ^ 48 = all_at (λ n. n < 2 ^ 48) (take i old) x rest (all_low span (numbers (take i old ++ x ∷ rest)) near_whole) in
+    let sum : pipe_of (take i old ++ drop i old) ≡ pipe_of (take i old) + pipe_of (drop i old) = sum_by-append (λ (e : Entry). cond (is_out e.standing) 1 0) (take i old) (drop i old) in
+    let all : pipe_of (take i old ++ drop i old) ≡ pipe_of old = ap pipe_of (take-append-drop i old) in
+    untouched_before (state_at ack bytes) span (take i old) x rest near_whole (omega arith) (ends_at ack bytes span x.number low room none)
+
+pub if_none : {P : Type 0} (state : Option ℕ) → IsNone state → IfNone state P → P
+if_none None is holds = holds
+if_none (Some state) is holds = cc
