@@ -13,9 +13,9 @@ use seq_circle::Seq48;
 /// To write a kind, take a struct with a `Flight` and whatever else the kind keeps. Its model's Value is a record that has the
 /// list of entries in it, since the laws range over every Value, also over those that no value of the struct has. `control`
 /// names the functions on that Value: the list and the window that it shows, the CCIDs that it knows, and what each call makes
-/// of it. `lawful` says that a start and a timeout empty the list, and that a packet sent and a report change it as the
-/// definitions of `specs/Flight` do; where `control` is written with these, each of the four holds by computation. The bounds
-/// on the window come from the struct's invariant. `FixedWindow` is the shortest example.
+/// of it. `lawful` says that the list keeps its own rules. `specs/Kind` makes both of the kind's rules for the rest alone
+/// (`kind_of`, `kind_is_lawful`). The bounds on the window come from the struct's invariant. The crate additive_window is an
+/// example.
 pub trait Congestion {
     // The kind's functions on its state, which contracts alone see.
     ghost control: { Control Self };

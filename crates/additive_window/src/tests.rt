@@ -1,0 +1,32 @@
+use crate::AdditiveWindow;
+use congestion_trait::Congestion;
+use dccp_options::{AckReport, options};
+use seq_circle::Seq48;
+use std::test::Fail;
+
+fn take_report<C: Congestion>(kind: &mut C, ack: u64, byte: u8) -> Result<(u32, u32), Fail> {
+    let area = [38, 3, byte];
+    let ack = Seq48::new(ack).ok_or("below 2^48")?;
+    let Some(report) = AckReport::of(ack, options(&area, false)) else {
+        return Err(Fail::from("no vector"));
+    };
+    kind.on_report(&report, 2);
+    Ok((kind.window(), kind.in_flight()))
+}
+
+// 1 is received: the window is 2. Then 2 is marked: it is 1 again.
+#[test]
+fn grows_and_is_halved(rt: HostRuntime) -> Result<(), Fail> {
+    let mut kind = AdditiveWindow::new(rt.alloc())?;
+    assert!(rt; kind.knows(249) && !kind.knows(2));
+    assert!(rt; kind.may_send());
+    kind.on_sent(Seq48::new(1).ok_or("below 2^48")?);
+    assert_eq!(rt; take_report(&mut kind, 1, 0x00)?, (2, 0));
+    assert!(rt; kind.may_send());
+    kind.on_sent(Seq48::new(2).ok_or("below 2^48")?);
+    assert_eq!(rt; take_report(&mut kind, 2, 0x40)?, (1, 0));
+    kind.on_timeout();
+    kind.start(249);
+    assert_eq!(rt; (kind.window(), kind.in_flight()), (1, 0));
+    Ok(())
+}

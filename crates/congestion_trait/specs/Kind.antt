@@ -1,0 +1,43 @@
+-- A kind of congestion control by its own rules alone: the flight list follows the list's rules (own).
+use Rattle.std.specs.Prelude.{◌≡◌, ℕ, Bool, List, [], refl}
+use Rattle.congestion_trait.specs.declared.flight.Entry.{Entry}
+use Rattle.congestion_trait.specs.Flight.{States, sent, after_report}
+use Rattle.congestion_trait.specs.Control.{Control, IsLawful}
+
+-- a flight list, and what a kind keeps beside it
+pub record Flying (R : Type 0) : Type 0 where
+  pub flight : List Entry
+  pub rest : R
+
+-- the window that the rest shows, the CCIDs that are known, the rest after a start, and what each other call makes of it; of a
+-- report, by the list before it and by what it says
+pub record Rules (R : Type 0) : Type 0 where
+  pub window : R → ℕ
+  pub is_known : ℕ → Bool
+  pub fresh : R
+  pub with_sent : R → ℕ → R
+  pub with_report : R → List Entry → States → ℕ → R
+  pub timed_out : R → R
+
+abbrev pub kind_of : {R : Type 0} → Rules R → Control (Flying R)
+kind_of rules = record {
+  flight = λ state. state.flight;
+  window = λ state. rules.window state.rest;
+  is_known = rules.is_known;
+  started = λ _ _. record { flight = []; rest = rules.fresh };
+  with_sent = λ state number. record { flight = sent state.flight number; rest = rules.with_sent state.rest number };
+  with_report = λ state states ratio. record {
+    flight = after_report states state.flight;
+    rest = rules.with_report state.rest state.flight states ratio;
+  };
+  timed_out = λ state. record { flight = []; rest = rules.timed_out state.rest };
+}
+
+-- whatever the rules, the flight list keeps its own
+pub kind_is_lawful : {R : Type 0} (rules : Rules R) → IsLawful (kind_of rules)
+kind_is_lawful rules = record {
+  start_empties = λ _ _. refl;
+  sending_adds = λ _ _. refl;
+  report_settles = λ _ _ _. refl;
+  timeout_empties = λ _. refl;
+}
