@@ -1,0 +1,209 @@
+//! Tables as text: an end that came some way, what happens to it then, and how it stands after that.
+//!
+//! What happens is one word: `open`, `close` or `abort`; a timer, as `close-timer`; the name of a packet; or a packet in
+//! hexadecimal.
+use dccp_endpoint::{
+    AbortFault, CloseFault, Config, Endpoint, OpenFault, Outcome, Phase, Role, Timer,
+};
+use dccp_packets::{Outbox, decode};
+use std::alloc::Global;
+use std::test::Fail;
+
+// Where an end stands: its role, the words by which a new one came there, and its phase and numbers then.
+#[derive(Clone, Copy)]
+pub(crate) struct Start<'a> {
+    pub(crate) role: Role,
+    pub(crate) way: &'a str,
+    pub(crate) phase: Phase,
+    pub(crate) numbers: &'a str,
+}
+
+// Each row is one word or more, each of which happens to an end of its own, and behind a colon what is answered.
+#[derive(Clone, Copy)]
+pub(crate) struct Table<'a> {
+    pub(crate) start: Start<'a>,
+    pub(crate) rows: &'a str,
+}
+
+// What is told of an answer: the type of the frame that is sent, or the numbers after it and the frame's bytes.
+#[derive(Clone, Copy, PartialEq, Eq)]
+pub(crate) enum Detail {
+    Type,
+    Whole,
+}
+
+// The packets with a name, a line each: those of the handshake, and those of the ways that lead to an end.
+const PACKETS: &str = "\
+    request 9c401389050031ec01000000000003e80000002a\n\
+    response 13899c400700261403000000000007d000000000000003e80000002a\n\
+    ack 9c4013890600234107000000000003e900000000000007d0\n\
+    server-ack 13899c400600234107000000000007d100000000000003e8\n\
+    client-reset 9c4013890700183d0f000000000003e900000000000007d002000000\n\
+    server-reset 13899c400700183d0f000000000007d100000000000003e802000000\n\
+    faulty-request 9c401389060030e701000000000003e80000002a00000001\n\
+    other-response 13899c400700261303000000000007d000000000000003e80000002b\n";
+
+// The line of that name.
+fn named<'a>(packets: &'a str, name: &str) -> Option<&'a str> {
+    for line in packets.lines() {
+        if let Some((own, packet)) = line.split_once(" ") {
+            if own == name {
+                return Some(packet);
+            }
+        }
+    }
+    None
+}
+
+fn fired(has_fired: bool) -> &'static str {
+    if has_fired { "fired" } else { "idle" }
+}
+
+// What a call or a timer answers; None for a word that is neither.
+fn called(end: &mut Endpoint, word: &str, out: &mut Outbox) -> Option<&'static str> {
+    match word {
+        "open" => Some(match end.open(out) {
+            Ok(()) => "ok",
+            Err(OpenFault::NotFresh) => "NotFresh",
+        }),
+        "close" => Some(match end.close(out) {
+            Ok(()) => "ok",
+            Err(CloseFault::NotOpen) => "NotOpen",
+        }),
+        "abort" => Some(match end.abort(out) {
+            Ok(()) => "ok",
+            Err(AbortFault::NotLive) => "NotLive",
+        }),
+        _ => Some(fired(end.timer(timer(word)?, out))),
+    }
+}
+
+fn timer(word: &str) -> Option<Timer> {
+    match word {
+        "request-timer" => Some(Timer::Request),
+        "ack-timer" => Some(Timer::Ack),
+        "negotiate-timer" => Some(Timer::Negotiate),
+        "rto-timer" => Some(Timer::Rto),
+        "close-timer" => Some(Timer::Close),
+        "timewait-timer" => Some(Timer::TimeWait),
+        _ => None,
+    }
+}
+
+// The outcome in the words of a schedule's answers.
+fn outcome_text(alloc: Global, outcome: &Outcome) -> Result<String, Fail> {
+    match *outcome {
+        Outcome::Took { delivered: None } => Ok(format!(in alloc; "took")?),
+        Outcome::Took { .. } => Ok(format!(in alloc; "took data")?),
+        Outcome::Dropped(why) => Ok(format!(in alloc; "dropped {why:?}")?),
+        Outcome::Synced(number) => Ok(format!(in alloc; "synced {}", number.get())?),
+        Outcome::WasReset(code) => Ok(format!(in alloc; "was reset {code}")?),
+        Outcome::SentReset { code, detail } => {
+            let [first, second, third] = detail;
+            Ok(format!(in alloc; "sent reset {code} {first} {second} {third}")?)
+        }
+        Outcome::NotBuilt => Ok(format!(in alloc; "not built")?),
+    }
+}
+
+// What the end answers to a word.
+pub(crate) fn answer(
+    alloc: Global,
+    end: &mut Endpoint,
+    word: &str,
+    out: &mut Outbox,
+) -> Result<String, Fail> {
+    if let Some(text) = called(end, word, out) {
+        return Ok(format!(in alloc; "{text}")?);
+    }
+    let bytes = hex::decode(alloc, named(PACKETS, word).unwrap_or(word))?;
+    if 2044 < bytes.len() {
+        return Err(Fail::from("no packet is longer"));
+    }
+    outcome_text(alloc, &end.receive(&bytes, out))
+}
+
+// GSS, GAR, ISR, GSR and OSR.
+pub(crate) fn numbers(alloc: Global, end: &Endpoint) -> Result<String, Fail> {
+    let marks = end.marks();
+    let gss = marks.gss.get();
+    let gar = marks.gar.get();
+    let isr = marks.isr.get();
+    let gsr = marks.gsr.get();
+    let osr = marks.osr.get();
+    Ok(format!(in alloc; "{gss} {gar} {isr} {gsr} {osr}")?)
+}
+
+// The type of the frame that was sent, or `-`.
+pub(crate) fn type_sent(alloc: Global, out: &Outbox) -> Result<String, Fail> {
+    let Some(frame) = out.frame() else {
+        return Ok(format!(in alloc; "-")?);
+    };
+    match decode(frame.bytes()) {
+        Ok(packet) => Ok(format!(in alloc; "{:?}", packet.header.kind.packet_type())?),
+        Err(_) => Err(Fail::from("what is sent is a packet")),
+    }
+}
+
+// The frame that was sent, or `-`.
+fn frame_sent(alloc: Global, out: &Outbox) -> Result<String, Fail> {
+    match out.frame() {
+        Some(frame) => Ok(hex::encode(alloc, frame.bytes())?),
+        None => Ok(format!(in alloc; "-")?),
+    }
+}
+
+// The end that came this way, standing where the way leads.
+pub(crate) fn end_at(alloc: Global, start: &Start<'_>) -> Result<Endpoint, Fail> {
+    let mut end = Endpoint::new(Config::usual(start.role))?;
+    let mut out = Outbox::new();
+    for word in start.way.split_whitespace() {
+        answer(alloc, &mut end, word, &mut out)?;
+    }
+    if end.phase() == start.phase && numbers(alloc, &end)?.as_str() == start.numbers {
+        Ok(end)
+    } else {
+        Err(Fail::from("the way leads elsewhere"))
+    }
+}
+
+// What an end that stands there answers to a word, how it stands then, and what it sends.
+fn row(alloc: Global, start: &Start<'_>, word: &str, detail: Detail) -> Result<String, Fail> {
+    let mut end = end_at(alloc, start)?;
+    let mut out = Outbox::new();
+    let text = answer(alloc, &mut end, word, &mut out)?;
+    let phase = end.phase();
+    match detail {
+        Detail::Type => {
+            let sent = type_sent(alloc, &out)?;
+            Ok(format!(in alloc; "{text}, {phase:?}, {sent}")?)
+        }
+        Detail::Whole => {
+            let after = numbers(alloc, &end)?;
+            let sent = frame_sent(alloc, &out)?;
+            Ok(format!(in alloc; "{text}, {phase:?}, {after}, {sent}")?)
+        }
+    }
+}
+
+// The first word of a table to which something else is answered, with that answer. Packets may have these names too.
+pub(crate) fn first_wrong(
+    alloc: Global,
+    table: &Table<'_>,
+    packets: &str,
+    detail: Detail,
+) -> Result<Option<String>, Fail> {
+    for line in table.rows.lines() {
+        let Some((words, wanted)) = line.split_once(": ") else {
+            return Ok(Some(format!(in alloc; "no row: {line}")?));
+        };
+        for word in words.split_whitespace() {
+            let packet = named(packets, word).unwrap_or(word);
+            let got = row(alloc, &table.start, packet, detail)?;
+            if got.as_str() != wanted {
+                return Ok(Some(format!(in alloc; "{word}: {got}")?));
+            }
+        }
+    }
+    Ok(None)
+}
