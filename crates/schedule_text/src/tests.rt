@@ -17,7 +17,7 @@ use std::test::Fail;
 use two_ends::Side;
 
 // A line, the column of its first fault, and that fault.
-const FAULTS: [(&[u8], u32, LineWhy); 119] = [
+const FAULTS: [(&[u8], u32, LineWhy); 134] = [
     // First words.
     (b" ", 1, LineWhy::Missing),
     (b" open", 1, LineWhy::Missing),
@@ -38,6 +38,7 @@ const FAULTS: [(&[u8], u32, LineWhy); 119] = [
     (b"#\xff", 2, LineWhy::NotText),
     (b"\topen", 1, LineWhy::NotText),
     (b"open\x7f", 5, LineWhy::NotText),
+    (b"open\x1f", 5, LineWhy::NotText),
     (b"x y z \xc3\xa9", 7, LineWhy::NotText),
     // plain and open
     (b"plain ", 7, LineWhy::Trailing),
@@ -49,6 +50,7 @@ const FAULTS: [(&[u8], u32, LineWhy); 119] = [
     (b"iss ", 5, LineWhy::Missing),
     (b"iss  5", 5, LineWhy::Missing),
     (b"iss client", 12, LineWhy::Missing),
+    (b"iss client ", 12, LineWhy::Missing),
     (b"iss Client 1", 5, LineWhy::UnknownWord),
     (b"iss both x", 5, LineWhy::UnknownWord),
     (b"iss client x", 12, LineWhy::BadNumber),
@@ -90,6 +92,7 @@ const FAULTS: [(&[u8], u32, LineWhy); 119] = [
     (b"set client here 3 281474976710656", 19, LineWhy::BadNumber),
     (b"set client here 3 31 x", 22, LineWhy::Trailing),
     (b"set client here 3 100 x", 23, LineWhy::Trailing),
+    (b"set client here 3 100 ", 23, LineWhy::Trailing),
     (b"set client here 3 31", 19, LineWhy::BadList),
     (b"set client here 3 70368744177664", 19, LineWhy::BadList),
     (b"set client here 3 100,200", 19, LineWhy::BadList),
@@ -109,11 +112,14 @@ const FAULTS: [(&[u8], u32, LineWhy); 119] = [
     (b"offer client here 1 maybe", 21, LineWhy::UnknownWord),
     (b"offer client there 3 x", 22, LineWhy::UnknownWord),
     (b"offer client here 1,2", 19, LineWhy::BadNumber),
+    (b"offer client here 0", 19, LineWhy::BadNumber),
     (b"offer client here 1 mandatory x", 31, LineWhy::Trailing),
+    (b"offer client here 1 mandatory ", 31, LineWhy::Trailing),
     (b"offer client there 3", 20, LineWhy::NotOurs),
     (b"offer client there 5 mandatory", 20, LineWhy::NotOurs),
     // deliver
     (b"deliver", 9, LineWhy::Missing),
+    (b"deliver ", 9, LineWhy::Missing),
     (b"deliver x0", 9, LineWhy::UnknownWord),
     (b"deliver 0", 9, LineWhy::UnknownWord),
     (b"deliver C0", 9, LineWhy::UnknownWord),
@@ -137,23 +143,32 @@ const FAULTS: [(&[u8], u32, LineWhy); 119] = [
     (b"send client a-", 14, LineWhy::BadHex),
     (b"send client --", 13, LineWhy::BadHex),
     (b"send client 9a21 b63328", 18, LineWhy::Trailing),
+    (b"send client ab ", 16, LineWhy::Trailing),
     // prefer
     (b"prefer", 8, LineWhy::Missing),
+    (b"prefer client", 15, LineWhy::Missing),
+    (b"prefer client here", 20, LineWhy::Missing),
     (b"prefer client here 5", 22, LineWhy::Missing),
     (b"prefer server there 8", 23, LineWhy::Missing),
     (b"prefer both here 1 2", 8, LineWhy::UnknownWord),
     (b"prefer client at 1 2", 15, LineWhy::UnknownWord),
     (b"prefer client here x 2", 20, LineWhy::BadNumber),
+    (b"prefer client here 10 1", 20, LineWhy::BadNumber),
     (b"prefer client here 3 1,,2", 22, LineWhy::BadNumber),
     (b"prefer server there 2 0,1 x", 27, LineWhy::Trailing),
     // timer, close and abort
     (b"timer", 7, LineWhy::Missing),
     (b"timer client", 14, LineWhy::Missing),
+    (b"timer client ", 14, LineWhy::Missing),
+    (b"timer both ack", 7, LineWhy::UnknownWord),
     (b"timer client tick", 14, LineWhy::UnknownWord),
     (b"timer server negotiate mandatory", 24, LineWhy::Trailing),
     (b"close", 7, LineWhy::Missing),
+    (b"close ", 7, LineWhy::Missing),
     (b"close both", 7, LineWhy::UnknownWord),
     (b"close client now", 14, LineWhy::Trailing),
+    (b"abort", 7, LineWhy::Missing),
+    (b"abort Client", 7, LineWhy::UnknownWord),
     (b"abort server ", 14, LineWhy::Trailing),
 ];
 
@@ -571,7 +586,7 @@ fn results_with_resets_and_data(rt: HostRuntime) -> Result<(), Fail> {
 }
 
 // A line of a replay, the column of its first fault, and that fault.
-const FRAME_FAULTS: [(&[u8], u32, LineWhy); 19] = [
+const FRAME_FAULTS: [(&[u8], u32, LineWhy); 20] = [
     (b" 00", 1, LineWhy::Missing),
     (b"-", 1, LineWhy::BadHex),
     (b"seal", 6, LineWhy::Missing),
@@ -586,6 +601,7 @@ const FRAME_FAULTS: [(&[u8], u32, LineWhy); 19] = [
     (b"seal 0011223", 13, LineWhy::BadHex),
     (b"00 11", 4, LineWhy::Trailing),
     (b"00 ", 4, LineWhy::Trailing),
+    (b"0 1", 2, LineWhy::BadHex),
     (b"seal 00 ", 9, LineWhy::Trailing),
     (b"seal 00112233445566", 6, LineWhy::SealShort),
     (b"seal 00", 6, LineWhy::SealShort),
@@ -646,6 +662,25 @@ fn the_longest_frame(rt: HostRuntime) -> Result<(), Fail> {
     let wanted = LineFault {
         column: 1,
         why: LineWhy::FrameTooLong,
+    };
+    assert!(rt; read_frame(&line).err() == Some(wanted));
+    let mut sealed = b"seal ".to_vec(rt.alloc())?;
+    sealed.extend_from_slice(&line)?;
+    let wanted = LineFault {
+        column: 6,
+        why: LineWhy::FrameTooLong,
+    };
+    assert!(rt; read_frame(&sealed).err() == Some(wanted));
+    line.extend_from_slice(b" x")?;
+    let wanted = LineFault {
+        column: 4092,
+        why: LineWhy::Trailing,
+    };
+    assert!(rt; read_frame(&line).err() == Some(wanted));
+    line.resize(4097, b'0')?;
+    let wanted = LineFault {
+        column: 4097,
+        why: LineWhy::LineTooLong,
     };
     assert!(rt; read_frame(&line).err() == Some(wanted));
     Ok(())
