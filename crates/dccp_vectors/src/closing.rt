@@ -8,11 +8,11 @@
 //!   one is a Reset with the code Closed: a Close is answered once.
 //! - Where the CloseReq or the Close arrives twice, a Sync may overtake the Close, which is then too old. Both sides wait on.
 //!   The client's timer sends its Close again, and that leads to the same end.
-use dccp_endpoint::{Config, Phase, Role, Timer};
+use dccp_endpoint::{Config, Outcome, Phase, Role, Timer};
 use dccp_packets::decode;
 use std::alloc::Global;
 use std::test::Fail;
-use two_ends::{Event, SentFrame, Side, World};
+use two_ends::{Event, Seen, Side, World};
 
 // How the orders begin: whether the server's Ack had reached the client before both closed (if not, it and the client's Ack are
 // still to arrive), and how often the CloseReq and the Close arrive. All that these lead to arrives once. And how many orders
@@ -89,25 +89,47 @@ fn arrives(from: Side, index: u64) -> Event {
     Event::Deliver { from, index }
 }
 
-// Two ends that have both closed.
-fn closing(alloc: Global, story: &Story) -> Result<World, Fail> {
+fn new_world(alloc: Global) -> Result<World, Fail> {
     let client = Config::usual(Role::Client);
     let server = Config::usual(Role::Server);
-    let mut world = World::new(alloc, client, server)?;
-    let opening = [
+    Ok(World::new(alloc, client, server)?)
+}
+
+// One event happens, and is not refused. Each of these small functions makes one call of the world, whose clauses then stand in
+// one proof.
+fn step(world: &mut World, event: &Event) -> Result<(), Fail> {
+    match world.step(event)? {
+        Seen::Called(Err(_)) => Err(Fail::from("no call is refused")),
+        Seen::Received(Outcome::NotBuilt) => Err(Fail::from("every packet is built")),
+        _ => Ok(()),
+    }
+}
+
+fn frame_count(world: &World, side: Side) -> usize {
+    world.frames(side).len()
+}
+
+fn phase(world: &World, side: Side) -> Phase {
+    world.end(side).phase()
+}
+
+// Two ends that have both closed.
+fn closing(alloc: Global, story: &Story) -> Result<World, Fail> {
+    let mut world = new_world(alloc)?;
+    let events = [
         Event::Open,
         arrives(Side::Client, 0),
         arrives(Side::Server, 0),
         arrives(Side::Client, 1),
     ];
-    for event in &opening {
-        world.step(event)?;
+    for event in &events {
+        step(&mut world, event)?;
     }
     if story.is_heard {
-        world.step(&arrives(Side::Server, 1))?;
+        step(&mut world, &arrives(Side::Server, 1))?;
     }
-    world.step(&Event::Close { side: Side::Client })?;
-    world.step(&Event::Close { side: Side::Server })?;
+    step(&mut world, &Event::Close { side: Side::Client })?;
+    step(&mut world, &Event::Close { side: Side::Server })?;
     Ok(world)
 }
 
@@ -149,9 +171,9 @@ fn next_arrival(coming: &mut Vec<Coming>, place: usize) -> Result<Event, Fail> {
 // The event happens, and what the side sends then is to arrive.
 fn happens(world: &mut World, coming: &mut Vec<Coming>, event: &Event) -> Result<(), Fail> {
     let from = event.actor();
-    let before = world.frames(from).len();
-    world.step(event)?;
-    if before < world.frames(from).len() {
+    let before = frame_count(world, from);
+    step(world, event)?;
+    if before < frame_count(world, from) {
         coming.push(Coming {
             from,
             index: before as u64,
@@ -162,8 +184,7 @@ fn happens(world: &mut World, coming: &mut Vec<Coming>, event: &Event) -> Result
 }
 
 fn phases(world: &World) -> (Phase, Phase) {
-    let client = world.end(Side::Client).phase();
-    (client, world.end(Side::Server).phase())
+    (phase(world, Side::Client), phase(world, Side::Server))
 }
 
 // The client is in TIMEWAIT only where the server is CLOSED.
@@ -174,35 +195,40 @@ fn is_in_order(world: &World) -> bool {
     )
 }
 
-// How many of the frames are Resets with the code Closed.
-fn closes_answered(frames: &[SentFrame]) -> u64 {
+// Whether the frame is a Reset with the code Closed.
+fn answers_close(bytes: &[u8]) -> bool {
+    match decode(bytes) {
+        Ok(packet) => packet.header.kind.reset_code() == 1,
+        Err(_) => false,
+    }
+}
+
+// How many of a side's frames are.
+fn closes_answered(world: &World, side: Side) -> u64 {
     let mut count: u64 = 0;
-    for frame in frames {
-        if let Ok(packet) = decode(frame.bytes.as_slice()) {
-            if packet.header.kind.reset_code() == 1 {
-                count = count.saturating_add(1);
-            }
+    for frame in world.frames(side) {
+        if answers_close(frame.bytes.as_slice()) {
+            count = count.saturating_add(1);
         }
     }
     count
 }
 
 fn is_done(world: &World) -> bool {
-    phases(world) == (Phase::TimeWait, Phase::Closed)
-        && closes_answered(world.frames(Side::Server)) == 1
+    phases(world) == (Phase::TimeWait, Phase::Closed) && closes_answered(world, Side::Server) == 1
 }
 
 // The client's timer sends its Close again; it arrives, and then its answer.
 fn close_again(world: &mut World) -> Result<(), Fail> {
-    let close = world.frames(Side::Client).len() as u64;
-    let answer = world.frames(Side::Server).len() as u64;
-    world.step(&Event::Timer {
+    let close = frame_count(world, Side::Client) as u64;
+    let answer = frame_count(world, Side::Server) as u64;
+    let timer = Event::Timer {
         side: Side::Client,
         timer: Timer::Close,
-    })?;
-    world.step(&arrives(Side::Client, close))?;
-    world.step(&arrives(Side::Server, answer))?;
-    Ok(())
+    };
+    step(world, &timer)?;
+    step(world, &arrives(Side::Client, close))?;
+    step(world, &arrives(Side::Server, answer))
 }
 
 // Whether all this holds of an order, which is completed by its first choices.

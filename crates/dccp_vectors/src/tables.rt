@@ -55,26 +55,43 @@ fn named<'a>(packets: &'a str, name: &str) -> Option<&'a str> {
     None
 }
 
-fn fired(has_fired: bool) -> &'static str {
-    if has_fired { "fired" } else { "idle" }
+fn opened(end: &mut Endpoint, out: &mut Outbox) -> &'static str {
+    match end.open(out) {
+        Ok(()) => "ok",
+        Err(OpenFault::NotFresh) => "NotFresh",
+    }
 }
 
-// What a call or a timer answers; None for a word that is neither.
+fn closed(end: &mut Endpoint, out: &mut Outbox) -> &'static str {
+    match end.close(out) {
+        Ok(()) => "ok",
+        Err(CloseFault::NotOpen) => "NotOpen",
+    }
+}
+
+fn aborted(end: &mut Endpoint, out: &mut Outbox) -> &'static str {
+    match end.abort(out) {
+        Ok(()) => "ok",
+        Err(AbortFault::NotLive) => "NotLive",
+    }
+}
+
+fn fired(end: &mut Endpoint, timer: Timer, out: &mut Outbox) -> &'static str {
+    if end.timer(timer, out) {
+        "fired"
+    } else {
+        "idle"
+    }
+}
+
+// What a call or a timer answers; None for a word that is neither. The functions above make one call of the end each, whose
+// clauses then stand in one proof.
 fn called(end: &mut Endpoint, word: &str, out: &mut Outbox) -> Option<&'static str> {
     match word {
-        "open" => Some(match end.open(out) {
-            Ok(()) => "ok",
-            Err(OpenFault::NotFresh) => "NotFresh",
-        }),
-        "close" => Some(match end.close(out) {
-            Ok(()) => "ok",
-            Err(CloseFault::NotOpen) => "NotOpen",
-        }),
-        "abort" => Some(match end.abort(out) {
-            Ok(()) => "ok",
-            Err(AbortFault::NotLive) => "NotLive",
-        }),
-        _ => Some(fired(end.timer(timer(word)?, out))),
+        "open" => Some(opened(end, out)),
+        "close" => Some(closed(end, out)),
+        "abort" => Some(aborted(end, out)),
+        _ => Some(fired(end, timer(word)?, out)),
     }
 }
 
@@ -117,10 +134,17 @@ pub(crate) fn answer(
         return Ok(format!(in alloc; "{text}")?);
     }
     let bytes = hex::decode(alloc, named(PACKETS, word).unwrap_or(word))?;
-    if 2044 < bytes.len() {
-        return Err(Fail::from("no packet is longer"));
+    match received(end, &bytes, out) {
+        Some(outcome) => outcome_text(alloc, &outcome),
+        None => Err(Fail::from("no packet is longer")),
     }
-    outcome_text(alloc, &end.receive(&bytes, out))
+}
+
+fn received(end: &mut Endpoint, bytes: &[u8], out: &mut Outbox) -> Option<Outcome> {
+    if 2044 < bytes.len() {
+        return None;
+    }
+    Some(end.receive(bytes, out))
 }
 
 // GSS, GAR, ISR, GSR and OSR.
@@ -153,9 +177,13 @@ fn frame_sent(alloc: Global, out: &Outbox) -> Result<String, Fail> {
     }
 }
 
+fn new_end(role: Role) -> Result<Endpoint, Fail> {
+    Ok(Endpoint::new(Config::usual(role))?)
+}
+
 // The end that came this way, standing where the way leads.
 pub(crate) fn end_at(alloc: Global, start: &Start<'_>) -> Result<Endpoint, Fail> {
-    let mut end = Endpoint::new(Config::usual(start.role))?;
+    let mut end = new_end(start.role)?;
     let mut out = Outbox::new();
     for word in start.way.split_whitespace() {
         answer(alloc, &mut end, word, &mut out)?;
