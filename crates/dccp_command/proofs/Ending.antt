@@ -6,7 +6,7 @@ use Rattle.dccp_io.specs.Fronts.{TakesFront}
 use Rattle.dccp_command.specs.Top.{HasTaken, HasBegun, IsWritten}
 
 -- a text was written whole, or a front of it
-begun-by : {A E : Type 0} (result : Result A E) (before after : Option (List ℕ)) (text : List ℕ) → OnOk result (HasTaken before after text)
+pub begun-by : {A E : Type 0} (result : Result A E) (before after : Option (List ℕ)) (text : List ℕ) → OnOk result (HasTaken before after text)
     → OnErr result (TakesFront before after text) → HasBegun before after text
 begun-by (Ok _) before after text whole front =
     (length text, whole ∙ ap (append_known before) (sym (take_all (length text) text (omega arith))))

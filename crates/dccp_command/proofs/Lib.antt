@@ -2,4 +2,5 @@ pub mod Ending
 pub mod FirstLine
 pub mod HexText
 pub mod LoopInvariant
+pub mod Showing
 pub mod Telling

@@ -6,7 +6,7 @@ use Rattle.two_ends.specs.declared.event.Event.{Event}
 use Rattle.schedule_text.specs.declared.line.LineFault.{LineFault}
 use Rattle.dccp_command.specs.declared.play.Play.{Play}
 use Rattle.dccp_command.specs.Lines.{lines_of}
-use Rattle.dccp_command.specs.Shown.{end_lines, refusal_line}
+use Rattle.dccp_command.specs.RunLines.{end_lines, refusal_line}
 use Rattle.dccp_command.specs.Transcript.{Verdict, Accepted, Refused, judged, Judges, ArePeers, IsBehind, Performance, onto, ends_at, continues_with, performed_from, world_of, first_play, performed, transcript, is_refused}
 
 -- Before a line: the text and events so far go before those of the lines that are left, the counters are at most the bytes read, and

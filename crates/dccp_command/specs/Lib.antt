@@ -1,7 +1,9 @@
 pub mod Text
 pub mod Lines
-pub mod Shown
+pub mod RunLines
 pub mod Built
 pub mod Transcript
 pub mod Words
 pub mod Top
+pub mod CaptureText
+pub mod Show

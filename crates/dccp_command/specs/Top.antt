@@ -1,5 +1,5 @@
 -- What the tool's one call may leave written, and why it ends (own).
-use Rattle.std.specs.Prelude.{◌≡◌, ◌⊎◌, ℕ, Bool, true, false, List, [], take, Option, Some}
+use Rattle.std.specs.Prelude.{◌≡◌, ◌⊎◌, ℕ, Bool, true, false, List, [], ◌++◌, take, Option, Some}
 use Rattle.std.specs.Io.KnownBytes.{append_known}
 use Rattle.dccp_io.specs.Counts.{Rose}
 use Rattle.dccp_command.specs.declared.top.Status.{Status}
@@ -12,6 +12,10 @@ HasTaken before after text = after ≡ append_known before text
 -- It has taken the first bytes of this text, some or none or all.
 abbrev pub HasBegun : Option (List ℕ) → Option (List ℕ) → List ℕ → Type 0
 HasBegun before after text = (n : ℕ) × (after ≡ append_known before (take n text))
+
+-- A front of the text was moved into what a sink has taken.
+abbrev pub Moves : Option (List ℕ) → Option (List ℕ) → List ℕ → List ℕ → Type 0
+Moves before after text kept = (moved : List ℕ) × (after ≡ append_known before moved) × (text ≡ moved ++ kept)
 
 -- A sink's counts show that it failed, or took no byte of a piece that was not empty.
 abbrev pub SinkFailed : ℕ → ℕ → ℕ → ℕ → Type 0

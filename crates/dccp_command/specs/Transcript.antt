@@ -21,7 +21,7 @@ use Rattle.schedule_text.specs.declared.line.LineWhy.TheVariants as why
 use Rattle.dccp_command.specs.declared.play.Play.{Play}
 use Rattle.dccp_command.specs.Lines.{lines_of, text_of}
 use Rattle.dccp_command.specs.Built.{not_built, read_built, built_event, seen_told, is_told}
-use Rattle.dccp_command.specs.Shown.{arrived, sent_line, end_lines, refusal_line}
+use Rattle.dccp_command.specs.RunLines.{arrived, sent_line, end_lines, refusal_line}
 
 -- The most bytes of an input.
 abbrev pub most_bytes : ℕ

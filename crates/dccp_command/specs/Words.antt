@@ -5,10 +5,13 @@ use Rattle.std.specs.declared.alloc.Global.{Global}
 use Rattle.dccp_command.specs.declared.words.Form.{Form}
 use Rattle.dccp_command.specs.declared.words.Form.TheVariants as form
 
--- The form that the words have, of those that are built: `run` alone.
+-- The form that the words have, of those that are built: `run` and `show`.
 abbrev pub form_of : List (String Global) → Option Form
 form_of [] = None
-form_of (word ∷ []) = if bytes_eq (string_bytes word) (codes "run") then Some form.Run else None
+form_of (word ∷ []) =
+    if bytes_eq (string_bytes word) (codes "run") then Some form.Run
+    else if bytes_eq (string_bytes word) (codes "show") then Some form.Show
+    else None
 form_of (word ∷ (next ∷ words)) = None
 
 -- The line that answers all other words.

@@ -1,7 +1,7 @@
 //! The line of a refusal.
 ghost use Rattle.std.specs.Prelude.{◌≡◌, ◌++◌, ℕ, List, OnOk};
 ghost use Rattle.dccp_command.specs.Text.{line_why_name};
-ghost use Rattle.dccp_command.specs.Shown.{refusal_line};
+ghost use Rattle.dccp_command.specs.RunLines.{refusal_line};
 
 use crate::text::{put, put_number};
 use schedule_text::{LineFault, LineWhy};

@@ -1,13 +1,17 @@
 //! The tool's one call: what its words ask for, done over a source and a sink (own).
 //!
-//! It plays the two ends of a world as a schedule's lines say, and answers for no end itself. It opens no file, socket or
-//! clock, starts no thread, and reads and writes nothing but the source and the sink that it is lent.
+//! It plays the two ends of a world as a schedule's lines say, and answers for no end itself; and it shows the packets of a
+//! capture. It opens no file, socket or clock, starts no thread, and reads and writes nothing but the source and the sink
+//! that it is lent.
 #![tactic(auto)]
 
+mod blocks;
 mod built;
+mod capture_lines;
 mod fault;
 mod lines;
 mod play;
+mod run_lines;
 mod show;
 #[cfg(test)]
 mod tests;

@@ -1,12 +1,12 @@
 //! A schedule while it is played.
 ghost use Rattle.std.specs.Prelude.{◌≡◌, ◌+◌, ◌<◌, ◌^◌, ◌++◌, length, ℕ, List, is_some, if◌then◌else◌, IfOk, OnOk, Some, Ok, Err};
 ghost use Rattle.dccp_command.specs.Built.{not_built};
-ghost use Rattle.dccp_command.specs.Shown.{end_lines};
+ghost use Rattle.dccp_command.specs.RunLines.{end_lines};
 ghost use Rattle.dccp_command.specs.Transcript.{first_play, world_of, ArePeers, IsReady, IsBehind, Shows, event_shown, Judges, judged, by_line, is_within, behind, configures, without_offers, with_iss, says_event, whole_line, no_such_frame};
 
 use crate::built::{built_event, is_told, not_built, read_built, seen_told};
 use crate::lines::text_of;
-use crate::show::{arrived, put_end_lines, put_sent_line};
+use crate::run_lines::{arrived, put_end_lines, put_sent_line};
 use dccp_endpoint::{Config, Role};
 use schedule_text::{Line, LineFault, LineWhy, print_seen};
 use seq_circle::{NoMemory, Seq48};

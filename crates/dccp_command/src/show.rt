@@ -1,181 +1,186 @@
-//! The lines that `run` writes.
-ghost use Rattle.std.specs.Prelude.{◌≡◌, ◌++◌, List, ℕ, OnOk, Some, flat_map};
-ghost use Rattle.schedule_text.specs.Names.{side_name};
-ghost use Rattle.schedule_text.specs.Printing.{side_letter, frame_name};
-ghost use Rattle.dccp_command.specs.Text.{phase_name, stand_mark};
-ghost use Rattle.dccp_command.specs.Shown.{arrived, frame_line, sent_line, held_text, row_text, end_name, end_counts, end_rows, end_line, end_lines};
+//! `show`: a capture's records, one by one.
+ghost use Rattle.std.specs.Prelude.{◌≡◌, ◌≢◌, ℕ, ◌+◌, ◌<◌, ◌^◌, List, drop, ◌++◌, Some, None, IfSome, OnOk, OnErr};
+ghost use Rattle.dccp_io.specs.Counts.{Rose};
+ghost use Rattle.capture_reader.specs.Records.{entry_of, records_from};
+ghost use Rattle.capture_reader.specs.State.{Passed, rest};
+ghost use Rattle.dccp_command.specs.CaptureText.{first_tally, tallied, record_text, last_line, capture_text, is_faulty, records_end};
+ghost use Rattle.dccp_command.specs.Show.{Turns, Closes, RefusesHeader, ShowsRecords};
+ghost use Rattle.dccp_command.specs.Top.{SinkFailed, HasBegun, Answers, EndsForCause};
 
-use crate::text::{put, put_hex, put_number};
-use dccp_endpoint::{Endpoint, Held, Phase, Stand};
-use feature_lists::{Feature, Place};
+use crate::blocks::{flush, flush_if_full};
+use crate::capture_lines::put_last_line;
+use crate::top::{Status, answered};
+use capture_reader::{CaptureFault, Captures, Record};
+use dccp_io::{Sink, Source, write_all};
+use packet_show::{Flows, Shown};
 use seq_circle::NoMemory;
-use two_ends::{Event, SentFrame, Side, World};
+use std::alloc::Global;
 
-const FEATURES: [Feature; 9] = [
-    Feature::Ccid,
-    Feature::ShortSeqnos,
-    Feature::SequenceWindow,
-    Feature::EcnIncapable,
-    Feature::AckRatio,
-    Feature::SendAckVector,
-    Feature::SendNdpCount,
-    Feature::MinCsCov,
-    Feature::CheckDataChecksum,
-];
+/// The records that were shown so far.
+#[derive(Drop)]
+pub(crate) struct Tally {
+    /// How many have a line.
+    pub(crate) shown: u64,
+    /// How many were skipped.
+    pub(crate) skipped: u64,
+    /// The flows of their packets.
+    pub(crate) flows: Flows,
+}
 
-fn side_name(side: Side) -> &'static [u8]
-    ensures { result.now ≡ side_name side }
-{
-    match side {
-        Side::Client => b"client",
-        Side::Server => b"server",
+impl Tally {
+    fn new(alloc: Global) -> Tally
+        ensures { result ≡ first_tally }
+    {
+        Tally {
+            shown: 0,
+            skipped: 0,
+            flows: Flows::new(alloc),
+        }
+    }
+
+    // Puts a record's line, if it has one, and counts it.
+    fn show(&mut self, item: &Record<'_>, text: &mut Vec<u8>) -> Result<(), NoMemory>
+        requires { self.old.shown + self.old.skipped + 1 < 2 ^ 64 }
+        ensures tally { OnOk result (self.new ≡ tallied self.old (entry_of item.now)) }
+        ensures text { OnOk result (text.new.items ≡ text.old.items ++ record_text self.old (entry_of item.now)) }
+        ensures err { OnErr result (text.new.items ≡ text.old.items) }
+    {
+        match self.flows.show(item, text)? {
+            Shown::Line => self.shown += 1,
+            Shown::Skipped => self.skipped += 1,
+        }
+        Ok(())
     }
 }
 
-fn side_letter(side: Side) -> &'static [u8]
-    ensures { result.now ≡ side_letter side }
+// What one turn of the loop came to.
+pub(crate) enum Turn {
+    // A record was shown or skipped.
+    Shown,
+    // The records ended, where the input ends or with a fault of the capture.
+    Ended(Option<CaptureFault>),
+    // The source failed.
+    Failed,
+}
+
+// Reads the next record and shows it.
+fn show_next<S: Source + Drop>(
+    captures: &mut Captures<S>,
+    tally: &mut Tally,
+    text: &mut Vec<u8>,
+) -> Result<Turn, NoMemory>
+    requires { tally.old.shown + tally.old.skipped + 1 < 2 ^ 64 }
+    ensures { Turns S.left S.faults S.lender captures.old captures.new tally.old tally.new text.old.items text.new.items result }
 {
-    match side {
-        Side::Client => b"c",
-        Side::Server => b"s",
+    match captures.next() {
+        Err(CaptureFault::ReadFault) => Ok(Turn::Failed),
+        Err(fault) => Ok(Turn::Ended(Some(fault))),
+        Ok(None) => Ok(Turn::Ended(None)),
+        Ok(Some(item)) => {
+            tally.show(&item, text)?;
+            Ok(Turn::Shown)
+        }
     }
 }
 
-fn phase_name(phase: Phase) -> &'static [u8]
-    ensures { result.now ≡ phase_name phase }
+// Writes the text, and then the last line.
+fn finish<K: Sink>(
+    output: &mut K,
+    text: &mut Vec<u8>,
+    tally: &Tally,
+    end: Option<CaptureFault>,
+) -> Status
+    requires { tally.now.shown + tally.now.skipped < 2 ^ 64 }
+    ensures words { result ≢ Status.Words }
+    ensures read { result ≢ Status.Read }
+    ensures closes { Closes (text.old.items ++ last_line tally.now end) end result (K.taken output.old) (K.taken output.new) }
+    ensures write { result ≡ Status.Write → SinkFailed (K.faults output.old) (K.faults output.new) (K.empty_takes output.old) (K.empty_takes output.new) }
 {
-    match phase {
-        Phase::Closed => b"CLOSED",
-        Phase::Listen => b"LISTEN",
-        Phase::Request => b"REQUEST",
-        Phase::Respond => b"RESPOND",
-        Phase::PartOpen => b"PARTOPEN",
-        Phase::Open => b"OPEN",
-        Phase::CloseReq => b"CLOSEREQ",
-        Phase::Closing => b"CLOSING",
-        Phase::TimeWait => b"TIMEWAIT",
+    if flush(output, text).is_err() {
+        return Status::Write;
+    }
+    if put_last_line(text, tally, end).is_err() {
+        return Status::Memory;
+    }
+    match write_all(output, text) {
+        Err(_) => Status::Write,
+        Ok(()) => answered(end.is_some()),
     }
 }
 
-fn stand_mark(stand: Stand) -> &'static [u8]
-    ensures { result.now ≡ stand_mark stand }
+// Writes the lines of whole records, so that none is lost where the job ends early.
+fn cut_off<K: Sink>(output: &mut K, text: &[u8], why: Status) -> Status
+    ensures same { result ≡ why }
+    ensures front { HasBegun (K.taken output.old) (K.taken output.new) text.now }
 {
-    match stand {
-        Stand::Stable => b"",
-        Stand::Changing => b"*",
-        Stand::Unstable => b"!",
+    let _ = write_all(output, text);
+    why
+}
+
+// Shows the records behind the file header.
+fn show_records<S: Source + Drop, K: Sink>(
+    alloc: Global,
+    captures: &mut Captures<S>,
+    output: &mut K,
+) -> Status
+    requires number { captures.old.number ≡ 0 }
+    requires given { captures.old.given ≡ 24 }
+    requires unended { captures.old.fault ≡ None }
+    ensures words { result ≢ Status.Words }
+    ensures shows { IfSome (rest S.left captures.old) (λ bytes. ShowsRecords (records_from captures.old.format 0 0 24 bytes) bytes result
+        (S.left captures.new.source) (K.taken output.old) (K.taken output.new)) }
+    ensures same_lender { S.lender captures.new.source ≡ S.lender captures.old.source }
+    ensures cause { EndsForCause result (Rose (S.faults captures.old.source) (S.faults captures.new.source))
+        (SinkFailed (K.faults output.old) (K.faults output.new) (K.empty_takes output.old) (K.empty_takes output.new)) }
+{
+    let mut tally = Tally::new(alloc);
+    let mut text = Vec::new(alloc);
+    loop {
+        match show_next(captures, &mut tally, &mut text) {
+            Ok(Turn::Shown) => {
+                if flush_if_full(output, &mut text).is_err() {
+                    return Status::Write;
+                }
+            }
+            Ok(Turn::Ended(end)) => return finish(output, &mut text, &tally, end),
+            Ok(Turn::Failed) => return cut_off(output, &text, Status::Read),
+            Err(NoMemory) => return cut_off(output, &text, Status::Memory),
+        }
     }
 }
 
-fn put_frame_name(text: &mut Vec<u8>, side: Side, index: u64) -> Result<(), NoMemory>
-    ensures { OnOk result (text.new.items ≡ text.old.items ++ frame_name side index) }
+// Ends where the file header was refused.
+fn refuse_header<K: Sink>(alloc: Global, why: CaptureFault, output: &mut K) -> Status
+    ensures refuses { RefusesHeader why result (K.taken output.old) (K.taken output.new) }
+    ensures write { result ≡ Status.Write → SinkFailed (K.faults output.old) (K.faults output.new) (K.empty_takes output.old) (K.empty_takes output.new) }
 {
-    put(text, side_letter(side))?;
-    put_number(text, index)
+    match why {
+        CaptureFault::ReadFault => Status::Read,
+        CaptureFault::NoMemory => Status::Memory,
+        _ => finish(output, &mut Vec::new(alloc), &Tally::new(alloc), Some(why)),
+    }
 }
 
-/// The bytes of the frame that an event brought to an end; none for a call.
-pub(crate) fn arrived<'a>(world: &'a World, event: &Event) -> &'a [u8]
-    ensures { result.now ≡ arrived world.now event.now }
+/// Shows a capture: a line for each record that carries DCCP, written in blocks as the records are read, and a last line
+/// that counts them or tells the fault that ended them. It keeps one record of the input, the flows and one block of text.
+pub(crate) fn show_capture<S: Source, K: Sink>(
+    alloc: Global,
+    input: &mut S,
+    output: &mut K,
+) -> Status
+    ensures words { result ≢ Status.Words }
+    ensures text { (bytes : List ℕ) → S.left input.old ≡ Some bytes
+        → Answers (capture_text bytes) (is_faulty bytes) result (S.left input.new) (K.taken output.old) (K.taken output.new) }
+    ensures past { (bytes : List ℕ) → S.left input.old ≡ Some bytes → result ≡ Status.Input
+        → Passed 524288 (Some (drop (records_end bytes) bytes)) (S.left input.new) }
+    ensures cause { EndsForCause result (Rose (S.faults input.old) (S.faults input.new))
+        (SinkFailed (K.faults output.old) (K.faults output.new) (K.empty_takes output.old) (K.empty_takes output.new)) }
 {
-    let Event::Deliver { from, index } = event else {
-        return &[];
+    let mut captures = match Captures::new(alloc, &mut *input) {
+        Ok(captures) => captures,
+        Err(refusal) => return refuse_header(alloc, refusal.0, output),
     };
-    match world.frames(*from).get(*index as usize) {
-        Some(frame) => frame.bytes.as_slice(),
-        None => &[],
-    }
-}
-
-fn put_frame_line(
-    text: &mut Vec<u8>,
-    side: Side,
-    index: u64,
-    frame: &SentFrame,
-) -> Result<(), NoMemory>
-    ensures { OnOk result (text.new.items ≡ text.old.items ++ frame_line side index (Some frame.now)) }
-{
-    put(text, b"sent ")?;
-    put_frame_name(text, side, index)?;
-    put(text, b" ")?;
-    put_hex(text, frame.bytes.as_slice())?;
-    put(text, b"\n")
-}
-
-/// Puts the line of the frame that a side sent in a step, if it sent one, where it had sent `before` frames before.
-pub(crate) fn put_sent_line(
-    text: &mut Vec<u8>,
-    world: &World,
-    side: Side,
-    before: usize,
-) -> Result<(), NoMemory>
-    ensures { OnOk result (text.new.items ≡ text.old.items ++ sent_line world.now side before) }
-{
-    match world.frames(side).get(before) {
-        Some(frame) => put_frame_line(text, side, before as u64, frame),
-        None => Ok(()),
-    }
-}
-
-fn put_held(text: &mut Vec<u8>, held: Held) -> Result<(), NoMemory>
-    ensures { OnOk result (text.new.items ≡ text.old.items ++ held_text held) }
-{
-    put_number(text, held.value)?;
-    put(text, stand_mark(held.stand))
-}
-
-fn put_row(text: &mut Vec<u8>, end: &Endpoint, feature: Feature) -> Result<(), NoMemory>
-    ensures { OnOk result (text.new.items ≡ text.old.items ++ row_text end.now feature) }
-{
-    put(text, b" ")?;
-    put_number(text, u64::from(feature.number()))?;
-    put(text, b"=")?;
-    put_held(text, end.held(feature, Place::Here))?;
-    put(text, b"/")?;
-    put_held(text, end.held(feature, Place::There))
-}
-
-#[tactic(auto, unfolding(crate::specs::Shown::end_rows))]
-fn put_rows(text: &mut Vec<u8>, end: &Endpoint) -> Result<(), NoMemory>
-    ensures { OnOk result (text.new.items ≡ text.old.items ++ end_rows end.now) }
-{
-    for feature in &FEATURES {
-        put_row(text, end, *feature)?;
-    }
-    Ok(())
-}
-
-fn put_end_name(text: &mut Vec<u8>, side: Side, end: &Endpoint) -> Result<(), NoMemory>
-    ensures { OnOk result (text.new.items ≡ text.old.items ++ end_name side end.now) }
-{
-    put(text, b"end ")?;
-    put(text, side_name(side))?;
-    put(text, b" ")?;
-    put(text, phase_name(end.phase()))
-}
-
-fn put_end_counts(text: &mut Vec<u8>, end: &Endpoint) -> Result<(), NoMemory>
-    ensures { OnOk result (text.new.items ≡ text.old.items ++ end_counts end.now) }
-{
-    put(text, b" window ")?;
-    put_number(text, u64::from(end.window()))?;
-    put(text, b" flight ")?;
-    put_number(text, u64::from(end.in_flight()))
-}
-
-fn put_end_line(text: &mut Vec<u8>, side: Side, end: &Endpoint) -> Result<(), NoMemory>
-    ensures { OnOk result (text.new.items ≡ text.old.items ++ end_line side end.now) }
-{
-    put_end_name(text, side, end)?;
-    put_end_counts(text, end)?;
-    put_rows(text, end)?;
-    put(text, b"\n")
-}
-
-/// Puts the two lines at a schedule's end.
-pub(crate) fn put_end_lines(text: &mut Vec<u8>, world: &World) -> Result<(), NoMemory>
-    ensures { OnOk result (text.new.items ≡ text.old.items ++ end_lines world.now) }
-{
-    put_end_line(text, Side::Client, world.end(Side::Client))?;
-    put_end_line(text, Side::Server, world.end(Side::Server))
+    let status = show_records(alloc, &mut captures, output);
+    let _ = captures.into_source();
+    status
 }

@@ -115,7 +115,7 @@ const USAGE: &[u8] =
     b"usage: dccp run | replay --side server|client [--plain] | campaign --first F --seeds N --events E --workers W | show\n";
 
 // More than any text here has.
-const ROOM: usize = 4096;
+const ROOM: usize = 131_072;
 
 // The texts as words of their own.
 fn words_of(alloc: Global, texts: &[&str]) -> Result<Vec<String>, Fail> {
@@ -126,16 +126,16 @@ fn words_of(alloc: Global, texts: &[&str]) -> Result<Vec<String>, Fail> {
     Ok(words)
 }
 
-// How `run` of a schedule ended and what it wrote, where no call of a stream fails and each gives or takes at most so
-// many bytes.
-fn played<R: Threads + Sync>(
+// How a form ended and what it wrote, where no call of a stream fails and each gives or takes at most so many bytes.
+fn called<R: Threads + Sync>(
     rt: &R,
     alloc: Global,
-    schedule: &[u8],
+    form: &str,
+    input: &[u8],
     most: usize,
 ) -> Result<(Status, Vec<u8>), Fail> {
-    let words = words_of(alloc, &["run"])?;
-    let bytes = schedule.to_vec(alloc)?;
+    let words = words_of(alloc, &[form])?;
+    let bytes = input.to_vec(alloc)?;
     let mut input = MemorySource::new(bytes, Vec::new(alloc), most.max(1));
     let mut output = MemorySink::new(alloc, Vec::new(alloc), most.max(1), ROOM)
         .ok()
@@ -143,6 +143,16 @@ fn played<R: Threads + Sync>(
     let status = dccp(rt, alloc, &words, &mut input, &mut output);
     let text = output.taken().to_vec(alloc)?;
     Ok((status, text))
+}
+
+// The same of `run`.
+fn played<R: Threads + Sync>(
+    rt: &R,
+    alloc: Global,
+    schedule: &[u8],
+    most: usize,
+) -> Result<(Status, Vec<u8>), Fail> {
+    called(rt, alloc, "run", schedule, most)
 }
 
 #[test]
@@ -321,17 +331,19 @@ fn refused_words(rt: HostRuntime) -> Result<(), Fail> {
     Ok(())
 }
 
-// How `run` of the handshake ended and what it wrote, where these calls of the source and of the sink fail, the source
-// gives 7 bytes a call, and the sink takes `most`.
+// How a form ended and what it wrote, where these calls of the source and of the sink fail, the source gives 7 bytes a
+// call, and the sink takes `most`.
 fn failed<R: Threads + Sync>(
     rt: &R,
     alloc: Global,
+    form: &str,
+    input: &[u8],
     failing_reads: &[u64],
     failing_writes: &[u64],
     most: usize,
 ) -> Result<(Status, Vec<u8>), Fail> {
-    let words = words_of(alloc, &["run"])?;
-    let bytes = HANDSHAKE.to_vec(alloc)?;
+    let words = words_of(alloc, &[form])?;
+    let bytes = input.to_vec(alloc)?;
     let mut input = MemorySource::new(bytes, failing_reads.to_vec(alloc)?, 7);
     let mut output = MemorySink::new(alloc, failing_writes.to_vec(alloc)?, most, ROOM)
         .ok()
@@ -343,17 +355,76 @@ fn failed<R: Threads + Sync>(
 
 #[test]
 fn failing_streams(rt: HostRuntime) -> Result<(), Fail> {
-    let (status, text) = failed(&rt, rt.alloc(), &[1], &[], ROOM)?;
+    let (status, text) = failed(&rt, rt.alloc(), "run", HANDSHAKE, &[1], &[], ROOM)?;
     assert_eq!(rt; status, Status::Read);
     assert_eq!(rt; text.as_slice(), b"".as_slice());
-    let (status, text) = failed(&rt, rt.alloc(), &[3], &[], ROOM)?;
+    let (status, text) = failed(&rt, rt.alloc(), "run", HANDSHAKE, &[3], &[], ROOM)?;
     assert_eq!(rt; status, Status::Read);
     assert_eq!(rt; text.as_slice(), b"".as_slice());
-    let (status, text) = failed(&rt, rt.alloc(), &[], &[3], 1)?;
+    let (status, text) = failed(&rt, rt.alloc(), "run", HANDSHAKE, &[], &[3], 1)?;
     assert_eq!(rt; status, Status::Write);
     assert_eq!(rt; text.as_slice(), b"2 ".as_slice());
-    let (status, text) = failed(&rt, rt.alloc(), &[], &[], 0)?;
+    let (status, text) = failed(&rt, rt.alloc(), "run", HANDSHAKE, &[], &[], 0)?;
     assert_eq!(rt; status, Status::Write);
     assert_eq!(rt; text.as_slice(), b"".as_slice());
+    Ok(())
+}
+
+// A capture's file header, a record of the client's Request in IPv4, and its line.
+const FILE_HEADER: &str = "d4c3b2a1020004000000000000000000ffff000065000000";
+
+const RECORD: &str = "0100000020a107002800000028000000\
+4500002800010000402166b20a0000010a0000029c401389050031ec01000000000003e80000002a";
+
+const RECORD_LINE: &str =
+    "1 1.500000 flow 1 10.0.0.1 40000 > 10.0.0.2 5001 Request seq 1000 service 42 data 0 sum ok\n";
+
+// A capture of that record so many times.
+fn capture_of(alloc: Global, count: usize) -> Result<Vec<u8>, Fail> {
+    let item = hex::decode(alloc, RECORD)?;
+    let mut capture = hex::decode(alloc, FILE_HEADER)?;
+    for _ in 0..count {
+        capture.extend_from_slice(&item)?;
+    }
+    Ok(capture)
+}
+
+#[test]
+fn capture_of_one_packet(rt: HostRuntime) -> Result<(), Fail> {
+    let mut capture = capture_of(rt.alloc(), 1)?;
+    for most in [1, 7, 4096] {
+        let (status, text) = called(&rt, rt.alloc(), "show", &capture, most)?;
+        assert_eq!(rt; status, Status::Done, "at {most} bytes a call");
+        assert!(rt; text.starts_with(RECORD_LINE.as_bytes()));
+        assert_eq!(rt;
+            &text[RECORD_LINE.len()..],
+            b"records 1 shown 1 skipped 0 flows 1\n".as_slice()
+        );
+    }
+    for size in [79, 0] {
+        capture.truncate(size);
+        let (status, text) = called(&rt, rt.alloc(), "show", &capture, ROOM)?;
+        assert_eq!(rt; status, Status::Input, "{size} bytes");
+        assert_eq!(rt;
+            text.as_slice(),
+            b"capture CutShort after record 0\n".as_slice()
+        );
+    }
+    Ok(())
+}
+
+// The lines of whole records are written where the source fails inside the second, and text goes out in blocks: neither
+// line by line nor when it is whole.
+#[test]
+fn failing_streams_of_a_capture(rt: HostRuntime) -> Result<(), Fail> {
+    let capture = capture_of(rt.alloc(), 1000)?;
+    let (status, text) = failed(&rt, rt.alloc(), "show", &capture, &[13], &[], ROOM)?;
+    assert_eq!(rt; status, Status::Read);
+    assert_eq!(rt; text.as_slice(), RECORD_LINE.as_bytes());
+    let (status, text) = failed(&rt, rt.alloc(), "show", &capture, &[], &[2], ROOM)?;
+    assert_eq!(rt; status, Status::Write);
+    assert!(rt; text.starts_with(RECORD_LINE.as_bytes()));
+    assert!(rt; 10 * RECORD_LINE.len() < text.len());
+    assert!(rt; text.len() < 900 * RECORD_LINE.len());
     Ok(())
 }

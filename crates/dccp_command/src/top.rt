@@ -1,10 +1,13 @@
 //! The tool's one call.
-ghost use Rattle.std.specs.Prelude.{◌≡◌, ◌≢◌, ◌↔◌, ℕ, List, Some, None, if◌then◌else◌};
+ghost use Rattle.std.specs.Prelude.{◌≡◌, ◌≢◌, ◌↔◌, ℕ, List, drop, Some, None, if◌then◌else◌};
 ghost use Rattle.dccp_io.specs.Counts.{Rose};
+ghost use Rattle.capture_reader.specs.State.{Passed};
 ghost use Rattle.dccp_command.specs.Transcript.{transcript, is_refused, SafeThroughout};
+ghost use Rattle.dccp_command.specs.CaptureText.{capture_text, is_faulty, records_end};
 ghost use Rattle.dccp_command.specs.Words.{form_of, usage};
 ghost use Rattle.dccp_command.specs.Top.{SinkFailed, IsWritten, IsAnswered, Answers, EndsForCause};
 
+use crate::show::show_capture;
 use crate::transcript::play_all;
 use crate::words::{Form, USAGE, form_of};
 use dccp_io::{InputFault, Sink, Source, read_all, write_all};
@@ -29,11 +32,12 @@ pub enum Status {
 }
 
 /// Does what the words ask for (own), those after the program's name. `run` plays a schedule: it reads `input`, and
-/// writes to `output` a line for each event and for each frame that it sent, and at last the state of both ends.
+/// writes to `output` a line for each event and for each frame that it sent, and at last the state of both ends. `show`
+/// reads a capture, and writes a line for each DCCP packet in it, and at last how many records it has or why it ends early.
 ///
 /// Words are judged first; after that the first refusal met in the order of reading decides. With status 0 or 1 the
-/// output is the transcript of the whole input, and the two ends were safe after each of its events. With status 3, 4 or
-/// 5 it is a front of that transcript.
+/// output is the text of the whole input, and the two ends of a schedule were safe after each of its events. With status 3,
+/// 4 or 5 it is a front of that text.
 pub fn dccp<R: Threads + Sync, S: Source, K: Sink>(
     rt: &R,
     alloc: Global,
@@ -52,6 +56,13 @@ pub fn dccp<R: Threads + Sync, S: Source, K: Sink>(
         → Answers (transcript bytes) (is_refused bytes) result (S.left input.new) (K.taken output.old) (K.taken output.new) }
     ensures safe { form_of words.now ≡ Some Form.Run → (bytes : List ℕ) → S.left input.old ≡ Some bytes → IsAnswered result → SafeThroughout bytes }
 
+    // `show`, over an input that the source tells: what is written and how it ends, and, where the capture has a fault, how far
+    // past its last whole record the input was read.
+    ensures shown { form_of words.now ≡ Some Form.Show → (bytes : List ℕ) → S.left input.old ≡ Some bytes
+        → Answers (capture_text bytes) (is_faulty bytes) result (S.left input.new) (K.taken output.old) (K.taken output.new) }
+    ensures past { form_of words.now ≡ Some Form.Show → (bytes : List ℕ) → S.left input.old ≡ Some bytes → result ≡ Status.Input
+        → Passed 524288 (Some (drop (records_end bytes) bytes)) (S.left input.new) }
+
     // Why any form ended.
     ensures cause { (form : Form) → form_of words.now ≡ Some form → EndsForCause result (Rose (S.faults input.old) (S.faults input.new))
         (SinkFailed (K.faults output.old) (K.faults output.new) (K.empty_takes output.old) (K.empty_takes output.new)) }
@@ -59,6 +70,7 @@ pub fn dccp<R: Threads + Sync, S: Source, K: Sink>(
     let _ = rt;
     match form_of(words) {
         Some(Form::Run) => run(alloc, input, output),
+        Some(Form::Show) => show_capture(alloc, input, output),
         None => refuse_words(output),
     }
 }
@@ -94,7 +106,7 @@ fn run<S: Source, K: Sink>(alloc: Global, input: &mut S, output: &mut K) -> Stat
     }
 }
 
-fn answered(refused: bool) -> Status
+pub(crate) fn answered(refused: bool) -> Status
     ensures { result ≡ (if refused then Status.Input else Status.Done) }
 {
     if refused { Status::Input } else { Status::Done }

@@ -7,6 +7,8 @@ ghost use Rattle.dccp_command.specs.Words.{form_of};
 pub enum Form {
     /// `run` plays a schedule.
     Run,
+    /// `show` tells the packets of a capture.
+    Show,
 }
 
 /// The line that answers words which are none of the forms. It names all forms that are planned.
@@ -19,6 +21,7 @@ pub(crate) fn form_of(words: &[String]) -> Option<Form>
 {
     match words {
         [word] if word.as_bytes() == b"run".as_slice() => Some(Form::Run),
+        [word] if word.as_bytes() == b"show".as_slice() => Some(Form::Show),
         _ => None,
     }
 }

@@ -3,7 +3,7 @@ use Rattle.std.proofs.Common.{◌≡◌, ◌∙◌, ◌++◌, true, subst, take,
 use Rattle.std.proofs.lemmas.Bool.Decides.{nat_tests}
 use Rattle.schedule_text.specs.declared.line.LineFault.{LineFault}
 use Rattle.dccp_command.specs.Transcript.{Judges, judged, performed}
-use Rattle.dccp_command.specs.Shown.{refusal_line}
+use Rattle.dccp_command.specs.RunLines.{refusal_line}
 use Rattle.dccp_command.proofs.LoopInvariant.{IsOver, after-line, at-end, at-refusal}
 use Rattle.dccp_command.proofs.transcript.play_all.Goals as goal
 

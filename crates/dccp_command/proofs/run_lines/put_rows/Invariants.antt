@@ -1,7 +1,7 @@
 use Rattle.std.proofs.Common.{◌≡◌, ◌++◌, drop}
 use Rattle.std.specs.Prelude.{flat_map}
-use Rattle.dccp_command.specs.Shown.{row_text, all_features}
-use Rattle.dccp_command.proofs.show.put_rows.Given as goal
+use Rattle.dccp_command.specs.RunLines.{row_text, all_features}
+use Rattle.dccp_command.proofs.run_lines.put_rows.Given as goal
 
 abbrev pub invariant-loop-feature : goal.invariant-loop-feature
 invariant-loop-feature l =

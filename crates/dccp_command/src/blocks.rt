@@ -1,0 +1,38 @@
+//! Text that goes out in blocks.
+ghost use Rattle.std.specs.Prelude.{◌≡◌, ◌≤◌, [], OnOk, OnErr};
+ghost use Rattle.std.specs.Io.KnownBytes.{append_known};
+ghost use Rattle.dccp_io.specs.Fronts.{TakesFront};
+ghost use Rattle.dccp_command.specs.Top.{SinkFailed, Moves};
+
+use dccp_io::{Failed, Sink, write_all};
+
+// A text of so many bytes is written.
+const BLOCK: usize = 65_536;
+
+/// Writes the text and lets it go. Failed comes only where the sink failed or took nothing; then a front was written.
+pub(crate) fn flush<K: Sink>(output: &mut K, text: &mut Vec<u8>) -> Result<(), Failed>
+    ensures taken { OnOk result (K.taken output.new ≡ append_known (K.taken output.old) text.old.items) }
+    ensures empty { OnOk result (text.new.items ≡ []) }
+    ensures front { OnErr result (TakesFront (K.taken output.old) (K.taken output.new) text.old.items) }
+    ensures never_falls { K.faults output.old ≤ K.faults output.new }
+    ensures takes_never_fall { K.empty_takes output.old ≤ K.empty_takes output.new }
+    ensures cause { OnErr result (SinkFailed (K.faults output.old) (K.faults output.new) (K.empty_takes output.old) (K.empty_takes output.new)) }
+{
+    write_all(output, text)?;
+    text.clear();
+    Ok(())
+}
+
+/// Writes the text and lets it go where it has a block's length.
+pub(crate) fn flush_if_full<K: Sink>(output: &mut K, text: &mut Vec<u8>) -> Result<(), Failed>
+    ensures moved { OnOk result (Moves (K.taken output.old) (K.taken output.new) text.old.items text.new.items) }
+    ensures front { OnErr result (TakesFront (K.taken output.old) (K.taken output.new) text.old.items) }
+    ensures never_falls { K.faults output.old ≤ K.faults output.new }
+    ensures takes_never_fall { K.empty_takes output.old ≤ K.empty_takes output.new }
+    ensures cause { OnErr result (SinkFailed (K.faults output.old) (K.faults output.new) (K.empty_takes output.old) (K.empty_takes output.new)) }
+{
+    if text.len() < BLOCK {
+        return Ok(());
+    }
+    flush(output, text)
+}

@@ -1,0 +1,68 @@
+//! The last line that `show` writes.
+ghost use Rattle.std.specs.Prelude.{◌≡◌, ◌++◌, ◌+◌, ◌<◌, ◌^◌, OnOk};
+ghost use Rattle.dccp_command.specs.CaptureText.{number_text, fault_name, counts_line, fault_line, last_line};
+
+use crate::show::Tally;
+use crate::text::{put, put_number};
+use capture_reader::CaptureFault;
+use seq_circle::NoMemory;
+
+fn fault_name(fault: CaptureFault) -> &'static [u8]
+    ensures { result.now ≡ fault_name fault }
+{
+    match fault {
+        CaptureFault::BadMagic => b"BadMagic",
+        CaptureFault::BadVersion => b"BadVersion",
+        CaptureFault::BadLink => b"BadLink",
+        CaptureFault::CutShort => b"CutShort",
+        CaptureFault::RecordTooLong => b"RecordTooLong",
+        CaptureFault::ReadFault => b"ReadFault",
+        CaptureFault::NoMemory => b"NoMemory",
+        CaptureFault::TooLarge => b"TooLarge",
+    }
+}
+
+// Puts a number behind its word.
+fn put_counted(text: &mut Vec<u8>, word: &[u8], number: u64) -> Result<(), NoMemory>
+    ensures { OnOk result (text.new.items ≡ text.old.items ++ number_text word.now number) }
+{
+    put(text, word)?;
+    put_number(text, number)
+}
+
+fn put_counts(text: &mut Vec<u8>, tally: &Tally) -> Result<(), NoMemory>
+    requires { tally.now.shown + tally.now.skipped < 2 ^ 64 }
+    ensures { OnOk result (text.new.items ≡ text.old.items ++ counts_line tally.now) }
+{
+    put_counted(text, b"records ", tally.shown + tally.skipped)?;
+    put_counted(text, b" shown ", tally.shown)?;
+    put_counted(text, b" skipped ", tally.skipped)?;
+    put_counted(text, b" flows ", tally.flows.count())?;
+    put(text, b"\n")
+}
+
+fn put_fault(text: &mut Vec<u8>, tally: &Tally, fault: CaptureFault) -> Result<(), NoMemory>
+    requires { tally.now.shown + tally.now.skipped < 2 ^ 64 }
+    ensures { OnOk result (text.new.items ≡ text.old.items ++ fault_line tally.now fault) }
+{
+    put(text, b"capture ")?;
+    put(text, fault_name(fault))?;
+    put(text, b" after ")?;
+    put_counted(text, b"record ", tally.shown + tally.skipped)?;
+    put(text, b"\n")
+}
+
+/// Puts the line behind a capture's records: how many there were, or the fault that ended them.
+pub(crate) fn put_last_line(
+    text: &mut Vec<u8>,
+    tally: &Tally,
+    end: Option<CaptureFault>,
+) -> Result<(), NoMemory>
+    requires { tally.now.shown + tally.now.skipped < 2 ^ 64 }
+    ensures { OnOk result (text.new.items ≡ text.old.items ++ last_line tally.now end) }
+{
+    match end {
+        None => put_counts(text, tally),
+        Some(fault) => put_fault(text, tally, fault),
+    }
+}

@@ -1,0 +1,181 @@
+//! The lines that `run` writes.
+ghost use Rattle.std.specs.Prelude.{◌≡◌, ◌++◌, List, ℕ, OnOk, Some, flat_map};
+ghost use Rattle.schedule_text.specs.Names.{side_name};
+ghost use Rattle.schedule_text.specs.Printing.{side_letter, frame_name};
+ghost use Rattle.dccp_command.specs.Text.{phase_name, stand_mark};
+ghost use Rattle.dccp_command.specs.RunLines.{arrived, frame_line, sent_line, held_text, row_text, end_name, end_counts, end_rows, end_line, end_lines};
+
+use crate::text::{put, put_hex, put_number};
+use dccp_endpoint::{Endpoint, Held, Phase, Stand};
+use feature_lists::{Feature, Place};
+use seq_circle::NoMemory;
+use two_ends::{Event, SentFrame, Side, World};
+
+const FEATURES: [Feature; 9] = [
+    Feature::Ccid,
+    Feature::ShortSeqnos,
+    Feature::SequenceWindow,
+    Feature::EcnIncapable,
+    Feature::AckRatio,
+    Feature::SendAckVector,
+    Feature::SendNdpCount,
+    Feature::MinCsCov,
+    Feature::CheckDataChecksum,
+];
+
+fn side_name(side: Side) -> &'static [u8]
+    ensures { result.now ≡ side_name side }
+{
+    match side {
+        Side::Client => b"client",
+        Side::Server => b"server",
+    }
+}
+
+fn side_letter(side: Side) -> &'static [u8]
+    ensures { result.now ≡ side_letter side }
+{
+    match side {
+        Side::Client => b"c",
+        Side::Server => b"s",
+    }
+}
+
+fn phase_name(phase: Phase) -> &'static [u8]
+    ensures { result.now ≡ phase_name phase }
+{
+    match phase {
+        Phase::Closed => b"CLOSED",
+        Phase::Listen => b"LISTEN",
+        Phase::Request => b"REQUEST",
+        Phase::Respond => b"RESPOND",
+        Phase::PartOpen => b"PARTOPEN",
+        Phase::Open => b"OPEN",
+        Phase::CloseReq => b"CLOSEREQ",
+        Phase::Closing => b"CLOSING",
+        Phase::TimeWait => b"TIMEWAIT",
+    }
+}
+
+fn stand_mark(stand: Stand) -> &'static [u8]
+    ensures { result.now ≡ stand_mark stand }
+{
+    match stand {
+        Stand::Stable => b"",
+        Stand::Changing => b"*",
+        Stand::Unstable => b"!",
+    }
+}
+
+fn put_frame_name(text: &mut Vec<u8>, side: Side, index: u64) -> Result<(), NoMemory>
+    ensures { OnOk result (text.new.items ≡ text.old.items ++ frame_name side index) }
+{
+    put(text, side_letter(side))?;
+    put_number(text, index)
+}
+
+/// The bytes of the frame that an event brought to an end; none for a call.
+pub(crate) fn arrived<'a>(world: &'a World, event: &Event) -> &'a [u8]
+    ensures { result.now ≡ arrived world.now event.now }
+{
+    let Event::Deliver { from, index } = event else {
+        return &[];
+    };
+    match world.frames(*from).get(*index as usize) {
+        Some(frame) => frame.bytes.as_slice(),
+        None => &[],
+    }
+}
+
+fn put_frame_line(
+    text: &mut Vec<u8>,
+    side: Side,
+    index: u64,
+    frame: &SentFrame,
+) -> Result<(), NoMemory>
+    ensures { OnOk result (text.new.items ≡ text.old.items ++ frame_line side index (Some frame.now)) }
+{
+    put(text, b"sent ")?;
+    put_frame_name(text, side, index)?;
+    put(text, b" ")?;
+    put_hex(text, frame.bytes.as_slice())?;
+    put(text, b"\n")
+}
+
+/// Puts the line of the frame that a side sent in a step, if it sent one, where it had sent `before` frames before.
+pub(crate) fn put_sent_line(
+    text: &mut Vec<u8>,
+    world: &World,
+    side: Side,
+    before: usize,
+) -> Result<(), NoMemory>
+    ensures { OnOk result (text.new.items ≡ text.old.items ++ sent_line world.now side before) }
+{
+    match world.frames(side).get(before) {
+        Some(frame) => put_frame_line(text, side, before as u64, frame),
+        None => Ok(()),
+    }
+}
+
+fn put_held(text: &mut Vec<u8>, held: Held) -> Result<(), NoMemory>
+    ensures { OnOk result (text.new.items ≡ text.old.items ++ held_text held) }
+{
+    put_number(text, held.value)?;
+    put(text, stand_mark(held.stand))
+}
+
+fn put_row(text: &mut Vec<u8>, end: &Endpoint, feature: Feature) -> Result<(), NoMemory>
+    ensures { OnOk result (text.new.items ≡ text.old.items ++ row_text end.now feature) }
+{
+    put(text, b" ")?;
+    put_number(text, u64::from(feature.number()))?;
+    put(text, b"=")?;
+    put_held(text, end.held(feature, Place::Here))?;
+    put(text, b"/")?;
+    put_held(text, end.held(feature, Place::There))
+}
+
+#[tactic(auto, unfolding(crate::specs::RunLines::end_rows))]
+fn put_rows(text: &mut Vec<u8>, end: &Endpoint) -> Result<(), NoMemory>
+    ensures { OnOk result (text.new.items ≡ text.old.items ++ end_rows end.now) }
+{
+    for feature in &FEATURES {
+        put_row(text, end, *feature)?;
+    }
+    Ok(())
+}
+
+fn put_end_name(text: &mut Vec<u8>, side: Side, end: &Endpoint) -> Result<(), NoMemory>
+    ensures { OnOk result (text.new.items ≡ text.old.items ++ end_name side end.now) }
+{
+    put(text, b"end ")?;
+    put(text, side_name(side))?;
+    put(text, b" ")?;
+    put(text, phase_name(end.phase()))
+}
+
+fn put_end_counts(text: &mut Vec<u8>, end: &Endpoint) -> Result<(), NoMemory>
+    ensures { OnOk result (text.new.items ≡ text.old.items ++ end_counts end.now) }
+{
+    put(text, b" window ")?;
+    put_number(text, u64::from(end.window()))?;
+    put(text, b" flight ")?;
+    put_number(text, u64::from(end.in_flight()))
+}
+
+fn put_end_line(text: &mut Vec<u8>, side: Side, end: &Endpoint) -> Result<(), NoMemory>
+    ensures { OnOk result (text.new.items ≡ text.old.items ++ end_line side end.now) }
+{
+    put_end_name(text, side, end)?;
+    put_end_counts(text, end)?;
+    put_rows(text, end)?;
+    put(text, b"\n")
+}
+
+/// Puts the two lines at a schedule's end.
+pub(crate) fn put_end_lines(text: &mut Vec<u8>, world: &World) -> Result<(), NoMemory>
+    ensures { OnOk result (text.new.items ≡ text.old.items ++ end_lines world.now) }
+{
+    put_end_line(text, Side::Client, world.end(Side::Client))?;
+    put_end_line(text, Side::Server, world.end(Side::Server))
+}
