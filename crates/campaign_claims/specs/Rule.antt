@@ -1,5 +1,5 @@
 -- The rule over the word and the views of all claimers, and what a claim tells of the word that it read (own).
-use Rattle.std.specs.Prelude.{◌≡◌, ℕ, ◌^◌, ◌<◌, ◌≤◌, min, List, [], ◌∷◌, length, All, sum_by}
+use Rattle.std.specs.Prelude.{◌≡◌, ℕ, ◌^◌, ◌<◌, ◌≤◌, min, nat_lt, if◌then◌else◌, List, [], ◌∷◌, length, All, sum_by, Option, Some, None}
 use mathlib.Core.Option.{some}
 use lib.ListN.{get_elem?}
 use Rattle.atomic_table.specs.Table.{State, Me}
@@ -27,3 +27,10 @@ pub record Counted (n : ℕ) (s : State ℕ View) : Type 0 where
 -- a claim that read this word: all numbers of its claimer lie below it
 abbrev pub Draws : Me ℕ View → ℕ → Me ℕ View → Type 0
 Draws v found w = (w ≡ (claimed v.0 found, v.1)) × All (λ x. x < found) v.0.numbers
+
+-- what a claim is to its caller: some word was read, all numbers of the claimer lie below it, and it is the answer just where it is below the limit
+pub record IsClaim (v : View) (answer : Option ℕ) (w : View) : Type 0 where
+  pub word : ℕ
+  pub above : All (λ x. x < word) v.numbers
+  pub is_answer : answer ≡ (if nat_lt word v.limit then Some word else None)
+  pub is_view : w ≡ claimed v word

@@ -1,6 +1,7 @@
 //! The claims, and those who draw from them.
 ghost use Rattle.std.specs.Prelude.{◌≡◌, ℕ, ◌-◌, ◌^◌, ◌<◌, ◌≤◌, min, All, IfOk, IfSome, IfNone, IsOk};
 ghost use Rattle.campaign_claims.specs.Numbers.{times, once_below, AreOnceBelow};
+ghost use Rattle.campaign_claims.specs.Rule.{IsClaim};
 ghost use Rattle.campaign_claims.specs.Views.{held, first, with_number, with_none, kept, given, both};
 
 use crate::rule::{Counts, Draw, Halves, View};
@@ -67,6 +68,7 @@ impl Claimer {
         ensures greater { IfSome result (λ k. All (λ x. x < k) self.old.view.numbers) }
         ensures some { IfSome result (λ k. self.new ≡ held self.old.claims (with_number self.old.view k)) }
         ensures none { IfNone result (self.new ≡ held self.old.claims (with_none self.old.view)) }
+        ensures word { IsClaim self.old.view result self.new.view }
     {
         let found = claims.table.shared.fetch_add::<Draw>(&mut self.seat, 0, 1);
         if found < self.limit {
