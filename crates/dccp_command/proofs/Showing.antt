@@ -2,7 +2,7 @@
 use Rattle.std.proofs.Common.{◌≡◌, ◌≢◌, ◌⊎◌, refl, sym, ap, ◌∙◌, subst, inl, inr, ℕ, ◌+◌, ◌≤◌, ◌<◌, List, [], ◌∷◌, ◌++◌, length, take, drop, Bool, Option, Some, None, Result, Ok, Err, IfSome, append_assoc, arith}
 use Rattle.std.proofs.lemmas.List.{append-nil, take_at, take-append-drop, drop-drop}
 use Rattle.std.proofs.Math.Seq.{take-append-add}
-use Rattle.std.specs.Prelude.{is_some, is_err, option_map, OnOk, OnErr, true, false}
+use Rattle.std.specs.Prelude.{is_some, is_err, OnOk, OnErr, true, false}
 use Rattle.std.specs.Io.KnownBytes.{append_known, prepend_known}
 use Rattle.capture_reader.specs.declared.fault.CaptureFault.{CaptureFault}
 use Rattle.capture_reader.specs.declared.format.Format.{Format}
@@ -24,7 +24,7 @@ use Rattle.dccp_command.specs.declared.top.Status.{Status}
 use Rattle.dccp_command.specs.declared.top.Status.TheVariants as status
 use Rattle.dccp_command.specs.CaptureText.{first_tally, counted, tallied, record_text, last_line, fault_line, text_from, size_of, end_of, capture_text, is_faulty, records_end}
 use Rattle.dccp_command.specs.Show.{Turns, Closes, RefusesHeader, ShowsRecords, text_of}
-use Rattle.dccp_command.specs.Top.{HasTaken, HasBegun, IsAnswered, IsCutOff, Answers, Moves, SinkFailed}
+use Rattle.dccp_command.specs.Top.{HasBegun, IsAnswered, IsCutOff, Answers, Moves, SinkFailed}
 
 -- the text of what is left
 abbrev pub rest_text : Tally → Captured → List ℕ

@@ -1,5 +1,5 @@
 -- Data that a line tells stands within the bytes that arrived.
-use Rattle.std.proofs.Common.{◌≡◌, ℕ, ◌≤◌, List, length, Bool, true, false, ◌&&◌, nat_le, Option, Some, None, Ok, Err, arith}
+use Rattle.std.proofs.Common.{◌≡◌, ℕ, ◌≤◌, List, length, true, ◌&&◌, nat_le, Some, None, Ok, Err, arith}
 use Rattle.std.proofs.lemmas.Bool.Decides.{nat_tests}
 use Rattle.dccp_endpoint.specs.declared.outcome.Outcome.TheVariants.{Took, Dropped, Synced, WasReset, SentReset, NotBuilt}
 use Rattle.two_ends.specs.declared.event.Seen.{Seen}

@@ -2,7 +2,7 @@
 use Rattle.std.specs.Prelude.{ℕ, ◌+◌, ◌++◌, Bool, is_some, List, [], ◌∷◌, length, codes, decimal, Option, Some, None}
 use Rattle.capture_reader.specs.declared.fault.CaptureFault.{CaptureFault}
 use Rattle.capture_reader.specs.declared.fault.CaptureFault.TheVariants as fault
-use Rattle.capture_reader.specs.Records.{Entry, Captured, captured}
+use Rattle.capture_reader.specs.Records.{Entry, captured}
 use Rattle.packet_show.specs.declared.flows.Shown.{Shown}
 use Rattle.packet_show.specs.declared.flows.Shown.TheVariants.{Line, Skipped}
 use Rattle.packet_show.specs.Flows.{Flow}

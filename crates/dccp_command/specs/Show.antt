@@ -1,9 +1,9 @@
 -- What the steps of `show` do (own).
-use Rattle.std.specs.Prelude.{◌≡◌, ◌≢◌, ℕ, ◌++◌, Bool, false, true, List, drop, Option, Some, None, is_some, IfSome, Result, Ok, Err}
+use Rattle.std.specs.Prelude.{◌≡◌, ◌≢◌, ℕ, ◌++◌, false, true, List, drop, Option, Some, None, is_some, Result, Ok, Err}
 use Rattle.capture_reader.specs.declared.fault.CaptureFault.{CaptureFault}
 use Rattle.capture_reader.specs.declared.fault.CaptureFault.TheVariants.{ReadFault, NoMemory}
-use Rattle.capture_reader.specs.Records.{Entry, Captured, records_from}
-use Rattle.capture_reader.specs.State.{CapturesState, Advances, Passed, rest}
+use Rattle.capture_reader.specs.Records.{Entry, Captured}
+use Rattle.capture_reader.specs.State.{CapturesState, Advances, Passed}
 use Rattle.seq_circle.specs.declared.memory.NoMemory as no_memory
 use Rattle.dccp_command.specs.declared.show.Tally.{Tally}
 use Rattle.dccp_command.specs.declared.show.Turn.{Turn}

@@ -1,5 +1,5 @@
 //! The line of a refusal.
-ghost use Rattle.std.specs.Prelude.{◌≡◌, ◌++◌, ℕ, List, OnOk};
+ghost use Rattle.std.specs.Prelude.{◌≡◌, ◌++◌, OnOk};
 ghost use Rattle.dccp_command.specs.Text.{line_why_name};
 ghost use Rattle.dccp_command.specs.RunLines.{refusal_line};
 

@@ -1,5 +1,5 @@
 //! A schedule while it is played.
-ghost use Rattle.std.specs.Prelude.{◌≡◌, ◌+◌, ◌<◌, ◌^◌, ◌++◌, length, ℕ, List, is_some, if◌then◌else◌, IfOk, OnOk, Some, Ok, Err};
+ghost use Rattle.std.specs.Prelude.{◌≡◌, ◌++◌, ℕ, List, is_some, if◌then◌else◌, IfOk, OnOk, Some, Ok, Err};
 ghost use Rattle.dccp_command.specs.Built.{not_built};
 ghost use Rattle.dccp_command.specs.RunLines.{end_lines};
 ghost use Rattle.dccp_command.specs.Transcript.{first_play, world_of, ArePeers, IsReady, IsBehind, Shows, event_shown, Judges, judged, by_line, is_within, behind, configures, without_offers, with_iss, says_event, whole_line, no_such_frame};

@@ -1,5 +1,5 @@
 //! The lines that `run` writes.
-ghost use Rattle.std.specs.Prelude.{◌≡◌, ◌++◌, List, ℕ, OnOk, Some, flat_map};
+ghost use Rattle.std.specs.Prelude.{◌≡◌, ◌++◌, OnOk, Some};
 ghost use Rattle.schedule_text.specs.Names.{side_name};
 ghost use Rattle.schedule_text.specs.Printing.{side_letter, frame_name};
 ghost use Rattle.dccp_command.specs.Text.{phase_name, stand_mark};

@@ -3,7 +3,6 @@ use Rattle.std.proofs.Common.{rules, ◌≡◌, ℕ, List, Option, Some, Ok, IfS
 use Rattle.capture_reader.specs.Format.{opened}
 use Rattle.capture_reader.specs.Records.{records_from}
 use Rattle.capture_reader.specs.State.{Passed, rest}
-use Rattle.dccp_command.specs.declared.top.Status.TheVariants as status
 use Rattle.dccp_command.specs.CaptureText.{capture_text, is_faulty, records_end}
 use Rattle.dccp_command.specs.Show.{ShowsRecords}
 use Rattle.dccp_command.specs.Top.{Answers}

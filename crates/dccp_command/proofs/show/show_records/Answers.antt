@@ -1,5 +1,5 @@
 -- The loop keeps its invariant, and each of its ends is one of the whole capture.
-use Rattle.std.proofs.Common.{arith, sym, ◌≡◌, ◌≤◌, ◌∙◌, refl, ap, subst, inl, inr, List, ℕ, Option, Ok}
+use Rattle.std.proofs.Common.{arith, sym, ◌∙◌, refl, subst, inl, inr, Ok}
 use Rattle.std.proofs.lemmas.Option.{IfSome_then}
 use Rattle.capture_reader.specs.Records.{records_from}
 use Rattle.dccp_command.specs.declared.show.Turn.{Turn}
@@ -7,7 +7,6 @@ use Rattle.dccp_command.specs.Show.{Turns}
 use Rattle.dccp_command.specs.Top.{HasBegun, Moves}
 use Rattle.dccp_io.specs.Fronts.{TakesFront}
 use Rattle.dccp_command.proofs.Showing.{turned, along-moved, shown-early, over, tallied-one, on-err, on-ok}
-use Rattle.capture_reader.specs.State.{rest}
 use Rattle.dccp_command.proofs.show.show_records.Goals as goal
 
 pub loop-output-preserved : goal.loop-output-preserved

@@ -1,5 +1,5 @@
 -- The counters fit what the reader gave, the counts of faults never fall, and the text is along that of the whole capture.
-use Rattle.std.proofs.Common.{◌≡◌, ℕ, ◌+◌, ◌-◌, ◌*◌, ◌≤◌, ◌^◌, None, IfSome}
+use Rattle.std.proofs.Common.{◌≡◌, ◌+◌, ◌-◌, ◌*◌, ◌≤◌, ◌^◌, None, IfSome}
 use Rattle.capture_reader.specs.Records.{records_from}
 use Rattle.capture_reader.specs.State.{rest}
 use Rattle.dccp_command.proofs.Showing.{Along}
