@@ -2,6 +2,7 @@
 use Rattle.std.proofs.Common.{◌≡◌, refl, sym, ap, ◌∙◌, subst, lit<, ℕ, ◌+◌, ◌≤◌, ◌<◌, List, [], ◌∷◌, ◌++◌, length, Bool, true, false, append_assoc, zero-add, length-append, Ok, Err, arith}
 use Rattle.dccp_endpoint.specs.Usual.{usual}
 use Rattle.dccp_states.specs.declared.phase.Role.TheVariants as role
+use Rattle.feature_machine.proofs.Listing.{usual_are_lists}
 use Rattle.two_ends.specs.declared.event.Event.{Event}
 use Rattle.schedule_text.specs.declared.line.LineFault.{LineFault}
 use Rattle.dccp_command.specs.declared.play.Play.{Play}
@@ -22,8 +23,8 @@ usual-peers : ArePeers (usual role.Client) (usual role.Server)
 usual-peers = record {
   is_client = refl;
   is_server = refl;
-  client_fits = record { own_port = lit< tt; peer_port = lit< tt; service = lit< tt; iss = lit< tt };
-  server_fits = record { own_port = lit< tt; peer_port = lit< tt; service = lit< tt; iss = lit< tt };
+  client_fits = record { own_port = lit< tt; peer_port = lit< tt; service = lit< tt; iss = lit< tt; lists = usual_are_lists };
+  server_fits = record { own_port = lit< tt; peer_port = lit< tt; service = lit< tt; iss = lit< tt; lists = usual_are_lists };
 }
 
 pub at-start : (play : Play) (input : List ℕ) → play ≡ first_play → LoopInvariant play input [] input

@@ -35,24 +35,26 @@ read_built text = if is_unbuilt text then Err not_built else read_line text
 abbrev pub timed : Side → text_timer.Timer → Option Event
 timed side said_timer.Request = Some (event.Timer side timer.Request)
 timed side said_timer.Ack = Some (event.Timer side timer.Ack)
-timed side said_timer.Negotiate = None
+timed side said_timer.Negotiate = Some (event.Timer side timer.Negotiate)
 timed side said_timer.Rto = None
 timed side said_timer.Close = Some (event.Timer side timer.Close)
 timed side said_timer.TimeWait = Some (event.Timer side timer.TimeWait)
 
--- What an event of a line is to the two ends, or None where it is not built. The client opens only after `plain`.
-abbrev pub built_event : text_event.Event → Bool → Option Event
-built_event said.Open plain = if plain then Some event.Open else None
-built_event (said.Deliver from index) plain = Some (event.Deliver from index)
-built_event (said.Send side payload) plain = None
-built_event (said.Prefer side feature place values) plain = None
-built_event (said.Timer side timer) plain = timed side timer
-built_event (said.Close side) plain = Some (event.Close side)
-built_event (said.Abort side) plain = Some (event.Abort side)
+-- What an event of a line is to the two ends, or None where it is not built.
+abbrev pub built_event : text_event.Event → Option Event
+built_event said.Open = Some event.Open
+built_event (said.Deliver from index) = Some (event.Deliver from index)
+built_event (said.Send side payload) = None
+built_event (said.Prefer side feature place values) = Some (event.Prefer side feature place values)
+built_event (said.Timer side timer) = timed side timer
+built_event (said.Close side) = Some (event.Close side)
+built_event (said.Abort side) = Some (event.Abort side)
 
 abbrev pub refusal_told : Refusal → text_refusal.Refusal
 refusal_told refusal.NotFresh = told_refusal.NotFresh
 refusal_told refusal.NotOpen = told_refusal.NotOpen
+refusal_told refusal.BadList = told_refusal.BadList
+refusal_told refusal.NotOurs = told_refusal.NotOurs
 refusal_told refusal.NotLive = told_refusal.NotLive
 
 -- What was seen of an event, as its line tells it.

@@ -6,7 +6,7 @@ use Rattle.feature_lists.specs.declared.features.Feature.{Feature}
 use Rattle.feature_lists.specs.declared.features.Feature.TheVariants as feature
 use Rattle.feature_lists.specs.declared.features.Place.TheVariants.{Here, There}
 use Rattle.dccp_endpoint.specs.End.{EndState, held_of, window_of, in_flight_of}
-use Rattle.dccp_endpoint.specs.declared.held.Held.{Held}
+use Rattle.feature_machine.specs.declared.stands.Held.{Held}
 use Rattle.two_ends.specs.World.{WorldState, half_of}
 use Rattle.two_ends.specs.declared.frames.SentFrame.{SentFrame}
 use Rattle.two_ends.specs.declared.event.Side.{Side}
@@ -40,7 +40,7 @@ abbrev pub held_text : Held → List ℕ
 held_text held = decimal held.value ++ stand_mark held.stand
 
 -- A feature's two values, Here and There.
-abbrev pub row_text : EndState → Feature → List ℕ
+unfoldable pub row_text : EndState → Feature → List ℕ
 row_text e feature =
     codes " " ++ decimal (number_of feature) ++ codes "=" ++ held_text (held_of e feature Here) ++ codes "/" ++ held_text (held_of e feature There)
 

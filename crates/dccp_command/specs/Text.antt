@@ -2,8 +2,8 @@
 use Rattle.std.specs.Prelude.{ℕ, List, [], codes}
 use Rattle.dccp_states.specs.declared.phase.Phase.{Phase}
 use Rattle.dccp_states.specs.declared.phase.Phase.TheVariants as phase
-use Rattle.dccp_endpoint.specs.declared.held.Stand.{Stand}
-use Rattle.dccp_endpoint.specs.declared.held.Stand.TheVariants as stand
+use Rattle.feature_machine.specs.declared.stands.Stand.{Stand}
+use Rattle.feature_machine.specs.declared.stands.Stand.TheVariants as stand
 use Rattle.schedule_text.specs.declared.line.LineWhy.{LineWhy}
 use Rattle.schedule_text.specs.declared.line.LineWhy.TheVariants as why
 

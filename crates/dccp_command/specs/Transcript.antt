@@ -1,8 +1,15 @@
 -- What `run` writes of an input: the lines of its accepted lines, then the two end lines or the line of the first refusal (own).
-use Rattle.std.specs.Prelude.{◌≡◌, ℕ, ◌+◌, ◌^◌, ◌<◌, ◌++◌, Bool, true, false, nat_le, nat_lt, min, if◌then◌else◌, List, [], ◌∷◌, length, take, Option, Some, None, is_some, Result, Ok, Err}
+use Rattle.std.specs.Prelude.{◌≡◌, ℕ, ◌+◌, ◌^◌, ◌<◌, ◌++◌, Bool, true, false, ◌&&◌, nat_le, nat_lt, min, if◌then◌else◌, List, [], ◌∷◌, length, take, Option, Some, None, is_some, Result, Ok, Err}
 use Rattle.dccp_endpoint.specs.Usual.{usual}
 use Rattle.dccp_endpoint.specs.declared.config.Config.{Config}
 use Rattle.dccp_states.specs.declared.phase.Role.TheVariants as role
+use Rattle.feature_lists.specs.Wishes.{is_ours, wish_of}
+use Rattle.feature_lists.specs.declared.features.Feature.{Feature}
+use Rattle.feature_lists.specs.declared.features.Place.{Place}
+use Rattle.feature_lists.specs.declared.wishes.PreferFault.{PreferFault}
+use Rattle.feature_lists.specs.declared.wishes.Wanted.{Wanted}
+use Rattle.feature_machine.specs.Lists as listed
+use Rattle.feature_machine.specs.Lists.{with_wish, with_offer}
 use Rattle.two_ends.specs.World.{WorldState, WorldStep, at_start, happens, half_of, actor, run}
 use Rattle.dccp_endpoint.specs.Drafts.{Fits}
 use Rattle.two_ends.specs.Safe.{Safe}
@@ -33,7 +40,7 @@ most_events = 16384
 
 -- Where a schedule stands before its first line: the two usual ends are configured.
 abbrev pub first_play : Play
-first_play = record { number = 1; read = 0; plain = false; events = 0; client = usual role.Client; server = usual role.Server; world = None }
+first_play = record { number = 1; read = 0; events = 0; client = usual role.Client; server = usual role.Server; world = None }
 
 abbrev pub world_or_start : Config → Config → Option WorldState → WorldState
 world_or_start client server None = at_start client server
@@ -67,12 +74,39 @@ says_nothing play piece = Accepted [] [] (behind play piece)
 abbrev pub configures : Play → Play → Verdict
 configures play next = if is_some play.world then Refused (whole_line why.HeaderLate) else Accepted [] [] next
 
-abbrev pub without_offers : Play → Play
-without_offers play = record play { plain = true }
+abbrev pub config_of : Play → Side → Config
+config_of play Client = play.client
+config_of play Server = play.server
+
+abbrev pub with_config : Side → Config → Play → Play
+with_config Client config play = record play { client = config }
+with_config Server config play = record play { server = config }
 
 abbrev pub with_iss : Side → ℕ → Play → Play
-with_iss Client number play = record play { client = record play.client { iss = number } }
-with_iss Server number play = record play { server = record play.server { iss = number } }
+with_iss side number play = with_config side (record (config_of play side) { iss = number }) play
+
+-- a configuration that offers nothing
+abbrev pub without_offers : Config → Config
+without_offers config = record config { lists = listed.without_offers config.lists }
+
+abbrev pub says_plain : Play → Play
+says_plain play = record play { client = without_offers play.client; server = without_offers play.server }
+
+-- A wish or an offer that an end may not have changes nothing; its line was refused before.
+abbrev pub wishing : Config → Feature → Place → Result Wanted PreferFault → Config
+wishing config feature place (Ok wish) = record config { lists = with_wish config.lists feature place wish }
+wishing config feature place (Err fault) = config
+
+abbrev pub offering : Config → Feature → Place → Bool → Config
+offering config feature place mandatory =
+    if is_ours feature place then record config { lists = with_offer config.lists feature place mandatory } else config
+
+unfoldable pub with_set : Side → Feature → Place → List ℕ → Play → Play
+with_set side feature place values play =
+    with_config side (wishing (config_of play side) feature place (wish_of feature place values)) play
+
+abbrev pub with_offered : Side → Feature → Place → Bool → Play → Play
+with_offered side feature place mandatory play = with_config side (offering (config_of play side) feature place mandatory) play
 
 -- The text of an event that took place, and the world after it.
 pub record Shown : Type 0 where
@@ -108,24 +142,34 @@ by_event play piece said (Some event) = by_shown play piece event (event_shown p
 
 abbrev pub says_event : Play → List ℕ → text_event.Event → Verdict
 says_event play piece said =
-    if nat_lt play.events most_events then by_event play piece said (built_event said play.plain)
+    if nat_lt play.events most_events then by_event play piece said (built_event said)
     else Refused (whole_line why.TooManyEvents)
 
+-- a wish or an offer that an end may not have
+abbrev pub is_of_wish : LineWhy → Bool
+is_of_wish why.BadList = true
+is_of_wish why.NotOurs = true
+is_of_wish _ = false
+
+-- It is judged behind that its line stands before all events.
+abbrev pub in_place : Play → LineFault → LineFault
+in_place play fault = if is_some play.world && is_of_wish fault.why then whole_line why.HeaderLate else fault
+
 abbrev pub by_line : Play → List ℕ → Result Line LineFault → Verdict
-by_line play piece (Err fault) = Refused fault
+by_line play piece (Err fault) = Refused (in_place play fault)
 by_line play piece (Ok line.Nothing) = says_nothing play piece
-by_line play piece (Ok line.Plain) = configures play (without_offers (behind play piece))
+by_line play piece (Ok line.Plain) = configures play (says_plain (behind play piece))
 by_line play piece (Ok (line.Iss side number)) = configures play (with_iss side number (behind play piece))
-by_line play piece (Ok (line.Set side place feature values)) = Refused not_built
-by_line play piece (Ok (line.Offer side place feature mandatory)) = Refused not_built
+by_line play piece (Ok (line.Set side place feature values)) = configures play (with_set side feature place values (behind play piece))
+by_line play piece (Ok (line.Offer side place feature mandatory)) = configures play (with_offered side feature place mandatory (behind play piece))
 by_line play piece (Ok (line.Event event)) = says_event play piece event
 
 -- The bytes up to a line's newline, or up to the one at which it is too long, lie within those that an input may have.
 abbrev pub is_within : Play → List ℕ → Bool
 is_within play piece = nat_le (play.read + min (length piece) 4097) most_bytes
 
--- A line with its newline. Its faults are judged in this order: the bytes of the input, the line by itself, that it stands before all
--- events, the count of events, what is not built, the frame that it names.
+-- A line with its newline. Its faults are judged in this order: the bytes of the input, the line by itself up to its words, that it
+-- stands before all events, what an end may wish, the count of events, what is not built, the frame that it names.
 abbrev pub judged : Play → List ℕ → Verdict
 judged play piece =
     if is_within play piece then by_line play piece (read_built (text_of piece)) else Refused (whole_line why.TooMuchInput)

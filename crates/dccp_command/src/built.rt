@@ -33,24 +33,36 @@ fn timed(side: Side, timer: schedule_text::Timer) -> Option<Event>
     let timer = match timer {
         schedule_text::Timer::Request => Timer::Request,
         schedule_text::Timer::Ack => Timer::Ack,
-        schedule_text::Timer::Negotiate | schedule_text::Timer::Rto => return None,
+        schedule_text::Timer::Negotiate => Timer::Negotiate,
+        schedule_text::Timer::Rto => return None,
         schedule_text::Timer::Close => Timer::Close,
         schedule_text::Timer::TimeWait => Timer::TimeWait,
     };
     Some(Event::Timer { side, timer })
 }
 
-/// What an event of a line is to the two ends, or None where it is not built yet. The client opens only after `plain`.
-pub(crate) fn built_event(said: &schedule_text::Event, plain: bool) -> Option<Event>
-    ensures { result ≡ built_event said.now plain }
+/// What an event of a line is to the two ends, or None where it is not built yet.
+pub(crate) fn built_event(said: &schedule_text::Event) -> Option<Event>
+    ensures { result ≡ built_event said.now }
 {
     match said {
-        schedule_text::Event::Open => { if plain { Some(Event::Open) } else { None } }
+        schedule_text::Event::Open => Some(Event::Open),
         schedule_text::Event::Deliver { from, index } => Some(Event::Deliver {
             from: *from,
             index: *index,
         }),
-        schedule_text::Event::Send { .. } | schedule_text::Event::Prefer { .. } => None,
+        schedule_text::Event::Send { .. } => None,
+        schedule_text::Event::Prefer {
+            side,
+            feature,
+            place,
+            values,
+        } => Some(Event::Prefer {
+            side: *side,
+            feature: *feature,
+            place: *place,
+            values: values.copied(),
+        }),
         schedule_text::Event::Timer { side, timer } => timed(*side, *timer),
         schedule_text::Event::Close { side } => Some(Event::Close { side: *side }),
         schedule_text::Event::Abort { side } => Some(Event::Abort { side: *side }),
@@ -63,6 +75,8 @@ fn refusal_told(fault: Refusal) -> schedule_text::Refusal
     match fault {
         Refusal::NotFresh => schedule_text::Refusal::NotFresh,
         Refusal::NotOpen => schedule_text::Refusal::NotOpen,
+        Refusal::BadList => schedule_text::Refusal::BadList,
+        Refusal::NotOurs => schedule_text::Refusal::NotOurs,
         Refusal::NotLive => schedule_text::Refusal::NotLive,
     }
 }

@@ -10,6 +10,8 @@ mod built;
 mod capture_lines;
 mod fault;
 mod lines;
+#[cfg(test)]
+mod negotiations;
 mod play;
 mod run_lines;
 mod show;

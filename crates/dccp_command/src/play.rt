@@ -2,12 +2,16 @@
 ghost use Rattle.std.specs.Prelude.{◌≡◌, ◌++◌, ℕ, List, is_some, if◌then◌else◌, IfOk, OnOk, Some, Ok, Err};
 ghost use Rattle.dccp_command.specs.Built.{not_built};
 ghost use Rattle.dccp_command.specs.RunLines.{end_lines};
-ghost use Rattle.dccp_command.specs.Transcript.{first_play, world_of, ArePeers, IsReady, IsBehind, Shows, event_shown, Judges, judged, by_line, is_within, behind, configures, without_offers, with_iss, says_event, whole_line, no_such_frame};
+ghost use Rattle.dccp_command.specs.Transcript.{first_play, world_of, ArePeers, IsReady, IsBehind, Shows, event_shown, Judges, judged, by_line, is_within, behind, configures, says_plain, with_iss, with_set, with_offered, without_offers, wishing, offering, in_place, says_event, whole_line, no_such_frame};
+ghost use Rattle.dccp_endpoint.specs.Drafts.{Fits};
+ghost use Rattle.feature_lists.specs.Wishes.{wish_of};
+ghost use Rattle.feature_machine.specs.Lists.{IsLists};
 
 use crate::built::{built_event, is_told, not_built, read_built, seen_told};
 use crate::lines::text_of;
 use crate::run_lines::{arrived, put_end_lines, put_sent_line};
 use dccp_endpoint::{Config, Role};
+use feature_lists::{Feature, Place};
 use schedule_text::{Line, LineFault, LineWhy, print_seen};
 use seq_circle::{NoMemory, Seq48};
 use std::alloc::Global;
@@ -27,8 +31,6 @@ pub(crate) struct Play {
     pub(crate) number: u64,
     /// How many bytes of the input stand before it.
     pub(crate) read: u64,
-    /// Whether a line took all offers away.
-    pub(crate) plain: bool,
     /// How many events took place.
     pub(crate) events: u32,
     /// What the client is made from.
@@ -47,7 +49,6 @@ impl Play {
         Play {
             number: 1,
             read: 0,
-            plain: false,
             events: 0,
             client: Config::usual(Role::Client),
             server: Config::usual(Role::Server),
@@ -57,7 +58,8 @@ impl Play {
 
     /// Plays one line, which has its newline, or answers why it is refused. The faults that need more than the line are
     /// judged here, each at its place among those of the line itself: the limit of bytes before them, and behind them that
-    /// it has to stand before all events, the limit of events, what is not built, and a frame that was not sent.
+    /// it has to stand before all events (but before what an end may wish), the limit of events, what is not built, and a frame
+    /// that was not sent.
     pub(crate) fn judge(
         &mut self,
         alloc: Global,
@@ -72,7 +74,7 @@ impl Play {
             return Ok(Err(whole_line(LineWhy::TooMuchInput)));
         }
         match read_built(text_of(line)) {
-            Err(fault) => Ok(Err(fault)),
+            Err(fault) => Ok(Err(self.in_place(fault))),
             Ok(said) => self.say(alloc, line, &said, text),
         }
     }
@@ -95,7 +97,18 @@ impl Play {
             }
             Line::Plain => Ok(self.say_plain(line)),
             Line::Iss { side, number } => Ok(self.say_iss(line, *side, *number)),
-            Line::Set { .. } | Line::Offer { .. } => Ok(Err(not_built())),
+            Line::Set {
+                side,
+                place,
+                feature,
+                values,
+            } => Ok(self.say_set(line, *side, *feature, *place, values.numbers())),
+            Line::Offer {
+                side,
+                place,
+                feature,
+                mandatory,
+            } => Ok(self.say_offer(line, *side, *feature, *place, *mandatory)),
             Line::Event(event) => self.say_event(alloc, line, event, text),
         }
     }
@@ -106,6 +119,18 @@ impl Play {
         ensures { result ≡ is_within self.now line.now }
     {
         self.read + line.len().min(ONE_TOO_MANY) as u64 <= MOST_BYTES
+    }
+
+    // What an end may not wish is judged behind that its line stands before all events.
+    fn in_place(&self, fault: LineFault) -> LineFault
+        ensures { result ≡ in_place self.now fault }
+    {
+        match fault.why {
+            LineWhy::BadList | LineWhy::NotOurs if self.world.is_some() => {
+                whole_line(LineWhy::HeaderLate)
+            }
+            _ => fault,
+        }
     }
 
     fn pass(&mut self, line: &[u8])
@@ -128,12 +153,13 @@ impl Play {
 
     fn say_plain(&mut self, line: &[u8]) -> Result<(), LineFault>
         requires { IsReady self.old line.now }
-        ensures verdict { (text : List ℕ) → Judges (configures self.old (without_offers (behind self.old line.now))) text text self.new result }
+        ensures verdict { (text : List ℕ) → Judges (configures self.old (says_plain (behind self.old line.now))) text text self.new result }
         ensures onward { result ≡ Ok tt → IsBehind self.old line.now self.new }
     {
         self.check_header()?;
         self.pass(line);
-        self.plain = true;
+        offer_nothing(&mut self.client);
+        offer_nothing(&mut self.server);
         Ok(())
     }
 
@@ -153,6 +179,49 @@ impl Play {
         Ok(())
     }
 
+    #[tactic(auto, unfolding(crate::specs::Transcript::with_set))]
+    fn say_set(
+        &mut self,
+        line: &[u8],
+        side: Side,
+        feature: Feature,
+        place: Place,
+        values: &[u64],
+    ) -> Result<(), LineFault>
+        requires { IsReady self.old line.now }
+        ensures verdict { (text : List ℕ) → Judges (configures self.old (with_set side feature place values.now (behind self.old line.now))) text text self.new result }
+        ensures onward { result ≡ Ok tt → IsBehind self.old line.now self.new }
+    {
+        self.check_header()?;
+        self.pass(line);
+        match side {
+            Side::Client => wish_for(&mut self.client, feature, place, values),
+            Side::Server => wish_for(&mut self.server, feature, place, values),
+        }
+        Ok(())
+    }
+
+    fn say_offer(
+        &mut self,
+        line: &[u8],
+        side: Side,
+        feature: Feature,
+        place: Place,
+        mandatory: bool,
+    ) -> Result<(), LineFault>
+        requires { IsReady self.old line.now }
+        ensures verdict { (text : List ℕ) → Judges (configures self.old (with_offered side feature place mandatory (behind self.old line.now))) text text self.new result }
+        ensures onward { result ≡ Ok tt → IsBehind self.old line.now self.new }
+    {
+        self.check_header()?;
+        self.pass(line);
+        match side {
+            Side::Client => offer(&mut self.client, feature, place, mandatory),
+            Side::Server => offer(&mut self.server, feature, place, mandatory),
+        }
+        Ok(())
+    }
+
     fn say_event(
         &mut self,
         alloc: Global,
@@ -167,7 +236,7 @@ impl Play {
         if MOST_EVENTS <= self.events {
             return Ok(Err(whole_line(LineWhy::TooManyEvents)));
         }
-        let Some(event) = built_event(said, self.plain) else {
+        let Some(event) = built_event(said) else {
             return Ok(Err(not_built()));
         };
         self.make_world(alloc)?;
@@ -205,6 +274,45 @@ impl Play {
             None => unreachable!(),
         }
     }
+}
+
+// A configuration that offers nothing.
+fn offer_nothing(config: &mut Config)
+    requires { Fits config.old }
+    ensures plain { config.new ≡ without_offers config.old }
+    ensures fits { Fits config.new }
+{
+    config.plain();
+    lists_fit(config);
+}
+
+// Another wish. `read_line` refuses the lines of those that an end may not have.
+fn wish_for(config: &mut Config, feature: Feature, place: Place, values: &[u64])
+    requires { Fits config.old }
+    ensures wish { config.new ≡ wishing config.old feature place (wish_of feature place values.now) }
+    ensures fits { Fits config.new }
+    ensures role { config.new.role ≡ config.old.role }
+{
+    let _ = config.set(feature, place, values);
+    lists_fit(config);
+}
+
+// Another offer. `read_line` refuses the lines of those that an end may not make.
+fn offer(config: &mut Config, feature: Feature, place: Place, mandatory: bool)
+    requires { Fits config.old }
+    ensures offer { config.new ≡ offering config.old feature place mandatory }
+    ensures fits { Fits config.new }
+    ensures role { config.new.role ≡ config.old.role }
+{
+    let _ = config.offer(feature, place, mandatory);
+    lists_fit(config);
+}
+
+// Contracts learn that lists are in order where they are read.
+fn lists_fit(config: &Config)
+    ensures { IsLists config.now.lists }
+{
+    let _ = config.lists.wish(Feature::Ccid, Place::Here);
 }
 
 // Lets an event happen and puts its lines, or answers why its line is refused.

@@ -124,6 +124,7 @@ fn put_held(text: &mut Vec<u8>, held: Held) -> Result<(), NoMemory>
     put(text, stand_mark(held.stand))
 }
 
+#[tactic(auto, unfolding(crate::specs::RunLines::row_text))]
 fn put_row(text: &mut Vec<u8>, end: &Endpoint, feature: Feature) -> Result<(), NoMemory>
     ensures { OnOk result (text.new.items ≡ text.old.items ++ row_text end.now feature) }
 {

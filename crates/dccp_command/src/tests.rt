@@ -1,4 +1,5 @@
 //! The worked schedules, and the words and streams of whole calls.
+use crate::negotiations::NEGOTIATIONS;
 use crate::{Status, dccp};
 use dccp_io::{MemorySink, MemorySource};
 use std::alloc::Global;
@@ -209,6 +210,16 @@ line 3 column 9: NoSuchFrame\n";
 }
 
 #[test]
+fn worked_negotiations(rt: HostRuntime) -> Result<(), Fail> {
+    for (schedule, want) in &NEGOTIATIONS {
+        let (status, text) = played(&rt, rt.alloc(), schedule, ROOM)?;
+        assert_eq!(rt; status, Status::Done, "{schedule:?}");
+        assert_eq!(rt; text.as_slice(), *want, "{schedule:?}");
+    }
+    Ok(())
+}
+
+#[test]
 fn worked_schedules(rt: HostRuntime) -> Result<(), Fail> {
     for (schedule, want) in [
         (NUMBER_WRAP, NUMBER_WRAP_TEXT),
@@ -241,9 +252,20 @@ fn faults_of_a_line(rt: HostRuntime) -> Result<(), Fail> {
         (too_long, b"line 1 column 4097: LineTooLong\n".as_slice()),
         (b"plain\n#\t\n", b"line 2 column 2: NotText\n"),
         (b"set\x7f", b"line 1 column 4: NotText\n"),
-        (b"set\n", b"line 1 column 1: NotBuilt\n"),
-        (b"#\nprefer client  x\n", b"line 2 column 1: NotBuilt\n"),
+        (b"send\n", b"line 1 column 1: NotBuilt\n"),
+        (b"#\nsend client  x\n", b"line 2 column 1: NotBuilt\n"),
+        (b"set\n", b"line 1 column 5: Missing\n"),
+        (b"#\nprefer client  x\n", b"line 2 column 15: Missing\n"),
         (b"settle\n", b"line 1 column 1: UnknownWord\n"),
+        (b"set client here 1 3\n", b"line 1 column 19: BadList\n"),
+        (
+            b"plain\nset client there 3 200\n",
+            b"line 2 column 20: NotOurs\n",
+        ),
+        (
+            b"offer server there 5 mandatory\n",
+            b"line 1 column 20: NotOurs\n",
+        ),
         (b" plain\n", b"line 1 column 1: Missing\n"),
         (b"deliver\n", b"line 1 column 9: Missing\n"),
         (b"deliver x0\n", b"line 1 column 9: UnknownWord\n"),
@@ -278,8 +300,30 @@ fn faults_of_a_place(rt: HostRuntime) -> Result<(), Fail> {
             b"plain\nopen\niss client 1 2\n",
             b"line 3 column 14: Trailing\n",
         ),
-        (b"iss client 1\nopen\n", b"line 2 column 1: NotBuilt\n"),
-        (b"timer client negotiate\n", b"line 1 column 1: NotBuilt\n"),
+        (
+            b"open\nset client here 3 200\n",
+            b"line 2 column 1: HeaderLate\n",
+        ),
+        (
+            b"open\nset client there 3 200\n",
+            b"line 2 column 1: HeaderLate\n",
+        ),
+        (
+            b"open\nset client here 1 3\n",
+            b"line 2 column 1: HeaderLate\n",
+        ),
+        (
+            b"open\nset client here 1 3 x\n",
+            b"line 2 column 21: Trailing\n",
+        ),
+        (
+            b"open\noffer client there 3\n",
+            b"line 2 column 1: HeaderLate\n",
+        ),
+        (
+            b"open\noffer client here 1 mandatory\n",
+            b"line 2 column 1: HeaderLate\n",
+        ),
         (b"timer server rto\n", b"line 1 column 1: NotBuilt\n"),
         (b"timer server rto 1\n", b"line 1 column 18: Trailing\n"),
         (

@@ -1,7 +1,13 @@
--- Every step of a proper end has an effect. What a call or a timer does is one of three: nothing, a change of phase alone, or a packet.
-use Rattle.std.proofs.Common.{◌≡◌, inl, refl, ap, sym, ◌∙◌, Bool, true, false, [], None}
+-- Every step of a proper end has an effect. A call or a timer does nothing, moves the phase alone, or sends a packet.
+use Rattle.std.proofs.Common.{◌≡◌, inl, inr, refl, ap, sym, ◌∙◌, subst, ℕ, Bool, true, false, List, [], ◌∷◌, None, Result, Ok, Err, arith}
+use Rattle.std.specs.List.{All}
 use Rattle.std.proofs.lemmas.Bool.{false≢true}
+use Rattle.std.proofs.lemmas.List.Elements.{All-cons, All-nil}
+use Rattle.dccp_packets.specs.Grammar.{has_forms, packet_type}
+use Rattle.dccp_packets.specs.Kinds.{ack_of}
+use Rattle.dccp_packets.specs.Widths.{HasDetail}
 use Rattle.dccp_packets.specs.ResetCodes.{number_of_code}
+use Rattle.dccp_packets.specs.declared.header.Kind.{Kind}
 use Rattle.dccp_packets.specs.declared.header.Kind.TheVariants as kind
 use Rattle.dccp_packets.specs.declared.header.Number.TheVariants.{Long}
 use Rattle.dccp_packets.specs.declared.reset_code.ResetCode.TheVariants as codes
@@ -9,90 +15,233 @@ use Rattle.dccp_states.specs.declared.phase.Phase.{Phase}
 use Rattle.dccp_states.specs.declared.phase.Phase.TheVariants as phase
 use Rattle.dccp_states.specs.declared.phase.Role.{Role}
 use Rattle.dccp_states.specs.declared.phase.Role.TheVariants as role
-use Rattle.dccp_endpoint.specs.Calling.{aborts, aborts_in, closes, closes_in, closes_now, aborts_now, fires, fires_in, opens, opens_as}
-use Rattle.dccp_endpoint.specs.Causes.{ByCall, EveryStepHasOneEffect, Greatest, HasEffect, Keeps, LeavesIt, NotNow, Nothing, StaysSo}
+use Rattle.feature_lists.specs.Wishes.{wish_of}
+use Rattle.feature_lists.specs.declared.wishes.PreferFault.{PreferFault}
+use Rattle.feature_lists.specs.declared.wishes.Wanted.{Wanted}
+use Rattle.feature_machine.specs.Negotiating.{due_keys, every_place}
+use Rattle.feature_machine.specs.Rows.{Sends}
+use Rattle.feature_machine.specs.Rows as event
+use Rattle.feature_machine.specs.Turns.{Turn, turned}
+use Rattle.feature_machine.specs.declared.row.Row.{Row}
+use Rattle.feature_machine.proofs.Turning.{turned-joined}
+use Rattle.dccp_endpoint.specs.Calling.{aborts, aborts_in, asks_all, asks_now, closes, closes_in, closes_now, aborts_now, fires, fires_in, is_asking_now, opens, opens_as, preferring, prefers, prefers_in, prefers_so, prefers_wish, requests, requests_asking}
+use Rattle.dccp_endpoint.specs.Causes.{Acknowledges, AreHeard, AreTurns, ByCall, Deaf, EveryStepHasOneEffect, Greatest, HasEffect, Keeps, LeavesIt, NotNow, Nothing, PrefersLater, PrefersNow, Repeating, StaysSo, is_acking, is_waiting, is_without_connection}
 use Rattle.dccp_endpoint.specs.Drafts.{alone}
-use Rattle.dccp_endpoint.specs.Effects.{Unheard}
-use Rattle.dccp_endpoint.specs.End.{EndState, IsProper, is_connected, is_live, is_phase_of}
-use Rattle.dccp_endpoint.specs.Inputs.{Input, Arrives, Opens, Closes, Aborts, Fires}
-use Rattle.dccp_endpoint.specs.Steps.{Step, sends, detail_of, without_detail}
+use Rattle.dccp_endpoint.specs.Effects.{Unheard, opened_by}
+use Rattle.dccp_endpoint.specs.End.{EndState, IsProper, is_connected, is_live, is_phase_of, with_rows}
+use Rattle.dccp_endpoint.specs.Inputs.{Input, Arrives, Opens, Closes, Aborts, Fires, Prefers, stepped}
+use Rattle.dccp_endpoint.specs.Speaking.{change_items, is_confirmed, saying}
+use Rattle.dccp_endpoint.specs.Steps.{Step, in_phase, sends, detail_of, next_number, without_detail}
+use Rattle.dccp_endpoint.specs.Turns.{Key, offerings, sendings, turn_of}
 use Rattle.dccp_endpoint.specs.declared.calls.Timer.{Timer}
 use Rattle.dccp_endpoint.specs.declared.calls.Timer.TheVariants as timers
-use Rattle.dccp_endpoint.proofs.Deriving.{Ready, ack-caused, has-by, left, next-caused, rest, silent-caused}
+use Rattle.dccp_endpoint.proofs.Deriving.{Ready, ack-caused, has-by, left, next-caused, offered_keys, offered_turns, offering, plain-caused, quiet, rest, silent-caused, wide, wide-proper, widened}
+use Rattle.dccp_endpoint.proofs.Lawful.{offered-sound, rows-kept}
+use Rattle.dccp_endpoint.proofs.OwnFrames.{alone-sendable}
+use Rattle.dccp_endpoint.proofs.Room.{asking-few, due-few, no-confirms, saying-sendable}
 use Rattle.dccp_endpoint.proofs.Tables.{numbered-code}
 use Rattle.dccp_endpoint.proofs.Walking.{receives-told}
 
 abbrev Has : {A : Type 0} → EndState → Input → Step A → Type 0
 Has e given step = HasEffect e given step.after step.frame step.calls
 
--- a phase without windows, where nothing is heard
-apart : (e : EndState) (given : Input) (ph : Phase) → is_live ph ≡ false → is_phase_of ph e.config.role ≡ true → Ready e given Unheard None false ph false
-apart e given ph dead its_role = left ph dead its_role (Keeps (λ is. absurd (false≢true (sym dead ∙ is)))) LeavesIt
+-- where no Confirm goes out, none is for a row
+none-for : (keys : List Key) → All (λ k. is_confirmed [] k ≡ false) keys
+none-for [] = All-nil (λ (k : Key). is_confirmed [] k ≡ false)
+none-for (k ∷ keys) = All-cons (λ (k : Key). is_confirmed [] k ≡ false) k keys refl (none-for keys)
 
-idle-has : (e : EndState) (given : Input) → IsProper e → HasEffect e given e None []
-idle-has e given proper = has-by (silent-caused (rest proper) (λ is. is))
+-- The Changes of all rows that ask go out again.
+abbrev repeating : {e : EndState} {given : Input} → AreTurns e given Unheard (sendings (next_number e) (due_keys e.rows))
+repeating {e = e} =
+    record {
+      heard = [];
+      confirms = [];
+      offered = [];
+      preferred = [];
+      keys = due_keys e.rows;
+      in_order = refl;
+      hears = Deaf;
+      occasion = Repeating refl refl;
+      apart = none-for (due_keys e.rows);
+    }
 
-ack-has : (e : EndState) (given : Input) → IsProper e → is_connected e.phase ≡ true → Has e given (sends e (alone (kind.Ack (Long e.marks.gsr))) true)
-ack-has e given proper connected = has-by (ack-caused (rest proper) connected)
+-- A preference, whose Change goes out at once or on a later occasion.
+abbrev preferring-now : {e : EndState} {given : Input} (k : Key) (values : List ℕ) (wish : Wanted) → given ≡ Prefers k values → wish_of k.0 k.1 values ≡ Ok wish
+    → is_asking_now e k wish ≡ true → AreTurns e given Unheard (turn_of k (event.Prefers wish) ∷ sendings (next_number e) (k ∷ []))
+preferring-now k values wish called is now =
+    record {
+      heard = [];
+      confirms = [];
+      offered = [];
+      preferred = turn_of k (event.Prefers wish) ∷ [];
+      keys = k ∷ [];
+      in_order = refl;
+      hears = Deaf;
+      occasion = PrefersNow k values wish called is now refl refl;
+      apart = none-for (k ∷ []);
+    }
 
--- open
-asking : (e : EndState) → e.config.role ≡ role.Client → e.opened ≡ false → Ready e Opens Unheard None false phase.Request true
-asking e client fresh =
-    let ready = apart e Opens phase.Request refl (ap (is_phase_of phase.Request) client) in
-    record { hears = ready.hears; acks = ready.acks; its_role = ready.its_role; live = ready.live; opening = ready.opening; opened = ByCall refl client fresh }
+abbrev preferring-later : {e : EndState} {given : Input} (k : Key) (values : List ℕ) (wish : Wanted) → given ≡ Prefers k values → wish_of k.0 k.1 values ≡ Ok wish
+    → is_asking_now e k wish ≡ false → AreTurns e given Unheard (turn_of k (event.Prefers wish) ∷ [])
+preferring-later k values wish called is later =
+    record {
+      heard = [];
+      confirms = [];
+      offered = [];
+      preferred = turn_of k (event.Prefers wish) ∷ [];
+      keys = [];
+      in_order = refl;
+      hears = Deaf;
+      occasion = PrefersLater k values wish called is later refl refl;
+      apart = none-for [];
+    }
 
-opens-has : (e : EndState) → IsProper e → (r : Role) → e.config.role ≡ r → (opened : Bool) → e.opened ≡ opened → Has e Opens (opens_as e r opened)
-opens-has e proper role.Client client false fresh = has-by (next-caused (asking e client fresh) (kind.Request e.config.service) refl tt refl Nothing refl)
-opens-has e proper role.Client client true opened = idle-has e Opens proper
-opens-has e proper role.Server server opened is = idle-has e Opens proper
+module _ (o : EndState) (given : Input) (proper : IsProper (wide o)) where
+  abbrev e : EndState
+  e = wide o
 
--- close
-closing : (e : EndState) (ph : Phase) → is_live e.phase ≡ true → is_phase_of ph e.config.role ≡ true → (ph ≡ phase.Open → e.phase ≡ phase.Open)
-    → Ready e Closes Unheard None false ph false
-closing e ph live its_role same =
-    record { hears = Keeps (λ _. live); acks = LeavesIt; its_role = its_role; live = λ _. inl live; opening = StaysSo same; opened = NotNow }
+  -- a phase without windows, where nothing is heard
+  apart : (ph : Phase) → is_live ph ≡ false → is_waiting ph ≡ false → is_phase_of ph e.config.role ≡ true
+      → (e.phase ≡ phase.Closed → ph ≡ phase.Closed) → Ready e given Unheard None false ph false
+  apart ph dead heard its_role shut =
+      left ph dead its_role (λ is. absurd (false≢true (sym heard ∙ is))) (λ closed. inl (shut closed)) (Keeps (λ is. absurd (false≢true (sym dead ∙ is)))) LeavesIt NotNow
 
-closes-has : (e : EndState) → is_live e.phase ≡ true → (r : Role) → e.config.role ≡ r → Has e Closes (closes_now e r)
-closes-has e live role.Client client =
-    has-by (next-caused (closing e phase.Closing live refl (λ is. cc is)) (kind.Close e.marks.gsr) refl tt refl Greatest refl)
-closes-has e live role.Server server =
-    has-by (next-caused (closing e phase.CloseReq live (ap (is_phase_of phase.CloseReq) server) (λ is. cc is)) (kind.CloseReq e.marks.gsr) refl tt refl Greatest refl)
+  idle-has : HasEffect e given e None []
+  idle-has = has-by (silent-caused (rest proper) quiet refl refl (λ is. is))
 
-closes-in : (e : EndState) → IsProper e → (ph : Phase) → e.phase ≡ ph → Has e Closes (closes_in e ph)
-closes-in e proper phase.PartOpen is = closes-has e (ap is_live is) e.config.role refl
-closes-in e proper phase.Open is = closes-has e (ap is_live is) e.config.role refl
-closes-in e proper _ is = idle-has e Closes proper
+  plain-has : {ph : Phase} {called : Bool} → Ready e given Unheard None false ph called → (k : Kind) → has_forms true k ≡ true → HasDetail k
+      → is_acking (packet_type k) ≡ false → Acknowledges e given e.marks.gsr (ack_of k) → is_without_connection e.config.role k ≡ false
+      → Has e given (sends (record e { opened = opened_by e.opened called; phase = ph }) (alone k) true)
+  plain-has ready k long detail other acknowledges numbered = has-by (plain-caused ready k long detail other acknowledges numbered)
 
--- abort
-aborts-has : (e : EndState) → Has e Aborts (aborts_now e)
-aborts-has e =
-    has-by (next-caused (apart e Aborts phase.Closed refl refl)
-    (kind.Reset e.marks.gsr (number_of_code codes.Aborted) (detail_of (without_detail (number_of_code codes.Aborted))))
-    refl refl refl Greatest (numbered-code e.config.role (number_of_code codes.Aborted) refl))
+  ack-has : is_connected e.phase ≡ true → Has e given (sends e (alone (kind.Ack (Long e.marks.gsr))) true)
+  ack-has connected = has-by (ack-caused (rest proper) quiet [] (alone-sendable (kind.Ack (Long e.marks.gsr)) refl tt) refl (inl refl) connected)
 
-aborts-in : (e : EndState) → IsProper e → (ph : Phase) → Has e Aborts (aborts_in e ph)
-aborts-in e proper phase.Closed = idle-has e Aborts proper
-aborts-in e proper phase.Listen = idle-has e Aborts proper
-aborts-in e proper phase.TimeWait = idle-has e Aborts proper
-aborts-in e proper phase.Request = has-by (silent-caused (apart e Aborts phase.Closed refl refl) (λ is. absurd (false≢true is)))
-aborts-in e proper _ = aborts-has e
+  -- A Request: all offers come up, and the Changes go out of all rows that ask then.
+  requested-has : (ph : Phase) (called : Bool) → Ready e given Unheard None false ph called
+      → Has e given (requests (record e { opened = opened_by e.opened called; phase = ph }) true)
+  requested-has ph called ready =
+      let offered : List Turn = offerings (is_confirmed []) every_place in
+      let keys : List Key = offered_keys e [] [] in
+      let packet : Kind = kind.Request e.config.service in
+      let hears : AreHeard e given Unheard [] [] = Deaf in
+      let kept = rows-kept proper (offering hears) in
+      subst (λ (rows : List Row). Has e given (requests_asking (with_rows (record e { opened = opened_by e.opened called; phase = ph }) rows) keys true))
+      (turned-joined e.rows offered (sendings (next_number e) keys))
+      (has-by (next-caused ready (offering hears) (saying packet [] (turned e.rows (offered_turns e [] [])) keys)
+      (saying-sendable packet [] (turned e.rows (offered_turns e [] [])) keys refl tt refl no-confirms kept.sound
+      (asking-few (turned e.rows offered) [] (offered-sound proper hears)))
+      refl (inl refl) refl Nothing refl))
 
--- the timers
-fires-in : (e : EndState) (given : Input) → IsProper e → (timer : Timer) (ph : Phase) → e.phase ≡ ph → Has e given (fires_in e timer ph)
-fires-in e given proper timers.Request phase.Request is = has-by (next-caused (rest proper) (kind.Request e.config.service) refl tt refl Nothing refl)
-fires-in e given proper timers.Ack phase.PartOpen is = ack-has e given proper (ap is_connected is)
-fires-in e given proper timers.Ack phase.Open is = ack-has e given proper (ap is_connected is)
-fires-in e given proper timers.Close phase.CloseReq is = has-by (next-caused (rest proper) (kind.CloseReq e.marks.gsr) refl tt refl Greatest refl)
-fires-in e given proper timers.Close phase.Closing is = has-by (next-caused (rest proper) (kind.Close e.marks.gsr) refl tt refl Greatest refl)
-fires-in e given proper timers.TimeWait phase.TimeWait is = has-by (silent-caused (apart e given phase.Closed refl refl) (λ is. absurd (false≢true is)))
-fires-in e given proper _ _ is = idle-has e given proper
+  -- an Ack with the Changes of all rows that ask
+  asked-has : is_connected e.phase ≡ true → (keys : List Key) → due_keys e.rows ≡ keys → Has e given (asks_all e keys)
+  asked-has connected [] is = idle-has
+  asked-has connected (k ∷ keys) is =
+      let rows : List Row = turned e.rows (sendings (next_number e) (due_keys e.rows)) in
+      let turns : AreTurns e given Unheard (sendings (next_number e) (due_keys e.rows)) = repeating in
+      let kept = rows-kept proper turns in
+      subst (λ (ks : List Key). Has e given (asks_now e ks true)) is
+      (has-by (ack-caused (rest proper) repeating (change_items rows (due_keys e.rows))
+      (saying-sendable (kind.Ack (Long e.marks.gsr)) [] rows (due_keys e.rows) refl tt refl no-confirms kept.sound (due-few e.rows proper.rows.sound))
+      refl (inl refl) connected))
+
+  -- prefer
+  preferred-has : (k : Key) (values : List ℕ) → given ≡ Prefers k values → is_connected e.phase ≡ true → (wish : Wanted) → wish_of k.0 k.1 values ≡ Ok wish
+      → (now : Bool) → is_asking_now e k wish ≡ now → Has e given (prefers_so (preferring e k wish) k now)
+  preferred-has k values called connected wish is true now =
+      let rows : List Row = turned e.rows (turn_of k (event.Prefers wish) ∷ sendings (next_number e) (k ∷ [])) in
+      let kept = rows-kept proper (preferring-now {e = e} k values wish called is now) in
+      has-by (ack-caused (rest proper) (preferring-now k values wish called is now) (change_items rows (k ∷ []))
+      (saying-sendable (kind.Ack (Long e.marks.gsr)) [] rows (k ∷ []) refl tt refl no-confirms kept.sound (omega arith)) refl (inl refl) connected)
+  preferred-has k values called connected wish is false later =
+      has-by (silent-caused (rest proper) (preferring-later k values wish called is later) refl refl (λ so. so))
+
+  wished-has : (k : Key) (values : List ℕ) → given ≡ Prefers k values → is_connected e.phase ≡ true → (wish : Result Wanted PreferFault)
+      → wish_of k.0 k.1 values ≡ wish → Has e given (prefers_wish e k wish)
+  wished-has k values called connected (Ok wish) is = preferred-has k values called connected wish is (is_asking_now e k wish) refl
+  wished-has k values called connected (Err fault) is = idle-has
+
+  prefers-has : (k : Key) (values : List ℕ) → given ≡ Prefers k values → (connected : Bool) → is_connected e.phase ≡ connected
+      → Has e given (prefers_in e connected k values)
+  prefers-has k values called true connected = wished-has k values called connected (wish_of k.0 k.1 values) refl
+  prefers-has k values called false apart = idle-has
+
+  -- open
+  opens-has : given ≡ Opens → (r : Role) → e.config.role ≡ r → (opened : Bool) → e.opened ≡ opened → Has e given (opens_as e r opened)
+  opens-has called role.Client client false fresh =
+      requested-has phase.Request true
+      (left phase.Request refl (ap (is_phase_of phase.Request) client) (λ waits. refl) (λ closed. inr refl) (Keeps (λ is. absurd (false≢true is))) LeavesIt
+      (ByCall called client fresh))
+  opens-has called role.Client client true opened = idle-has
+  opens-has called role.Server server opened is = idle-has
+
+  -- close
+  closing : (ph : Phase) → is_live e.phase ≡ true → is_phase_of ph e.config.role ≡ true → (ph ≡ phase.Open → e.phase ≡ phase.Open) → is_waiting ph ≡ false
+      → Ready e given Unheard None false ph false
+  closing ph live its_role same heard =
+      record {
+        hears = Keeps (λ _. live);
+        acks = LeavesIt;
+        its_role = its_role;
+        live = λ _. inl live;
+        waits = λ is. absurd (false≢true (sym heard ∙ is));
+        shut = λ closed. absurd (false≢true (sym (ap is_live closed) ∙ live));
+        opening = StaysSo same;
+        opened = NotNow;
+      }
+
+  closes-has : is_live e.phase ≡ true → (r : Role) → e.config.role ≡ r → Has e given (closes_now e r)
+  closes-has live role.Client client = plain-has (closing phase.Closing live refl (λ is. cc is) refl) (kind.Close e.marks.gsr) refl tt refl Greatest refl
+  closes-has live role.Server server =
+      plain-has (closing phase.CloseReq live (ap (is_phase_of phase.CloseReq) server) (λ is. cc is) refl) (kind.CloseReq e.marks.gsr) refl tt refl Greatest refl
+
+  closes-in : (ph : Phase) → e.phase ≡ ph → Has e given (closes_in e ph)
+  closes-in phase.PartOpen is = closes-has (ap is_live is) e.config.role refl
+  closes-in phase.Open is = closes-has (ap is_live is) e.config.role refl
+  closes-in _ is = idle-has
+
+  -- abort
+  aborts-has : Has e given (aborts_now e)
+  aborts-has =
+      plain-has (apart phase.Closed refl refl refl (λ closed. refl))
+      (kind.Reset e.marks.gsr (number_of_code codes.Aborted) (detail_of (without_detail (number_of_code codes.Aborted))))
+      refl refl refl Greatest (numbered-code e.config.role (number_of_code codes.Aborted) refl)
+
+  -- the phase alone becomes CLOSED
+  closed-has : HasEffect e given (in_phase e phase.Closed) None []
+  closed-has = has-by (silent-caused (apart phase.Closed refl refl refl (λ closed. refl)) quiet refl refl (λ is. absurd (false≢true is)))
+
+  aborts-in : (ph : Phase) → Has e given (aborts_in e ph)
+  aborts-in phase.Closed = idle-has
+  aborts-in phase.Listen = idle-has
+  aborts-in phase.TimeWait = idle-has
+  aborts-in phase.Request = closed-has
+  aborts-in _ = aborts-has
+
+  -- the timers
+  fires-in : (timer : Timer) (ph : Phase) → e.phase ≡ ph → Has e given (fires_in e timer ph)
+  fires-in timers.Request phase.Request is = requested-has e.phase false (rest proper)
+  fires-in timers.Ack phase.PartOpen is = ack-has (ap is_connected is)
+  fires-in timers.Ack phase.Open is = ack-has (ap is_connected is)
+  fires-in timers.Negotiate phase.PartOpen is = asked-has (ap is_connected is) (due_keys e.rows) refl
+  fires-in timers.Negotiate phase.Open is = asked-has (ap is_connected is) (due_keys e.rows) refl
+  fires-in timers.Close phase.CloseReq is = plain-has (rest proper) (kind.CloseReq e.marks.gsr) refl tt refl Greatest refl
+  fires-in timers.Close phase.Closing is = plain-has (rest proper) (kind.Close e.marks.gsr) refl tt refl Greatest refl
+  fires-in timers.TimeWait phase.TimeWait is = closed-has
+  fires-in _ _ is = idle-has
+
+-- an end as wide as its rows say
+wide-has : (o : EndState) (given : Input) → IsProper (wide o) → Has (wide o) given (stepped (wide o) given)
+unfolding opens closes aborts fires prefers
+wide-has o (Arrives bytes) is =
+    let told = (receives-told (wide o) bytes is).effect in
+    record { effect = told.effect; after_is = told.after_is; frame_is = told.frame_is; calls_are = told.calls_are; because = told.because }
+wide-has o Opens is = opens-has o Opens is refl o.config.role refl o.opened refl
+wide-has o Closes is = closes-in o Closes is o.phase refl
+wide-has o Aborts is = aborts-in o Aborts is o.phase
+wide-has o (Fires timer in_flight) is = fires-in o (Fires timer in_flight) is timer o.phase refl
+wide-has o (Prefers k values) is = prefers-has o (Prefers k values) is k values refl (is_connected o.phase) refl
 
 pub every_step_has_an_effect : EveryStepHasOneEffect
-unfolding opens closes aborts fires
-every_step_has_an_effect e (Arrives bytes) proper =
-    let told = (receives-told e bytes proper).effect in
-    record { effect = told.effect; after_is = told.after_is; frame_is = told.frame_is; calls_are = told.calls_are; because = told.because }
-every_step_has_an_effect e Opens proper = opens-has e proper e.config.role refl e.opened refl
-every_step_has_an_effect e Closes proper = closes-in e proper e.phase refl
-every_step_has_an_effect e Aborts proper = aborts-in e proper e.phase
-every_step_has_an_effect e (Fires timer in_flight) proper = fires-in e (Fires timer in_flight) proper timer e.phase refl
+every_step_has_an_effect e given proper =
+    subst (λ (x : EndState). Has x given (stepped x given)) (sym (widened e proper)) (wide-has e given (wide-proper e proper))

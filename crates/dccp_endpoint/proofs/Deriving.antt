@@ -1,6 +1,14 @@
 -- How a step comes to its effect: what it made of the end so far is `Ready`, and then it is silent or something goes out.
-use Rattle.std.proofs.Common.{◌≡◌, ◌⊎◌, inl, inr, refl, ap, sym, ◌∙◌, Bool, true, false, List, ℕ, Option, None}
+--
+-- An effect takes the widths of the windows from the rows. So steps are told of an end that is written with these widths, `wide`; a
+-- proper end is equal to one.
+use Rattle.std.proofs.Common.{◌≡◌, ◌⊎◌, inl, inr, refl, ap, sym, ◌∙◌, subst, ℕ, Bool, true, false, not, List, [], ◌++◌, Option, Some, None}
+use Rattle.std.specs.List.{All}
+use Rattle.std.specs.Prelude.{filter}
 use Rattle.std.proofs.lemmas.Bool.{false≢true}
+use Rattle.std.proofs.lemmas.List.{append-nil}
+use Rattle.std.proofs.lemmas.List.Elements.{All-nil, filter_passes}
+use Rattle.dccp_options.specs.Written.{Item}
 use Rattle.dccp_packets.specs.Grammar.{has_forms, packet_type}
 use Rattle.dccp_packets.specs.Kinds.{ack_of}
 use Rattle.dccp_packets.specs.Widths.{HasDetail}
@@ -8,15 +16,33 @@ use Rattle.dccp_packets.specs.declared.header.Kind.{Kind}
 use Rattle.dccp_packets.specs.declared.header.Kind.TheVariants as kind
 use Rattle.dccp_packets.specs.declared.header.Number.TheVariants.{Long}
 use Rattle.dccp_states.specs.declared.phase.Phase.{Phase}
-use Rattle.dccp_endpoint.specs.Causes.{HasEffect, Acknowledges, HasNext, IsAcknowledging, IsCaused, IsFirst, IsHearing, IsOpened, IsOpening, IsSending, IsSilentDraft, SaysNothing, Keeps, LeavesIt, StaysSo, NotNow, Rests, Acks, Others, is_acking, is_without_connection}
-use Rattle.dccp_endpoint.specs.Drafts.{alone}
+use Rattle.dccp_states.specs.declared.phase.Phase.TheVariants as phase
+use Rattle.feature_machine.specs.Negotiating.{due_keys, every_place}
+use Rattle.feature_machine.specs.Turns.{Turn, turned}
+use Rattle.dccp_endpoint.specs.Causes.{HasEffect, Acknowledges, Answers, AreHeard, AreTurns, Deaf, HasFrame, HasNext, IsAcknowledging, IsCaused, IsFirst, IsHearing, IsOpened, IsOpening, IsSending, Keeps, LeavesIt, NotNow, Offering, Others, Plain, Rests, Says, SaysAll, SaysNothing, StaysSo, Acks, is_acking, is_waiting, is_without_connection}
+use Rattle.dccp_endpoint.specs.Drafts.{Draft, IsSendable, alone}
 use Rattle.dccp_endpoint.specs.Effects.{Effect, frame_by, Hearing, Unheard, Sending, Silent, Next, effect_of, end_after, greatest_by}
-use Rattle.dccp_endpoint.specs.End.{EndState, IsProper, is_begun, is_connected, is_live, is_phase_of}
+use Rattle.dccp_endpoint.specs.End.{EndState, IsProper, is_begun, is_connected, is_live, is_phase_of, with_rows, with_widths}
+use Rattle.dccp_endpoint.specs.Heeding.{Due}
 use Rattle.dccp_endpoint.specs.Inputs.{Input, Arrives}
 use Rattle.dccp_endpoint.specs.Outcomes.{HasCause, HasEffectOf, HasForm}
-use Rattle.dccp_endpoint.specs.Steps.{Step}
+use Rattle.dccp_endpoint.specs.Speaking.{asking, change_items, confirm_items, is_confirmed}
+use Rattle.dccp_endpoint.specs.Steps.{Step, next_number}
+use Rattle.dccp_endpoint.specs.Turns.{Key, offerings, sendings}
 use Rattle.dccp_endpoint.specs.declared.outcome.Outcome.{Outcome}
 use Rattle.dccp_endpoint.proofs.OwnFrames.{alone-sendable}
+
+-- the end with windows as wide as its rows say
+abbrev pub wide : EndState → EndState
+wide o = with_rows o o.rows
+
+pub widened : (o : EndState) → IsProper o → o ≡ wide o
+widened o proper =
+    ap (λ (w : ℕ). record o { marks = record o.marks { own_w = w } }) proper.own_width
+    ∙ ap (λ (w : ℕ). record o { marks = record (with_widths o.marks o.rows) { peer_w = w } }) proper.peer_width
+
+pub wide-proper : (o : EndState) → IsProper o → IsProper (wide o)
+wide-proper o proper = subst IsProper (widened o proper) proper
 
 -- what a step made of the end before anything goes out, and why
 pub record Ready (e : EndState) (given : Input) (h : Hearing) (ack : Option ℕ) (opens : Bool) (ph : Phase) (called : Bool) : Type 0 where
@@ -24,43 +50,120 @@ pub record Ready (e : EndState) (given : Input) (h : Hearing) (ack : Option ℕ)
   pub acks : IsAcknowledging e given ack
   pub its_role : is_phase_of ph e.config.role ≡ true
   pub live : is_live ph ≡ true → (is_live e.phase ≡ true) ⊎ IsFirst h
+  pub waits : is_waiting ph ≡ true → ((is_waiting e.phase ≡ true) × (h ≡ Unheard)) ⊎ (called ≡ true)
+  pub shut : e.phase ≡ phase.Closed → (ph ≡ phase.Closed) ⊎ (called ≡ true)
   pub opening : IsOpening e ph opens
   pub opened : IsOpened e given called
 
 -- nothing, so far
 pub rest : {e : EndState} {given : Input} → IsProper e → Ready e given Unheard None false e.phase false
 rest proper =
-    record { hears = Keeps (λ is. is); acks = LeavesIt; its_role = proper.phase_fits; live = λ is. inl is; opening = StaysSo (λ is. is); opened = NotNow }
+    record {
+      hears = Keeps (λ is. is);
+      acks = LeavesIt;
+      its_role = proper.phase_fits;
+      live = λ is. inl is;
+      waits = λ is. inl (is, refl);
+      shut = λ is. inl is;
+      opening = StaysSo (λ is. is);
+      opened = NotNow;
+    }
 
 -- it was brought to a phase without windows
-pub left : {e : EndState} {given : Input} {h : Hearing} {ack : Option ℕ} (ph : Phase) → is_live ph ≡ false → is_phase_of ph e.config.role ≡ true
-    → IsHearing e given ph h → IsAcknowledging e given ack → Ready e given h ack false ph false
-left ph dead its_role hears acks =
+pub left : {e : EndState} {given : Input} {h : Hearing} {ack : Option ℕ} {called : Bool} (ph : Phase) → is_live ph ≡ false → is_phase_of ph e.config.role ≡ true
+    → (is_waiting ph ≡ true → called ≡ true) → (e.phase ≡ phase.Closed → (ph ≡ phase.Closed) ⊎ (called ≡ true))
+    → IsHearing e given ph h → IsAcknowledging e given ack → IsOpened e given called → Ready e given h ack false ph called
+left ph dead its_role waits shut hears acks opened =
     record {
       hears = hears;
       acks = acks;
       its_role = its_role;
       live = λ is. absurd (false≢true (sym dead ∙ is));
+      waits = λ is. inr (waits is);
+      shut = shut;
       opening = StaysSo (λ is. absurd (false≢true (sym dead ∙ ap is_live is)));
-      opened = NotNow;
+      opened = opened;
     }
 
-pub says-alone : (k : Kind) → has_forms true k ≡ true → HasDetail k → IsSilentDraft (alone k)
-says-alone k long detail = record { sendable = alone-sendable k long detail; no_options = refl }
+-- No row has a turn.
+abbrev pub quiet : {e : EndState} {given : Input} {h : Hearing} → AreTurns e given h []
+quiet =
+    record {
+      heard = [];
+      confirms = [];
+      offered = [];
+      preferred = [];
+      keys = [];
+      in_order = refl;
+      hears = Deaf;
+      occasion = Plain;
+      apart = All-nil (λ (k : Key). is_confirmed [] k ≡ false);
+    }
+
+-- The rows hear a packet, and nothing else.
+abbrev pub hearing : {e : EndState} {given : Input} {h : Hearing} {heard : List Turn} {confirms : List Due} → AreHeard e given h heard confirms
+    → AreTurns e given h heard
+hearing {heard = heard} {confirms = confirms} hears =
+    record {
+      heard = heard;
+      confirms = confirms;
+      offered = [];
+      preferred = [];
+      keys = [];
+      in_order = sym (append-nil heard);
+      hears = hears;
+      occasion = Plain;
+      apart = All-nil (λ (k : Key). is_confirmed confirms k ≡ false);
+    }
+
+-- The rows hear a packet, all offers come up, and the Changes go out of all that ask then and have no Confirm.
+abbrev pub offered_keys : EndState → List Turn → List Due → List Key
+offered_keys e heard confirms = asking (turned e.rows (heard ++ offerings (is_confirmed confirms) every_place)) confirms
+
+abbrev pub offered_turns : EndState → List Turn → List Due → List Turn
+offered_turns e heard confirms = heard ++ (offerings (is_confirmed confirms) every_place ++ sendings (next_number e) (offered_keys e heard confirms))
+
+not-so : (b : Bool) → not b ≡ true → b ≡ false
+not-so true is = cc is
+not-so false is = refl
+
+pub asking-apart : (confirms : List Due) (keys : List Key) → All (λ k. is_confirmed confirms k ≡ false) (filter (λ k. not (is_confirmed confirms k)) keys)
+asking-apart confirms keys = λ i d inside. not-so _ (filter_passes (λ k. not (is_confirmed confirms k)) keys i d inside)
+
+abbrev pub offering : {e : EndState} {given : Input} {h : Hearing} {heard : List Turn} {confirms : List Due} → AreHeard e given h heard confirms
+    → AreTurns e given h (offered_turns e heard confirms)
+offering {e = e} {heard = heard} {confirms = confirms} hears =
+    record {
+      heard = heard;
+      confirms = confirms;
+      offered = offerings (is_confirmed confirms) every_place;
+      preferred = [];
+      keys = offered_keys e heard confirms;
+      in_order = refl;
+      hears = hears;
+      occasion = Offering;
+      apart = asking-apart confirms (due_keys (turned e.rows (heard ++ offerings (is_confirmed confirms) every_place)));
+    }
+
+-- The effect of a step in which the rows have turns.
+abbrev pub effect_with : List Turn → Hearing → Option ℕ → Bool → Phase → Bool → Sending → Effect
+effect_with turns h ack opens ph called s = record (effect_of h ack opens ph called s) { turns = turns }
 
 module _ {e : EndState} {given : Input} {h : Hearing} {ack : Option ℕ} {opens : Bool} {ph : Phase} {called : Bool} (ready : Ready e given h ack opens ph called) where
-  pub caused : (s : Sending) → (is_begun ph ≡ true → (is_begun e.phase ≡ true) ⊎ HasNext s) → SaysNothing s
-      → IsSending e given (effect_of h ack opens ph called s) s → IsCaused e given (effect_of h ack opens ph called s)
-  caused s begun says sends =
+  abbrev pub caused : {turns : List Turn} (at : AreTurns e given h turns) (s : Sending) → (is_begun ph ≡ true → (is_begun e.phase ≡ true) ⊎ HasNext s)
+      → Says e (effect_with turns h ack opens ph called s) at.confirms at.keys s → HasFrame s
+      → IsSending e given (effect_with turns h ack opens ph called s) s → IsCaused e given (effect_with turns h ack opens ph called s)
+  caused at s begun says framed sends =
       record {
         hears = ready.hears;
         acks = ready.acks;
-        moves = record { its_role = ready.its_role; live = ready.live; begun = begun };
+        moves = record { its_role = ready.its_role; live = ready.live; begun = begun; waits = ready.waits; shut = ready.shut };
         opening = ready.opening;
         opened = ready.opened;
         looks = refl;
-        turns = refl;
+        turns = at;
         says = says;
+        framed = framed;
         sends = sends;
         calls = refl;
         owed = refl;
@@ -68,19 +171,37 @@ module _ {e : EndState} {given : Input} {h : Hearing} {ack : Option ℕ} {opens 
       }
 
   -- nothing goes out
-  pub silent-caused : (is_begun ph ≡ true → is_begun e.phase ≡ true) → IsCaused e given (effect_of h ack opens ph called Silent)
-  silent-caused begun = caused Silent (λ is. inl (begun is)) tt Rests
+  abbrev pub silent-caused : {turns : List Turn} (at : AreTurns e given h turns) → at.confirms ≡ [] → at.keys ≡ [] → (is_begun ph ≡ true → is_begun e.phase ≡ true)
+      → IsCaused e given (effect_with turns h ack opens ph called Silent)
+  silent-caused at none unasked begun = caused at Silent (λ is. inl (begun is)) (SaysNothing none unasked) tt Rests
 
   -- a packet goes out that is no Ack and no DataAck
-  pub next-caused : (k : Kind) → has_forms true k ≡ true → HasDetail k → is_acking (packet_type k) ≡ false
+  abbrev pub next-caused : {turns : List Turn} (at : AreTurns e given h turns) (packet : Draft) → IsSendable packet
+      → packet.options ≡ confirm_items at.confirms ++ change_items (turned e.rows turns) at.keys
+      → (at.confirms ≡ []) ⊎ Answers h (ack_of packet.kind) → is_acking (packet_type packet.kind) ≡ false
+      → Acknowledges e given (greatest_by e.marks.gsr h) (ack_of packet.kind) → is_without_connection e.config.role packet.kind ≡ false
+      → IsCaused e given (effect_with turns h ack opens ph called (Next packet))
+  next-caused at packet sendable says answers other acknowledges numbered =
+      caused at (Next packet) (λ is. inr tt) (SaysAll packet says answers) sendable (Others packet other acknowledges numbered)
+
+  -- one that says nothing of features
+  abbrev pub plain-caused : (k : Kind) → has_forms true k ≡ true → HasDetail k → is_acking (packet_type k) ≡ false
       → Acknowledges e given (greatest_by e.marks.gsr h) (ack_of k) → is_without_connection e.config.role k ≡ false
       → IsCaused e given (effect_of h ack opens ph called (Next (alone k)))
-  next-caused k long detail other acknowledges numbered =
-      caused (Next (alone k)) (λ is. inr tt) (says-alone k long detail) (Others (alone k) other acknowledges numbered)
+  plain-caused k long detail other acknowledges numbered =
+      next-caused quiet (alone k) (alone-sendable k long detail) refl (inl refl) other acknowledges numbered
 
-  -- an Ack goes out
-  pub ack-caused : is_connected ph ≡ true → IsCaused e given (effect_of h ack opens ph called (Next (alone (kind.Ack (Long (greatest_by e.marks.gsr h))))))
-  ack-caused connected = caused _ (λ is. inr tt) (says-alone _ refl tt) (Acks _ refl refl connected refl refl)
+  -- the Ack that goes out
+  abbrev pub ack_with : List Item → Draft
+  ack_with options = record { kind = kind.Ack (Long (greatest_by e.marks.gsr h)); options = options; payload = [] }
+
+  abbrev pub ack-caused : {turns : List Turn} (at : AreTurns e given h turns) (options : List Item) → IsSendable (ack_with options)
+      → options ≡ confirm_items at.confirms ++ change_items (turned e.rows turns) at.keys
+      → (at.confirms ≡ []) ⊎ Answers h (Some (greatest_by e.marks.gsr h)) → is_connected ph ≡ true
+      → IsCaused e given (effect_with turns h ack opens ph called (Next (ack_with options)))
+  ack-caused at options sendable says answers connected =
+      caused at (Next (ack_with options)) (λ is. inr tt) (SaysAll (ack_with options) says answers) sendable
+      (Acks (ack_with options) refl refl connected refl refl)
 
 -- all that there is to tell of a step of `receive`
 pub record Told (e : EndState) (bytes : List ℕ) (step : Step Outcome) : Type 0 where
@@ -91,8 +212,8 @@ pub record Told (e : EndState) (bytes : List ℕ) (step : Step Outcome) : Type 0
 pub has-by : {e : EndState} {given : Input} {f : Effect} → IsCaused e given f → HasEffect e given (end_after e f) (frame_by e f.sending) f.calls
 has-by {f = f} because = record { effect = f; after_is = refl; frame_is = refl; calls_are = refl; because = because }
 
-pub told-by : {e : EndState} {bytes : List ℕ} {f : Effect} (outcome : Outcome) → IsCaused e (Arrives bytes) f → HasCause e bytes outcome
-    → HasForm e (Arrives bytes) outcome f
+pub told-by : {e : EndState} {bytes : List ℕ} {f : Effect} (outcome : Outcome) (because : IsCaused e (Arrives bytes) f) → HasCause e bytes outcome
+    → HasForm e (Arrives bytes) outcome f because.turns.confirms
     → Told e bytes (record { after = end_after e f; frame = frame_by e f.sending; calls = f.calls; answer = outcome })
 told-by {f = f} outcome because cause form =
     record { cause = cause; effect = record { effect = f; after_is = refl; frame_is = refl; calls_are = refl; because = because; form = form } }

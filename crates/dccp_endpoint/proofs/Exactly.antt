@@ -1,16 +1,17 @@
 -- No outcome of `receive` but its own has a cause: each cause is put into the steps, from the first on.
-use Rattle.std.proofs.Common.{◌≡◌, ◌≢◌, refl, ap, ◌∙◌, ℕ, List, [], ◌∷◌, None, Bool, true, false}
+use Rattle.std.proofs.Common.{◌≡◌, ◌≢◌, refl, ap, ◌∙◌, ℕ, List, [], ◌∷◌, None, Bool, true, false, if◌then◌else◌}
 use Rattle.dccp_packets.specs.declared.header.PacketType.{PacketType}
 use Rattle.dccp_packets.specs.declared.header.PacketType.TheVariants as types
 use Rattle.dccp_states.specs.declared.reply.Reply.{Reply}
 use Rattle.dccp_states.specs.declared.reply.Reply.TheVariants as reply
 use Rattle.dccp_endpoint.specs.Causes.{Came}
-use Rattle.dccp_endpoint.specs.End.{EndState}
+use Rattle.dccp_endpoint.specs.End.{EndState, with_rows}
+use Rattle.dccp_endpoint.specs.Heeding.{Due}
 use Rattle.dccp_endpoint.specs.Incoming.{Incoming}
 use Rattle.dccp_endpoint.specs.Inputs.{Input, Arrives}
 use Rattle.dccp_endpoint.specs.Outcomes.{HasCause, HasNoOtherCause, IsAdmitted, IsReset, IsValid, IsValidPacket, IsValidReset, OutOfWindow, Unexpected, NoConnection, OtherService, NoAnswer, OtherType, OtherRequest, WrongService, Faulted, AnswersClose, OpensConnection, ResponseToRequest, PacketInWindow, ResetToRequest, ResetInWindow, StrayWithoutConnection, StrayInRequest}
-use Rattle.dccp_endpoint.specs.Receiving.{Course, Goes, Leaves, answers, checks_type, ends_as, ends_by_reset, moved_to, raised, raises, reads, reads_options, receives, replies, started, takes, through}
-use Rattle.dccp_endpoint.specs.Steps.{Step, detail_of}
+use Rattle.dccp_endpoint.specs.Receiving.{Course, Goes, Leaves, acknowledges, answers, checks_type, ends_as, ends_by_reset, heeded, moved_to, needs_ack, raised, raises, reads, receives, replies, started, takes, through, took}
+use Rattle.dccp_endpoint.specs.Steps.{Step, detail_of, idle}
 use Rattle.dccp_endpoint.specs.declared.exit.Exit.TheVariants as exits
 use Rattle.dccp_endpoint.specs.declared.outcome.Fault.{Fault}
 use Rattle.dccp_endpoint.specs.declared.outcome.Outcome.{Outcome}
@@ -30,9 +31,13 @@ no-reset : (a : Incoming) (e : EndState) (t : PacketType) → t ≢ types.Reset 
 no-reset a e types.Reset other = absurd (other refl)
 no-reset a e _ other = record { passes = λ x. refl; rises = refl; responds = refl; fails = refl }
 
-taken-answers : (e : EndState) (a : Incoming) (r : Reply) → r ≢ reply.ResetClosed → (replies e a r).answer ≡ Took None
-taken-answers e a reply.ResetClosed no_reset = absurd (no_reset refl)
-taken-answers e a _ no_reset = refl
+taken-answers : (e : EndState) (a : Incoming) (confirms : List Due) (r : Reply) → r ≢ reply.ResetClosed → (replies e a confirms r).answer ≡ Took None
+taken-answers e a confirms reply.ResetClosed no_reset = absurd (no_reset refl)
+taken-answers e a confirms reply.Nothing no_reset = by (needs_ack e confirms) where
+  by : (due : Bool) → (if due then acknowledges e confirms else idle e took).answer ≡ Took None
+  by true = refl
+  by false = refl
+taken-answers e a confirms _ no_reset = refl
 
 abbrev answer_of : Step Outcome → Outcome
 answer_of step = step.answer
@@ -52,9 +57,9 @@ module _ (e : EndState) (bytes : List ℕ) where
 
   -- steps 2 to 6
   valid-goes : (a : Incoming) (entered : EndState) → IsValidPacket e bytes a entered
-      → receives e bytes ≡ from e a (Goes entered) (checks_type a ∷ reads_options a ∷ [])
+      → receives e bytes ≡ from e a (Goes entered) (checks_type a ∷ [])
   valid-goes a entered valid = by valid.is_valid where
-    by : IsValid e a entered → receives e bytes ≡ from e a (Goes entered) (checks_type a ∷ reads_options a ∷ [])
+    by : IsValid e a entered → receives e bytes ≡ from e a (Goes entered) (checks_type a ∷ [])
     by (OpensConnection is ours same) =
         let other = no-reset a e a.kind (λ reset. cc ((accept-so e.phase a.kind is).1, reset)) in
         rw (came-goes a valid.came, same, is) (rw (ours, other.passes _, through) refl)
@@ -65,9 +70,9 @@ module _ (e : EndState) (bytes : List ℕ) where
         let other = no-reset a e a.kind no_reset in
         rw (came-goes a valid.came, same, is) (rw (fits, other.rises, other.passes _, through) refl)
 
-  -- steps 7 and 8
+  -- step 7
   admitted-goes : (a : Incoming) (entered : EndState) (unbuilt : Bool) → IsAdmitted e bytes a entered unbuilt
-      → receives e bytes ≡ from e a (reads a entered unbuilt) []
+      → receives e bytes ≡ heeded e entered a (reads entered a unbuilt)
   admitted-goes a entered unbuilt admitted = rw (valid-goes a entered admitted.valid) (rw (admitted.expected, admitted.for_us, admitted.needs, through) refl)
 
   reset-answers : (fault : Fault) → IsReset e bytes fault → (receives e bytes).answer ≡ SentReset fault.code (detail_of fault)
@@ -78,7 +83,7 @@ module _ (e : EndState) (bytes : List ℕ) where
       rw (came-goes a came, is) (rw (wrong, (no-reset a e a.kind no_reset).fails, through) refl)
   reset-answers fault (WrongService a entered valid expected other) = rw (valid-goes a entered valid) (rw (expected, other, through) refl)
   reset-answers fault (Faulted a entered first admitted is) = rw (admitted-goes a entered false admitted) (rw (is, through) refl)
-  reset-answers fault (AnswersClose a entered to admitted none row) = rw (admitted-goes a entered false admitted) (rw (none, row, through) refl)
+  reset-answers fault (AnswersClose a entered h to admitted none row) = rw (admitted-goes a entered false admitted) (rw (none, row, through) refl)
 
   dropped-so : (w : Why) → HasCause e bytes (Dropped w) → (receives e bytes).answer ≡ Dropped w
   unfolding receives
@@ -102,7 +107,7 @@ module _ (e : EndState) (bytes : List ℕ) where
   answers-so NotBuilt is = ap answer_of (admitted-goes is.packet is.entered true is.admitted)
   answers-so (Took delivered) is =
       rw (admitted-goes is.packet is.entered false is.admitted, is.no_data) (rw (is.no_fault, is.row, through)
-      (taken-answers (moved_to is.entered is.to is.packet.number) is.packet is.answer is.no_reset))
+      (taken-answers (moved_to (with_rows is.entered is.heeding.rows) is.to is.packet.number) is.packet is.heeding.confirms is.answer is.no_reset))
 
 -- as the contract of `receive` says it
 pub no_other_cause : (e : EndState) (bytes : List ℕ) (step : Step Outcome) → step ≡ receives e bytes → HasNoOtherCause e bytes step.answer

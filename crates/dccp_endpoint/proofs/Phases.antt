@@ -1,5 +1,5 @@
 -- What the tables of phases say, by their lines, and that each role keeps to its phases (RFC 4340, section 4.3).
-use Rattle.std.proofs.Common.{◌≡◌, ◌≢◌, refl, ap, subst, true, false}
+use Rattle.std.proofs.Common.{◌≡◌, ◌≢◌, refl, ap, subst, Bool, true, false}
 use Rattle.dccp_packets.specs.declared.header.PacketType.{PacketType}
 use Rattle.dccp_packets.specs.declared.header.PacketType.TheVariants as types
 use Rattle.dccp_states.specs.Entrance.{gate}
@@ -11,6 +11,9 @@ use Rattle.dccp_states.specs.declared.phase.Role.{Role}
 use Rattle.dccp_states.specs.declared.phase.Role.TheVariants as role
 use Rattle.dccp_states.specs.declared.reply.Reply.{Reply}
 use Rattle.dccp_states.specs.declared.reply.Reply.TheVariants as reply
+use Rattle.dccp_states.specs.Unexpected.{unexpected}
+use Rattle.dccp_endpoint.specs.Causes.{is_waiting}
+use Rattle.dccp_endpoint.specs.Faults.{counts}
 use Rattle.dccp_endpoint.specs.End.{first_phase, is_begun, is_connected, is_live, is_open, is_phase_of, phase_entered}
 
 -- where each role begins: in a phase of its own, in which nothing was received or sent
@@ -88,3 +91,64 @@ live-entered _ is = refl
 pub open-is : (ph : Phase) → is_open ph ≡ true → ph ≡ phase.Open
 open-is phase.Open is = refl
 open-is _ is = cc is
+
+-- Who has heard its peer waits for it no more.
+pub live-heard : (ph : Phase) → is_live ph ≡ true → is_waiting ph ≡ false
+live-heard phase.Closed is = refl
+live-heard phase.Listen is = cc is
+live-heard phase.Request is = cc is
+live-heard _ is = refl
+
+pub after-heard : (ph : Phase) (t : PacketType) → is_live ph ≡ true → is_waiting (after ph t).0 ≡ false
+after-heard phase.Closed t is = cc is
+after-heard phase.Listen t is = cc is
+after-heard phase.Request t is = cc is
+after-heard _ types.Reset is = refl
+after-heard _ _ is = refl
+
+pub begun-not-closed : (ph : Phase) → is_begun ph ≡ true → ph ≢ phase.Closed
+begun-not-closed phase.Closed is = λ same. cc is
+begun-not-closed _ is = λ same. cc same
+
+-- Where options count, the table answers by a packet on which Confirms may go, or else the handshake has got through.
+abbrev pub MaySay : Phase → Reply → Type 0
+MaySay to reply.Nothing = is_connected to ≡ true
+MaySay to reply.Response = Unit {0}
+MaySay to reply.Ack = Unit {0}
+MaySay to reply.SyncAck = Unit {0}
+MaySay to reply.Close = ⊥
+MaySay to reply.ResetClosed = ⊥
+MaySay to reply.Torn = ⊥
+
+may-say-row : (r : Role) (ph : Phase) (t : PacketType) (later : Bool) → is_phase_of ph r ≡ true → counts ph t ≡ true → unexpected r ph t later ≡ false
+    → MaySay (after ph t).0 (after ph t).1
+may-say-row r phase.Closed t later fits is out = cc is
+may-say-row r phase.Listen t later fits is out = cc is
+may-say-row r phase.CloseReq t later fits is out = cc is
+may-say-row r phase.Closing t later fits is out = cc is
+may-say-row r phase.TimeWait t later fits is out = cc is
+may-say-row r phase.Request types.Response later fits is out = tt
+may-say-row r phase.Request _ later fits is out = cc is
+may-say-row role.Client phase.Respond t later fits is out = cc fits
+may-say-row role.Server phase.Respond types.Response later fits is out = cc out
+may-say-row role.Server phase.Respond types.Request later fits is out = tt
+may-say-row role.Server phase.Respond types.Ack later fits is out = tt
+may-say-row role.Server phase.Respond types.Sync later fits is out = tt
+may-say-row role.Server phase.Respond types.SyncAck later fits is out = tt
+may-say-row role.Server phase.Respond _ later fits is out = cc
+may-say-row r phase.PartOpen types.Response later fits is out = tt
+may-say-row r phase.PartOpen types.Sync later fits is out = tt
+may-say-row r phase.PartOpen types.Request later fits is out = refl
+may-say-row r phase.PartOpen types.Ack later fits is out = refl
+may-say-row r phase.PartOpen types.SyncAck later fits is out = refl
+may-say-row r phase.PartOpen _ later fits is out = cc
+may-say-row r phase.Open types.Sync later fits is out = tt
+may-say-row r phase.Open types.Request later fits is out = refl
+may-say-row r phase.Open types.Response later fits is out = refl
+may-say-row r phase.Open types.Ack later fits is out = refl
+may-say-row r phase.Open types.SyncAck later fits is out = refl
+may-say-row r phase.Open _ later fits is out = cc
+
+pub may-say : (r : Role) (ph : Phase) (t : PacketType) (later : Bool) (to : Phase) (answer : Reply) → is_phase_of ph r ≡ true → counts ph t ≡ true
+    → unexpected r ph t later ≡ false → after ph t ≡ (to, answer) → MaySay to answer
+may-say r ph t later to answer fits is out row = subst (λ (x : Phase × Reply). MaySay x.0 x.1) row (may-say-row r ph t later fits is out)

@@ -1,11 +1,9 @@
 -- Worked packets, computed from the definitions: what the standard's numbers and the RFC 1071 sum come to by hand, as bytes.
-use Rattle.std.proofs.Common.{◌≡◌, refl, ℕ, ◌+◌, ◌-◌, ◌*◌, nat_le, if◌then◌else◌, true, false, List, [], ◌∷◌, Option, Some, None, Ok, Err, codes}
-use Prim.Native.String.{String}
+use Rattle.std.proofs.Common.{◌≡◌, refl, true, false, [], ◌∷◌, None, Ok, Err}
 use Rattle.dccp_packets.specs.declared.reading.Malformed.TheVariants as malformed
 use Rattle.dccp_sum.specs.declared.packet_sum.SumFault.TheVariants as sums
-use Rattle.dccp_states.specs.declared.phase.Phase.{Phase}
 use Rattle.dccp_states.specs.declared.phase.Phase.TheVariants as phase
-use Rattle.dccp_states.specs.declared.phase.Role.TheVariants.{Client, Server}
+use Rattle.dccp_states.specs.declared.phase.Role.TheVariants.{Client}
 use Rattle.dccp_endpoint.specs.Drafts.{framed}
 use Rattle.dccp_endpoint.specs.End.{EndState, fresh}
 use Rattle.dccp_endpoint.specs.Receiving.{receives}
@@ -14,78 +12,22 @@ use Rattle.dccp_endpoint.specs.declared.calls.AbortFault.TheVariants.{NotLive}
 use Rattle.dccp_endpoint.specs.declared.calls.CloseFault.TheVariants.{NotOpen}
 use Rattle.dccp_endpoint.specs.declared.calls.Timer.TheVariants as timers
 use Rattle.dccp_endpoint.specs.Steps.{Step}
-use Rattle.dccp_endpoint.specs.Usual.{usual}
+use Rattle.dccp_endpoint.proofs.RowsSeen.{arrives, client_ack, close, closed, initial_rows, listening, open_client, open_server, plain, request, requesting, responding, response, response_again, seen, sent, server_ack, shown}
 use Rattle.dccp_endpoint.specs.declared.outcome.Outcome.{Outcome}
-use Rattle.dccp_endpoint.specs.declared.outcome.Outcome.TheVariants.{Dropped, NotBuilt, SentReset, Synced, Took, WasReset}
+use Rattle.dccp_endpoint.specs.declared.outcome.Outcome.TheVariants.{Dropped, SentReset, Synced, Took, WasReset}
 use Rattle.dccp_endpoint.specs.declared.outcome.Why.TheVariants as why
 
--- the bytes that hexadecimal digits spell
-abbrev digit : ℕ → ℕ
-digit code = if nat_le 97 code then code - 87 else code - 48
-
-abbrev bytes : List ℕ → List ℕ
-bytes [] = []
-bytes (digit_alone ∷ []) = []
-bytes (high ∷ low ∷ rest) = (16 * digit high + digit low) ∷ bytes rest
-
-abbrev sent : String → Option (List ℕ)
-sent digits = Some (bytes (codes digits))
-
--- a packet arrives
-abbrev arrives : EndState → String → Step Outcome
-arrives e digits = receives e (bytes (codes digits))
-
--- what is seen of a step: its answer, its frame and the phase after it
-abbrev seen : {Answer : Type 0} → Step Answer → Answer × Option (List ℕ) × Phase
-seen step = (step.answer, step.frame, step.after.phase)
-
--- the packets of a handshake, and of its end from the client's side
-abbrev request : String
-request = "9c401389050031ec01000000000003e80000002a"
-
-abbrev response : String
-response = "13899c400700261403000000000007d000000000000003e80000002a"
-
-abbrev client_ack : String
-client_ack = "9c4013890600234107000000000003e900000000000007d0"
-
-abbrev server_ack : String
-server_ack = "13899c400600234007000000000007d100000000000003e9"
-
-abbrev close : String
-close = "9c40138906001d3f0d000000000003ea00000000000007d1"
-
-abbrev closed : String
-closed = "13899c400700193a0f000000000007d200000000000003ea01000000"
-
--- the Response to the Request that came again
-abbrev response_again : String
-response_again = "13899c400700261303000000000007d100000000000003e80000002a"
-
--- the ends on the way through it
-abbrev listening : EndState
-listening = fresh (usual Server)
-
-abbrev requesting : EndState
-requesting = (opens (fresh (usual Client))).after
-
-abbrev responding : EndState
-responding = (arrives listening request).after
-
-abbrev open_server : EndState
-open_server = (arrives responding client_ack).after
-
-abbrev open_client : EndState
-open_client = (arrives (arrives requesting response).after server_ack).after
-
+-- Two ends that offer nothing: Request, Response, Ack and Ack, and nothing was negotiated.
 handshake :
-    (seen (opens (fresh (usual Client))) ≡ (Ok tt, sent request, phase.Request))
+    (seen (opens (fresh (plain Client))) ≡ (Ok tt, sent request, phase.Request))
     × (seen (arrives listening request) ≡ (Took None, sent response, phase.Respond))
     × (seen (arrives requesting response) ≡ (Took None, sent client_ack, phase.PartOpen))
     × (seen (arrives responding client_ack) ≡ (Took None, sent server_ack, phase.Open))
     × (seen (arrives (arrives requesting response).after server_ack) ≡ (Took None, None, phase.Open))
+    × (shown open_client ≡ initial_rows)
+    × (shown open_server ≡ initial_rows)
 unfolding receives opens framed
-handshake = (refl, refl, refl, refl, refl)
+handshake = (refl, refl, refl, refl, refl, refl, refl)
 
 -- what step 1 drops, a Reset without a connection, No Connection, and Bad Service Code at a server
 dropped-in-listen :
@@ -120,7 +62,8 @@ packets-in-respond :
     ≡ (Synced 2000, sent "13899c400600155911000000000007d100000000000007d0", phase.Respond))
     × (seen (arrives responding "9c4013890400851705000000000003e9aa")
     ≡ (Synced 1001, sent "13899c400600194011000000000007d100000000000003e9", phase.Respond))
-    × (seen (arrives responding "9c4013890800083107000000000003e900000000000007d020050102f8000000") ≡ (NotBuilt, None, phase.Respond))
+    × (seen (arrives responding "9c4013890800083107000000000003e900000000000007d020050102f8000000")
+    ≡ (Took None, sent "13899c400800fa3707000000000007d100000000000003e92306010202f80000", phase.Open))
     × (seen (arrives responding "9c4013890700183d0f000000000003e900000000000007d002000000") ≡ (WasReset 2, None, phase.TimeWait))
 unfolding receives framed
 packets-in-respond = (refl, refl, refl, refl, refl)
@@ -189,7 +132,7 @@ aborted = (refl, refl, refl)
 
 -- numbers go from 2^48 - 1 on to 0
 abbrev late_client : EndState
-late_client = (opens (fresh (record (usual Client) { iss = 281474976710654 }))).after
+late_client = (opens (fresh (record (plain Client) { iss = 281474976710654 }))).after
 
 abbrev late_answered : Step Outcome
 late_answered = arrives late_client "13899c40070029fd03000000000007d00000fffffffffffe0000002a"

@@ -1,9 +1,6 @@
 -- What the tables of types, numbers and codes say, by their lines.
-use Rattle.std.proofs.Common.{◌≡◌, ◌⊎◌, inl, inr, refl, ℕ, Bool, true, false, not, ◌&&◌, if◌then◌else◌, List, [], ◌∷◌, length, Option, Some, None, Result, Ok, Err}
+use Rattle.std.proofs.Common.{◌≡◌, ◌⊎◌, inl, inr, refl, ℕ, Bool, true, false, if◌then◌else◌, Option, Some, None}
 use Rattle.std.proofs.lemmas.Bool.{false≢true, or_parts}
-use Rattle.dccp_options.specs.Grammar.{Entry}
-use Rattle.dccp_options.specs.Kinds.{is_understood}
-use Rattle.dccp_options.specs.declared.option.OptFault.{OptFault}
 use Rattle.dccp_packets.specs.ResetCodes.{number_of_code}
 use Rattle.dccp_packets.specs.declared.header.PacketType.{PacketType}
 use Rattle.dccp_packets.specs.declared.header.PacketType.TheVariants as types
@@ -19,9 +16,7 @@ use Rattle.validity_windows.specs.declared.verdict.Verdict.{Verdict}
 use Rattle.validity_windows.specs.declared.verdict.Verdict.TheVariants as verdicts
 use Rattle.dccp_endpoint.specs.Causes.{is_acking, is_code_without_connection}
 use Rattle.dccp_endpoint.specs.Effects.{gar_by}
-use Rattle.dccp_endpoint.specs.Faults.{fault_of, first_fault, not_understood, or_later}
 use Rattle.dccp_endpoint.specs.Receiving.{is_other_service}
-use Rattle.dccp_endpoint.specs.declared.outcome.Fault.{Fault}
 
 -- what a packet acknowledges raises GAR, but for a Sync
 abbrev pub raising : PacketType → Option ℕ → Option ℕ
@@ -65,23 +60,3 @@ no-connection-code role.Server = refl
 pub numbered-code : (r : Role) (code : ℕ) → is_code_without_connection role.Server code ≡ false → is_code_without_connection r code ≡ false
 numbered-code role.Client code is = (or_parts _ _ is).0
 numbered-code role.Server code is = is
-
--- a fault of the options has the code 5 or 6
-abbrev pub IsNumberedFault : Option Fault → Type 0
-IsNumberedFault None = Unit {0}
-IsNumberedFault (Some fault) = is_code_without_connection role.Server fault.code ≡ false
-
-item-numbered : (item : Result Entry OptFault) → IsNumberedFault (fault_of item)
-item-numbered (Err _) = refl
-item-numbered (Ok entry) = by (entry.mandatory && not (is_understood entry.kind (length entry.body))) where
-  by : (is : Bool) → IsNumberedFault (if is then Some (not_understood entry) else None)
-  by true = refl
-  by false = tt
-
-either-numbered : (first later : Option Fault) → IsNumberedFault first → IsNumberedFault later → IsNumberedFault (or_later first later)
-either-numbered (Some fault) later p q = p
-either-numbered None later p q = q
-
-pub first-numbered : (items : List (Result Entry OptFault)) → IsNumberedFault (first_fault items)
-first-numbered [] = tt
-first-numbered (item ∷ rest) = either-numbered (fault_of item) (first_fault rest) (item-numbered item) (first-numbered rest)

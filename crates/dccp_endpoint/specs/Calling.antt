@@ -1,5 +1,5 @@
 -- The calls and timers of an end (RFC 4340, sections 8.1 to 8.3; the refusals are own).
-use Rattle.std.specs.Prelude.{Bool, true, false, ℕ, Result, Ok, Err}
+use Rattle.std.specs.Prelude.{Bool, true, false, ◌&&◌, ℕ, List, [], ◌∷◌, Result, Ok, Err}
 use Rattle.dccp_packets.specs.ResetCodes.{number_of_code}
 use Rattle.dccp_packets.specs.declared.header.Kind.{Kind}
 use Rattle.dccp_packets.specs.declared.header.Kind.TheVariants as kind
@@ -9,8 +9,18 @@ use Rattle.dccp_states.specs.declared.phase.Role.{Role}
 use Rattle.dccp_states.specs.declared.phase.Role.TheVariants as role
 use Rattle.dccp_states.specs.declared.phase.Phase.{Phase}
 use Rattle.dccp_states.specs.declared.phase.Phase.TheVariants as phases
+use Rattle.feature_lists.specs.Wishes.{wish_of}
+use Rattle.feature_lists.specs.declared.wishes.PreferFault.{PreferFault}
+use Rattle.feature_lists.specs.declared.wishes.PreferFault.TheVariants as prefer
+use Rattle.feature_lists.specs.declared.wishes.Wanted.{Wanted}
+use Rattle.feature_machine.specs.Answers.{is_opening}
+use Rattle.feature_machine.specs.Negotiating.{due_keys, row_at}
+use Rattle.feature_machine.specs.Rows.{Prefers, row_step}
+use Rattle.feature_machine.specs.Turns.{turned}
 use Rattle.dccp_endpoint.specs.Drafts.{alone}
-use Rattle.dccp_endpoint.specs.End.{EndState}
+use Rattle.dccp_endpoint.specs.End.{EndState, is_connected, with_rows}
+use Rattle.dccp_endpoint.specs.Speaking.{asking, asks, offers, saying}
+use Rattle.dccp_endpoint.specs.Turns.{Key, turn_of}
 use Rattle.dccp_endpoint.specs.Steps.{Step, idle, in_phase, sends, reset_of, without_detail}
 use Rattle.dccp_endpoint.specs.declared.calls.AbortFault.{AbortFault}
 use Rattle.dccp_endpoint.specs.declared.calls.AbortFault.TheVariants.{NotLive}
@@ -25,9 +35,17 @@ use Rattle.dccp_endpoint.specs.declared.calls.Timer.TheVariants as timers
 abbrev pub Called : Type 0 → Type 0
 Called Fault = Step (Result (Unit {0}) Fault)
 
--- A client asks for its service (section 8.1.1).
+-- A client asks for its service (section 8.1.1). The Request opens the offered rows, and carries the Changes of these and of all
+-- others that ask. Once their Changes have gone out:
+abbrev pub requests_asking : {Answer : Type 0} → EndState → List Key → Answer → Step Answer
+requests_asking e keys answer = sends e (saying (kind.Request e.config.service) [] e.rows keys) answer
+
+-- once the offers have come up
+abbrev pub requests_offering : {Answer : Type 0} → EndState → List Key → Answer → Step Answer
+requests_offering e keys answer = requests_asking (asks e keys) keys answer
+
 abbrev pub requests : {Answer : Type 0} → EndState → Answer → Step Answer
-requests e answer = sends e (alone (kind.Request e.config.service)) answer
+requests e answer = requests_offering (offers e []) (asking (offers e []).rows []) answer
 
 -- open: a client sends its Request once
 abbrev pub opens_as : EndState → Role → Bool → Called OpenFault
@@ -76,21 +94,74 @@ aborts_in e phases.Closing = aborts_now e
 unfoldable pub aborts : EndState → Called AbortFault
 aborts e = aborts_in e e.phase
 
--- The phases in which a timer has something to do. Nothing is negotiated and no data is sent yet.
-abbrev pub applies : Timer → Phase → Bool
-applies timers.Request phases.Request = true
-applies timers.Ack phases.PartOpen = true
-applies timers.Ack phases.Open = true
-applies timers.Close phases.CloseReq = true
-applies timers.Close phases.Closing = true
-applies timers.TimeWait phases.TimeWait = true
-applies _ _ = false
+-- An Ack with the Changes of these rows; once they have gone out:
+abbrev pub acks_asking : {Answer : Type 0} → EndState → List Key → Answer → Step Answer
+acks_asking e keys answer = sends e (saying (kind.Ack (Long e.marks.gsr)) [] e.rows keys) answer
 
--- What a timer does: the Request, Close or CloseReq goes out again, an Ack goes out, and TIMEWAIT ends.
+abbrev pub asks_now : {Answer : Type 0} → EndState → List Key → Answer → Step Answer
+asks_now e keys answer = acks_asking (asks e keys) keys answer
+
+-- prefer: a row in STABLE asks at once, any other on a later occasion (own)
+abbrev pub prefers_so : EndState → Key → Bool → Called PreferFault
+prefers_so e k true = asks_now e (k ∷ []) (Ok tt)
+prefers_so e k false = idle e (Ok tt)
+
+-- whether the row asks at once
+abbrev pub is_asking_now : EndState → Key → Wanted → Bool
+is_asking_now e k wish = is_opening (row_step (row_at e.rows k.0 k.1) (Prefers wish)).answer
+
+-- the end with this wish for the row
+abbrev pub preferring : EndState → Key → Wanted → EndState
+preferring e k wish = with_rows e (turned e.rows (turn_of k (Prefers wish) ∷ []))
+
+abbrev pub prefers_wish : EndState → Key → Result Wanted PreferFault → Called PreferFault
+prefers_wish e k (Ok wish) = prefers_so (preferring e k wish) k (is_asking_now e k wish)
+prefers_wish e k (Err fault) = idle e (Err fault)
+
+-- by whether the phase is PARTOPEN or OPEN
+abbrev pub prefers_in : EndState → Bool → Key → List ℕ → Called PreferFault
+prefers_in e true k values = prefers_wish e k (wish_of k.0 k.1 values)
+prefers_in e false k values = idle e (Err prefer.NotOpen)
+
+unfoldable pub prefers : EndState → Key → List ℕ → Called PreferFault
+prefers e k values = prefers_in e (is_connected e.phase) k values
+
+-- The phases in which a timer has something to do; the timer negotiate only if a row asks. No data is sent yet.
+abbrev pub applies_in : Timer → Phase → Bool
+applies_in timers.Request phases.Request = true
+applies_in timers.Ack phases.PartOpen = true
+applies_in timers.Ack phases.Open = true
+applies_in timers.Negotiate phases.PartOpen = true
+applies_in timers.Negotiate phases.Open = true
+applies_in timers.Close phases.CloseReq = true
+applies_in timers.Close phases.Closing = true
+applies_in timers.TimeWait phases.TimeWait = true
+applies_in _ _ = false
+
+abbrev pub has_keys : List Key → Bool
+has_keys [] = false
+has_keys (k ∷ keys) = true
+
+-- what else it needs
+abbrev pub has_cause : Timer → EndState → Bool
+has_cause timers.Negotiate e = has_keys (due_keys e.rows)
+has_cause _ e = true
+
+abbrev pub applies : Timer → EndState → Bool
+applies timer e = applies_in timer e.phase && has_cause timer e
+
+-- the Changes of all rows that ask go out again
+abbrev pub asks_all : EndState → List Key → Step Bool
+asks_all e [] = idle e false
+asks_all e (k ∷ keys) = asks_now e (k ∷ keys) true
+
+-- What a timer does: the Request, Close or CloseReq goes out again, an Ack goes out, alone or with the Changes, and TIMEWAIT ends.
 abbrev pub fires_in : EndState → Timer → Phase → Step Bool
 fires_in e timers.Request phases.Request = requests e true
 fires_in e timers.Ack phases.PartOpen = sends e (alone (kind.Ack (Long e.marks.gsr))) true
 fires_in e timers.Ack phases.Open = sends e (alone (kind.Ack (Long e.marks.gsr))) true
+fires_in e timers.Negotiate phases.PartOpen = asks_all e (due_keys e.rows)
+fires_in e timers.Negotiate phases.Open = asks_all e (due_keys e.rows)
 fires_in e timers.Close phases.CloseReq = sends e (alone (kind.CloseReq e.marks.gsr)) true
 fires_in e timers.Close phases.Closing = sends e (alone (kind.Close e.marks.gsr)) true
 fires_in e timers.TimeWait phases.TimeWait = idle (in_phase e phases.Closed) true

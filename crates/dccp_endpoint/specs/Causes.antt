@@ -1,5 +1,6 @@
 -- Why a step has its effect: a cause for each part, of which a fact takes the one that it needs (own).
-use Rattle.std.specs.Prelude.{◌≡◌, ◌≢◌, ◌⊎◌, ◌==◌, ◌||◌, ℕ, Bool, true, false, List, [], Option, Some, None, Ok}
+use Rattle.std.specs.Prelude.{◌≡◌, ◌≢◌, ◌⊎◌, ◌==◌, ◌||◌, ◌&&◌, ℕ, Bool, true, false, List, [], ◌∷◌, ◌++◌, Option, Some, None, Ok}
+use Rattle.std.specs.List.{All}
 use Rattle.congestion_trait.specs.Calls.{Call}
 use Rattle.dccp_packets.specs.Grammar.{Parts, decoded, packet_type}
 use Rattle.dccp_packets.specs.declared.header.Kind.{Kind}
@@ -18,16 +19,27 @@ use Rattle.dccp_sum.specs.Checksum.{checked}
 use Rattle.validity_windows.specs.Verdict.{verdict}
 use Rattle.validity_windows.specs.declared.verdict.Verdict.{Verdict}
 use Rattle.validity_windows.specs.declared.verdict.Verdict.TheVariants as verdicts
+use Rattle.feature_lists.specs.Wishes.{wish_of}
+use Rattle.feature_lists.specs.declared.wishes.Wanted.{Wanted}
+use Rattle.feature_machine.specs.Negotiating.{due_keys, every_place}
+use Rattle.feature_machine.specs.Rows.{Prefers}
+use Rattle.feature_machine.specs.Turns.{Turn, turned}
+use Rattle.dccp_endpoint.specs.Calling.{is_asking_now}
 use Rattle.dccp_endpoint.specs.Drafts.{Draft, IsSendable, alone}
-use Rattle.dccp_endpoint.specs.Effects.{Effect, Passing, Refused, Shut, Taken, Hearing, Unheard, Heard, Sending, Silent, Next, WithoutConnection, greatest_by, end_after, frame_by}
-use Rattle.dccp_endpoint.specs.End.{EndState, IsProper, is_phase_of, is_live, is_begun, is_connected}
+use Rattle.dccp_endpoint.specs.Effects.{Effect, Passing, Refused, Shut, Taken, Hearing, Unheard, Heard, Sending, Silent, Next, WithoutConnection, greatest_by, end_after, frame_by, rows_by}
+use Rattle.dccp_endpoint.specs.End.{EndState, IsProper, is_phase_of, is_live, is_begun, is_connected, phase_entered}
+use Rattle.dccp_endpoint.specs.Faults.{counts}
+use Rattle.dccp_endpoint.specs.Heeding.{Due, Heeding, heard_turns, heeds, unheeded}
 use Rattle.dccp_packets.specs.Kinds.{ack_of}
 use Rattle.dccp_endpoint.specs.Incoming.{Incoming, incoming}
 use Rattle.dccp_endpoint.specs.Inputs.{Input, Arrives, Opens, stepped}
+use Rattle.dccp_endpoint.specs.Inputs as input
+use Rattle.dccp_endpoint.specs.Speaking.{asking, change_items, confirm_items, is_confirmed}
+use Rattle.dccp_endpoint.specs.Turns.{Key, offerings, sendings, turn_of}
 use Rattle.dccp_endpoint.specs.Receiving.{acknowledges_in_window, is_of_connection, number_without_connection}
 use Rattle.dccp_packets.specs.ResetCodes.{number_of_code}
 use Rattle.dccp_packets.specs.declared.reset_code.ResetCode.TheVariants as codes
-use Rattle.dccp_endpoint.specs.Steps.{detail_of, without_detail}
+use Rattle.dccp_endpoint.specs.Steps.{detail_of, next_number, without_detail}
 
 -- A packet of the connection with a long number arrived (step 1).
 pub record Came (e : EndState) (given : Input) (a : Incoming) : Type 0 where
@@ -98,11 +110,26 @@ abbrev pub IsFirst : Hearing → Type 0
 IsFirst Unheard = ⊥
 IsFirst (Heard first number how) = first ≡ true
 
--- where the phase may go
-pub record IsMoving (e : EndState) (hearing : Hearing) (sending : Sending) (phase : Phase) : Type 0 where
+-- the phases in which an end waits for the first packet of its peer
+abbrev pub is_waiting : Phase → Bool
+is_waiting phases.Closed = false
+is_waiting phases.Listen = true
+is_waiting phases.Request = true
+is_waiting phases.Respond = false
+is_waiting phases.PartOpen = false
+is_waiting phases.Open = false
+is_waiting phases.CloseReq = false
+is_waiting phases.Closing = false
+is_waiting phases.TimeWait = false
+
+-- Where the phase may go. An end waits for a first packet as long as it heard nothing, or from `open` on; and it leaves CLOSED by
+-- `open` alone.
+pub record IsMoving (e : EndState) (hearing : Hearing) (opens : Bool) (sending : Sending) (phase : Phase) : Type 0 where
   pub its_role : is_phase_of phase e.config.role ≡ true
   pub live : is_live phase ≡ true → (is_live e.phase ≡ true) ⊎ IsFirst hearing
   pub begun : is_begun phase ≡ true → (is_begun e.phase ≡ true) ⊎ HasNext sending
+  pub waits : is_waiting phase ≡ true → ((is_waiting e.phase ≡ true) × (hearing ≡ Unheard)) ⊎ (opens ≡ true)
+  pub shut : e.phase ≡ phases.Closed → (phase ≡ phases.Closed) ⊎ (opens ≡ true)
 
 -- OSR is the number with which the phase becomes OPEN
 pub data IsOpening (e : EndState) (phase : Phase) : Bool → Type 0 where
@@ -141,27 +168,89 @@ pub data IsSending (e : EndState) (given : Input) (f : Effect) : Sending → Typ
       → end_after e f ≡ e
       → IsSending e given f (WithoutConnection (number_without_connection a.ack) (kind.Reset a.number code (detail_of (without_detail code))))
 
--- What goes out has a frame, and no options yet.
-pub record IsSilentDraft (draft : Draft) : Type 0 where
-  pub sendable : IsSendable draft
-  pub no_options : draft.options ≡ []
+-- what goes out has a frame
+abbrev pub HasFrame : Sending → Type 0
+HasFrame Silent = Unit {0}
+HasFrame (Next packet) = IsSendable packet
+HasFrame (WithoutConnection number packet) = IsSendable (alone packet)
 
--- so it is with whatever goes out
-abbrev pub SaysNothing : Sending → Type 0
-SaysNothing Silent = Unit {0}
-SaysNothing (Next packet) = IsSilentDraft packet
-SaysNothing (WithoutConnection number packet) = IsSilentDraft (alone packet)
+-- Options of the negotiation count on a newest packet, in the phase in which they are read.
+abbrev pub counts_in : EndState → Incoming → Bool
+counts_in e a = a.newest && counts (phase_entered e.phase) a.kind
 
--- Why each part is what it is. Nothing is looked up, no row has a turn, nothing is due to a congestion control and nothing is owed yet.
+-- The packet's options are read whole, and this is what they come to.
+abbrev pub IsHeeded : EndState → Incoming → Heeding → Type 0
+IsHeeded e a h = heeds (counts_in e a) a.ack (unheeded e.rows) a.options ≡ Ok h
+
+-- what the rows then hear
+abbrev pub turns_in : EndState → Incoming → List Turn
+turns_in e a = heard_turns (counts_in e a) a.ack (unheeded e.rows) a.options
+
+-- a packet that came was taken in this step
+pub record WasTaken (e : EndState) (given : Input) (hearing : Hearing) (a : Incoming) : Type 0 where
+  pub came : Came e given a
+  pub first : Bool
+  pub is_heard : hearing ≡ Heard first a.number Taken
+
+-- What the rows heard of a packet that was taken, and the Confirms that are due for it.
+pub data AreHeard (e : EndState) (given : Input) (hearing : Hearing) : List Turn → List Due → Type 0 where
+  Deaf : AreHeard e given hearing [] []
+  Heeds : (a : Incoming) (h : Heeding) → WasTaken e given hearing a → IsHeeded e a h → AreHeard e given hearing (turns_in e a) h.confirms
+
+-- What else happens to rows in the step, and whose Changes go out.
+pub data Occasion (e : EndState) (given : Input) (heard : List Turn) (confirms : List Due) : List Turn → List Turn → List Key → Type 0 where
+  -- nothing
+  Plain : Occasion e given heard confirms [] [] []
+  -- A Request or a Response: all offers come up, and the Changes go out of the rows that ask then and have no Confirm in the packet.
+  Offering : Occasion e given heard confirms (offerings (is_confirmed confirms) every_place) []
+      (asking (turned e.rows (heard ++ offerings (is_confirmed confirms) every_place)) confirms)
+  -- the timer negotiate: the Changes of all rows that ask go out again
+  Repeating : heard ≡ [] → confirms ≡ [] → Occasion e given heard confirms [] [] (due_keys e.rows)
+  -- a preference, which goes out at once or on a later occasion
+  PrefersNow : (k : Key) (values : List ℕ) (wish : Wanted) → given ≡ input.Prefers k values → wish_of k.0 k.1 values ≡ Ok wish
+      → is_asking_now e k wish ≡ true → heard ≡ [] → confirms ≡ []
+      → Occasion e given heard confirms [] (turn_of k (Prefers wish) ∷ []) (k ∷ [])
+  PrefersLater : (k : Key) (values : List ℕ) (wish : Wanted) → given ≡ input.Prefers k values → wish_of k.0 k.1 values ≡ Ok wish
+      → is_asking_now e k wish ≡ false → heard ≡ [] → confirms ≡ []
+      → Occasion e given heard confirms [] (turn_of k (Prefers wish) ∷ []) []
+
+-- The rows' turns, in order: what was heard, offers, a preference, and the Changes that go out. No row's Change goes out beside a
+-- Confirm for it.
+pub record AreTurns (e : EndState) (given : Input) (hearing : Hearing) (turns : List Turn) : Type 0 where
+  pub heard : List Turn
+  pub confirms : List Due
+  pub offered : List Turn
+  pub preferred : List Turn
+  pub keys : List Key
+  pub in_order : turns ≡ heard ++ (offered ++ (preferred ++ sendings (next_number e) keys))
+  pub hears : AreHeard e given hearing heard confirms
+  pub occasion : Occasion e given heard confirms offered preferred keys
+  pub apart : All (λ k. is_confirmed confirms k ≡ false) keys
+
+-- the acknowledgement number is that of the packet that was heard
+abbrev pub Answers : Hearing → Option ℕ → Type 0
+Answers Unheard ack = ⊥
+Answers (Heard first number how) ack = ack ≡ Some number
+
+-- What goes out says all that is due: the Confirms, on a packet that acknowledges the one that they answer, then the Changes of the
+-- rows as they are after the step.
+pub data Says (e : EndState) (f : Effect) (confirms : List Due) (keys : List Key) : Sending → Type 0 where
+  SaysNothing : confirms ≡ [] → keys ≡ [] → Says e f confirms keys Silent
+  SaysAll : (packet : Draft) → packet.options ≡ confirm_items confirms ++ change_items (rows_by e.rows f) keys
+      → (confirms ≡ []) ⊎ Answers f.hearing (ack_of packet.kind) → Says e f confirms keys (Next packet)
+  SaysApart : (number : ℕ) (packet : Kind) → confirms ≡ [] → keys ≡ [] → Says e f confirms keys (WithoutConnection number packet)
+
+-- Why each part is what it is. Nothing is looked up, nothing is due to a congestion control and nothing is owed yet.
 pub record IsCaused (e : EndState) (given : Input) (f : Effect) : Type 0 where
   pub hears : IsHearing e given f.phase f.hearing
   pub acks : IsAcknowledging e given f.acknowledged
-  pub moves : IsMoving e f.hearing f.sending f.phase
+  pub moves : IsMoving e f.hearing f.opens f.sending f.phase
   pub opening : IsOpening e f.phase f.opening
   pub opened : IsOpened e given f.opens
   pub looks : f.looked_up ≡ None
-  pub turns : f.turns ≡ []
-  pub says : SaysNothing f.sending
+  pub turns : AreTurns e given f.hearing f.turns
+  pub says : Says e f turns.confirms turns.keys f.sending
+  pub framed : HasFrame f.sending
   pub sends : IsSending e given f f.sending
   pub calls : f.calls ≡ []
   pub owed : f.owed ≡ false

@@ -11,6 +11,7 @@ use Rattle.dccp_packets.specs.declared.header.Number.TheVariants.{Long}
 use Rattle.dccp_sum.specs.Checksum.{checked, sealed}
 use Rattle.dccp_sum.specs.declared.pseudo_header.Pseudo.{Pseudo}
 use Rattle.dccp_packets.specs.Kinds.{is_data}
+use Rattle.feature_machine.specs.Lists.{IsLists}
 use Rattle.dccp_endpoint.specs.declared.config.Config.{Config}
 
 -- a packet that is to be sent: its type with its fields, its options and its data
@@ -36,12 +37,14 @@ framed config number kind area payload = sealed config.pseudo_out (spelling (hea
 abbrev pub frame_of : Config → ℕ → Draft → List ℕ
 frame_of config number draft = framed config number draft.kind (written draft.options) draft.payload
 
--- the widths of the fields, which every configuration of the program keeps (RFC 4340, section 5)
+-- the widths of the fields (RFC 4340, section 5) and the order of the lists, which every configuration of the program keeps
 pub record Fits (config : Config) : Type 0 where
   pub own_port : config.own_port < 2 ^ 16
   pub peer_port : config.peer_port < 2 ^ 16
   pub service : config.service < 2 ^ 32
   pub iss : config.iss < 2 ^ 48
+  -- what is wished and offered is so for each feature at each place
+  pub lists : IsLists config.lists
 
 -- A draft that has a frame: numbers in the long form, and an option area and data that fit. A Data packet has no options.
 pub record IsSendable (draft : Draft) : Type 0 where

@@ -5,10 +5,13 @@ use Rattle.congestion_trait.specs.Calls.{Call}
 use Rattle.dccp_packets.specs.declared.header.Kind.{Kind}
 use Rattle.dccp_states.specs.declared.phase.Phase.{Phase}
 use Rattle.dccp_endpoint.specs.Drafts.{Draft, alone, frame_of}
-use Rattle.dccp_endpoint.specs.End.{EndState}
+use Rattle.dccp_endpoint.specs.End.{EndState, value_in}
 use Rattle.dccp_endpoint.specs.Receiving.{osr_after}
 use Rattle.dccp_endpoint.specs.Steps.{next_number}
-use Rattle.dccp_endpoint.specs.Turns.{Turn}
+use Rattle.feature_lists.specs.declared.features.Feature.TheVariants.{SequenceWindow}
+use Rattle.feature_lists.specs.declared.features.Place.TheVariants.{Here, There}
+use Rattle.feature_machine.specs.Turns.{Turn, turned}
+use Rattle.feature_machine.specs.declared.row.Row.{Row}
 
 -- What became of a valid packet, other than a Reset: step 7 refused it, it was answered with a Reset 5, 6 or 8 that closed the end,
 -- or it was taken.
@@ -47,8 +50,8 @@ pub record Effect : Type 0 where
   pub owed : Bool
   pub unacked : ℕ
 
--- The effect of a step as far as steps are built: nothing is looked up, no row has a turn, nothing is due to a congestion control, and
--- nothing is owed.
+-- The effect of a step as far as steps are built, where no row has a turn: nothing is looked up, nothing is due to a congestion
+-- control, and nothing is owed.
 abbrev pub effect_of : Hearing → Option ℕ → Bool → Phase → Bool → Sending → Effect
 effect_of hearing acknowledged opening phase opens sending =
     record {
@@ -107,7 +110,11 @@ abbrev pub opened_by : Bool → Bool → Bool
 opened_by old true = true
 opened_by old false = old
 
--- The end after a step. What is looked up, the rows' turns and what is owed have nothing to change yet.
+-- the rows by their turns
+abbrev pub rows_by : List Row → Effect → List Row
+rows_by rows f = turned rows f.turns
+
+-- The end after a step. What is looked up and what is owed have nothing to change yet.
 abbrev pub end_after : EndState → Effect → EndState
 end_after e f =
     record {
@@ -122,9 +129,10 @@ end_after e f =
             isr = first_by e.marks.isr f.hearing;
             gsr = greatest_by e.marks.gsr f.hearing;
             osr = osr_by e.marks.osr f.hearing f.opening;
-            own_w = e.marks.own_w;
-            peer_w = e.marks.peer_w;
+            own_w = value_in (rows_by e.rows f) SequenceWindow Here;
+            peer_w = value_in (rows_by e.rows f) SequenceWindow There;
           };
+      rows = rows_by e.rows f;
     }
 
 -- The frame of a step.

@@ -4,6 +4,12 @@ use Rattle.feature_lists.specs.Features.{initial_of}
 use Rattle.feature_lists.specs.declared.features.Feature.{Feature}
 use Rattle.feature_lists.specs.declared.features.Feature.TheVariants.{SequenceWindow}
 use Rattle.feature_lists.specs.declared.features.Place.{Place}
+use Rattle.feature_lists.specs.declared.features.Place.TheVariants.{Here, There}
+use Rattle.feature_machine.specs.Negotiating.{AreRowsOf, first_rows, held_by, row_at}
+use Rattle.feature_machine.specs.declared.row.Row.{Row}
+use Rattle.feature_machine.specs.declared.stands.Held.{Held}
+use Rattle.feature_machine.specs.declared.stands.Role2.{Role2}
+use Rattle.feature_machine.specs.declared.stands.Role2.TheVariants as end
 use Rattle.dccp_endpoint.specs.declared.config.Config.{Config}
 use Rattle.dccp_states.specs.declared.phase.Role.{Role}
 use Rattle.dccp_states.specs.declared.phase.Role.TheVariants.{Client, Server}
@@ -12,16 +18,34 @@ use Rattle.dccp_states.specs.declared.phase.Phase.TheVariants as phase
 use Rattle.validity_windows.specs.declared.marks.Marks.{Marks}
 use Rattle.validity_windows.specs.Beginning.{new_marks}
 use Rattle.validity_windows.specs.Windows.{InRange}
-use Rattle.dccp_endpoint.specs.declared.held.Held.{Held}
-use Rattle.dccp_endpoint.specs.declared.held.Stand.TheVariants.{Stable}
 
--- A configuration, the phase, whether it was opened, and the marks: the first and greatest numbers sent and received and
--- the widths of the windows (RFC 4340, section 7.1). Until isr is set, isr, gsr and osr are 0.
+-- A configuration, the phase, whether it was opened, the marks and the rows of the negotiation. The marks are the first and greatest
+-- numbers sent and received and the widths of the windows (RFC 4340, section 7.1); until isr is set, isr, gsr and osr are 0. There is
+-- a row for each feature at each place.
 pub record EndState : Type 0 where
   pub config : Config
   pub phase : Phase
   pub opened : Bool
   pub marks : Marks
+  pub rows : List Row
+
+-- whose end the rows are of: the server's list decides (section 6.3.1)
+abbrev pub end_of : Role → Role2
+end_of Client = end.Client
+end_of Server = end.Server
+
+-- the value that rows hold for a feature at a place
+abbrev pub value_in : List Row → Feature → Place → ℕ
+value_in rows feature place = (row_at rows feature place).value
+
+-- The widths of both windows are the values of Sequence Window: the acknowledgement window's of the feature here, the sequence
+-- window's of the feature at the peer (section 7.5.2).
+abbrev pub with_widths : Marks → List Row → Marks
+with_widths m rows = record m { own_w = value_in rows SequenceWindow Here; peer_w = value_in rows SequenceWindow There }
+
+-- the end with these rows, and windows as wide as they say
+abbrev pub with_rows : EndState → List Row → EndState
+with_rows e rows = record e { marks = with_widths e.marks rows; rows = rows }
 
 -- Each phase but CLOSED, OPEN, CLOSING and TIMEWAIT belongs to one role (section 4.3).
 abbrev pub is_phase_of : Phase → Role → Bool
@@ -99,23 +123,35 @@ phase_entered phase.CloseReq = phase.CloseReq
 phase_entered phase.Closing = phase.Closing
 phase_entered phase.TimeWait = phase.TimeWait
 
--- what holds of every end: its windows are as wide as they may be, and its phase is one of its role's
+-- What holds of every end: its phase is one of its role's, and so are its rows, which are sound; and its windows are as wide as
+-- the rows say and as they may be.
 pub record IsProper (e : EndState) : Type 0 where
-  pub widths : InRange e.marks
   pub phase_fits : is_phase_of e.phase e.config.role ≡ true
+  pub rows : AreRowsOf (end_of e.config.role) e.rows
+  pub own_width : e.marks.own_w ≡ value_in e.rows SequenceWindow Here
+  pub peer_width : e.marks.peer_w ≡ value_in e.rows SequenceWindow There
+  pub widths : InRange e.marks
 
 -- where each role begins (RFC 4340, section 8.1)
 abbrev pub first_phase : Role → Phase
 first_phase Client = phase.Closed
 first_phase Server = phase.Listen
 
--- An end that has sent and received nothing. The windows are as wide as the feature Sequence Window says at first (section 7.5.2).
+-- An end that has sent and received nothing. The windows are as wide as the feature Sequence Window says at first (section 7.5.2),
+-- and nothing was negotiated.
 abbrev pub fresh : Config → EndState
-fresh config = record { config = config; phase = first_phase config.role; opened = false; marks = new_marks config.iss (initial_of SequenceWindow) }
+fresh config =
+    record {
+      config = config;
+      phase = first_phase config.role;
+      opened = false;
+      marks = new_marks config.iss (initial_of SequenceWindow);
+      rows = first_rows (end_of config.role) config.lists;
+    }
 
--- What a row shows: its value and stand. No feature is negotiated yet, so each row stands at its initial value.
+-- what a row shows: its value and stand
 abbrev pub held_of : EndState → Feature → Place → Held
-held_of e feature place = record { value = initial_of feature; stand = Stable }
+held_of e feature place = held_by (row_at e.rows feature place)
 
 -- The least number that an Ack Vector may report. No number is marked yet, so it is the first received.
 abbrev pub floor_of : EndState → ℕ

@@ -2,8 +2,10 @@
 use Rattle.std.specs.Prelude.{ℕ, Bool, List, Result}
 use Rattle.dccp_endpoint.specs.End.{EndState}
 use Rattle.dccp_endpoint.specs.Receiving.{receives}
-use Rattle.dccp_endpoint.specs.Calling.{aborts, closes, fires, opens}
+use Rattle.dccp_endpoint.specs.Calling.{aborts, closes, fires, opens, prefers}
 use Rattle.dccp_endpoint.specs.Steps.{Step}
+use Rattle.feature_lists.specs.declared.wishes.PreferFault.{PreferFault}
+use Rattle.dccp_endpoint.specs.Turns.{Key}
 use Rattle.dccp_endpoint.specs.declared.calls.AbortFault.{AbortFault}
 use Rattle.dccp_endpoint.specs.declared.calls.CloseFault.{CloseFault}
 use Rattle.dccp_endpoint.specs.declared.calls.OpenFault.{OpenFault}
@@ -14,6 +16,7 @@ use Rattle.dccp_endpoint.specs.declared.outcome.Outcome.{Outcome}
 pub data Input : Type 0 where
   Arrives : (bytes : List ℕ) → Input
   Opens Closes Aborts : Input
+  Prefers : (key : Key) (values : List ℕ) → Input
   Fires : (timer : Timer) (in_flight : Bool) → Input
 
 -- what the end answers
@@ -23,6 +26,7 @@ pub data Answer : Type 0 where
   Closed : (result : Result (Unit {0}) CloseFault) → Answer
   Aborted : (result : Result (Unit {0}) AbortFault) → Answer
   Fired : (applies : Bool) → Answer
+  Preferred : (result : Result (Unit {0}) PreferFault) → Answer
 
 -- a step with its answer as one of these
 abbrev pub shown : {A : Type 0} → (A → Answer) → Step A → Step Answer
@@ -34,3 +38,4 @@ stepped e Opens = shown Opened (opens e)
 stepped e Closes = shown Closed (closes e)
 stepped e Aborts = shown Aborted (aborts e)
 stepped e (Fires timer in_flight) = shown Fired (fires e timer in_flight)
+stepped e (Prefers k values) = shown Preferred (prefers e k values)

@@ -5,6 +5,9 @@ pub mod Faults
 pub mod Drafts
 pub mod Turns
 pub mod Steps
+pub mod Heeding
+pub mod Speaking
+pub mod Saying
 pub mod Receiving
 pub mod Calling
 pub mod Inputs

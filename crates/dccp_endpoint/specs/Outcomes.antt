@@ -1,9 +1,10 @@
 -- Why each outcome of `receive` comes, and what the step's effect then is (RFC 4340, section 8.5).
-use Rattle.std.specs.Prelude.{◌≡◌, ◌≢◌, ℕ, Bool, true, false, List, Option, Some, None, Ok, Err}
+use Rattle.std.specs.Prelude.{◌≡◌, ◌≢◌, ◌&&◌, if◌then◌else◌, ℕ, Bool, true, false, List, Option, Some, None, Result, Ok, Err}
 use Rattle.congestion_trait.specs.Calls.{Call}
 use Rattle.dccp_sum.specs.Checksum.{checked}
 use Rattle.dccp_sum.specs.declared.packet_sum.SumFault.{SumFault}
 use Rattle.dccp_packets.specs.Grammar.{Parts, decoded}
+use Rattle.dccp_packets.specs.declared.header.Kind.{Kind}
 use Rattle.dccp_packets.specs.declared.header.Kind.TheVariants as kind
 use Rattle.dccp_packets.specs.declared.header.Number.TheVariants.{Long, Short}
 use Rattle.dccp_packets.specs.declared.header.PacketType.TheVariants as types
@@ -17,13 +18,15 @@ use Rattle.validity_windows.specs.declared.verdict.Verdict.TheVariants as verdic
 use Rattle.dccp_endpoint.specs.Causes.{Came, IsCaused, entrance_of, is_code_without_connection, verdict_of}
 use Rattle.dccp_endpoint.specs.Drafts.{alone}
 use Rattle.dccp_endpoint.specs.Effects.{Effect, Sending, Silent, Next, WithoutConnection, Heard, Refused, Shut, Taken, effect_of, effect_of_sending, end_after, frame_by, greatest_or}
-use Rattle.dccp_endpoint.specs.End.{EndState, phase_entered}
-use Rattle.dccp_endpoint.specs.Faults.{first_fault, is_unbuilt}
+use Rattle.dccp_endpoint.specs.End.{EndState, is_connected, phase_entered}
+use Rattle.dccp_endpoint.specs.Faults.{counts, is_unbuilt}
+use Rattle.dccp_endpoint.specs.Heeding.{Due, Heeding, heeds, unheeded}
 use Rattle.dccp_endpoint.specs.Incoming.{Incoming}
 use Rattle.dccp_endpoint.specs.Inputs.{Input, Arrives}
 use Rattle.dccp_endpoint.specs.Receiving.{acknowledges_in_window, becomes_open, is_of_connection, is_other_service, is_own_service, is_unexpected, packet_fault, raised, started}
 use Rattle.dccp_packets.specs.ResetCodes.{number_of_code}
 use Rattle.dccp_packets.specs.declared.reset_code.ResetCode.TheVariants as codes
+use Rattle.dccp_endpoint.specs.Speaking.{has_confirms}
 use Rattle.dccp_endpoint.specs.Steps.{detail_of, without_detail}
 use Rattle.dccp_endpoint.specs.declared.outcome.Fault.{Fault}
 use Rattle.dccp_endpoint.specs.declared.outcome.Outcome.{Outcome}
@@ -101,7 +104,11 @@ pub record IsAdmitted (e : EndState) (bytes : List ℕ) (a : Incoming) (entered 
   pub valid : IsValidPacket e bytes a entered
   pub expected : is_unexpected entered a ≡ false
   pub for_us : is_for_another entered a ≡ false
-  pub needs : is_unbuilt entered.phase a.kind a.options ≡ unbuilt
+  pub needs : is_unbuilt a.kind ≡ unbuilt
+
+-- what the options of a packet come to, in the end as steps 3, 4 and 6 leave it: what they say to the rows, or the first fault
+abbrev pub reading_of : EndState → Incoming → Result Heeding Fault
+reading_of entered a = heeds (a.newest && counts entered.phase a.kind) a.ack (unheeded entered.rows) a.options
 
 -- why a Sync answers: the numbers of a packet in a phase with windows are not valid (step 6), or its phase does not expect it (step 7)
 pub data IsSynced (e : EndState) (bytes : List ℕ) (number : ℕ) : Type 0 where
@@ -128,9 +135,9 @@ pub data IsReset (e : EndState) (bytes : List ℕ) : Fault → Type 0 where
   WrongService : (a : Incoming) (entered : EndState) → IsValidPacket e bytes a entered → is_unexpected entered a ≡ false → is_for_another entered a ≡ true
       → IsReset e bytes (without_detail (number_of_code codes.BadServiceCode))
   -- step 8: the first fault of the options
-  Faulted : (a : Incoming) (entered : EndState) (fault : Fault) → IsAdmitted e bytes a entered false → first_fault a.options ≡ Some fault → IsReset e bytes fault
+  Faulted : (a : Incoming) (entered : EndState) (fault : Fault) → IsAdmitted e bytes a entered false → reading_of entered a ≡ Err fault → IsReset e bytes fault
   -- step 14: Closed, the answer to a Close
-  AnswersClose : (a : Incoming) (entered : EndState) (to : Phase) → IsAdmitted e bytes a entered false → first_fault a.options ≡ None
+  AnswersClose : (a : Incoming) (entered : EndState) (h : Heeding) (to : Phase) → IsAdmitted e bytes a entered false → reading_of entered a ≡ Ok h
       → after entered.phase a.kind ≡ (to, reply.ResetClosed) → IsReset e bytes (without_detail (number_of_code codes.Closed))
 
 -- it tells of this fault
@@ -151,7 +158,8 @@ pub record IsTaken (e : EndState) (bytes : List ℕ) (delivered : Option (ℕ ×
   pub packet : Incoming
   pub entered : EndState
   pub admitted : IsAdmitted e bytes packet entered false
-  pub no_fault : first_fault packet.options ≡ None
+  pub heeding : Heeding
+  pub no_fault : reading_of entered packet ≡ Ok heeding
   pub to : Phase
   pub answer : Reply
   pub row : after entered.phase packet.kind ≡ (to, answer)
@@ -192,37 +200,44 @@ pub data IsResetting (e : EndState) (code : ℕ) (detail : List ℕ) : Effect �
   Answering : (first : Bool) (number : ℕ) (ack : Option ℕ) → code ≡ (number_of_code codes.Closed)
       → IsResetting e code detail (effect_of (Heard first number Taken) ack false phases.Closed false (Next (alone (kind.Reset (greatest_or first number e.marks.gsr) code detail))))
 
--- the packet that a row of the table answers with, if any: a SyncAck acknowledges the Sync, and all others the greatest number received
-abbrev pub replying : EndState → ℕ → ℕ → Reply → Sending
-replying e greatest number reply.Nothing = Silent
-replying e greatest number reply.Response = Next (alone (kind.Response greatest e.config.service))
-replying e greatest number reply.Ack = Next (alone (kind.Ack (Long greatest)))
-replying e greatest number reply.Close = Next (alone (kind.Close greatest))
-replying e greatest number reply.ResetClosed = Next (alone (kind.Reset greatest (number_of_code codes.Closed) (detail_of (without_detail (number_of_code codes.Closed)))))
-replying e greatest number reply.SyncAck = Next (alone (kind.SyncAck number))
-replying e greatest number reply.Torn = Silent
+-- The type with its fields of the packet that a row of the table answers with, if any. A SyncAck acknowledges the Sync, and all others
+-- the greatest number received; where the row has none, an Ack tells the Confirms that are due.
+abbrev pub replying : EndState → Phase → List Due → ℕ → ℕ → Reply → Option Kind
+replying e to confirms greatest number reply.Nothing = if is_connected to && has_confirms confirms then Some (kind.Ack (Long greatest)) else None
+replying e to confirms greatest number reply.Response = Some (kind.Response greatest e.config.service)
+replying e to confirms greatest number reply.Ack = Some (kind.Ack (Long greatest))
+replying e to confirms greatest number reply.Close = Some (kind.Close greatest)
+replying e to confirms greatest number reply.ResetClosed = Some (kind.Reset greatest (number_of_code codes.Closed) (detail_of (without_detail (number_of_code codes.Closed))))
+replying e to confirms greatest number reply.SyncAck = Some (kind.SyncAck number)
+replying e to confirms greatest number reply.Torn = None
 
--- The effect of a packet that was taken: the row of its phase and type.
-pub record IsTaking (e : EndState) (given : Input) (f : Effect) : Type 0 where
+-- what goes out under the next number
+abbrev pub kind_sent : Sending → Option Kind
+kind_sent Silent = None
+kind_sent (Next packet) = Some packet.kind
+kind_sent (WithoutConnection number packet) = None
+
+-- The effect of a packet that was taken, with the Confirms that are due: the row of its phase and type.
+pub record IsTaking (e : EndState) (given : Input) (f : Effect) (confirms : List Due) : Type 0 where
   pub packet : Incoming
   pub came : Came e given packet
   pub first : Bool
-  pub ack : Option ℕ
-  pub entered : Phase
-  pub is_entered : entered ≡ phase_entered e.phase
   pub to : Phase
   pub answer : Reply
-  pub row : after entered packet.kind ≡ (to, answer)
-  pub is : f ≡ effect_of (Heard first packet.number Taken) ack (becomes_open entered to) to false (replying e (greatest_or first packet.number e.marks.gsr) packet.number answer)
+  pub row : after (phase_entered e.phase) packet.kind ≡ (to, answer)
+  pub heard : f.hearing ≡ Heard first packet.number Taken
+  pub moved : f.phase ≡ to
+  pub opening : f.opening ≡ becomes_open (phase_entered e.phase) to
+  pub replied : kind_sent f.sending ≡ replying e to confirms (greatest_or first packet.number e.marks.gsr) packet.number answer
 
--- What an outcome tells of the step's effect.
-abbrev pub HasForm : EndState → Input → Outcome → Effect → Type 0
-HasForm e given (Dropped why) f = f ≡ effect_of_sending e Silent
-HasForm e given (Synced number) f = IsSyncing e number f
-HasForm e given (WasReset code) f = f ≡ record (effect_of_sending e Silent) { phase = phases.TimeWait }
-HasForm e given (SentReset code detail) f = IsResetting e code detail f
-HasForm e given NotBuilt f = f ≡ effect_of_sending e Silent
-HasForm e given (Took delivered) f = IsTaking e given f
+-- What an outcome tells of the step's effect, with the Confirms that are due.
+abbrev pub HasForm : EndState → Input → Outcome → Effect → List Due → Type 0
+HasForm e given (Dropped why) f confirms = f ≡ effect_of_sending e Silent
+HasForm e given (Synced number) f confirms = IsSyncing e number f
+HasForm e given (WasReset code) f confirms = f ≡ record (effect_of_sending e Silent) { phase = phases.TimeWait }
+HasForm e given (SentReset code detail) f confirms = IsResetting e code detail f
+HasForm e given NotBuilt f confirms = f ≡ effect_of_sending e Silent
+HasForm e given (Took delivered) f confirms = IsTaking e given f confirms
 
 -- The step is this effect's, and the effect has the outcome's form.
 pub record HasEffectOf (e : EndState) (given : Input) (outcome : Outcome) (after : EndState) (frame : Option (List ℕ)) (calls : List Call) : Type 0 where
@@ -231,4 +246,4 @@ pub record HasEffectOf (e : EndState) (given : Input) (outcome : Outcome) (after
   pub frame_is : frame ≡ frame_by e effect.sending
   pub calls_are : calls ≡ effect.calls
   pub because : IsCaused e given effect
-  pub form : HasForm e given outcome effect
+  pub form : HasForm e given outcome effect because.turns.confirms

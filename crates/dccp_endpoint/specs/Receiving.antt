@@ -1,8 +1,8 @@
 -- What an end does with the bytes that arrive: the sixteen steps of RFC 4340, section 8.5, as far as they are built.
 --
--- `the_steps` lists steps 2 to 9, and `receives` at the foot joins step 1 before and steps 10 to 16 behind them. Each step has one
--- definition, above these.
-use Rattle.std.specs.Prelude.{◌==◌, ◌&&◌, not, ℕ, ◌+◌, Bool, true, false, List, [], ◌∷◌, Option, Some, None, Result, Ok, Err}
+-- `the_steps` lists steps 2 to 9 but for step 8, and `receives` at the foot joins step 1 before and steps 8 and 10 to 16 behind
+-- them. Each step has one definition, above these.
+use Rattle.std.specs.Prelude.{◌==◌, ◌&&◌, not, if◌then◌else◌, ℕ, ◌+◌, Bool, true, false, List, [], ◌∷◌, Option, Some, None, Result, Ok, Err}
 use Rattle.seq_circle.specs.Circle.{residue, is_before}
 use Rattle.dccp_sum.specs.Checksum.{checked}
 use Rattle.dccp_sum.specs.declared.packet_sum.SumFault.{SumFault}
@@ -30,12 +30,15 @@ use Rattle.validity_windows.specs.Verdict.{verdict, is_ack_within, taken}
 use Rattle.validity_windows.specs.declared.verdict.Verdict.{Verdict}
 use Rattle.validity_windows.specs.declared.verdict.Verdict.TheVariants as verdicts
 use Rattle.dccp_endpoint.specs.Drafts.{alone, frame_of}
-use Rattle.dccp_endpoint.specs.End.{EndState, is_open}
-use Rattle.dccp_endpoint.specs.Faults.{first_fault, is_unbuilt}
+use Rattle.dccp_endpoint.specs.End.{EndState, is_connected, is_open, with_rows}
+use Rattle.dccp_endpoint.specs.Faults.{counts, is_unbuilt}
+use Rattle.dccp_endpoint.specs.Heeding.{Due, Heeding, heeds, unheeded}
 use Rattle.dccp_endpoint.specs.Incoming.{Incoming, incoming}
 use Rattle.dccp_packets.specs.ResetCodes.{number_of_code}
 use Rattle.dccp_packets.specs.declared.reset_code.ResetCode.TheVariants as codes
+use Rattle.dccp_endpoint.specs.Speaking.{asking, asks, confirming, has_confirms, offers, saying}
 use Rattle.dccp_endpoint.specs.Steps.{Step, in_phase, idle, sends, detail_of, reset_of, without_detail}
+use Rattle.dccp_endpoint.specs.Turns.{Key}
 use Rattle.dccp_endpoint.specs.declared.exit.Exit.{Exit}
 use Rattle.dccp_endpoint.specs.declared.exit.Exit.TheVariants as exits
 use Rattle.dccp_endpoint.specs.declared.outcome.Fault.{Fault}
@@ -185,21 +188,7 @@ expects a x false = serves a x (is_other_service x x.phase a.kind a.service)
 abbrev pub checks_type : Incoming → EndState → Course
 checks_type a x = expects a x (is_unexpected x a)
 
--- Step 8: the first fault of the options ends the connection. What needs a part that is not built goes no further.
-abbrev pub heeds : EndState → Option Fault → Course
-heeds x (Some fault) = Leaves x (exits.Shut fault)
-heeds x None = Goes x
-
--- by whether the packet needs a part that is not built
-abbrev pub reads : Incoming → EndState → Bool → Course
-reads a x true = Leaves x exits.NotBuilt
-reads a x false = heeds x (first_fault a.options)
-
--- step 8, whole
-abbrev pub reads_options : Incoming → EndState → Course
-reads_options a x = reads a x (is_unbuilt x.phase a.kind a.options)
-
--- The steps from 2 on, in their order. Each is given the end as the one before it left it.
+-- The steps from 2 to 7, in their order. Each is given the end as the one before it left it.
 abbrev pub the_steps : Incoming → Entrance → List (EndState → Course)
 the_steps a entrance =
     -- 2
@@ -214,8 +203,6 @@ the_steps a entrance =
     ∷ ends_by_reset a a.kind
     -- 7
     ∷ checks_type a
-    -- 8
-    ∷ reads_options a
     ∷ []
 
 -- steps one after another, up to the one at which the packet leaves
@@ -246,19 +233,39 @@ took = Took None
 abbrev pub resets : EndState → ℕ → Fault → Step Outcome
 resets e ack fault = sends e (reset_of ack fault) (SentReset fault.code (detail_of fault))
 
+-- A Response opens the offered rows that have no Confirm in it, and carries the Changes of these and of all others that ask. Once
+-- their Changes have gone out:
+abbrev pub responds_asking : EndState → List Due → List Key → Step Outcome
+responds_asking e confirms keys = sends e (saying (kind.Response e.marks.gsr e.config.service) confirms e.rows keys) took
+
+-- once the offers have come up
+abbrev pub responds_offering : EndState → List Due → List Key → Step Outcome
+responds_offering e confirms keys = responds_asking (asks e keys) confirms keys
+
+abbrev pub responds : EndState → List Due → Step Outcome
+responds e confirms = responds_offering (offers e confirms) confirms (asking (offers e confirms).rows confirms)
+
+-- an Ack with the Confirms that are due
+abbrev pub acknowledges : EndState → List Due → Step Outcome
+acknowledges e confirms = sends e (confirming (kind.Ack (Long e.marks.gsr)) confirms) took
+
+-- Where the table has no reply, an Ack goes out in PARTOPEN and OPEN if Confirms are due (own).
+abbrev pub needs_ack : EndState → List Due → Bool
+needs_ack e confirms = is_connected e.phase && has_confirms confirms
+
 -- what the table sends; a Reset has left at step 9
-abbrev pub replies : EndState → Incoming → Reply → Step Outcome
-replies e a reply.Nothing = idle e took
-replies e a reply.Response = sends e (alone (kind.Response e.marks.gsr e.config.service)) took
-replies e a reply.Ack = sends e (alone (kind.Ack (Long e.marks.gsr))) took
-replies e a reply.Close = sends e (alone (kind.Close e.marks.gsr)) took
-replies e a reply.ResetClosed = resets e e.marks.gsr (without_detail (number_of_code codes.Closed))
-replies e a reply.SyncAck = sends e (alone (kind.SyncAck a.number)) took
-replies e a reply.Torn = idle e took
+abbrev pub replies : EndState → Incoming → List Due → Reply → Step Outcome
+replies e a confirms reply.Nothing = if needs_ack e confirms then acknowledges e confirms else idle e took
+replies e a confirms reply.Response = responds e confirms
+replies e a confirms reply.Ack = acknowledges e confirms
+replies e a confirms reply.Close = sends e (alone (kind.Close e.marks.gsr)) took
+replies e a confirms reply.ResetClosed = resets e e.marks.gsr (without_detail (number_of_code codes.Closed))
+replies e a confirms reply.SyncAck = sends e (confirming (kind.SyncAck a.number) confirms) took
+replies e a confirms reply.Torn = idle e took
 
 -- steps 10 to 16, whole, by the row of the table
-abbrev pub processes : EndState → Incoming → Phase × Reply → Step Outcome
-processes e a to = replies (moved_to e to.0 a.number) a to.1
+abbrev pub processes : EndState → Incoming → List Due → Phase × Reply → Step Outcome
+processes e a confirms to = replies (moved_to e to.0 a.number) a confirms to.1
 
 -- A Reset without a connection takes its numbers from the packet, and the end stays as it is (own). Its number is the next after the
 -- acknowledgement:
@@ -290,9 +297,29 @@ leaves phase marks e a (exits.Shut fault) = resets (in_phase e phases.Closed) e.
 leaves phase marks e a (exits.TimeWait code) = idle (in_phase e phases.TimeWait) (WasReset code)
 leaves phase marks e a exits.NotBuilt = idle (record e { phase = phase; marks = marks }) NotBuilt
 
+-- Step 8: what needs a part that is not built goes no further. Options of the negotiation are heeded on the newest packets alone;
+-- the first fault ends the connection.
+abbrev pub heeding_or_exit : Result Heeding Fault → Result Heeding Exit
+heeding_or_exit (Ok h) = Ok h
+heeding_or_exit (Err fault) = Err (exits.Shut fault)
+
+-- by whether the packet needs a part that is not built
+abbrev pub reads : EndState → Incoming → Bool → Result Heeding Exit
+reads x a true = Err exits.NotBuilt
+reads x a false = heeding_or_exit (heeds (a.newest && counts x.phase a.kind) a.ack (unheeded x.rows) a.options)
+
+-- step 8, whole
+abbrev pub reads_options : EndState → Incoming → Result Heeding Exit
+reads_options x a = reads x a (is_unbuilt a.kind)
+
+-- The rows are stored once the options are read to their end; a fault leaves them as they were. Then come steps 10 to 16.
+abbrev pub heeded : EndState → EndState → Incoming → Result Heeding Exit → Step Outcome
+heeded before x a (Ok h) = processes (with_rows x h.rows) a h.confirms (after x.phase a.kind)
+heeded before x a (Err exit) = leaves before.phase before.marks x a exit
+
 -- what is done in the end, by the course of the steps
 abbrev pub ends_as : EndState → Incoming → Course → Step Outcome
-ends_as before a (Goes x) = processes x a (after x.phase a.kind)
+ends_as before a (Goes x) = heeded before x a (reads_options x a)
 ends_as before a (Leaves x exit) = leaves before.phase before.marks x a exit
 
 -- steps 2 to 16, whole

@@ -1,14 +1,21 @@
--- What happens to the rows of the negotiation, in order (RFC 4340, section 6).
+-- What happens to the rows of the negotiation in one step, in order (RFC 4340, section 6).
+use Rattle.std.specs.Prelude.{ℕ, Bool, List, map}
 use Rattle.feature_lists.specs.declared.features.Feature.{Feature}
 use Rattle.feature_lists.specs.declared.features.Place.{Place}
-use Rattle.feature_machine.specs.Rows.{RowEvent}
+use Rattle.feature_machine.specs.Rows.{RowEvent, Offers, Sends}
+use Rattle.feature_machine.specs.Turns.{Turn, turn}
 
 -- a row, by its feature and place
-pub record Key : Type 0 where
-  pub feature : Feature
-  pub place : Place
+abbrev pub Key : Type 0
+Key = Feature × Place
 
--- what happens to one row
-pub record Turn : Type 0 where
-  pub key : Key
-  pub event : RowEvent
+abbrev pub turn_of : Key → RowEvent → Turn
+turn_of k event = turn k.0 k.1 event
+
+-- the Changes of these rows go out under this number
+abbrev pub sendings : ℕ → List Key → List Turn
+sendings number keys = map (λ k. turn_of k (Sends number)) keys
+
+-- the offers of these rows come up; a Confirm for some of them goes out on the same packet
+abbrev pub offerings : (Key → Bool) → List Key → List Turn
+offerings is_confirmed keys = map (λ k. turn_of k (Offers (is_confirmed k))) keys

@@ -3,6 +3,8 @@ ghost use Rattle.std.specs.Prelude.{◌≡◌, ◌<◌, ◌^◌};
 
 use dccp_states::Role;
 use dccp_sum::Pseudo;
+use feature_lists::{Feature, Place, PreferFault};
+use feature_machine::Lists;
 use seq_circle::Seq48;
 
 // A sequence number that is known to be one.
@@ -33,10 +35,15 @@ pub struct Config {
     pub service: u32,
     /// The sequence number of its first packet (RFC 4340, section 7.2).
     pub iss: Seq48,
+    /// What it wishes for each feature at each place, and what of it it offers by itself (RFC 4340, section 6).
+    pub lists: Lists,
 }
 
 impl Config {
-    ghost use Rattle.std.specs.Prelude.{◌≡◌};
+    ghost use Rattle.std.specs.Prelude.{◌≡◌, ◌↔◌, Err, IfOk, IsOk, OnErr, OnOk, true, false};
+    ghost use Rattle.feature_lists.specs.Wishes.{is_ours, wish_of};
+    ghost use Rattle.feature_lists.specs.declared.wishes.PreferFault.TheVariants.{BadList, NotOurs};
+    ghost use Rattle.feature_machine.specs.Lists.{IsLists, with_offer, with_wish, without_offers};
     ghost use Rattle.dccp_endpoint.specs.Usual.{usual};
 
     /// The ends that a schedule begins with (own): the client at 10.0.0.1, port 40000, with the initial sequence number
@@ -61,6 +68,7 @@ impl Config {
                 peer_port: 5001,
                 service: 42,
                 iss: number(1000),
+                lists: Lists::usual(),
             },
             Role::Server => Config {
                 role,
@@ -70,7 +78,52 @@ impl Config {
                 peer_port: 40000,
                 service: 42,
                 iss: number(2000),
+                lists: Lists::usual(),
             },
         }
+    }
+
+    // Reading a list gives the prover what lists keep.
+    pub(crate) fn shows_lists(&self)
+        ensures { IsLists self.now.lists }
+    {
+        let _wish = self.lists.wish(Feature::Ccid, Place::Here);
+    }
+
+    /// Wishes these values, best first, for the feature at this place from the start on, in place of what was wished there.
+    ///
+    /// Refused, with nothing changed, as `feature_lists::wish` refuses: BadList, then NotOurs.
+    pub fn set(&mut self, feature: Feature, place: Place, values: &[u64]) -> Result<(), PreferFault>
+        ensures ok { IsOk result ↔ IsOk (wish_of feature place values.now) }
+        ensures wish { IfOk (wish_of feature place values.now) (λ wish. self.new ≡ record self.old { lists = with_wish self.old.lists feature place wish }) }
+        ensures bad_list { (result ≡ Err PreferFault.BadList) ↔ (wish_of feature place values.now ≡ Err BadList) }
+        ensures not_ours { (result ≡ Err PreferFault.NotOurs) ↔ (wish_of feature place values.now ≡ Err NotOurs) }
+        ensures refused { OnErr result (self.new ≡ self.old) }
+    {
+        self.lists.set(feature, place, values)
+    }
+
+    /// Offers the wish for the feature at this place at the start, in place of what was offered there.
+    ///
+    /// Refused with NotOurs, with nothing changed, exactly for a non-negotiable feature at There.
+    pub fn offer(
+        &mut self,
+        feature: Feature,
+        place: Place,
+        mandatory: bool,
+    ) -> Result<(), PreferFault>
+        ensures ok { OnOk result (self.new ≡ record self.old { lists = with_offer self.old.lists feature place mandatory }) }
+        ensures not_ours { (result ≡ Err PreferFault.NotOurs) ↔ (is_ours feature place ≡ false) }
+        ensures other { IsOk result ↔ (is_ours feature place ≡ true) }
+        ensures refused { OnErr result (self.new ≡ self.old) }
+    {
+        self.lists.offer(feature, place, mandatory)
+    }
+
+    /// Takes all offers away, and leaves the wishes.
+    pub fn plain(&mut self)
+        ensures { self.new ≡ record self.old { lists = without_offers self.old.lists } }
+    {
+        self.lists.plain();
     }
 }

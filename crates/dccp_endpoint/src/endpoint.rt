@@ -1,7 +1,11 @@
 //! The end itself.
-use crate::{Config, Held, Stand};
+ghost use Rattle.std.specs.Prelude.{◌≡◌};
+ghost use Rattle.dccp_endpoint.specs.End.{end_of, first_phase};
+
+use crate::{Config, Held};
 use dccp_states::{Phase, Role};
 use feature_lists::{Feature, Place, initial};
+use feature_machine::{Negotiation, Role2};
 use seq_circle::{NoMemory, Seq48};
 use std::marker::Model;
 use validity_windows::Marks;
@@ -10,17 +14,37 @@ mod calling;
 mod receiving;
 mod sending;
 
+// Whose end the rows of the negotiation are of.
+fn end_of(role: Role) -> Role2
+    ensures { result ≡ end_of role }
+{
+    match role {
+        Role::Client => Role2::Client,
+        Role::Server => Role2::Server,
+    }
+}
+
+// Where each role begins (RFC 4340, section 8.1).
+fn first_phase(role: Role) -> Phase
+    ensures { result ≡ first_phase role }
+{
+    match role {
+        Role::Client => Phase::Closed,
+        Role::Server => Phase::Listen,
+    }
+}
+
 /// One end of a connection. Its readers show the phase, the marks, the features' values and what is in flight; `open`
-/// begins a connection at a client, `close` and `abort` end one; `timer` says that a timer has run out, and `receive` takes
-/// any bytes that arrive. Each call that takes an Outbox empties it
-/// first and leaves at most one frame there. A refused call leaves the end unchanged and the box empty. Only `new` may
-/// take memory.
+/// begins a connection at a client, `prefer` asks for a feature's value, `close` and `abort` end a connection; `timer` says
+/// that a timer has run out, and `receive` takes any bytes that arrive. Each call that takes an Outbox empties it first and
+/// leaves at most one frame there. A refused call leaves the end unchanged and the box empty. Only `new` may take memory.
 #[derive(Drop)]
 pub struct Endpoint {
     config: Config,
     phase: Phase,
     opened: bool,
     marks: Marks,
+    rows: Negotiation,
 }
 
 impl Model for Endpoint {
@@ -28,29 +52,30 @@ impl Model for Endpoint {
 
     ghost Value = { EndState };
 
-    ghost view = { λ e. record { config = e.config; phase = e.phase; opened = e.opened; marks = e.marks } };
+    ghost view = { λ e. record { config = e.config; phase = e.phase; opened = e.opened; marks = e.marks; rows = e.rows } };
 
-    ghost invariant = { λ e. IsProper (record { config = e.config; phase = e.phase; opened = e.opened; marks = e.marks }) };
+    ghost invariant = { λ e. IsProper (record { config = e.config; phase = e.phase; opened = e.opened; marks = e.marks; rows = e.rows }) };
 }
 
 impl Endpoint {
     ghost use Rattle.std.specs.Prelude.{◌≡◌, Ok};
-    ghost use Rattle.dccp_endpoint.specs.End.{EndState, fresh, held_of, floor_of, window_of, in_flight_of};
+    ghost use Rattle.dccp_endpoint.specs.End.{EndState, fresh, held_of, floor_of, window_of, in_flight_of, with_rows};
+    ghost use Rattle.feature_machine.specs.Negotiating.{AreRowsOf};
 
     /// An end of its configuration: CLOSED for a client, LISTEN for a server (RFC 4340, section 8.1).
     pub fn new(config: Config) -> Result<Endpoint, NoMemory>
         ensures { result ≡ Ok (fresh config) }
     {
-        let phase = match config.role {
-            Role::Client => Phase::Closed,
-            Role::Server => Phase::Listen,
-        };
+        config.shows_lists();
+        let phase = first_phase(config.role);
         let marks = Marks::new(config.iss, initial(Feature::SequenceWindow));
+        let rows = Negotiation::new(end_of(config.role), &config.lists);
         Ok(Endpoint {
             config,
             phase,
             opened: false,
             marks,
+            rows,
         })
     }
 
@@ -68,16 +93,11 @@ impl Endpoint {
         self.marks
     }
 
-    /// What the end holds for a feature at a place. No feature is negotiated yet: each stands at its initial value
-    /// (RFC 4340, section 6.4).
+    /// What the end holds for a feature at a place, and where its negotiation stands (RFC 4340, section 6.6.2).
     pub fn held(&self, feature: Feature, place: Place) -> Held
         ensures { result ≡ held_of self.now feature place }
     {
-        let _ = place;
-        Held {
-            value: initial(feature),
-            stand: Stand::Stable,
-        }
+        self.rows.held(feature, place)
     }
 
     /// How many data packets may be in flight. No data is sent yet: it is the first window of CCID 2 (RFC 4341, section
@@ -93,6 +113,25 @@ impl Endpoint {
         ensures { result ≡ in_flight_of self.now }
     {
         0
+    }
+
+    // The rows: they are of the end's role, and the windows are as wide as they say.
+    fn rows(&self) -> &Negotiation
+        ensures value { result.now ≡ self.now.rows }
+        ensures role { AreRowsOf (end_of self.now.config.role) self.now.rows }
+        ensures widths { with_rows self.now self.now.rows ≡ self.now }
+    {
+        &self.rows
+    }
+
+    // The rows are these from now on, and the windows as wide as they say.
+    fn store(&mut self, rows: &Negotiation)
+        requires { AreRowsOf (end_of self.old.config.role) rows.now }
+        ensures { self.new ≡ with_rows self.old rows.now }
+    {
+        self.marks.own_w = rows.held(Feature::SequenceWindow, Place::Here).value;
+        self.marks.peer_w = rows.held(Feature::SequenceWindow, Place::There).value;
+        self.rows = *rows;
     }
 
     /// The least number that an Ack Vector may report: the first number received, or 0 before that.

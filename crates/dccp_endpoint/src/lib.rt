@@ -1,8 +1,10 @@
-//! One end of a DCCP connection: what it does with each packet that arrives and with each call (RFC 4340, section 8).
+//! One end of a DCCP connection: what it does with each packet that arrives and with each call, and how it negotiates
+//! features (RFC 4340, sections 6 and 8).
 //!
-//! An [`Endpoint`] is made from a [`Config`] and serves one connection. Its calls put at most one frame into an
-//! `Outbox`, which they empty first; a refused call leaves the end unchanged and the box empty. It has no socket and no
-//! clock, and takes no memory once it is made. Frames that arrive are handed to `receive`, in whatever order.
+//! An [`Endpoint`] is made from a [`Config`], which has its wishes and offers, and serves one connection. Its calls put at
+//! most one frame into an `Outbox`, which they empty first; a refused call leaves the end unchanged and the box empty. It
+//! has no socket and no clock, and takes no memory once it is made. Frames that arrive are handed to `receive`, in whatever
+//! order.
 #![tactic(auto)]
 
 mod calls;
@@ -10,10 +12,11 @@ mod config;
 mod endpoint;
 mod exit;
 mod faults;
-mod held;
+mod heeding;
 mod incoming;
 mod laws;
 mod outcome;
+mod speaking;
 #[cfg(test)]
 mod tests;
 
@@ -21,8 +24,12 @@ pub use crate::calls::{AbortFault, CloseFault, OpenFault, Timer};
 pub use crate::config::Config;
 pub use crate::endpoint::Endpoint;
 pub(crate) use crate::exit::Exit;
-pub use crate::held::{Held, Stand};
-pub use crate::laws::{every_step_has_one_effect, own_frames_are_read};
+pub use crate::laws::{
+    every_step_has_one_effect, own_frames_are_read, own_packets_say_one_thing_of_a_row,
+    own_packets_speak_once, packets_say_one_thing_to_a_row,
+};
 pub use crate::outcome::{Fault, Outcome, Why};
 pub use dccp_states::{Phase, Role};
+pub use feature_lists::{Feature, Place, PreferFault};
+pub use feature_machine::{Held, Stand};
 pub use validity_windows::Marks;

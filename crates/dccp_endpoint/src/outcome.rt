@@ -35,7 +35,7 @@ pub enum Outcome {
     WasReset(u8),
     /// It was answered with a Reset of this code and detail (RFC 4340, section 5.6).
     SentReset { code: u8, detail: [u8; 3] },
-    /// It carries data, or options of the negotiation where they count: neither is built yet. The end is unchanged.
+    /// It is a Data or a DataAck, which are not built yet. The end is unchanged.
     NotBuilt,
 }
 

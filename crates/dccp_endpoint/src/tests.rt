@@ -1,6 +1,7 @@
 //! The worked packets of one end, each outcome of `receive`, and its calls and timers.
 use crate::{
-    AbortFault, CloseFault, Config, Endpoint, OpenFault, Outcome, Phase, Role, Timer, Why,
+    AbortFault, CloseFault, Config, Endpoint, Feature, Held, OpenFault, Outcome, Phase, Place,
+    PreferFault, Role, Stand, Timer, Why,
 };
 use dccp_packets::{Malformed, Outbox};
 use dccp_sum::SumFault;
@@ -48,8 +49,15 @@ fn is_answered(
 
 const TOOK: Outcome = Outcome::Took { delivered: None };
 
+// Ends without offers.
+fn plain(role: Role) -> Config {
+    let mut config = Config::usual(role);
+    config.plain();
+    config
+}
+
 fn listening() -> Result<Endpoint, Fail> {
-    Ok(Endpoint::new(Config::usual(Role::Server))?)
+    Ok(Endpoint::new(plain(Role::Server))?)
 }
 
 fn responding(alloc: Global) -> Result<Endpoint, Fail> {
@@ -62,7 +70,12 @@ fn responding(alloc: Global) -> Result<Endpoint, Fail> {
 }
 
 fn requesting() -> Result<Endpoint, Fail> {
-    let mut end = Endpoint::new(Config::usual(Role::Client))?;
+    asking(plain(Role::Client))
+}
+
+// A client that has sent its Request.
+fn asking(config: Config) -> Result<Endpoint, Fail> {
+    let mut end = Endpoint::new(config)?;
     let mut out = Outbox::new();
     end.open(&mut out)?;
     Ok(end)
@@ -179,7 +192,7 @@ fn packets_in_respond(rt: HostRuntime) -> Result<(), Fail> {
             Phase::Respond,
         ),
         (
-            "9c4013890800083107000000000003e900000000000007d020050102f8000000",
+            "9c4013890600773f09000000000003e900000000000007d0aa",
             Outcome::NotBuilt,
             "",
             Phase::Respond,
@@ -390,7 +403,7 @@ fn timers_by_phase(rt: HostRuntime) -> Result<(), Fail> {
     let mut closed = requesting()?;
     closed.abort(&mut out)?;
     let ends = [
-        (Endpoint::new(Config::usual(Role::Client))?, None),
+        (Endpoint::new(plain(Role::Client))?, None),
         (requesting()?, Some(Timer::Request)),
         (part_open, Some(Timer::Ack)),
         (open_client(rt.alloc())?, Some(Timer::Ack)),
@@ -415,5 +428,172 @@ fn timers_by_phase(rt: HostRuntime) -> Result<(), Fail> {
             assert!(rt; end.timer(timer, &mut out));
         }
     }
+    Ok(())
+}
+
+// What an end holds for a feature at a place.
+fn holds(end: &Endpoint, feature: Feature, place: Place, value: u64, stand: Stand) -> bool {
+    end.held(feature, place) == Held { value, stand }
+}
+
+const OFFERED_REQUEST: &str = "9c401389080000b601000000000003e80000002a012004040101220406010000";
+
+const OFFERED_RESPONSE: &str = "13899c400d00a1c303000000000007d000000000000003e80000002a\
+230604010100210606010100012004040101220406010000";
+
+const OFFERED_ACK: &str = "9c4013890900d02607000000000003e900000000000007d0\
+230604010100210606010100";
+
+#[test]
+fn usual_offers(rt: HostRuntime) -> Result<(), Fail> {
+    let mut client = Endpoint::new(Config::usual(Role::Client))?;
+    let mut server = Endpoint::new(Config::usual(Role::Server))?;
+    let mut out = Outbox::new();
+    client.open(&mut out)?;
+    assert!(rt; has_sent(rt.alloc(), &out, OFFERED_REQUEST)?);
+    assert!(rt;
+        is_answered(
+            rt.alloc(),
+            &mut server,
+            OFFERED_REQUEST,
+            TOOK,
+            OFFERED_RESPONSE
+        )?
+    );
+    assert!(rt; is_answered(rt.alloc(), &mut client, OFFERED_RESPONSE, TOOK, OFFERED_ACK)?);
+    assert!(rt; is_answered(rt.alloc(), &mut server, OFFERED_ACK, TOOK, SERVER_ACK)?);
+    for end in [client, server] {
+        for feature in [Feature::EcnIncapable, Feature::SendAckVector] {
+            assert!(rt; holds(&end, feature, Place::Here, 1, Stand::Stable));
+            assert!(rt; holds(&end, feature, Place::There, 1, Stand::Stable));
+        }
+    }
+    Ok(())
+}
+
+// A server's order of values wins; and what Mandatory asks for in vain ends the connection.
+#[test]
+fn lists_and_offers(rt: HostRuntime) -> Result<(), Fail> {
+    let mut config = plain(Role::Client);
+    config.offer(Feature::Ccid, Place::Here, false)?;
+    let mut client = asking(config)?;
+    let mut config = plain(Role::Server);
+    config.set(Feature::Ccid, Place::There, &[248, 2])?;
+    let mut server = Endpoint::new(config)?;
+    let request = "9c401389070016dc01000000000003e80000002a20050102f8000000";
+    let response = "13899c400900070b03000000000007d000000000000003e80000002a230601f8f8020000";
+    assert!(rt; is_answered(rt.alloc(), &mut server, request, TOOK, response)?);
+    assert!(rt; is_answered(rt.alloc(), &mut client, response, TOOK, ACK)?);
+    assert!(rt; holds(&client, Feature::Ccid, Place::Here, 248, Stand::Stable));
+    assert!(rt; holds(&server, Feature::Ccid, Place::There, 248, Stand::Stable));
+    let mut config = plain(Role::Server);
+    config.set(Feature::SendAckVector, Place::Here, &[0])?;
+    let mut server = Endpoint::new(config)?;
+    let request = "9c401389070029bc01000000000003e80000002a0122040601000000";
+    let reset = "13899c4007000e1b0f000000000007d000000000000003e806220601";
+    let wanted = Outcome::SentReset {
+        code: 6,
+        detail: [34, 6, 1],
+    };
+    assert!(rt; is_answered(rt.alloc(), &mut server, request, wanted, reset)?);
+    assert_eq!(rt; server.phase(), Phase::Closed);
+    Ok(())
+}
+
+// The least and the greatest Sequence Window are taken, and one below the least gets an empty Confirm.
+#[test]
+fn sequence_windows(rt: HostRuntime) -> Result<(), Fail> {
+    let cases = [
+        (
+            "9c4013890800ecd601000000000003e80000002a20090300000000001f000000",
+            "13899c400800ff0c03000000000007d000000000000003e80000002a23030300",
+            100,
+        ),
+        (
+            "9c4013890800ebd601000000000003e80000002a200903000000000020000000",
+            "13899c400a00dcfe03000000000007d000000000000003e80000002a230903000000000020000000",
+            32,
+        ),
+        (
+            "9c40138908000c9701000000000003e80000002a2009033fffffffffff000000",
+            "13899c400a00fdbe03000000000007d000000000000003e80000002a2309033fffffffffff000000",
+            70_368_744_177_663,
+        ),
+    ];
+    for (request, response, width) in cases {
+        let mut server = listening()?;
+        assert!(rt;
+            is_answered(rt.alloc(), &mut server, request, TOOK, response)?,
+            "{request}"
+        );
+        assert_eq!(rt; server.marks().peer_w, width, "{request}");
+    }
+    Ok(())
+}
+
+// Whether an end takes the frame in the box.
+fn takes(end: &mut Endpoint, sent: &Outbox, out: &mut Outbox) -> bool {
+    match sent.frame() {
+        Some(frame) => end.receive(frame.bytes(), out) == TOOK,
+        None => false,
+    }
+}
+
+// Whether a preference is answered so, and nothing goes out where it is refused.
+fn is_preferred(
+    end: &mut Endpoint,
+    row: (Feature, Place),
+    values: &[u64],
+    wanted: Result<(), PreferFault>,
+) -> bool {
+    let mut out = Outbox::new();
+    let result = end.prefer(row.0, row.1, values, &mut out);
+    result == wanted && (result.is_ok() || out.frame().is_none())
+}
+
+#[test]
+fn refused_preferences(rt: HostRuntime) -> Result<(), Fail> {
+    let ccid = (Feature::Ccid, Place::Here);
+    let window = (Feature::SequenceWindow, Place::There);
+    let mut early = requesting()?;
+    assert!(rt; is_preferred(&mut early, ccid, &[2], Err(PreferFault::NotOpen)));
+    let mut client = open_client(rt.alloc())?;
+    assert!(rt; is_preferred(&mut client, ccid, &[3], Err(PreferFault::BadList)));
+    assert!(rt; is_preferred(&mut client, window, &[200], Err(PreferFault::NotOurs)));
+    Ok(())
+}
+
+// A server that wishes the values 2 and 1 of Minimum Checksum Coverage at the peer, in OPEN.
+fn choosing_server(alloc: Global) -> Result<Endpoint, Fail> {
+    let mut config = plain(Role::Server);
+    config.set(Feature::MinCsCov, Place::There, &[2, 1])?;
+    let mut end = Endpoint::new(config)?;
+    if is_answered(alloc, &mut end, REQUEST, TOOK, RESPONSE)?
+        && is_answered(alloc, &mut end, ACK, TOOK, SERVER_ACK)?
+    {
+        Ok(end)
+    } else {
+        Err(Fail::from("OPEN"))
+    }
+}
+
+// A Change goes out again by the timer, and is confirmed; a wish that comes while one is out waits.
+#[test]
+fn preferences(rt: HostRuntime) -> Result<(), Fail> {
+    let row = (Feature::MinCsCov, Place::Here);
+    let mut out = Outbox::new();
+    let mut answer = Outbox::new();
+    let mut client = open_client(rt.alloc())?;
+    let mut server = choosing_server(rt.alloc())?;
+    assert!(rt; is_preferred(&mut client, row, &[1, 2], Ok(())));
+    assert!(rt; holds(&client, row.0, row.1, 0, Stand::Changing));
+    assert!(rt; client.timer(Timer::Negotiate, &mut out));
+    assert!(rt; takes(&mut server, &out, &mut answer));
+    assert!(rt; takes(&mut client, &answer, &mut out));
+    assert!(rt; holds(&client, row.0, row.1, 2, Stand::Stable));
+    assert!(rt; holds(&server, row.0, Place::There, 2, Stand::Stable));
+    assert!(rt; is_preferred(&mut client, row, &[1], Ok(())));
+    assert!(rt; is_preferred(&mut client, row, &[2], Ok(())));
+    assert!(rt; holds(&client, row.0, row.1, 2, Stand::Unstable));
     Ok(())
 }

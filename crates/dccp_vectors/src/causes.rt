@@ -330,22 +330,26 @@ const NUMBERS: [Table<'static>; 22] = [
 
 // Options: which count, which are faults, and which are passed over.
 const OPTIONS: [Table<'static>; 14] = [
-    // Change L, Confirm L, Change R and Confirm R for the feature CCID.
+    // Change L, Confirm L, Change R and Confirm R for the feature CCID: the Changes are answered, and the Confirms are for
+    // nothing that was asked.
     Table {
         start: LISTENING,
         rows: "\
-            9c40138906000fe201000000000003e80000002a20040102 \
-            9c40138906000ee201000000000003e80000002a21040102 \
-            9c40138906000de201000000000003e80000002a22040102 \
+            9c40138906000fe201000000000003e80000002a20040102: \
+            took, Respond, 2000 2000 1000 1000 1000, 13899c400900fd0b03000000000007d000000000000003e80000002a2306010202f80000\n\
+            9c40138906000ee201000000000003e80000002a21040102: \
+            took, Respond, 2000 2000 1000 1000 1000, 13899c400700261403000000000007d000000000000003e80000002a\n\
+            9c40138906000de201000000000003e80000002a22040102: \
+            took, Respond, 2000 2000 1000 1000 1000, 13899c400900ff0b03000000000007d000000000000003e80000002a2106010202f80000\n\
             9c40138906000ce201000000000003e80000002a23040102: \
-            not built, Listen, 1999 2000 0 0 0, -\n",
+            took, Respond, 2000 2000 1000 1000 1000, 13899c400700261403000000000007d000000000000003e80000002a\n",
     },
     // Change L on the Response.
     Table {
         start: REQUESTING,
         rows: "\
             13899c400800040a03000000000007d000000000000003e80000002a20040102: \
-            not built, Request, 1000 1000 0 0 0, -\n",
+            took, PartOpen, 1001 1000 2000 2000 2000, 9c4013890800fa3807000000000003e900000000000007d02306010202f80000\n",
     },
     // The options of a packet that is answered before they are read do not count.
     Table {

@@ -85,13 +85,16 @@ struct Coming {
     times: u8,
 }
 
-fn arrives(from: Side, index: u64) -> Event {
+pub(crate) fn arrives(from: Side, index: u64) -> Event {
     Event::Deliver { from, index }
 }
 
+// Two ends that offer nothing.
 fn new_world(alloc: Global) -> Result<World, Fail> {
-    let client = Config::usual(Role::Client);
-    let server = Config::usual(Role::Server);
+    let mut client = Config::usual(Role::Client);
+    client.plain();
+    let mut server = Config::usual(Role::Server);
+    server.plain();
     Ok(World::new(alloc, client, server)?)
 }
 

@@ -1,11 +1,13 @@
 //! Tables as text: an end that came some way, what happens to it then, and how it stands after that.
 //!
-//! What happens is one word: `open`, `close` or `abort`; a timer, as `close-timer`; the name of a packet; or a packet in
-//! hexadecimal.
+//! What happens is one word: `open`, `close` or `abort`; a wish, as `prefer/here/8/1,2`; a timer, as `close-timer`; the name of
+//! a packet; or a packet in hexadecimal. In a way `ack-timer*3` happens three times. Ends offer nothing but what words in their
+//! way say, which are `set/there/8/1,2`, `offer/here/8` and `offer/here/8/mandatory`.
 use dccp_endpoint::{
-    AbortFault, CloseFault, Config, Endpoint, OpenFault, Outcome, Phase, Role, Timer,
+    AbortFault, CloseFault, Config, Endpoint, Held, OpenFault, Outcome, Phase, Role, Stand, Timer,
 };
 use dccp_packets::{Outbox, decode};
+use feature_lists::{Feature, Place, PreferFault, initial};
 use std::alloc::Global;
 use std::test::Fail;
 
@@ -25,11 +27,13 @@ pub(crate) struct Table<'a> {
     pub(crate) rows: &'a str,
 }
 
-// What is told of an answer: the type of the frame that is sent, or the numbers after it and the frame's bytes.
+// What is told of an answer: the type of the frame that is sent, or the numbers after it and the frame's bytes, or what the end
+// holds after it and the frame's bytes.
 #[derive(Clone, Copy, PartialEq, Eq)]
 pub(crate) enum Detail {
     Type,
     Whole,
+    Held,
 }
 
 // The packets with a name, a line each: those of the handshake, and those of the ways that lead to an end.
@@ -84,6 +88,63 @@ fn fired(end: &mut Endpoint, timer: Timer, out: &mut Outbox) -> &'static str {
     }
 }
 
+pub(crate) fn place(text: &str) -> Option<Place> {
+    match text {
+        "here" => Some(Place::Here),
+        "there" => Some(Place::There),
+        _ => None,
+    }
+}
+
+pub(crate) fn feature(text: &str) -> Option<Feature> {
+    Feature::of(text.parse().ok()?)
+}
+
+pub(crate) fn values(alloc: Global, text: &str) -> Result<Vec<u64>, Fail> {
+    let mut values = Vec::new(alloc);
+    for number in text.split(",") {
+        values.push(number.parse().ok().ok_or("no number")?)?;
+    }
+    Ok(values)
+}
+
+// The pieces of a word, parted by slashes: what it asks for, a place, a feature and what follows.
+fn pieces(word: &str) -> Option<(&str, Place, Feature, &str)> {
+    let (what, rest) = word.split_once("/")?;
+    let (there, rest) = rest.split_once("/")?;
+    let (number, rest) = rest.split_once("/").unwrap_or((rest, ""));
+    Some((what, place(there)?, feature(number)?, rest))
+}
+
+fn preferred(
+    end: &mut Endpoint,
+    feature: Feature,
+    place: Place,
+    values: &[u64],
+    out: &mut Outbox,
+) -> &'static str {
+    match end.prefer(feature, place, values, out) {
+        Ok(()) => "ok",
+        Err(PreferFault::NotOpen) => "NotOpen",
+        Err(PreferFault::BadList) => "BadList",
+        Err(PreferFault::NotOurs) => "NotOurs",
+    }
+}
+
+// Changes what an end is made from. False for a word that does not.
+fn configures(alloc: Global, config: &mut Config, word: &str) -> Result<bool, Fail> {
+    match pieces(word) {
+        Some(("set", place, feature, list)) => {
+            let set = config.set(feature, place, &values(alloc, list)?);
+            Ok(set.is_ok())
+        }
+        Some(("offer", place, feature, rest)) => {
+            Ok(config.offer(feature, place, rest == "mandatory").is_ok())
+        }
+        _ => Ok(false),
+    }
+}
+
 // What a call or a timer answers; None for a word that is neither. The functions above make one call of the end each, whose
 // clauses then stand in one proof.
 fn called(end: &mut Endpoint, word: &str, out: &mut Outbox) -> Option<&'static str> {
@@ -108,7 +169,7 @@ fn timer(word: &str) -> Option<Timer> {
 }
 
 // The outcome in the words of a schedule's answers.
-fn outcome_text(alloc: Global, outcome: &Outcome) -> Result<String, Fail> {
+pub(crate) fn outcome_text(alloc: Global, outcome: &Outcome) -> Result<String, Fail> {
     match *outcome {
         Outcome::Took { delivered: None } => Ok(format!(in alloc; "took")?),
         Outcome::Took { .. } => Ok(format!(in alloc; "took data")?),
@@ -131,6 +192,10 @@ pub(crate) fn answer(
     out: &mut Outbox,
 ) -> Result<String, Fail> {
     if let Some(text) = called(end, word, out) {
+        return Ok(format!(in alloc; "{text}")?);
+    }
+    if let Some(("prefer", place, feature, list)) = pieces(word) {
+        let text = preferred(end, feature, place, &values(alloc, list)?, out);
         return Ok(format!(in alloc; "{text}")?);
     }
     let bytes = hex::decode(alloc, named(PACKETS, word).unwrap_or(word))?;
@@ -177,16 +242,70 @@ fn frame_sent(alloc: Global, out: &Outbox) -> Result<String, Fail> {
     }
 }
 
-fn new_end(role: Role) -> Result<Endpoint, Fail> {
-    Ok(Endpoint::new(Config::usual(role))?)
+// What a value is followed by.
+fn mark(stand: Stand) -> &'static str {
+    match stand {
+        Stand::Stable => "",
+        Stand::Changing => "*",
+        Stand::Unstable => "!",
+    }
+}
+
+fn is_fresh(feature: Feature, held: Held) -> bool {
+    held.stand == Stand::Stable && held.value == initial(feature)
+}
+
+// What the end holds for the features for which it does not hold what it began with, as `8=1*/0` each, or `-`.
+pub(crate) fn held(alloc: Global, end: &Endpoint) -> Result<String, Fail> {
+    let mut text = format!(in alloc; "")?;
+    for number in 1..=9 {
+        let feature = Feature::of(number).ok_or("no feature")?;
+        let here = end.held(feature, Place::Here);
+        let there = end.held(feature, Place::There);
+        if is_fresh(feature, here) && is_fresh(feature, there) {
+            continue;
+        }
+        let between = if text.is_empty() { "" } else { " " };
+        let (first, second) = (here.value, there.value);
+        let (one, other) = (mark(here.stand), mark(there.stand));
+        text = format!(in alloc; "{text}{between}{number}={first}{one}/{second}{other}")?;
+    }
+    if text.is_empty() {
+        return Ok(format!(in alloc; "-")?);
+    }
+    Ok(text)
+}
+
+// An end that offers nothing but what its way says.
+fn new_end(alloc: Global, start: &Start<'_>) -> Result<Endpoint, Fail> {
+    let mut config = Config::usual(start.role);
+    config.plain();
+    for word in start.way.split_whitespace() {
+        configures(alloc, &mut config, word)?;
+    }
+    Ok(Endpoint::new(config)?)
+}
+
+// A word of a way, and how often it happens: never where it changes what the end is made from.
+fn repeated(word: &str) -> (&str, u8) {
+    if word.starts_with("set/") || word.starts_with("offer/") {
+        return (word, 0);
+    }
+    match word.split_once("*") {
+        Some((once, times)) => (once, times.parse().ok().unwrap_or(1)),
+        None => (word, 1),
+    }
 }
 
 // The end that came this way, standing where the way leads.
 pub(crate) fn end_at(alloc: Global, start: &Start<'_>) -> Result<Endpoint, Fail> {
-    let mut end = new_end(start.role)?;
+    let mut end = new_end(alloc, start)?;
     let mut out = Outbox::new();
     for word in start.way.split_whitespace() {
-        answer(alloc, &mut end, word, &mut out)?;
+        let (once, times) = repeated(word);
+        for _ in 0..times {
+            answer(alloc, &mut end, once, &mut out)?;
+        }
     }
     if end.phase() == start.phase && numbers(alloc, &end)?.as_str() == start.numbers {
         Ok(end)
@@ -208,6 +327,11 @@ fn row(alloc: Global, start: &Start<'_>, word: &str, detail: Detail) -> Result<S
         }
         Detail::Whole => {
             let after = numbers(alloc, &end)?;
+            let sent = frame_sent(alloc, &out)?;
+            Ok(format!(in alloc; "{text}, {phase:?}, {after}, {sent}")?)
+        }
+        Detail::Held => {
+            let after = held(alloc, &end)?;
             let sent = frame_sent(alloc, &out)?;
             Ok(format!(in alloc; "{text}, {phase:?}, {after}, {sent}")?)
         }

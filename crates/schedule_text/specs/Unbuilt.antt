@@ -6,21 +6,21 @@ use Rattle.schedule_text.specs.Names.{form_of}
 use Rattle.schedule_text.specs.Words.{first_word, words_of}
 use Rattle.schedule_text.specs.Reading.{clean}
 
--- the forms of the negotiation and of data
+-- the form of data
 abbrev pub is_unbuilt_form : Option Form → Bool
 is_unbuilt_form None = false
 is_unbuilt_form (Some form.Plain) = false
 is_unbuilt_form (Some form.Iss) = false
-is_unbuilt_form (Some form.Set) = true
-is_unbuilt_form (Some form.Offer) = true
+is_unbuilt_form (Some form.Set) = false
+is_unbuilt_form (Some form.Offer) = false
 is_unbuilt_form (Some form.Open) = false
 is_unbuilt_form (Some form.Deliver) = false
 is_unbuilt_form (Some form.Send) = true
-is_unbuilt_form (Some form.Prefer) = true
+is_unbuilt_form (Some form.Prefer) = false
 is_unbuilt_form (Some form.Timer) = false
 is_unbuilt_form (Some form.Close) = false
 is_unbuilt_form (Some form.Abort) = false
 
--- at most 4,096 bytes of text, and a first word of these, whatever follows it
+-- at most 4,096 bytes of text, and this first word, whatever follows it
 abbrev pub is_unbuilt : List ℕ → Bool
 is_unbuilt line = is_ok (clean line) && is_unbuilt_form (form_of (first_word (words_of line)).text)

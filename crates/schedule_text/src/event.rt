@@ -1,17 +1,14 @@
 //! What may happen to two ends, and what is seen of it.
-ghost use Rattle.std.specs.Prelude.{◌≡◌, ◌<◌, ◌≤◌, ◌↔◌, [], ◌∷◌, ◌++◌, true, false, length, IsSome, IfSome};
+ghost use Rattle.std.specs.Prelude.{◌≡◌, ◌≤◌, ◌↔◌, length, IsSome, IfSome};
 
 use arrayvec::ArrayVec;
 use dccp_endpoint::Outcome;
 use feature_lists::{Feature, Place};
 use std::marker::Model;
-use two_ends::Side;
+use two_ends::{Side, Values};
 
 // The most bytes of a payload: as many as one line has digits for, and so more than an end takes.
 const MOST_BYTES: usize = 2048;
-
-// The most numbers of a list: one more than an end takes.
-const MOST_VALUES: usize = 9;
 
 /// The data that is handed to an end to be sent: at most 2,048 bytes, in the value itself. Contracts see the list of bytes.
 #[derive(Debug, Drop)]
@@ -57,48 +54,6 @@ impl Payload {
         ensures fits { length result.now ≤ 2048 }
     {
         self.bytes.as_slice()
-    }
-}
-
-/// The numbers that are asked for a feature, best first: at most nine, in the value itself. Contracts see the list of
-/// numbers.
-#[derive(Debug, Drop)]
-pub struct Values {
-    numbers: ArrayVec<u64, MOST_VALUES>,
-}
-
-impl Model for Values {
-    ghost use Rattle.std.specs.Prelude.{List, ℕ};
-
-    ghost Value = { List ℕ };
-
-    ghost view = { λ v. v.numbers.items };
-}
-
-impl Values {
-    /// No number.
-    pub fn new() -> Values
-        ensures { result ≡ [] }
-    {
-        Values {
-            numbers: ArrayVec::new(),
-        }
-    }
-
-    /// Puts a number behind the others, or answers false and changes nothing, exactly where nine stand there.
-    pub fn push(&mut self, number: u64) -> bool
-        ensures put { result ≡ true → (length self.old < 9) × (self.new ≡ self.old ++ number ∷ []) }
-        ensures full { result ≡ false → (length self.old ≡ 9) × (self.new ≡ self.old) }
-    {
-        self.numbers.try_push(number).is_ok()
-    }
-
-    /// The numbers in order, at most nine.
-    pub fn numbers(&self) -> &[u64]
-        ensures value { result.now ≡ self.now }
-        ensures fits { length result.now ≤ 9 }
-    {
-        self.numbers.as_slice()
     }
 }
 

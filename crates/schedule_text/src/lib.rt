@@ -20,7 +20,7 @@ mod text;
 mod unbuilt;
 mod words;
 
-pub use crate::event::{Event, Payload, Refusal, Seen, Timer, Values};
+pub use crate::event::{Event, Payload, Refusal, Seen, Timer};
 pub use crate::frames::read_frame;
 pub use crate::laws::{
     lines_are_their_forms, printed_events_are_read, the_first_fault_is_answered,
@@ -30,3 +30,4 @@ pub use crate::line::{FrameLine, Line, LineFault, LineWhy};
 pub use crate::printing::{print_event, print_seen};
 pub use crate::reading::read_line;
 pub use crate::unbuilt::is_unbuilt;
+pub use two_ends::Values;

@@ -9,14 +9,11 @@ use crate::words::Words;
 fn is_unbuilt_form(form: Option<Form>) -> bool
     ensures { result ≡ spec.is_unbuilt_form form }
 {
-    matches!(
-        form,
-        Some(Form::Set | Form::Offer | Form::Send | Form::Prefer)
-    )
+    matches!(form, Some(Form::Send))
 }
 
-/// Tells whether a line is text of at most 4,096 bytes whose first word is `set`, `offer`, `send` or `prefer`, whatever
-/// follows it: the ends do none of these yet (own).
+/// Tells whether a line is text of at most 4,096 bytes whose first word is `send`, whatever follows it: the ends send no
+/// data yet (own).
 pub fn is_unbuilt(line: &[u8]) -> bool
     ensures { result ≡ spec.is_unbuilt line.now }
 {

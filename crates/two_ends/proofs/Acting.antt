@@ -2,7 +2,7 @@
 --
 -- A fact speaks of a side and its peer. It holds at the start, and a step of either side keeps it (`Keeps`), by facts that were proved
 -- before. `run-held` carries it through every schedule. Nothing here or there knows what an end does but its effect.
-use Rattle.std.proofs.Common.{◌≡◌, refl, sym, subst, ◌-◌, ◌^◌, ◌<◌, ℕ, List, [], ◌∷◌, ◌++◌, Option, Some, None, true, false, Bool, if◌then◌else◌, Ok, Err, slice_get, length, length-append, ◌≤◌, arith}
+use Rattle.std.proofs.Common.{◌≡◌, refl, ap, sym, ◌∙◌, subst, ◌-◌, ◌^◌, ◌<◌, ℕ, List, [], ◌∷◌, ◌++◌, Option, Some, None, true, false, Bool, if◌then◌else◌, Ok, Err, slice_get, length, length-append, ◌≤◌, arith}
 use Rattle.dccp_endpoint.specs.Causes.{EveryStepHasOneEffect, IsCaused}
 use Rattle.dccp_endpoint.specs.Effects.{Effect, Sending, Silent, Next, WithoutConnection, end_after, frame_by}
 use Rattle.dccp_endpoint.specs.End.{EndState, IsProper, floor_of}
@@ -130,9 +130,23 @@ frame-given : (w : WorldState) (from : Side) (index : ℕ) (frame : SentFrame) �
 frame-given w Client index frame there = record { index = index; frame = frame; is_there = there; same = refl }
 frame-given w Server index frame there = record { index = index; frame = frame; is_there = there; same = refl }
 
+-- A side's new state has the old configuration, and the other side is as it was.
+config-with : (w : WorldState) (side : Side) (half : Half) → half.end.config ≡ (half_of w side).end.config
+    → (each : Side) → (half_of (with_half w side half) each).end.config ≡ (half_of w each).end.config
+config-with w Client half same Client = same
+config-with w Client half same Server = refl
+config-with w Server half same Client = refl
+config-with w Server half same Server = same
+
+-- A fact is held in a world that has the configurations of another.
+record IsKept (This : Party → Party → Type 0) (old new : WorldState) : Type 0 where
+  held : IsHeld This new
+  configs : (side : Side) → (half_of new side).end.config ≡ (half_of old side).end.config
+
 module _ (This : Party → Party → Type 0) (keeps : Keeps NoFact This) (proper : (x y : Party) → This x y → IsProper x.half.end) (effects : EveryStepHasOneEffect) where
-  side-held : (w : WorldState) (side : Side) (given : Input) → is_full (half_of w side) ≡ false → IsFromPeer (half_of w (other side)).frames given → IsHeld This w
-      → IsHeld This (with_half w side (half_steps (half_of w side) given).half)
+  side-held : (w : WorldState) (side : Side) (given : Input) → is_full (half_of w side) ≡ false → IsFromPeer (half_of w (other side)).frames given
+      → IsHeld This w
+      → IsKept This w (with_half w side (half_steps (half_of w side) given).half)
   side-held w side given room from h =
       let x : Party = party_of w h.logs side in
       let y : Party = party_of w h.logs (other side) in
@@ -140,33 +154,49 @@ module _ (This : Party → Party → Type 0) (keeps : Keeps NoFact This) (proper
       let has = effects x.half.end given (proper x y now.0) in
       let act : Act =
       record { side = x; peer = y; given = given; effect = has.effect; room = not-full x.half room; from_peer = from; because = has.because } in
-      subst (λ (half : Half). IsHeld This (with_half w side half)) (sym (moved-after x.half (stepped x.half.end given) has.effect has.after_is has.frame_is))
-      (held-with This w h.logs side (acted act) (keeps.acts act (tt, tt) now))
+      record {
+        held =
+            subst (λ (half : Half). IsHeld This (with_half w side half)) (sym (moved-after x.half (stepped x.half.end given) has.effect has.after_is has.frame_is))
+            (held-with This w h.logs side (acted act) (keeps.acts act (tt, tt) now));
+        configs = config-with w side (half_steps (half_of w side) given).half (ap (λ (e : EndState). e.config) has.after_is);
+      }
 
   full-held : (w : WorldState) (side : Side) (given : Input) → IsFromPeer (half_of w (other side)).frames given → IsHeld This w
-      → IsHeld This (world_after w (unless_full w side (half_steps (half_of w side) given)))
+      → IsKept This w (world_after w (unless_full w side (half_steps (half_of w side) given)))
   full-held w side given from h = by (is_full (half_of w side)) refl where
     by : (full : Bool) → is_full (half_of w side) ≡ full
-        → IsHeld This (world_after w (if full then Err fault.Full
+        → IsKept This w (world_after w (if full then Err fault.Full
         else Ok (record { world = with_half w side (half_steps (half_of w side) given).half; seen = (half_steps (half_of w side) given).seen })))
-    by true room = h
+    by true room = record { held = h; configs = λ each. refl }
     by false room = side-held w side given room from h
 
   arrives-held : (w : WorldState) (from : Side) (index : ℕ) (frame : Option SentFrame) → slice_get (half_of w from).frames index ≡ frame → IsHeld This w
-      → IsHeld This (world_after w (arrives w from frame))
-  arrives-held w from index None there h = h
+      → IsKept This w (world_after w (arrives w from frame))
+  arrives-held w from index None there h = record { held = h; configs = λ each. refl }
   arrives-held w from index (Some frame) there h = full-held w (other from) (Arrives frame.bytes) (frame-given w from index frame there) h
 
-  takes-held : (w : WorldState) (what : Happening) → IsCall what → IsHeld This w → IsHeld This (world_after w (takes_place w what))
+  takes-held : (w : WorldState) (what : Happening) → IsCall what → IsHeld This w → IsKept This w (world_after w (takes_place w what))
   takes-held w (Calls side given) is h = full-held w side given (call-given side given (half_of w (other side)).frames is) h
   takes-held w (Delivers from index) is h = arrives-held w from index (slice_get (half_of w from).frames index) refl h
 
-  held-from : (w : WorldState) (events : List Event) → IsHeld This w → IsHeld This (run w events)
-  held-from w [] h = h
-  held-from w (e ∷ events) h = held-from (world_after w (happens w e)) events (takes-held w (happening_of e) (is-call e) h)
+  held-from : (w : WorldState) (events : List Event) → IsHeld This w → IsKept This w (run w events)
+  held-from w [] h = record { held = h; configs = λ each. refl }
+  held-from w (e ∷ events) h =
+      let one = takes-held w (happening_of e) (is-call e) h in
+      let rest = held-from (world_after w (happens w e)) events one.held in
+      record { held = rest.held; configs = λ each. rest.configs each ∙ one.configs each }
+
+  kept-from : (client server : Config) (events : List Event) → Fits client → Fits server
+      → IsKept This (at_start client server) (run (at_start client server) events)
+  kept-from client server events client_fits server_fits =
+      let holds : Both This (at_beginning client) (at_beginning server) = (keeps.starts client server client_fits server_fits, keeps.starts server client server_fits client_fits) in
+      held-from (at_start client server) events (record { logs = λ s. []; holds = holds })
 
   -- What the start has and each step keeps, holds after every schedule.
   pub run-held : (client server : Config) (events : List Event) → Fits client → Fits server → IsHeld This (run (at_start client server) events)
-  run-held client server events client_fits server_fits =
-      let holds : Both This (at_beginning client) (at_beginning server) = (keeps.starts client server client_fits server_fits, keeps.starts server client server_fits client_fits) in
-      held-from (at_start client server) events (record { logs = λ s. []; holds = holds })
+  run-held client server events client_fits server_fits = (kept-from client server events client_fits server_fits).held
+
+  -- The ends keep their configurations.
+  pub run-configs : (client server : Config) (events : List Event) → Fits client → Fits server → (side : Side)
+      → (half_of (run (at_start client server) events) side).end.config ≡ (half_of (at_start client server) side).end.config
+  run-configs client server events client_fits server_fits = (kept-from client server events client_fits server_fits).configs

@@ -1,39 +1,45 @@
 -- What every schedule keeps, and that the world is safe.
-use Rattle.std.proofs.Common.{◌≡◌, refl, ap, sym, ◌∙◌, subst, ℕ, suc, ◌+◌, ◌-◌, ◌^◌, ◌≤◌, List, [], ◌∷◌, ◌||◌, Option, Some, None, false, Bool, slice_get, length, arith}
-use Rattle.std.specs.List.{list_any}
+use Rattle.std.proofs.Common.{◌≡◌, ap, sym, ◌∙◌, subst, ℕ, ◌+◌, ◌-◌, ◌^◌, ◌≤◌, List, [], Some, None, slice_get, length, arith}
 use Rattle.seq_circle.specs.Circle.{residue}
-use Rattle.dccp_options.specs.Vectors.{ack_vectors, report_of}
+use Rattle.dccp_options.specs.Vectors.{joined_report, report_of}
+use Rattle.dccp_states.specs.declared.phase.Role.TheVariants as role
 use Rattle.dccp_endpoint.specs.Causes.{EveryStepHasOneEffect}
 use Rattle.dccp_endpoint.specs.Drafts.{Fits}
 use Rattle.dccp_endpoint.specs.declared.config.Config.{Config}
-use Rattle.feature_lists.specs.Features.{number_of}
+use Rattle.feature_agreement.specs.Moves as moves
+use Rattle.feature_agreement.specs.Rows.{location_of, opposite, pair_of}
+use Rattle.feature_machine.specs.declared.stands.Role2.TheVariants as end
 use Rattle.two_ends.specs.declared.event.Event.{Event}
 use Rattle.two_ends.specs.declared.event.Side.{Side}
 use Rattle.two_ends.specs.declared.event.Side.TheVariants.{Client, Server}
 use Rattle.two_ends.specs.declared.frames.SentFrame.{SentFrame}
 use Rattle.two_ends.specs.Frames.{options_in}
-use Rattle.two_ends.specs.Lists.{last_some, some_or}
-use Rattle.two_ends.specs.Negotiated.{AgreeOn, Initial, is_change, side_changed, was_negotiated, list_said, last_list}
-use Rattle.two_ends.specs.Numbered.{AreNumbered, Facts, Hears, IsNumberOf, IsNumbered, SpeaksOnce}
-use Rattle.two_ends.specs.Pairs.{Pair, Saying, Nothing, said_by, said_in, said_times, place_at, times_said}
+use Rattle.two_ends.specs.Numbered.{AreNumbered, Facts, Hears, IsNumberOf, IsNumbered}
+use Rattle.two_ends.specs.Pairs.{Pair, place_at}
 use Rattle.two_ends.specs.Reached.{Reached}
 use Rattle.two_ends.specs.Reported.{Once, Truthful}
 use Rattle.two_ends.specs.Safe.{Safe}
 use Rattle.two_ends.specs.World.{WorldState, half_of, other, run, at_start}
 use Rattle.two_ends.proofs.Acknowledging.{KnowsAcknowledged, acknowledging}
-use Rattle.two_ends.proofs.Acting.{IsHeld, Keeps, NoFact, Party, config_of, end_of, held_by, party_of, run-held}
+use Rattle.two_ends.proofs.Acting.{IsHeld, Keeps, NoFact, Party, config_of, end_of, held_by, party_of, run-configs, run-held}
+use Rattle.two_ends.proofs.Agreeing.{AreReached, IsSpoken, agree, end_at, given, key_of}
 use Rattle.two_ends.proofs.Hearing.{IsHearingPeer, hearing}
+use Rattle.two_ends.proofs.KeyHearing.{IsWell}
+use Rattle.two_ends.proofs.Logged.{at-place}
+use Rattle.two_ends.proofs.Negotiating.{IsNegotiated, negotiating}
 use Rattle.two_ends.proofs.Numbering.{IsOrdered, few-logged, more-sent, numbering}
 use Rattle.two_ends.proofs.ReadBack.{logged-numbered}
 use Rattle.two_ends.proofs.Resets.{resets-move-nothing}
-use Rattle.two_ends.proofs.Speaking.{IsQuiet, quiet, silent}
+use Rattle.two_ends.proofs.Speaking.{IsSaidOnce, IsUnprocessed, frame-once, speaks-once, unprocessed}
+use Rattle.two_ends.proofs.Viewing.{view_of}
 
 -- A further fact is one file, a field here, and its line at the start and in a step.
 pub record SideInvariant (x y : Party) : Type 0 where
   pub ordered : IsOrdered x
   pub hears : IsHearingPeer x y
   pub acknowledged : KnowsAcknowledged x
-  pub quiet : IsQuiet x
+  pub unprocessed : IsUnprocessed x
+  pub negotiated : IsNegotiated x y
 
 keeping : Keeps NoFact SideInvariant
 keeping =
@@ -44,16 +50,18 @@ keeping =
             ordered = numbering.starts x y x_fits y_fits;
             hears = hearing.starts x y x_fits y_fits;
             acknowledged = acknowledging.starts x y x_fits y_fits;
-            quiet = quiet.starts x y x_fits y_fits;
+            unprocessed = unprocessed.starts x y x_fits y_fits;
+            negotiated = negotiating.starts x y x_fits y_fits;
           };
       acts =
           λ act none (here, there).
           let ordered = numbering.acts act (tt, tt) (here.ordered, there.ordered) in
           let hears = hearing.acts act (here.ordered, there.ordered) (here.hears, there.hears) in
           let acknowledged = acknowledging.acts act (here.ordered, there.ordered) (here.acknowledged, there.acknowledged) in
-          let quiet = quiet.acts act (here.ordered, there.ordered) (here.quiet, there.quiet) in (
-            record { ordered = ordered.0; hears = hears.0; acknowledged = acknowledged.0; quiet = quiet.0 },
-            record { ordered = ordered.1; hears = hears.1; acknowledged = acknowledged.1; quiet = quiet.1 },
+          let none = unprocessed.acts act (tt, tt) (here.unprocessed, there.unprocessed) in
+          let negotiated = negotiating.acts act (here.ordered, there.ordered) (here.negotiated, there.negotiated) in (
+            record { ordered = ordered.0; hears = hears.0; acknowledged = acknowledged.0; unprocessed = none.0; negotiated = negotiated.0 },
+            record { ordered = ordered.1; hears = hears.1; acknowledged = acknowledged.1; unprocessed = none.1; negotiated = negotiated.1 },
           );
     }
 
@@ -73,77 +81,33 @@ own-acknowledged : (x : Party) → IsOrdered x → KnowsAcknowledged x → 1 ≤
 own-acknowledged x o k some =
     subst (λ (n : ℕ). IsNumberOf n (length x.log) (end_of x).marks.gar) (sym o.first) (more-sent (config_of x).iss _ _ _ (omega (arith, some)) k.gar)
 
--- No frame of the world carries options.
-abbrev IsSilent : WorldState → Type 0
-IsSilent w = (side : Side) (index : ℕ) (frame : SentFrame) → slice_get (half_of w side).frames index ≡ Some frame → options_in frame.bytes ≡ []
-
--- What has no options speaks at most once.
-silent-speaks : (side : Side) (bytes : List ℕ) → options_in bytes ≡ [] → SpeaksOnce side bytes
-silent-speaks side bytes none =
-    record {
-      of_each_pair =
-          λ pair.
-          let times : times_said pair side bytes ≡ 0 = ap (said_times (number_of pair.feature) (place_at side pair.location)) none in
-          omega (arith, times);
-      vectors_acknowledge = λ packet read unacknowledged. ap ack_vectors none;
-    }
-
--- a test that fails on each frame
-no-frame : (test : SentFrame → Bool) (frames : List SentFrame) → ((index : ℕ) (frame : SentFrame) → slice_get frames index ≡ Some frame → test frame ≡ false)
-    → list_any test frames ≡ false
-no-frame test [] fails = refl
-no-frame test (frame ∷ frames) fails =
-    ap (λ (here : Bool). here || list_any test frames) (fails 0 frame refl) ∙ no-frame test frames (λ index later there. fails (suc index) later there)
-
-none-shown : {B : Type 0} (shows : SentFrame → Option B) (frames : List SentFrame)
-    → ((index : ℕ) (frame : SentFrame) → slice_get frames index ≡ Some frame → shows frame ≡ None) → last_some shows frames ≡ None
-none-shown {B = B} shows [] fails = refl
-none-shown {B = B} shows (frame ∷ frames) fails =
-    ap (λ (later : Option B). some_or later (shows frame)) (none-shown shows frames (λ index later there. fails (suc index) later there)) ∙ fails 0 frame refl
-
-module _ (w : WorldState) (quiet : IsSilent w) (pair : Pair) where
-  nothing-said : {A : Type 0} (side : Side) (shows : Saying → A) (index : ℕ) (frame : SentFrame) → slice_get (half_of w side).frames index ≡ Some frame
-      → shows (said_by pair side frame.bytes) ≡ shows Nothing
-  nothing-said side shows index frame there =
-      ap shows (ap (said_in (number_of pair.feature) (place_at side pair.location)) (quiet side index frame there))
-
-  unchanged-by : (side : Side) → side_changed w pair side ≡ false
-  unchanged-by side = no-frame (λ frame. is_change (said_by pair side frame.bytes)) (half_of w side).frames (nothing-said side is_change)
-
-  not-negotiated : was_negotiated w pair ≡ false
-  not-negotiated = ap (λ (client : Bool). client || side_changed w pair Server) (unchanged-by Client) ∙ unchanged-by Server
-
-  no-list : (side : Side) → last_list w pair side ≡ None
-  no-list side = none-shown (λ (frame : SentFrame). list_said (said_by pair side frame.bytes)) (half_of w side).frames (nothing-said side list_said)
-
-  of-one-mind : AgreeOn w pair
-  of-one-mind =
-      record {
-        equal = refl;
-        both_sent = λ priority negotiated. cc (not-negotiated, negotiated);
-        is_reconciled = λ priority servers clients value sent other agreed. cc (no-list Server, sent);
-        is_last_sent = λ told negotiated. cc (not-negotiated, negotiated);
-      }
-
 -- No number was processed.
 quiet-once : (w : WorldState) → ((side : Side) → (half_of w side).processed ≡ []) → Once w
-quiet-once w unprocessed side =
-    let none : length (half_of w side).processed ≡ 0 = ap length (unprocessed side) in
+quiet-once w none side =
+    let empty : length (half_of w side).processed ≡ 0 = ap length (none side) in
     record { distinct = λ i j here there same. absurd (omega arith); sent = λ i here. absurd (omega arith) }
 
-quiet-truthful : (w : WorldState) → IsSilent w → Truthful w
-quiet-truthful w quiet side index frame ack bytes there carries =
-    let none : report_of ack (options_in frame.bytes) ≡ None = ap (report_of ack) (quiet side index frame there) in
+-- No frame of the world has an Ack Vector.
+quiet-truthful : (w : WorldState)
+    → ((side : Side) (index : ℕ) (frame : SentFrame) → slice_get (half_of w side).frames index ≡ Some frame → IsSaidOnce frame.bytes)
+    → Truthful w
+quiet-truthful w said side index frame ack bytes there carries =
+    let none : report_of ack (options_in frame.bytes) ≡ None = ap (joined_report ack) (said side index frame there).no_vectors in
     let some = carries.carries in
     cc (none, some)
+
+-- The client's end is a client, and the server's a server.
+pub record HasRoles (w : WorldState) : Type 0 where
+  pub is_client : (half_of w Client).end.config.role ≡ role.Client
+  pub is_server : (half_of w Server).end.config.role ≡ role.Server
 
 -- What the side invariant says of a world.
 module _ (w : WorldState) (h : IsHeld SideInvariant w) where
   holds : (side : Side) → SideInvariant (party_of w h.logs side) (party_of w h.logs (other side))
   holds side = (held_by SideInvariant w h side).0
 
-  kept-silent : IsSilent w
-  kept-silent side index frame there = silent (party_of w h.logs side) index frame (holds side).ordered (holds side).quiet there
+  said-once : (side : Side) (index : ℕ) (frame : SentFrame) → slice_get (half_of w side).frames index ≡ Some frame → IsSaidOnce frame.bytes
+  said-once side index frame there = frame-once (party_of w h.logs side) _ index frame (holds side).ordered (holds side).negotiated.well there
 
   pub kept-facts : EveryStepHasOneEffect → Facts w
   kept-facts effects =
@@ -152,17 +116,50 @@ module _ (w : WorldState) (h : IsHeld SideInvariant w) where
         heard = λ side. subst (λ (n : ℕ). Hears n (length (h.logs (other side))) (half_of w side).end) (sym (holds (other side)).ordered.first) (holds side).hears;
         unmoved = λ side. resets-move-nothing effects (half_of w side).end (holds side).ordered.proper;
         acknowledged = λ side. own-acknowledged (party_of w h.logs side) (holds side).ordered (holds side).acknowledged;
-        spoken = λ side index frame there. silent-speaks side frame.bytes (kept-silent side index frame there);
+        spoken = λ side index frame there. speaks-once side frame.bytes (said-once side index frame there);
       }
 
-  pub kept-safe : Safe w
-  kept-safe =
+  spoken : (side : Side) → IsSpoken (party_of w h.logs side) (config_of (party_of w h.logs (other side))).iss
+  spoken side =
+      let iss : ℕ = (config_of (party_of w h.logs (other side))).iss in
       record {
-        agree = λ pair settled. of-one-mind w kept-silent pair;
-        given = λ pair side. Initial refl;
-        truthful = quiet-truthful w kept-silent;
+        logged = (holds side).ordered.logged;
+        well = λ k place l there. (at-place (IsWell iss) (h.logs side) place l (holds side).negotiated.well there).each k;
+      }
+
+  reached-pair : HasRoles w → (pair : Pair) → AreReached w h.logs pair
+  reached-pair roles pair =
+      let n = (holds Server).negotiated in
+      record {
+        servers = n.greatest;
+        clients = n.others;
+        reached = by pair.location (n.reached roles.is_server roles.is_client (key_of pair Server));
+      }
+    where
+      server : Party
+      server = party_of w h.logs Server
+
+      client : Party
+      client = party_of w h.logs Client
+
+      by : (location : Side)
+          → moves.Reached (pair_of pair.feature (location_of end.Server (place_at Server location)))
+          (view_of server (config_of client).iss (holds Server).negotiated.greatest (pair.feature, place_at Server location))
+          (view_of client (config_of server).iss (holds Server).negotiated.others (pair.feature, opposite (place_at Server location)))
+          → moves.Reached (pair_of pair.feature (end_at location))
+          (view_of server (config_of client).iss (holds Server).negotiated.greatest (pair.feature, place_at Server location))
+          (view_of client (config_of server).iss (holds Server).negotiated.others (pair.feature, place_at Client location))
+      by Client reached = reached
+      by Server reached = reached
+
+  pub kept-safe : HasRoles w → Safe w
+  kept-safe roles =
+      record {
+        agree = agree w h.logs spoken (reached-pair roles);
+        given = given w h.logs spoken (reached-pair roles);
+        truthful = quiet-truthful w said-once;
         told = λ side n fits below. absurd (omega arith);
-        once = quiet-once w (λ side. (holds side).quiet.unprocessed);
+        once = quiet-once w (λ side. (holds side).unprocessed);
         heard = λ side n reported. absurd (omega (arith, reported.1));
       }
 
@@ -171,5 +168,19 @@ module _ (effects : EveryStepHasOneEffect) where
   run-kept client server events client_fits server_fits =
       run-held SideInvariant keeping (λ x y k. k.ordered.proper) effects client server events client_fits server_fits
 
+  pub run-roles : (client server : Config) (events : List Event) → client.role ≡ role.Client → server.role ≡ role.Server → Fits client → Fits server
+      → HasRoles (run (at_start client server) events)
+  run-roles client server events is_client is_server client_fits server_fits =
+      let same = run-configs SideInvariant keeping (λ x y k. k.ordered.proper) effects client server events client_fits server_fits in
+      record {
+        is_client = ap (λ (config : Config). config.role) (same Client) ∙ is_client;
+        is_server = ap (λ (config : Config). config.role) (same Server) ∙ is_server;
+      }
+
   pub reached-kept : (w : WorldState) → Reached w → IsHeld SideInvariant w
   reached-kept w r = subst (IsHeld SideInvariant) (sym r.same) (run-kept r.client r.server r.events r.client_fits r.server_fits)
+
+  pub reached-safe : (w : WorldState) → Reached w → Safe w
+  reached-safe w r =
+      kept-safe w (reached-kept w r)
+      (subst HasRoles (sym r.same) (run-roles r.client r.server r.events r.is_client r.is_server r.client_fits r.server_fits))

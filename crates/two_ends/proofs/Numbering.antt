@@ -6,14 +6,14 @@ use Rattle.dccp_packets.specs.declared.header.Kind.{Kind}
 use Rattle.dccp_packets.specs.declared.header.Kind.TheVariants as kind
 use Rattle.dccp_packets.specs.declared.header.PacketType.TheVariants as types
 use Rattle.dccp_states.specs.declared.phase.Role.{Role}
-use Rattle.dccp_endpoint.specs.Causes.{Came, IsSending, Rests, Acks, Others, Refuses, SaysNothing, is_acking, is_without_connection}
+use Rattle.dccp_endpoint.specs.Causes.{Came, HasFrame, IsSending, Rests, Acks, Others, Refuses, is_acking, is_without_connection}
 use Rattle.dccp_endpoint.specs.Drafts.{Fits}
 use Rattle.dccp_endpoint.specs.Effects.{Effect, Sending, Silent, Next, WithoutConnection, end_after, frame_by, gss_by}
 use Rattle.dccp_endpoint.specs.End.{EndState, IsProper, floor_of}
 use Rattle.dccp_endpoint.specs.Incoming.{Incoming}
 use Rattle.dccp_endpoint.specs.Inputs.{Input}
 use Rattle.dccp_endpoint.specs.Steps.{next_number}
-use Rattle.dccp_endpoint.proofs.Phases.{begins}
+use Rattle.dccp_endpoint.proofs.Staying.{first-proper, proper-after}
 use Rattle.two_ends.specs.Numbered.{IsNumberOf}
 use Rattle.two_ends.specs.World.{as_sent}
 use Rattle.two_ends.proofs.Acting.{Act, Keeps, NoFact, Party, acted, config_of, drafted_by, end_of, logged_by, sent_by}
@@ -48,15 +48,15 @@ acking-connected r _ is = refl
 
 -- what goes out is logged under the next number, or not at all
 sent-logged : (e : EndState) (given : Input) (f : Effect) (s : Sending) (processed floor first : ℕ) → next_number e ≡ residue first → IsSending e given f s
-    → SaysNothing s → AreLogged e.config first (as_sent processed floor (frame_by e s)) (logged_by processed floor s)
-sent-logged e given f Silent processed floor first same Rests says = NoFrames
-sent-logged e given f (Next draft) processed floor first same (Acks _ acking ack connected owed unacked) says =
+    → HasFrame s → AreLogged e.config first (as_sent processed floor (frame_by e s)) (logged_by processed floor s)
+sent-logged e given f Silent processed floor first same Rests framed = NoFrames
+sent-logged e given f (Next draft) processed floor first same (Acks _ acking ack connected owed unacked) framed =
     Numbered (next_number e) same
-    (record { sendable = says.sendable; of_connection = acking-connected e.config.role draft.kind acking; same = refl }) NoFrames
-sent-logged e given f (Next draft) processed floor first same (Others _ acking ack connected) says =
-    Numbered (next_number e) same (record { sendable = says.sendable; of_connection = connected; same = refl }) NoFrames
-sent-logged e given f (WithoutConnection number k) processed floor first same (Refuses a code came is unheard turns unmoved) says =
-    Unnumbered (record { number = number; kind = k; sendable = says.sendable; without_connection = is; same = refl }) NoFrames
+    (record { sendable = framed; of_connection = acking-connected e.config.role draft.kind acking; same = refl }) NoFrames
+sent-logged e given f (Next draft) processed floor first same (Others _ acking ack connected) framed =
+    Numbered (next_number e) same (record { sendable = framed; of_connection = connected; same = refl }) NoFrames
+sent-logged e given f (WithoutConnection number k) processed floor first same (Refuses a code came is unheard turns unmoved) framed =
+    Unnumbered (record { number = number; kind = k; sendable = framed; without_connection = is; same = refl }) NoFrames
 
 sent-greatest : (e : EndState) (s : Sending) (processed floor count : ℕ) → e.marks.gss ≡ residue (e.config.iss + count + (2 ^ 48 - 1))
     → gss_by e s ≡ residue (e.config.iss + (count + length (logged_by processed floor s)) + (2 ^ 48 - 1))
@@ -75,22 +75,12 @@ acting act o =
     let floor : ℕ = floor_of (end_after e act.effect) in
     let next : next_number e ≡ residue (e.config.iss + length act.side.log) = omega (arith, o.greatest) in
     record {
-      proper =
-          record {
-            widths =
-                record {
-                  own_least = o.proper.widths.own_least;
-                  own_most = o.proper.widths.own_most;
-                  peer_least = o.proper.widths.peer_least;
-                  peer_most = o.proper.widths.peer_most;
-                };
-            phase_fits = act.because.moves.its_role;
-          };
+      proper = proper-after o.proper act.because;
       fits = o.fits;
       first = o.first;
       logged =
           logged-append e.config _ (sent_by act.side.half act.effect) (drafted_by act.side.half act.effect) refl o.logged
-          (sent-logged e act.given act.effect act.effect.sending processed floor _ next act.because.sends act.because.says);
+          (sent-logged e act.given act.effect act.effect.sending processed floor _ next act.because.sends act.because.framed);
       greatest =
           sent-greatest e act.effect.sending processed floor (length act.side.log) o.greatest
           ∙ ap (λ (n : ℕ). residue (e.config.iss + n + (2 ^ 48 - 1))) (sym (length-append act.side.log (drafted_by act.side.half act.effect)));
@@ -103,11 +93,7 @@ numbering =
       starts =
           λ own peer own_fits peer_fits.
           record {
-            proper =
-                record {
-                  widths = record { own_least = omega arith; own_most = omega arith; peer_least = omega arith; peer_most = omega arith };
-                  phase_fits = (begins own.role).in_role;
-                };
+            proper = first-proper own own_fits.lists;
             fits = own_fits;
             first = refl;
             logged = NoFrames;

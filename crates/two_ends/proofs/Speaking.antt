@@ -1,46 +1,111 @@
--- No packet of a side carries options yet, and no side processed a number.
-use Rattle.std.proofs.Common.{◌≡◌, refl, ap, ◌∙◌, ℕ, List, [], Some, Ok, slice_get, map}
-use Rattle.std.proofs.lemmas.List.Elements.{All-append, All-cons, All-nil}
+-- No frame says two things of one feature, and none has an Ack Vector yet; and no side processed a number.
+use Rattle.std.proofs.Common.{◌≡◌, refl, ap, sym, ◌∙◌, ℕ, ◌+◌, ◌≤◌, ◌&&◌, Bool, true, false, if◌then◌else◌, List, [], ◌∷◌, ◌++◌, drop, Option, Some, None, Result, Ok, Err, slice_get, length, map, arith}
+use Rattle.std.proofs.lemmas.List.Elements.{All-head, All-tail}
 use Rattle.std.specs.List.{All}
-use Rattle.dccp_options.specs.Written.{Item, entries_at}
-use Rattle.dccp_endpoint.specs.Causes.{SaysNothing}
-use Rattle.dccp_endpoint.specs.Effects.{Sending, Next}
+use Rattle.dccp_options.specs.Grammar.{Entry}
+use Rattle.dccp_options.specs.Vectors.{ack_vectors, is_ack_vector}
+use Rattle.dccp_options.specs.Written.{Item, entries_at, spelled}
+use Rattle.dccp_options.specs.declared.option.OptFault.{OptFault}
+use Rattle.dccp_endpoint.specs.Heeding.{is_left, is_of_negotiation}
+use Rattle.dccp_endpoint.specs.Saying.{begins_with, once_if, times_said_to}
+use Rattle.dccp_endpoint.specs.Speaking.{is_of_place}
+use Rattle.feature_agreement.specs.Rows.{opposite}
+use Rattle.feature_lists.specs.Features.{number_of}
+use Rattle.feature_lists.specs.declared.features.Feature.{Feature}
+use Rattle.feature_lists.specs.declared.features.Place.{Place}
+use Rattle.two_ends.specs.declared.event.Side.{Side}
 use Rattle.two_ends.specs.declared.frames.SentFrame.{SentFrame}
 use Rattle.two_ends.specs.Frames.{options_in}
-use Rattle.two_ends.proofs.Acting.{Party, Keeps, config_of, logged_by}
-use Rattle.two_ends.proofs.Logged.{Logged, Found, AtPlace, Nowhere, at-place, found}
+use Rattle.two_ends.specs.Numbered.{SpeaksOnce}
+use Rattle.two_ends.specs.Pairs.{Pair, one_if, place_at, said_times, times_said, values_for}
+use Rattle.two_ends.proofs.Acting.{Keeps, NoFact, Party, config_of}
+use Rattle.two_ends.proofs.Carrying.{types-placed, values-named}
+use Rattle.two_ends.proofs.FewOptions.{IsNegotiating}
+use Rattle.two_ends.proofs.KeyHearing.{IsWell}
+use Rattle.two_ends.proofs.Logged.{Found, AtPlace, Nowhere, at-place, found}
 use Rattle.two_ends.proofs.Numbering.{IsOrdered}
 use Rattle.two_ends.proofs.ReadBack.{logged-options, unlogged-options}
 
-abbrev pub IsBlank : Logged → Type 0
-IsBlank l = l.draft.options ≡ []
+abbrev pub IsUnprocessed : Party → Type 0
+IsUnprocessed x = x.half.processed ≡ []
 
-pub record IsQuiet (x : Party) : Type 0 where
-  pub no_options : All IsBlank x.log
-  pub unprocessed : x.half.processed ≡ []
+pub unprocessed : Keeps NoFact (λ x y. IsUnprocessed x)
+unprocessed = record { starts = λ own peer own_fits peer_fits. refl; acts = λ act none both. both }
 
-sent-blank : (processed floor : ℕ) (s : Sending) → SaysNothing s → All IsBlank (logged_by processed floor s)
-sent-blank processed floor (Next draft) says = All-cons IsBlank _ [] says.no_options (All-nil IsBlank)
-sent-blank processed floor _ says = All-nil IsBlank
+-- one option counts the same for a reader of frames and for the peer's row
+counted : (typed named placed : Bool) (values : List ℕ) (rest more : ℕ) → rest ≡ more
+    → (if typed && placed then one_if (if named then Some values else None) + rest else rest) ≡ once_if (typed && (named && placed)) + more
+counted true true true values rest more same = ap (λ (n : ℕ). 1 + n) same
+counted true true false values rest more same = omega (arith, same)
+counted true false true values rest more same = omega (arith, same)
+counted true false false values rest more same = omega (arith, same)
+counted false named placed values rest more same = omega (arith, same)
 
-pub quiet : Keeps (λ x y. IsOrdered x) (λ x y. IsQuiet x)
-quiet =
+-- So often a packet speaks of a pair as it speaks to the row of the peer.
+times-as : (feature : Feature) (place : Place) (options : List (Result Entry OptFault))
+    → said_times (number_of feature) place options ≡ times_said_to (feature, opposite place) options
+times-as feature place [] = refl
+times-as feature place (Err fault ∷ rest) = times-as feature place rest
+times-as feature place (Ok entry ∷ rest) =
+    let later : ℕ = said_times (number_of feature) place rest in
+    ap (λ (of_pair : Bool). if of_pair then one_if (values_for (number_of feature) entry.body) + later else later) (sym (types-placed place entry.kind))
+    ∙ ap
+    (λ (values : Option (List ℕ)).
+    if is_of_negotiation entry.kind && is_of_place (is_left entry.kind) (opposite (opposite place)) then one_if values + later else later)
+    (values-named (number_of feature) entry.body)
+    ∙ counted (is_of_negotiation entry.kind) (begins_with (number_of feature) entry.body) (is_of_place (is_left entry.kind) (opposite (opposite place)))
+    (drop 1 entry.body) later (times_said_to (feature, opposite place) rest) (times-as feature place rest)
+
+-- an option of the negotiation is no Ack Vector
+no-vector : (kind : ℕ) → is_of_negotiation kind ≡ true → is_ack_vector kind ≡ false
+no-vector kind is = grind arith
+
+no-vectors : (place : ℕ) (items : List Item) → All IsNegotiating items → ack_vectors (map Ok (entries_at place items)) ≡ []
+no-vectors place [] all = refl
+no-vectors place (item ∷ items) all =
+    by (is_ack_vector item.kind) (no-vector item.kind (All-head IsNegotiating item items all))
+    (no-vectors (place + length (spelled item.mandatory item.kind item.body)) items (All-tail IsNegotiating item items all))
+  where
+    later : List (List ℕ)
+    later = ack_vectors (map Ok (entries_at (place + length (spelled item.mandatory item.kind item.body)) items))
+
+    by : (is : Bool) → is ≡ false → later ≡ [] → (if is then item.body ∷ [] else []) ++ later ≡ []
+    by true vector none = cc vector
+    by false vector none = none
+
+-- What holds of each frame of a side.
+pub record IsSaidOnce (bytes : List ℕ) : Type 0 where
+  pub once : (side : Side) (pair : Pair) → times_said pair side bytes ≤ 1
+  pub no_vectors : ack_vectors (options_in bytes) ≡ []
+
+found-once : (x : Party) (peer_iss : ℕ) (frame : SentFrame) → All (IsWell peer_iss) x.log → Found (config_of x) (config_of x).iss x.log frame
+    → IsSaidOnce frame.bytes
+found-once x peer_iss frame well (AtPlace place number l there same is) =
+    let said = at-place (IsWell peer_iss) x.log place l well there in
+    let options : options_in frame.bytes ≡ map Ok (entries_at 0 l.draft.options) = logged-options (config_of x) number frame l is in
     record {
-      starts = λ own peer own_fits peer_fits. record { no_options = All-nil IsBlank; unprocessed = refl };
-      acts = λ act earlier (here, there). (
-        record {
-          no_options = All-append IsBlank act.side.log _ here.no_options (sent-blank _ _ act.effect.sending act.because.says);
-          unprocessed = here.unprocessed;
-        },
-        there,
-      );
+      once =
+          λ side pair.
+          let at : Place = place_at side pair.location in
+          let times : times_said pair side frame.bytes ≡ times_said_to (pair.feature, opposite at) (map Ok (entries_at 0 l.draft.options)) =
+          ap (said_times (number_of pair.feature) at) options ∙ times-as pair.feature at (map Ok (entries_at 0 l.draft.options)) in
+          omega (arith, times, said.once (pair.feature, at));
+      no_vectors = ap ack_vectors options ∙ no-vectors 0 l.draft.options said.kinds;
+    }
+found-once x peer_iss frame well (Nowhere is) =
+    let options : options_in frame.bytes ≡ [] = unlogged-options (config_of x) frame is in
+    record {
+      once =
+          λ side pair.
+          let times : times_said pair side frame.bytes ≡ 0 = ap (said_times (number_of pair.feature) (place_at side pair.location)) options in
+          omega (arith, times);
+      no_vectors = ap ack_vectors options;
     }
 
-found-silent : (x : Party) (frame : SentFrame) → IsQuiet x → Found (config_of x) (config_of x).iss x.log frame → options_in frame.bytes ≡ []
-found-silent x frame q (AtPlace place number l there same is) =
-    logged-options (config_of x) number frame l is ∙ ap (λ (items : List Item). map Ok (entries_at 0 items)) (at-place IsBlank x.log place l q.no_options there)
-found-silent x frame q (Nowhere is) = unlogged-options (config_of x) frame is
+pub frame-once : (x : Party) (peer_iss index : ℕ) (frame : SentFrame) → IsOrdered x → All (IsWell peer_iss) x.log → slice_get x.half.frames index ≡ Some frame
+    → IsSaidOnce frame.bytes
+frame-once x peer_iss index frame o well there = found-once x peer_iss frame well (found (config_of x) index frame o.logged there)
 
--- No frame carries options.
-pub silent : (x : Party) (index : ℕ) (frame : SentFrame) → IsOrdered x → IsQuiet x → slice_get x.half.frames index ≡ Some frame → options_in frame.bytes ≡ []
-silent x index frame o q there = found-silent x frame q (found (config_of x) index frame o.logged there)
+pub speaks-once : (side : Side) (bytes : List ℕ) → IsSaidOnce bytes → SpeaksOnce side bytes
+speaks-once side bytes said =
+    record { of_each_pair = λ pair. said.once side pair; vectors_acknowledge = λ packet read unacknowledged. said.no_vectors }

@@ -4,7 +4,7 @@ use Rattle.std.specs.List.{list_any}
 use Rattle.byteorder.specs.Endian.{big_number}
 use Rattle.feature_lists.specs.Features.{described, initial_of}
 use Rattle.feature_lists.specs.Lists.{reconciled}
-use Rattle.dccp_endpoint.specs.declared.held.Stand.TheVariants.{Stable}
+use Rattle.feature_machine.specs.declared.stands.Stand.TheVariants.{Stable}
 use Rattle.two_ends.specs.declared.frames.SentFrame.{SentFrame}
 use Rattle.two_ends.specs.declared.event.Side.{Side}
 use Rattle.two_ends.specs.declared.event.Side.TheVariants.{Client, Server}

@@ -7,7 +7,7 @@ use Rattle.feature_lists.specs.declared.features.Feature.{Feature}
 use Rattle.feature_lists.specs.declared.features.Place.{Place}
 use Rattle.feature_lists.specs.declared.features.Place.TheVariants.{Here, There}
 use Rattle.dccp_endpoint.specs.End.{held_of}
-use Rattle.dccp_endpoint.specs.declared.held.Held.{Held}
+use Rattle.feature_machine.specs.declared.stands.Held.{Held}
 use Rattle.two_ends.specs.declared.event.Side.{Side}
 use Rattle.two_ends.specs.declared.event.Side.TheVariants.{Client, Server}
 use Rattle.two_ends.specs.World.{WorldState, half_of}

@@ -6,6 +6,8 @@ use Rattle.dccp_endpoint.specs.Inputs.{Input, Answer, stepped}
 use Rattle.dccp_endpoint.specs.Inputs as input
 use Rattle.dccp_endpoint.specs.Steps.{Step}
 use Rattle.dccp_endpoint.specs.declared.config.Config.{Config}
+use Rattle.feature_lists.specs.declared.wishes.PreferFault.{PreferFault}
+use Rattle.feature_lists.specs.declared.wishes.PreferFault.TheVariants as prefer
 use Rattle.two_ends.specs.declared.frames.SentFrame.{SentFrame}
 use Rattle.two_ends.specs.declared.half.Call.{Call}
 use Rattle.two_ends.specs.declared.half.Call.TheVariants as call
@@ -54,9 +56,16 @@ abbrev pub seen_of_call : {Fault : Type 0} → (Fault → Refusal) → Result (U
 seen_of_call named (Ok _) = seen.Called (Ok tt)
 seen_of_call named (Err fault) = seen.Called (Err (named fault))
 
+-- why a wish is refused
+abbrev pub refusal_of : PreferFault → Refusal
+refusal_of prefer.NotOpen = refusal.NotOpen
+refusal_of prefer.BadList = refusal.BadList
+refusal_of prefer.NotOurs = refusal.NotOurs
+
 abbrev pub seen_of : Answer → Seen
 seen_of (input.Received outcome) = seen.Received outcome
 seen_of (input.Opened result) = seen_of_call (λ fault. refusal.NotFresh) result
+seen_of (input.Preferred result) = seen_of_call refusal_of result
 seen_of (input.Closed result) = seen_of_call (λ fault. refusal.NotOpen) result
 seen_of (input.Aborted result) = seen_of_call (λ fault. refusal.NotLive) result
 seen_of (input.Fired applies) = seen.Fired applies
@@ -99,6 +108,7 @@ pub data Happening : Type 0 where
 -- a call as the end takes it; nothing is in flight yet when a timer runs out
 abbrev pub input_of : Call → Input
 input_of call.Open = input.Opens
+input_of (call.Prefer feature place values) = input.Prefers (feature, place) values.now
 input_of call.Close = input.Closes
 input_of call.Abort = input.Aborts
 input_of (call.Fire timer) = input.Fires timer false
@@ -106,6 +116,7 @@ input_of (call.Fire timer) = input.Fires timer false
 abbrev pub happening_of : Event → Happening
 happening_of event.Open = Calls Client (input_of call.Open)
 happening_of (event.Deliver from index) = Delivers from index
+happening_of (event.Prefer side feature place values) = Calls side (input.Prefers (feature, place) values)
 happening_of (event.Timer side timer) = Calls side (input_of (call.Fire timer))
 happening_of (event.Close side) = Calls side (input_of call.Close)
 happening_of (event.Abort side) = Calls side (input_of call.Abort)

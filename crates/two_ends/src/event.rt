@@ -1,8 +1,14 @@
 //! What may happen to two ends, and what is seen of it.
-ghost use Rattle.std.specs.Prelude.{◌≡◌};
+ghost use Rattle.std.specs.Prelude.{◌≡◌, ◌<◌, ◌≤◌, [], ◌∷◌, ◌++◌, true, false, length};
 ghost use Rattle.two_ends.specs.World.{actor, other};
 
+use arrayvec::ArrayVec;
 use dccp_endpoint::{Outcome, Timer};
+use feature_lists::{Feature, Place};
+use std::marker::Model;
+
+// The most numbers of a list: one more than an end takes.
+const MOST_VALUES: usize = 9;
 
 /// One of the two ends.
 #[derive(Clone, Copy, Debug, PartialEq, Eq)]
@@ -11,19 +17,87 @@ pub enum Side {
     Server,
 }
 
+/// The numbers that are asked for a feature, best first: at most nine, in the value itself. Contracts see the list of
+/// numbers.
+#[derive(Debug, Drop)]
+pub struct Values {
+    numbers: ArrayVec<u64, MOST_VALUES>,
+}
+
+impl Model for Values {
+    ghost use Rattle.std.specs.Prelude.{List, ℕ};
+
+    ghost Value = { List ℕ };
+
+    ghost view = { λ v. v.numbers.items };
+}
+
+impl Values {
+    /// No number.
+    pub fn new() -> Values
+        ensures { result ≡ [] }
+    {
+        Values {
+            numbers: ArrayVec::new(),
+        }
+    }
+
+    /// Puts a number behind the others, or answers false and changes nothing, exactly where nine stand there.
+    pub fn push(&mut self, number: u64) -> bool
+        ensures put { result ≡ true → (length self.old < 9) × (self.new ≡ self.old ++ number ∷ []) }
+        ensures full { result ≡ false → (length self.old ≡ 9) × (self.new ≡ self.old) }
+    {
+        self.numbers.try_push(number).is_ok()
+    }
+
+    /// The numbers in order, at most nine.
+    pub fn numbers(&self) -> &[u64]
+        ensures value { result.now ≡ self.now }
+        ensures fits { length result.now ≤ 9 }
+    {
+        self.numbers.as_slice()
+    }
+
+    /// The same numbers.
+    pub fn copied(&self) -> Values
+        ensures { result ≡ self.now }
+    {
+        let mut copy = Values::new();
+        let _ = copy.numbers.try_extend_from_slice(self.numbers());
+        copy
+    }
+}
+
 /// One thing that happens (own): a call of a side's end, or a delivery.
-#[derive(Clone, Copy, Debug, PartialEq, Eq)]
+#[derive(Debug, Drop)]
 pub enum Event {
     /// The client opens the connection.
     Open,
     /// The frame with this index, from 0, among all that the side `from` ever sent arrives at the other side.
-    Deliver { from: Side, index: u64 },
+    Deliver {
+        from: Side,
+        index: u64,
+    },
+    /// The side asks for these values of a feature, best first (RFC 4340, section 6).
+    Prefer {
+        side: Side,
+        feature: Feature,
+        place: Place,
+        values: Values,
+    },
     /// A timer of the side has run out.
-    Timer { side: Side, timer: Timer },
+    Timer {
+        side: Side,
+        timer: Timer,
+    },
     /// The side closes the connection in order (RFC 4340, section 8.3).
-    Close { side: Side },
+    Close {
+        side: Side,
+    },
     /// The side ends the connection at once.
-    Abort { side: Side },
+    Abort {
+        side: Side,
+    },
 }
 
 /// Why an end refused a call, by the name of its fault.
@@ -31,8 +105,12 @@ pub enum Event {
 pub enum Refusal {
     /// `open`: the end is a server, or was opened before.
     NotFresh,
-    /// `close`: the phase is neither PARTOPEN nor OPEN.
+    /// `prefer` and `close`: the phase is neither PARTOPEN nor OPEN.
     NotOpen,
+    /// `prefer`: the values are none, too many or not distinct, or not such as the feature may have.
+    BadList,
+    /// `prefer`: the feature is non-negotiable and located at the peer.
+    NotOurs,
     /// `abort`: the phase is CLOSED, LISTEN or TIMEWAIT.
     NotLive,
 }
@@ -76,10 +154,11 @@ impl Event {
     pub fn actor(&self) -> Side
         ensures { result ≡ actor self.now }
     {
-        match *self {
+        match self {
             Event::Open => Side::Client,
             Event::Deliver { from, .. } => from.other(),
-            Event::Timer { side, .. } | Event::Close { side } | Event::Abort { side } => side,
+            Event::Prefer { side, .. } => *side,
+            Event::Timer { side, .. } | Event::Close { side } | Event::Abort { side } => *side,
         }
     }
 }

@@ -2,20 +2,26 @@
 ghost use Rattle.std.specs.Prelude.{◌≡◌, ◌≤◌, [], length};
 ghost use Rattle.dccp_endpoint.specs.Inputs.{stepped};
 ghost use Rattle.dccp_endpoint.specs.Receiving.{receives};
-ghost use Rattle.two_ends.specs.World.{input_of, seen_of};
+ghost use Rattle.two_ends.specs.World.{input_of, refusal_of, seen_of};
 
 use crate::frames::{keep_frame, take_memory};
-use crate::{Refusal, Seen, SentFrame};
+use crate::{Refusal, Seen, SentFrame, Values};
 use dccp_endpoint::{AbortFault, CloseFault, Config, Endpoint, OpenFault, Outcome, Timer};
 use dccp_packets::Outbox;
+use feature_lists::{Feature, Place, PreferFault};
 use seq_circle::NoMemory;
 use std::alloc::Global;
 use std::marker::Model;
 
 /// A call of an end.
-#[derive(Clone, Copy, Debug, PartialEq, Eq)]
-pub(crate) enum Call {
+#[derive(Clone, Copy, Debug)]
+pub(crate) enum Call<'a> {
     Open,
+    Prefer {
+        feature: Feature,
+        place: Place,
+        values: &'a Values,
+    },
     Close,
     Abort,
     Fire(Timer),
@@ -79,8 +85,8 @@ impl HalfWorld {
     }
 
     // One call of the end. All memory that the step may need is taken before the end is touched.
-    pub(crate) fn call(&mut self, call: Call) -> Result<Seen, NoMemory>
-        ensures ok { IfOk result (λ seen. record { half = self.new; seen = seen } ≡ half_steps self.old (input_of call)) }
+    pub(crate) fn call(&mut self, call: Call<'_>) -> Result<Seen, NoMemory>
+        ensures ok { IfOk result (λ seen. record { half = self.new; seen = seen } ≡ half_steps self.old (input_of call.entry)) }
         ensures err { OnErr result (self.new ≡ self.old) }
     {
         take_memory(&mut self.frames, &mut self.spare)?;
@@ -122,16 +128,34 @@ impl HalfWorld {
     }
 }
 
+fn refusal_of(fault: PreferFault) -> Refusal
+    ensures { result ≡ refusal_of fault }
+{
+    match fault {
+        PreferFault::NotOpen => Refusal::NotOpen,
+        PreferFault::BadList => Refusal::BadList,
+        PreferFault::NotOurs => Refusal::NotOurs,
+    }
+}
+
 // What is seen of a call of the end alone.
-fn answer(end: &mut Endpoint, call: Call, out: &mut Outbox) -> Seen
-    ensures after { end.new ≡ (stepped end.old (input_of call)).after }
-    ensures sent { out.new ≡ (stepped end.old (input_of call)).frame }
-    ensures seen { result ≡ seen_of (stepped end.old (input_of call)).answer }
+fn answer(end: &mut Endpoint, call: Call<'_>, out: &mut Outbox) -> Seen
+    ensures after { end.new ≡ (stepped end.old (input_of call.entry)).after }
+    ensures sent { out.new ≡ (stepped end.old (input_of call.entry)).frame }
+    ensures seen { result ≡ seen_of (stepped end.old (input_of call.entry)).answer }
 {
     match call {
         Call::Open => match end.open(out) {
             Ok(()) => Seen::Called(Ok(())),
             Err(OpenFault::NotFresh) => Seen::Called(Err(Refusal::NotFresh)),
+        },
+        Call::Prefer {
+            feature,
+            place,
+            values,
+        } => match end.prefer(feature, place, values.numbers(), out) {
+            Ok(()) => Seen::Called(Ok(())),
+            Err(fault) => Seen::Called(Err(refusal_of(fault))),
         },
         Call::Close => match end.close(out) {
             Ok(()) => Seen::Called(Ok(())),

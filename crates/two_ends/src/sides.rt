@@ -57,24 +57,37 @@ impl Sides {
         ensures filled { (result ≡ Err WorldFault.Full) ↔ ((LacksFrame self.old event.now → ⊥) × ActorIsFull self.old event.now) }
         ensures err { OnErr result (self.new ≡ self.old) }
     {
-        match *event {
+        match event {
             Event::Open => self.call(Side::Client, Call::Open),
-            Event::Timer { side, timer } => self.call(side, Call::Fire(timer)),
-            Event::Close { side } => self.call(side, Call::Close),
-            Event::Abort { side } => self.call(side, Call::Abort),
+            Event::Prefer {
+                side,
+                feature,
+                place,
+                values,
+            } => {
+                let call = Call::Prefer {
+                    feature: *feature,
+                    place: *place,
+                    values,
+                };
+                self.call(*side, call)
+            }
+            Event::Timer { side, timer } => self.call(*side, Call::Fire(*timer)),
+            Event::Close { side } => self.call(*side, Call::Close),
+            Event::Abort { side } => self.call(*side, Call::Abort),
             Event::Deliver {
                 from: Side::Client,
                 index,
-            } => deliver(self.client.frames(), index, &mut self.server),
+            } => deliver(self.client.frames(), *index, &mut self.server),
             Event::Deliver {
                 from: Side::Server,
                 index,
-            } => deliver(self.server.frames(), index, &mut self.client),
+            } => deliver(self.server.frames(), *index, &mut self.client),
         }
     }
 
-    fn call(&mut self, side: Side, call: Call) -> Result<Seen, WorldFault>
-        ensures ok { IfOk result (λ seen. takes_place self.old (Calls side (input_of call)) ≡ Ok (record { world = self.new; seen = seen })) }
+    fn call(&mut self, side: Side, call: Call<'_>) -> Result<Seen, WorldFault>
+        ensures ok { IfOk result (λ seen. takes_place self.old (Calls side (input_of call.entry)) ≡ Ok (record { world = self.new; seen = seen })) }
         ensures there { result ≢ Err WorldFault.NoSuchFrame }
         ensures full { (result ≡ Err WorldFault.Full) ↔ (is_full (half_of self.old side) ≡ true) }
         ensures err { OnErr result (self.new ≡ self.old) }
@@ -93,8 +106,8 @@ fn is_full(half: &HalfWorld) -> bool
     MOST_FRAMES <= half.frames().len()
 }
 
-fn call_half(half: &mut HalfWorld, call: Call) -> Result<Seen, WorldFault>
-    ensures ok { IfOk result (λ seen. (is_full half.old ≡ false) × (record { half = half.new; seen = seen } ≡ half_steps half.old (input_of call))) }
+fn call_half(half: &mut HalfWorld, call: Call<'_>) -> Result<Seen, WorldFault>
+    ensures ok { IfOk result (λ seen. (is_full half.old ≡ false) × (record { half = half.new; seen = seen } ≡ half_steps half.old (input_of call.entry))) }
     ensures full { (result ≡ Err WorldFault.Full) ↔ (is_full half.old ≡ true) }
     ensures there { result ≢ Err WorldFault.NoSuchFrame }
     ensures err { OnErr result (half.new ≡ half.old) }

@@ -11,12 +11,15 @@ ghost use Rattle.dccp_states.specs.declared.phase.Role.TheVariants as role;
 use crate::sides::Sides;
 use crate::{Event, Seen, SentFrame, Side, WorldFault};
 use dccp_endpoint::{Config, Endpoint, every_step_has_one_effect};
+use feature_lists::{Feature, Place};
 use seq_circle::NoMemory;
 use std::alloc::Global;
 use std::marker::Model;
 
-/// A client, a server, and every frame that either ever sent. [`World::step`] lets one thing happen. After each step the
-/// world is safe and its facts hold, whatever was delivered, lost, repeated or reordered before.
+/// A client, a server, and every frame that either ever sent. [`World::step`] lets one thing happen: a side is asked to open,
+/// to prefer other values of a feature, or to close; a timer of it has run out; or a frame arrives. After each step the world
+/// is safe and its facts hold, whatever was preferred, delivered, lost, repeated or reordered before: so both ends agree on
+/// each feature that they call settled, and each value was given to them.
 ///
 /// The facts: a side's frames, but for Resets without a connection, carry its first number, the next, and so on up to
 /// its greatest number sent, in this order (RFC 4340, section 7.1); there are fewer than 2^47. A Reset without a
@@ -49,8 +52,9 @@ impl World {
     ghost use Rattle.two_ends.specs.Safe.{Safe};
     ghost use Rattle.two_ends.specs.Numbered.{Facts};
 
-    /// Two ends of these configurations that have sent and received nothing. The world is safe and its facts hold: no frame has a
-    /// number yet, nothing was heard, and a Reset would move nothing received.
+    /// Two ends of these configurations, with what they wish and offer of features, that have sent and received nothing. The world
+    /// is safe and its facts hold: no frame has a number yet, nothing was heard, every feature has its initial value, and a
+    /// Reset would move nothing received.
     pub fn new(alloc: Global, client: Config, server: Config) -> Result<World, NoMemory>
         requires client { client.role ≡ role.Client }
         requires server { server.role ≡ role.Server }
@@ -110,7 +114,7 @@ impl World {
     }
 }
 
-// The types of the fields keep their widths; each call here gives one to the prover.
+// The types of the fields keep their widths, and the lists their order; each call here gives one to the prover.
 fn config_fits(config: &Config)
     ensures { Fits config.now }
 {
@@ -118,6 +122,7 @@ fn config_fits(config: &Config)
     port_fits(config.peer_port);
     service_fits(config.service);
     let _ = config.iss.get();
+    let _ = config.lists.wish(Feature::Ccid, Place::Here);
 }
 
 fn port_fits(port: u16)

@@ -1,13 +1,22 @@
 //! The calls and timers of an end (RFC 4340, sections 8.1 to 8.3). Each call empties the Outbox first.
 use super::Endpoint;
+use super::receiving::is_connected;
+use crate::speaking::asking;
 use crate::{AbortFault, CloseFault, OpenFault, Timer};
 use dccp_packets::{Kind, Number, Outbox, ResetCode};
 use dccp_states::{Phase, Role};
+use feature_lists::{Feature, Place, PreferFault, Wanted, wish};
+use feature_machine::Opening;
 
 impl Endpoint {
-    ghost use Rattle.std.specs.Prelude.{◌≡◌, ◌≢◌, ◌↔◌, ◌⊎◌, [], None, Ok, Err, OnErr, true, false};
+    ghost use Rattle.std.specs.Prelude.{◌≡◌, ◌≢◌, ◌↔◌, ◌⊎◌, ◌≤◌, [], None, Ok, Err, OnErr, true, false, length};
     ghost use Rattle.dccp_states.specs.declared.phase.Role.TheVariants as role;
-    ghost use Rattle.dccp_endpoint.specs.Calling.{aborts, aborts_now, applies, closes, closes_now, fires, opens, opens_as};
+    ghost use Rattle.dccp_endpoint.specs.Calling.{aborts, aborts_now, applies, asks_all, asks_now, closes, closes_now, fires, has_keys, opens, opens_as, prefers, prefers_wish, requests};
+    ghost use Rattle.dccp_endpoint.specs.End.{is_connected};
+    ghost use Rattle.dccp_endpoint.specs.Speaking.{AreDue};
+    ghost use Rattle.feature_lists.specs.Wishes.{is_wish, wish_of};
+    ghost use Rattle.feature_lists.specs.declared.wishes.PreferFault.TheVariants as prefer;
+    ghost use Rattle.feature_machine.specs.Negotiating.{due_keys};
     ghost use Rattle.dccp_endpoint.specs.Drafts.{alone};
     ghost use Rattle.dccp_endpoint.specs.Steps.{sends};
     ghost use Rattle.dccp_packets.specs.Grammar.{has_forms};
@@ -36,8 +45,16 @@ impl Endpoint {
     {
         self.opened = true;
         self.phase = Phase::Request;
+        self.send_request(out);
+    }
+
+    // A Request opens the offered rows, and carries the Changes of these and of all others that ask.
+    fn send_request(&mut self, out: &mut Outbox)
+        ensures after { self.new ≡ (requests self.old (tt {0})).after }
+        ensures frame { out.new ≡ (requests self.old (tt {0})).frame }
+    {
         let service = self.config.service;
-        self.send(Kind::Request { service }, out);
+        self.send_offering(Kind::Request { service }, &[], out);
     }
 
     /// Ends the connection in order: a client sends Close and is in CLOSING; a server asks for it by CloseReq and is in
@@ -106,33 +123,86 @@ impl Endpoint {
         self.send(Kind::Reset { ack, code, detail }, out);
     }
 
+    /// The end wants these values, best first, for a feature at a place (RFC 4340, section 6.6.1). A row in STABLE asks at once, by
+    /// an Ack with its Change; any other asks on a later occasion, and nothing goes out. Refused with `NotOpen` exactly outside
+    /// PARTOPEN and OPEN; then as `feature_lists::wish` refuses, with `BadList` or `NotOurs`.
+    #[tactic(auto, unfolding(crate::specs::Calling::prefers))]
+    pub fn prefer(
+        &mut self,
+        feature: Feature,
+        place: Place,
+        values: &[u64],
+        out: &mut Outbox,
+    ) -> Result<(), PreferFault>
+        ensures step { record { after = self.new; frame = out.new; calls = []; answer = result } ≡ prefers self.old (feature, place) values.now }
+        ensures not_open { (result ≡ Err PreferFault.NotOpen) ↔ ((self.old.phase ≢ Phase.PartOpen) × (self.old.phase ≢ Phase.Open)) }
+        ensures bad_list { (result ≡ Err PreferFault.BadList) ↔ ((is_connected self.old.phase ≡ true) × (wish_of feature place values.now ≡ Err prefer.BadList)) }
+        ensures not_ours { (result ≡ Err PreferFault.NotOurs) ↔ ((is_connected self.old.phase ≡ true) × (wish_of feature place values.now ≡ Err prefer.NotOurs)) }
+        ensures refused { OnErr result ((self.new ≡ self.old) × (out.new ≡ None)) }
+    {
+        out.clear();
+        if !is_connected(self.phase) {
+            return Err(PreferFault::NotOpen);
+        }
+        let wish = wish(feature, place, values)?;
+        self.prefer_wish(feature, place, wish, out);
+        Ok(())
+    }
+
+    #[tactic(auto, using(crate::proofs::Keeping::preferred_rows, crate::proofs::Asking::preferred_asks))]
+    fn prefer_wish(&mut self, feature: Feature, place: Place, wish: Wanted, out: &mut Outbox)
+        requires empty { out.old ≡ None }
+        requires wish { is_wish feature place wish ≡ true }
+        ensures { record { after = self.new; frame = out.new; calls = []; answer = Ok (tt {0}) } ≡ prefers_wish self.old (feature, place) (Ok wish) }
+    {
+        let mut rows = *self.rows();
+        let opening = rows.prefer(feature, place, wish);
+        self.store(&rows);
+        if opening == Opening::Now {
+            self.ask_now(&[(feature, place)], out);
+        }
+    }
+
+    // An Ack with the Changes of these rows, which ask.
+    fn ask_now(&mut self, keys: &[(Feature, Place)], out: &mut Outbox)
+        requires rows { length keys.now ≤ 18 }
+        requires due { AreDue self.old.rows keys.now }
+        ensures after { self.new ≡ (asks_now self.old keys.now (tt {0})).after }
+        ensures frame { out.new ≡ (asks_now self.old keys.now (tt {0})).frame }
+    {
+        let ack = Number::Long(self.marks.gsr);
+        self.send_asking(Kind::Ack { ack }, &[], keys, out);
+    }
+
     /// A timer has run out. True exactly where it has something to do in this phase (`applies`):
     ///
     /// | Timer | Phases | Does |
     /// |---|---|---|
-    /// | Request | REQUEST | another Request goes out |
+    /// | Request | REQUEST | another Request goes out, with all Changes that are due |
     /// | Ack | PARTOPEN, OPEN | an Ack goes out |
+    /// | Negotiate | PARTOPEN, OPEN, if a row asks | an Ack goes out with all Changes that are due |
     /// | Close | CLOSEREQ; CLOSING | CloseReq; Close goes out again |
     /// | TimeWait | TIMEWAIT | the phase is CLOSED |
     ///
-    /// Negotiate and Rto have nothing to do yet. Where it is false, nothing changes and nothing is sent (RFC 4340, section 8).
+    /// Rto has nothing to do yet. Where it is false, nothing changes and nothing is sent (RFC 4340, section 8).
     #[tactic(auto, unfolding(crate::specs::Calling::fires))]
     pub fn timer(&mut self, timer: Timer, out: &mut Outbox) -> bool
         ensures step { record { after = self.new; frame = out.new; calls = []; answer = result } ≡ fires self.old timer false }
-        ensures applies { result ≡ applies timer self.old.phase }
+        ensures applies { result ≡ applies timer self.old }
         ensures idle { result ≡ false → (self.new ≡ self.old) × (out.new ≡ None) }
     {
         out.clear();
         let ack = self.marks.gsr;
         match (timer, self.phase) {
             (Timer::Request, Phase::Request) => {
-                let service = self.config.service;
-                self.fire(Kind::Request { service }, out)
+                self.send_request(out);
+                true
             }
             (Timer::Ack, Phase::PartOpen | Phase::Open) => {
                 let ack = Number::Long(ack);
                 self.fire(Kind::Ack { ack }, out)
             }
+            (Timer::Negotiate, Phase::PartOpen | Phase::Open) => self.ask_all(out),
             (Timer::Close, Phase::CloseReq) => self.fire(Kind::CloseReq { ack }, out),
             (Timer::Close, Phase::Closing) => self.fire(Kind::Close { ack }, out),
             (Timer::TimeWait, Phase::TimeWait) => {
@@ -141,6 +211,22 @@ impl Endpoint {
             }
             _ => false,
         }
+    }
+
+    // The Changes of all rows that ask go out again.
+    #[tactic(auto, using(crate::proofs::Asking::unconfirmed_all))]
+    fn ask_all(&mut self, out: &mut Outbox) -> bool
+        requires { out.old ≡ None }
+        ensures step { record { after = self.new; frame = out.new; calls = []; answer = result } ≡ asks_all self.old (due_keys self.old.rows) }
+        ensures applies { result ≡ has_keys (due_keys self.old.rows) }
+    {
+        let keys = asking(self.rows(), &[]);
+        let keys = keys.as_slice();
+        if keys.is_empty() {
+            return false;
+        }
+        self.ask_now(keys, out);
+        true
     }
 
     fn fire(&mut self, kind: Kind, out: &mut Outbox) -> bool

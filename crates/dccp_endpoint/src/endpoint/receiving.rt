@@ -1,19 +1,21 @@
 //! What an end does with a packet that arrives: the sixteen steps of RFC 4340, section 8.5, as far as they are built.
-//! `receive` and `take_steps` list them, and each has a function of its own below.
-ghost use Rattle.std.specs.Prelude.{◌≡◌};
-ghost use Rattle.dccp_endpoint.specs.End.{is_open, is_live};
+//! `take_bytes`, `take`, `take_options` and `take_steps` list them, and each has a function of its own below.
+ghost use Rattle.std.specs.Prelude.{◌≡◌, length, map};
+ghost use Rattle.dccp_endpoint.specs.End.{is_connected, is_open, is_live};
 ghost use Rattle.dccp_endpoint.specs.Receiving.{packet_fault};
 ghost use Rattle.dccp_endpoint.specs.Steps.{without_detail};
 ghost use Rattle.dccp_packets.specs.ResetCodes.{number_of_code};
 
 use super::Endpoint;
 use crate::config::number as seq48;
-use crate::faults::{is_unbuilt, read};
+use crate::faults::{counts, is_unbuilt};
+use crate::heeding::{Reading, heed};
 use crate::incoming::IncomingPacket;
 use crate::{Exit, Fault, Outcome, Why};
 use dccp_packets::{Header, Kind, Number, Outbox, PacketType, ResetCode, decode};
 use dccp_states::{Entrance, Phase, Reply, after, gate, unexpected};
 use dccp_sum::check;
+use feature_machine::ConfirmOut;
 use seq_circle::Seq48;
 use validity_windows::{Marks, Verdict};
 
@@ -31,6 +33,13 @@ fn is_live(phase: Phase) -> bool
         phase,
         Phase::Respond | Phase::PartOpen | Phase::Open | Phase::CloseReq | Phase::Closing
     )
+}
+
+// The phases in which the handshake has got through to this end.
+pub(crate) fn is_connected(phase: Phase) -> bool
+    ensures { result ≡ is_connected phase }
+{
+    matches!(phase, Phase::PartOpen | Phase::Open)
 }
 
 // A Reset code without details.
@@ -58,7 +67,7 @@ fn packet_fault(packet: &IncomingPacket<'_>) -> Fault
 }
 
 impl Endpoint {
-    ghost use Rattle.std.specs.Prelude.{◌≡◌, ◌≢◌, ◌≤◌, [], Option, Some, None, Ok, Err, true, false, length};
+    ghost use Rattle.std.specs.Prelude.{◌≡◌, ◌≤◌, ◌&&◌, if◌then◌else◌, [], Option, Some, None, Ok, Err, true, false, length, map};
     ghost use Rattle.dccp_packets.specs.Grammar.{has_forms};
     ghost use Rattle.dccp_packets.specs.declared.header.Kind.TheVariants as kind;
     ghost use Rattle.dccp_packets.specs.declared.header.Number.TheVariants.{Long};
@@ -68,17 +77,21 @@ impl Endpoint {
     ghost use Rattle.validity_windows.specs.Verdict.{verdict};
     ghost use Rattle.dccp_endpoint.specs.Drafts.{alone};
     ghost use Rattle.dccp_endpoint.specs.End.{EndState, IsProper, is_phase_of};
+    ghost use Rattle.dccp_endpoint.specs.Faults.{counts};
+    ghost use Rattle.dccp_endpoint.specs.Heeding.{due_of, heeds, unheeded};
+    ghost use Rattle.dccp_endpoint.specs.Speaking.{confirming};
     ghost use Rattle.dccp_endpoint.specs.Incoming.{Incoming, is_newest};
-    ghost use Rattle.dccp_endpoint.specs.Receiving.{receives, takes, checks_header, is_of_connection, course, Goes, the_steps, through, finds_connection, is_own_service, accepts_request, started, acknowledges_in_window, answers, takes_answer, raises, judged, checks_numbers, ends_by_reset, is_unexpected, is_other_service, checks_type, reads_options, moved_to, replies, processes, took, resets, resets_without_connection, leaves};
+    ghost use Rattle.dccp_endpoint.specs.Receiving.{receives, takes, checks_header, is_of_connection, course, Goes, the_steps, through, finds_connection, is_own_service, accepts_request, started, acknowledges_in_window, answers, takes_answer, raises, judged, checks_numbers, ends_by_reset, is_unexpected, is_other_service, checks_type, heeded, reads_options, moved_to, needs_ack, acknowledges, responds, replies, processes, took, resets, resets_without_connection, leaves};
     ghost use Rattle.dccp_endpoint.specs.Inputs.{Arrives};
     ghost use Rattle.dccp_endpoint.specs.Outcomes.{HasCause, HasEffectOf, HasNoOtherCause};
-    ghost use Rattle.dccp_endpoint.specs.Steps.{sends, without_detail};
+    ghost use Rattle.dccp_endpoint.specs.Steps.{idle, sends, without_detail};
 
     /// Takes bytes that arrived, as RFC 4340, section 8.5 says under this profile, at most 2,044 of them. Bytes that are no
     /// packet, whose checksum does not fit, whose ports are not those of the connection or whose numbers are short are
     /// dropped, in this order. The phase decides whether the packet may enter, the windows whether its numbers are valid, its
-    /// type whether it is unexpected; then its options are read, and it moves the phase and is answered. What needs a part
-    /// that is not built yet is `NotBuilt`.
+    /// type whether it is unexpected; then its options are read, and it moves the phase and is answered. Options of the
+    /// negotiation count on newest packets alone, in RESPOND, PARTOPEN and OPEN and on the Response in REQUEST. Data and
+    /// DataAck, which are not built yet, are `NotBuilt`.
     ///
     /// Each outcome comes exactly for its causes (`cause`, `no_other_cause`), and tells what has changed (`effect`). A packet
     /// that is dropped or `NotBuilt` changes nothing and sends nothing. A valid Reset moves the phase to TIMEWAIT, and nothing
@@ -87,8 +100,13 @@ impl Endpoint {
     /// code and the detail that `SentReset` has. Without a connection (codes 3 and 8) it changes nothing. In REQUEST, where the
     /// packet is neither a Reset nor a Response that acknowledges within the window (code 4), it takes the next number, and
     /// nothing else changes. Otherwise (codes 1, 5, 6 and 8) the packet's numbers were taken, the end closes, and the Reset takes
-    /// the next number and acknowledges the greatest number received. A packet that is `Took` moves the phase and is answered
-    /// by the table of phases, and no data is delivered yet.
+    /// the next number and acknowledges the greatest number received. The first fault of the options (codes 5 and 6) leaves what
+    /// was negotiated as it was before the packet.
+    ///
+    /// A packet that is `Took` moves the phase and is answered by the table of phases, and no data is delivered yet. The rows
+    /// have heard its options in their order, and the Confirms that they answer go out on the packet that acknowledges it:
+    /// the table's, or an Ack where the table has none in PARTOPEN and OPEN. A Response lets all offers come up, and carries the
+    /// Changes of all rows that ask and have no Confirm in it.
     pub fn receive(&mut self, bytes: &[u8], out: &mut Outbox) -> Outcome
         requires { length bytes.now ≤ 2044 }
         ensures step { record { after = self.new; frame = out.new; calls = []; answer = result } ≡ receives self.old bytes.now }
@@ -136,16 +154,47 @@ impl Endpoint {
     {
         let (phase, marks) = (self.phase, self.marks);
         match self.take_steps(packet) {
-            Ok(()) => self.process(packet, out),
+            Ok(()) => self.take_options(packet, phase, marks, out), // 8, and 10 to 16
             Err(exit) => self.leave(packet, exit, phase, marks, out),
         }
     }
 
-    // The steps from 2 on, in their order; an error where the packet leaves at one.
+    // Step 8: what needs a part that is not built goes no further, the first fault of the options ends the connection, and else the
+    // rows are stored. With the Confirms that are due come steps 10 to 16. Phase and marks are those before the packet.
+    fn take_options(
+        &mut self,
+        packet: &IncomingPacket<'_>,
+        phase: Phase,
+        marks: Marks,
+        out: &mut Outbox,
+    ) -> Outcome
+        requires empty { out.old ≡ None }
+        requires proper { IsProper (record self.old { phase = phase; marks = marks }) }
+        ensures { record { after = self.new; frame = out.new; calls = []; answer = result } ≡ heeded (record self.old { phase = phase; marks = marks }) self.old packet.now (reads_options self.old packet.now) }
+    {
+        if is_unbuilt(packet.kind) {
+            return self.leave(packet, Exit::NotBuilt, phase, marks, out);
+        }
+        // Without options the rows stay, and so do the windows, which are as wide as the rows say.
+        let _rows = self.rows();
+        if packet.options.is_empty() {
+            return self.process(packet, &[], out);
+        }
+        match self.read_options(packet) {
+            Ok(reading) => {
+                self.store(reading.rows());
+                self.process(packet, reading.confirms(), out)
+            }
+            Err(fault) => self.leave(packet, Exit::Shut(fault), phase, marks, out),
+        }
+    }
+
+    // Steps 2 to 7 and 9, in their order; an error where the packet leaves at one.
     #[tactic(auto, using(crate::proofs::Phases::accept_fits))]
     fn take_steps(&mut self, packet: &IncomingPacket<'_>) -> Result<(), Exit>
         ensures course { course self.new result ≡ through (Goes self.old) (the_steps packet.now (gate self.old.phase packet.now.kind)) }
         ensures config { self.new.config ≡ self.old.config }
+        ensures rows { self.new.rows ≡ self.old.rows }
     {
         let entrance = gate(self.phase, packet.kind);
         self.find_connection(entrance)?; // 2
@@ -153,8 +202,7 @@ impl Endpoint {
         self.take_answer(packet, entrance)?; // 4
         self.check_numbers(packet, entrance)?; // 5 and 6
         self.end_by_reset(packet)?; // 9
-        self.check_type(packet)?; // 7
-        self.read_options(packet) // 8
+        self.check_type(packet) // 7
     }
 
     // Step 1 drops what has a wrong checksum, comes over other ports or has short numbers, in this order.
@@ -208,6 +256,7 @@ impl Endpoint {
         requires { entrance ≡ Entrance.Accept → is_phase_of phase.Respond self.old.config.role ≡ true }
         ensures course { course self.new result ≡ accepts_request packet.now entrance self.old }
         ensures config { self.new.config ≡ self.old.config }
+        ensures rows { self.new.rows ≡ self.old.rows }
     {
         if entrance != Entrance::Accept {
             return Ok(());
@@ -241,6 +290,7 @@ impl Endpoint {
     fn take_answer(&mut self, packet: &IncomingPacket<'_>, entrance: Entrance) -> Result<(), Exit>
         ensures course { course self.new result ≡ takes_answer packet.now entrance self.old }
         ensures config { self.new.config ≡ self.old.config }
+        ensures rows { self.new.rows ≡ self.old.rows }
     {
         match entrance {
             Entrance::InRequest => self.take_response(packet),
@@ -252,6 +302,7 @@ impl Endpoint {
     fn take_response(&mut self, packet: &IncomingPacket<'_>) -> Result<(), Exit>
         ensures course { course self.new result ≡ answers packet.now self.old packet.now.kind (acknowledges_in_window self.old packet.now) }
         ensures config { self.new.config ≡ self.old.config }
+        ensures rows { self.new.rows ≡ self.old.rows }
     {
         match (packet.kind, self.acknowledges_in_window(packet)) {
             (PacketType::Reset, true) => Ok(()),
@@ -275,6 +326,7 @@ impl Endpoint {
     fn check_numbers(&mut self, packet: &IncomingPacket<'_>, entrance: Entrance) -> Result<(), Exit>
         ensures course { course self.new result ≡ checks_numbers packet.now entrance self.old }
         ensures config { self.new.config ≡ self.old.config }
+        ensures rows { self.new.rows ≡ self.old.rows }
     {
         if entrance != Entrance::Check {
             return Ok(());
@@ -338,29 +390,30 @@ impl Endpoint {
         }
     }
 
-    // Step 8: the first fault of the options ends the connection. What needs a part that is not built goes no further.
-    fn read_options(&self, packet: &IncomingPacket<'_>) -> Result<(), Exit>
-        ensures { course self.now result ≡ reads_options packet.now self.now }
+    // Options of the negotiation are heeded on the newest packets alone.
+    fn read_options(&self, packet: &IncomingPacket<'_>) -> Result<Reading, Fault>
+        ensures { result ≡ heeds (packet.now.newest && counts self.now.phase packet.now.kind) packet.now.ack (unheeded self.now.rows) packet.now.options }
     {
-        let reading = read(packet.options, packet.kind.is_data());
-        if is_unbuilt(self.phase, packet.kind, reading.negotiates) {
-            return Err(Exit::NotBuilt);
-        }
-        match reading.fault {
-            Some(fault) => Err(Exit::Shut(fault)),
-            None => Ok(()),
-        }
+        let count = packet.newest && counts(self.phase, packet.kind);
+        let on_data = packet.kind.is_data();
+        heed(&self.rows, packet.options, on_data, count, &packet.ack)
     }
 
     // Steps 10 to 16.
     #[tactic(auto, using(crate::proofs::Phases::after_fits))]
-    fn process(&mut self, packet: &IncomingPacket<'_>, out: &mut Outbox) -> Outcome
-        requires { out.old ≡ None }
-        ensures { record { after = self.new; frame = out.new; calls = []; answer = result } ≡ processes self.old packet.now (after self.old.phase packet.now.kind) }
+    fn process(
+        &mut self,
+        packet: &IncomingPacket<'_>,
+        confirms: &[ConfirmOut],
+        out: &mut Outbox,
+    ) -> Outcome
+        requires empty { out.old ≡ None }
+        requires few { length confirms.now ≤ 64 }
+        ensures { record { after = self.new; frame = out.new; calls = []; answer = result } ≡ processes self.old packet.now (map due_of confirms.now) (after self.old.phase packet.now.kind) }
     {
         let (phase, reply) = after(self.phase, packet.kind);
         self.move_to(phase, packet.number);
-        self.reply(packet, reply, out)
+        self.reply(packet, confirms, reply, out)
     }
 
     // Steps 10 to 15: the phase moves by the table, and the number with which it becomes OPEN is OSR.
@@ -375,32 +428,70 @@ impl Endpoint {
     }
 
     // What the table of phases sends; a Reset has left at step 9. Step 16: no data is delivered yet.
-    fn reply(&mut self, packet: &IncomingPacket<'_>, reply: Reply, out: &mut Outbox) -> Outcome
-        requires { out.old ≡ None }
-        ensures { record { after = self.new; frame = out.new; calls = []; answer = result } ≡ replies self.old packet.now reply }
+    fn reply(
+        &mut self,
+        packet: &IncomingPacket<'_>,
+        confirms: &[ConfirmOut],
+        reply: Reply,
+        out: &mut Outbox,
+    ) -> Outcome
+        requires empty { out.old ≡ None }
+        requires few { length confirms.now ≤ 64 }
+        ensures { record { after = self.new; frame = out.new; calls = []; answer = result } ≡ replies self.old packet.now (map due_of confirms.now) reply }
     {
         let ack = self.marks.gsr;
-        let service = self.config.service;
         match reply {
-            Reply::Nothing | Reply::Torn => Outcome::Took { delivered: None },
-            Reply::Response => self.send_and_take(Kind::Response { ack, service }, out),
-            Reply::Ack => self.send_and_take(
-                Kind::Ack {
-                    ack: Number::Long(ack),
-                },
-                out,
-            ),
-            Reply::Close => self.send_and_take(Kind::Close { ack }, out),
+            Reply::Nothing => self.acknowledge_if_due(confirms, out),
+            Reply::Response => self.respond(confirms, out),
+            Reply::Ack => self.acknowledge(confirms, out),
+            Reply::Close => self.send_and_take(Kind::Close { ack }, &[], out),
             Reply::ResetClosed => self.reset(ack, without_detail(ResetCode::Closed), out),
-            Reply::SyncAck => self.send_and_take(Kind::SyncAck { ack: packet.number }, out),
+            Reply::SyncAck => {
+                let ack = packet.number;
+                self.send_and_take(Kind::SyncAck { ack }, confirms, out)
+            }
+            Reply::Torn => Outcome::Took { delivered: None },
         }
     }
 
-    fn send_and_take(&mut self, kind: Kind, out: &mut Outbox) -> Outcome
-        requires { has_forms true kind ≡ true }
-        ensures { record { after = self.new; frame = out.new; calls = []; answer = result } ≡ sends self.old (alone kind) took }
+    // Where the table has no reply, an Ack goes out in PARTOPEN and OPEN if Confirms are due.
+    fn acknowledge_if_due(&mut self, confirms: &[ConfirmOut], out: &mut Outbox) -> Outcome
+        requires empty { out.old ≡ None }
+        requires few { length confirms.now ≤ 64 }
+        ensures { record { after = self.new; frame = out.new; calls = []; answer = result } ≡ (if needs_ack self.old (map due_of confirms.now) then acknowledges self.old (map due_of confirms.now) else idle self.old took) }
     {
-        self.send(kind, out);
+        if is_connected(self.phase) && !confirms.is_empty() {
+            return self.acknowledge(confirms, out);
+        }
+        Outcome::Took { delivered: None }
+    }
+
+    // An Ack with the Confirms that are due.
+    fn acknowledge(&mut self, confirms: &[ConfirmOut], out: &mut Outbox) -> Outcome
+        requires { length confirms.now ≤ 64 }
+        ensures { record { after = self.new; frame = out.new; calls = []; answer = result } ≡ acknowledges self.old (map due_of confirms.now) }
+    {
+        let ack = Number::Long(self.marks.gsr);
+        self.send_and_take(Kind::Ack { ack }, confirms, out)
+    }
+
+    // A Response opens the offered rows that have no Confirm in it, and carries the Changes of these and of all others that ask.
+    fn respond(&mut self, confirms: &[ConfirmOut], out: &mut Outbox) -> Outcome
+        requires { length confirms.now ≤ 64 }
+        ensures { record { after = self.new; frame = out.new; calls = []; answer = result } ≡ responds self.old (map due_of confirms.now) }
+    {
+        let ack = self.marks.gsr;
+        let service = self.config.service;
+        self.send_offering(Kind::Response { ack, service }, confirms, out);
+        Outcome::Took { delivered: None }
+    }
+
+    fn send_and_take(&mut self, kind: Kind, confirms: &[ConfirmOut], out: &mut Outbox) -> Outcome
+        requires form { has_forms true kind ≡ true }
+        requires few { length confirms.now ≤ 64 }
+        ensures { record { after = self.new; frame = out.new; calls = []; answer = result } ≡ sends self.old (confirming kind (map due_of confirms.now)) took }
+    {
+        self.send_confirming(kind, confirms, out);
         Outcome::Took { delivered: None }
     }
 

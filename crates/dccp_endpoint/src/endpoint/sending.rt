@@ -1,17 +1,22 @@
-//! The frames that an end sends.
-ghost use Rattle.std.specs.Prelude.{◌≡◌, ◌≤◌, ◌^◌, Some, true, length};
+//! The frames that an end sends, and what they say of features.
+ghost use Rattle.std.specs.Prelude.{◌≡◌, ◌≤◌, ◌^◌, Some, true, length, map};
 ghost use Rattle.dccp_sum.specs.Checksum.{sealed};
 
 use super::Endpoint;
+use crate::speaking::{asking, open_offers, put_changes, put_confirms, send_all};
 use dccp_options::OptWriter;
 use dccp_packets::{Frame, Header, Kind, Number, Outbox, encode};
 use dccp_sum::{Pseudo, seal};
+use feature_lists::{Feature, Place};
+use feature_machine::ConfirmOut;
 use seq_circle::Seq48;
 
 impl Endpoint {
     ghost use Rattle.std.specs.Prelude.{◌+◌};
     ghost use Rattle.dccp_packets.specs.Grammar.{fixed_length, has_forms, packet_type, padded};
     ghost use Rattle.dccp_endpoint.specs.Drafts.{alone, frame_of, framed};
+    ghost use Rattle.dccp_endpoint.specs.Heeding.{due_of};
+    ghost use Rattle.dccp_endpoint.specs.Speaking.{AreChanging, AreDue, asking, asks, confirming, offers, saying};
     ghost use Rattle.dccp_endpoint.specs.Steps.{next_number, with_next_number};
 
     // Sends a packet without options and data under the next number.
@@ -40,6 +45,98 @@ impl Endpoint {
     {
         let number = self.take_number();
         out.put(self.frame_with(number, kind, options.bytes(), payload));
+    }
+
+    // Sends a packet with Confirms alone under the next number.
+    #[tactic(auto, using(crate::proofs::Frames::fixed_part_is_short))]
+    pub(crate) fn send_confirming(&mut self, kind: Kind, confirms: &[ConfirmOut], out: &mut Outbox)
+        requires form { has_forms true kind ≡ true }
+        requires few { length confirms.now ≤ 64 }
+        ensures counted { self.new ≡ with_next_number self.old }
+        ensures sent { out.new ≡ Some (frame_of self.old.config (next_number self.old) (confirming kind (map due_of confirms.now))) }
+    {
+        if confirms.is_empty() {
+            return self.send(kind, out);
+        }
+        let mut area = OptWriter::new();
+        put_confirms(&mut area, confirms);
+        self.send_with(kind, &area, &[], out);
+    }
+
+    // Sends a packet that says all that is due: the Confirms, and the Changes of these rows, which are in CHANGING.
+    #[tactic(auto, using(crate::proofs::Frames::fixed_part_is_short, crate::proofs::Writing::written_both))]
+    fn send_saying(
+        &mut self,
+        kind: Kind,
+        confirms: &[ConfirmOut],
+        keys: &[(Feature, Place)],
+        out: &mut Outbox,
+    )
+        requires form { has_forms true kind ≡ true }
+        requires few { length confirms.now ≤ 64 }
+        requires rows { length keys.now ≤ 18 }
+        requires changing { AreChanging self.old.rows keys.now }
+        ensures counted { self.new ≡ with_next_number self.old }
+        ensures sent { out.new ≡ Some (frame_of self.old.config (next_number self.old) (saying kind (map due_of confirms.now) self.old.rows keys.now)) }
+    {
+        let mut area = OptWriter::new();
+        put_confirms(&mut area, confirms);
+        put_changes(&mut area, &self.rows, keys);
+        self.send_with(kind, &area, &[], out);
+    }
+
+    // These rows' Changes go out on the next packet.
+    fn ask(&mut self, keys: &[(Feature, Place)])
+        requires { AreDue self.old.rows keys.now }
+        ensures asks { self.new ≡ asks self.old keys.now }
+        ensures changing { AreChanging self.new.rows keys.now }
+    {
+        let mut rows = *self.rows();
+        send_all(&mut rows, keys, self.marks.gss.next());
+        self.store(&rows);
+    }
+
+    // Sends a packet with the Changes of these rows, which ask, and with these Confirms.
+    pub(crate) fn send_asking(
+        &mut self,
+        kind: Kind,
+        confirms: &[ConfirmOut],
+        keys: &[(Feature, Place)],
+        out: &mut Outbox,
+    )
+        requires form { has_forms true kind ≡ true }
+        requires few { length confirms.now ≤ 64 }
+        requires rows { length keys.now ≤ 18 }
+        requires due { AreDue self.old.rows keys.now }
+        ensures counted { self.new ≡ with_next_number (asks self.old keys.now) }
+        ensures sent { out.new ≡ Some (frame_of self.old.config (next_number self.old) (saying kind (map due_of confirms.now) (asks self.old keys.now).rows keys.now)) }
+    {
+        self.ask(keys);
+        self.send_saying(kind, confirms, keys, out);
+    }
+
+    // All offers that were not made yet come up; of the rows that meet a Confirm they are dropped.
+    fn offer(&mut self, confirms: &[ConfirmOut])
+        ensures { self.new ≡ offers self.old (map due_of confirms.now) }
+    {
+        let mut rows = *self.rows();
+        open_offers(&mut rows, confirms);
+        self.store(&rows);
+    }
+
+    // Sends a packet with these Confirms, once all offers have come up: it carries the Changes of all rows that ask and have no
+    // Confirm in it.
+    pub(crate) fn send_offering(&mut self, kind: Kind, confirms: &[ConfirmOut], out: &mut Outbox)
+        requires form { has_forms true kind ≡ true }
+        requires few { length confirms.now ≤ 64 }
+        ensures counted { self.new ≡ with_next_number (asks (offers self.old (map due_of confirms.now)) (asking (offers self.old (map due_of confirms.now)).rows (map due_of confirms.now))) }
+        ensures sent { out.new ≡ Some (frame_of self.old.config (next_number self.old) (saying kind (map due_of confirms.now)
+            (asks (offers self.old (map due_of confirms.now)) (asking (offers self.old (map due_of confirms.now)).rows (map due_of confirms.now))).rows
+            (asking (offers self.old (map due_of confirms.now)).rows (map due_of confirms.now)))) }
+    {
+        self.offer(confirms);
+        let keys = asking(self.rows(), confirms);
+        self.send_asking(kind, confirms, keys.as_slice(), out);
     }
 
     // The next number, which is then the greatest sent.

@@ -1,0 +1,223 @@
+-- What an end's own packet says to a row of the peer: the Confirm for the row, or else its Change, or else nothing, and once at most
+-- (RFC 4340, section 6).
+use Rattle.std.proofs.Common.{◌≡◌, ◌==◌, ◌&&◌, ◌||◌, ◌≤◌, refl, sym, ap, ◌∙◌, arith, ℕ, ◌+◌, Bool, true, false, List, [], ◌∷◌, ◌++◌, length, map, Option, Result, Ok}
+use Rattle.std.specs.Prelude.{if◌then◌else◌}
+use Rattle.std.proofs.lemmas.Bool.{cond-false, cond-true, eq-eqb, eqb-false, ne_eqb}
+use Rattle.std.proofs.Common.{eqb-true}
+use Rattle.dccp_options.specs.Grammar.{Entry}
+use Rattle.dccp_options.specs.Written.{Item, entries_at, mark, spelled}
+use Rattle.dccp_options.specs.declared.option.OptFault.{OptFault}
+use Rattle.feature_agreement.specs.Rows.{opposite}
+use Rattle.feature_lists.specs.Features.{number_of}
+use Rattle.feature_lists.specs.declared.features.Place.{Place}
+use Rattle.feature_lists.specs.declared.features.Place.TheVariants.{Here, There}
+use Rattle.feature_machine.specs.Negotiating.{IsNegotiation, every_place, row_at}
+use Rattle.feature_machine.specs.Turns.{Turn, turned}
+use Rattle.feature_machine.specs.Rows.{RowEvent, Change, Confirm}
+use Rattle.feature_machine.specs.declared.row.Row.{Row}
+use Rattle.dccp_endpoint.specs.Causes.{AreHeard, AreTurns, Came, Deaf, Heeds, Occasion, Offering, Plain, PrefersLater, PrefersNow, Repeating, counts_in}
+use Rattle.dccp_endpoint.specs.Effects.{Hearing}
+use Rattle.dccp_endpoint.specs.End.{EndState}
+use Rattle.dccp_endpoint.specs.Incoming.{Incoming}
+use Rattle.dccp_endpoint.specs.Inputs.{Input}
+use Rattle.dccp_endpoint.specs.Heeding.{Due, event_of, is_change, is_left, is_of_negotiation}
+use Rattle.dccp_endpoint.specs.Saying.{OwnPacketsSayOfARow, OwnPacketsSpeakOnce, body_if, change_if, confirm_for, event_in, has_key, is_key, once_if, said_of, said_to, speaks_to, times_confirmed, times_said_to}
+use Rattle.dccp_endpoint.specs.Speaking.{change_item, change_items, change_type, confirm_item, confirm_items, confirm_type, is_confirmed, is_for, is_of_place, wish_bytes}
+use Rattle.dccp_endpoint.specs.Turns.{Key, offerings}
+use Rattle.dccp_endpoint.proofs.Keys.{AreDistinct, apart-so, asking-distinct, due-distinct, first-apart, key-so, none-distinct, one-distinct, rest-distinct, times-none}
+use Rattle.dccp_endpoint.proofs.OneConfirm.{confirms_are_single}
+
+-- the row of the peer
+abbrev theirs : Key → Key
+theirs k = (k.0, opposite k.1)
+
+-- an option as it is read, at some place among the bytes
+abbrev entry_of : ℕ → Item → Entry
+entry_of place item = record { place = place + length (mark item.mandatory); mandatory = item.mandatory; kind = item.kind; body = item.body }
+
+-- the place of the option behind it
+abbrev behind : ℕ → Item → ℕ
+behind place item = place + length (spelled item.mandatory item.kind item.body)
+
+-- a Confirm speaks to the row that it is for, and a Change to the row of its key
+confirm-letter : (test left : Bool) (place : Place)
+    → (is_of_negotiation (confirm_type left) && (test && is_of_place (is_left (confirm_type left)) (opposite (opposite place))))
+    ≡ (test && is_of_place left place)
+confirm-letter test true Here = refl
+confirm-letter test true There = refl
+confirm-letter test false Here = refl
+confirm-letter test false There = refl
+
+confirm-speaks : (k : Key) (place : ℕ) (due : Due) → speaks_to (theirs k) (entry_of place (confirm_item due)) ≡ is_for k due
+confirm-speaks k place due = confirm-letter (due.number == number_of k.0) due.left k.1
+
+change-letter : (test : Bool) (here place : Place)
+    → (is_of_negotiation (change_type here) && (test && is_of_place (is_left (change_type here)) (opposite (opposite place))))
+    ≡ (test && is_of_place (is_of_place true place) here)
+change-letter test Here Here = refl
+change-letter test Here There = refl
+change-letter test There Here = refl
+change-letter test There There = refl
+
+turned-test : (a b : ℕ) → (a == b) ≡ (b == a)
+turned-test a b = by (b == a) refl where
+  by : (same : Bool) → (b == a) ≡ same → (a == b) ≡ same
+  by true is = eq-eqb a b (sym (eqb-true b a is))
+  by false is = ne_eqb a b (λ same. eqb-false b a is (sym same))
+
+change-speaks : (k key : Key) (place : ℕ) (row : Row) → speaks_to (theirs k) (entry_of place (change_item key row)) ≡ is_key k key
+change-speaks k key place row =
+    change-letter (number_of key.0 == number_of k.0) key.1 k.1
+    ∙ ap (λ (test : Bool). test && is_of_place (is_of_place true k.1) key.1) (turned-test (number_of key.0) (number_of k.0))
+
+-- what they say
+confirm-event : (ack : Option ℕ) (place : ℕ) (due : Due) → event_in ack (entry_of place (confirm_item due)) ≡ Confirm due.body ack
+confirm-event ack place due = by due.left where
+  by : (left : Bool) → event_of ack (entry_of place (confirm_item due)) (is_change (confirm_type left)) due.body ≡ Confirm due.body ack
+  by true = refl
+  by false = refl
+
+change-event : (ack : Option ℕ) (key : Key) (place : ℕ) (row : Row)
+    → event_in ack (entry_of place (change_item key row)) ≡ Change (wish_bytes key.0 row.active) row.mandatory
+change-event ack key place row = by key.1 where
+  by : (here : Place) → event_of ack (entry_of place (change_item key row)) (is_change (change_type here)) (wish_bytes key.0 row.active)
+      ≡ Change (wish_bytes key.0 row.active) row.mandatory
+  by Here = refl
+  by There = refl
+
+abbrev as_read : ℕ → List Item → List (Result Entry OptFault)
+as_read place items = map Ok (entries_at place items)
+
+module _ (ack : Option ℕ) (rows : List Row) (k : Key) where
+  changes-said : (keys : List Key) (place : ℕ)
+      → said_to true ack (theirs k) (as_read place (change_items rows keys)) ≡ change_if (has_key k keys) k (row_at rows k.0 k.1)
+  changes-said [] place = refl
+  changes-said (key ∷ rest) place =
+      by (is_key k key) refl (change-speaks k key place row) (changes-said rest (behind place (change_item key row)))
+    where
+      row : Row
+      row = row_at rows key.0 key.1
+
+      entry : Entry
+      entry = entry_of place (change_item key row)
+
+      later : List (Result Entry OptFault)
+      later = as_read (behind place (change_item key row)) (change_items rows rest)
+
+      by : (same : Bool) → is_key k key ≡ same → speaks_to (theirs k) entry ≡ is_key k key
+          → said_to true ack (theirs k) later ≡ change_if (has_key k rest) k (row_at rows k.0 k.1)
+          → (if speaks_to (theirs k) entry then event_in ack entry ∷ [] else said_to true ack (theirs k) later)
+          ≡ change_if (same || has_key k rest) k (row_at rows k.0 k.1)
+      by true same speaks others =
+          cond-true (speaks_to (theirs k) entry) (event_in ack entry ∷ []) (said_to true ack (theirs k) later) (speaks ∙ same)
+          ∙ ap (λ (event : RowEvent). event ∷ []) (change-event ack key place row)
+          ∙ ap (λ (one : Key). change_if true one (row_at rows one.0 one.1)) (sym (key-so k key same))
+      by false other speaks others =
+          cond-false (speaks_to (theirs k) entry) (event_in ack entry ∷ []) (said_to true ack (theirs k) later) (speaks ∙ other) ∙ others
+
+  all-said : (confirms : List Due) (keys : List Key) (place : ℕ)
+      → said_to true ack (theirs k) (as_read place (confirm_items confirms ++ change_items rows keys))
+      ≡ said_of (confirm_for k confirms) (has_key k keys) ack k (row_at rows k.0 k.1)
+  all-said [] keys place = changes-said keys place
+  all-said (due ∷ rest) keys place =
+      by (is_for k due) (confirm-speaks k place due) (all-said rest keys (behind place (confirm_item due)))
+    where
+      entry : Entry
+      entry = entry_of place (confirm_item due)
+
+      later : List (Result Entry OptFault)
+      later = as_read (behind place (confirm_item due)) (confirm_items rest ++ change_items rows keys)
+
+      by : (its : Bool) → speaks_to (theirs k) entry ≡ its
+          → said_to true ack (theirs k) later ≡ said_of (confirm_for k rest) (has_key k keys) ack k (row_at rows k.0 k.1)
+          → (if speaks_to (theirs k) entry then event_in ack entry ∷ [] else said_to true ack (theirs k) later)
+          ≡ said_of (body_if its due.body (confirm_for k rest)) (has_key k keys) ack k (row_at rows k.0 k.1)
+      by true speaks others =
+          cond-true (speaks_to (theirs k) entry) (event_in ack entry ∷ []) (said_to true ack (theirs k) later) speaks
+          ∙ ap (λ (event : RowEvent). event ∷ []) (confirm-event ack place due)
+      by false speaks others =
+          cond-false (speaks_to (theirs k) entry) (event_in ack entry ∷ []) (said_to true ack (theirs k) later) speaks ∙ others
+
+-- the law on what own packets say
+pub own_packets_say : OwnPacketsSayOfARow
+own_packets_say = λ ack confirms rows keys k. all-said ack rows k confirms keys 0
+
+module _ (rows : List Row) (k : Key) where
+  changes-times : (keys : List Key) (place : ℕ) → AreDistinct keys
+      → times_said_to (theirs k) (as_read place (change_items rows keys)) ≡ once_if (has_key k keys)
+  changes-times [] place distinct = refl
+  changes-times (key ∷ rest) place distinct =
+      by (is_key k key) refl (change-speaks k key place (row_at rows key.0 key.1))
+      (changes-times rest (behind place (change_item key (row_at rows key.0 key.1))) (rest-distinct key rest distinct))
+    where
+      entry : Entry
+      entry = entry_of place (change_item key (row_at rows key.0 key.1))
+
+      later : List (Result Entry OptFault)
+      later = as_read (behind place (change_item key (row_at rows key.0 key.1))) (change_items rows rest)
+
+      by : (same : Bool) → is_key k key ≡ same → speaks_to (theirs k) entry ≡ is_key k key
+          → times_said_to (theirs k) later ≡ once_if (has_key k rest)
+          → once_if (speaks_to (theirs k) entry) + times_said_to (theirs k) later ≡ once_if (same || has_key k rest)
+      by true same speaks others =
+          let now : once_if (speaks_to (theirs k) entry) ≡ 1 = ap once_if (speaks ∙ same) in
+          let apart : has_key k rest ≡ false = ap (λ (one : Key). has_key one rest) (key-so k key same) ∙ first-apart key rest distinct in
+          let none : times_said_to (theirs k) later ≡ 0 = others ∙ ap once_if apart in
+          omega (arith, now, none)
+      by false other speaks others =
+          let now : once_if (speaks_to (theirs k) entry) ≡ 0 = ap once_if (speaks ∙ other) in
+          omega (arith, now, others)
+
+  all-times : (confirms : List Due) (keys : List Key) (place : ℕ) → AreDistinct keys
+      → times_said_to (theirs k) (as_read place (confirm_items confirms ++ change_items rows keys))
+      ≡ times_confirmed k confirms + once_if (has_key k keys)
+  all-times [] keys place distinct = let changes = changes-times keys place distinct in omega (arith, changes)
+  all-times (due ∷ rest) keys place distinct =
+      let now : once_if (speaks_to (theirs k) (entry_of place (confirm_item due))) ≡ once_if (is_for k due) = ap once_if (confirm-speaks k place due) in
+      let later = all-times rest keys (behind place (confirm_item due)) distinct in
+      omega (arith, now, later)
+
+-- the law that they speak once
+pub own_packets_speak : OwnPacketsSpeakOnce
+own_packets_speak = λ confirms rows keys k single distinct apart.
+    let times = all-times rows k confirms keys 0 distinct in
+    by confirms keys k single apart (has_key k keys) refl times
+  where
+    by : (confirms : List Due) (keys : List Key) (k : Key) → times_confirmed k confirms ≤ 1
+        → (has_key k keys ≡ true → is_confirmed confirms k ≡ false) → (asks : Bool) → has_key k keys ≡ asks → {n : ℕ}
+        → n ≡ times_confirmed k confirms + once_if (has_key k keys) → n ≤ 1
+    by confirms keys k single apart true is times =
+        let none = times-none confirms k (apart is) in
+        let one : once_if (has_key k keys) ≡ 1 = ap once_if is in
+        omega (arith, none, one, times)
+    by confirms keys k single apart false is times =
+        let none : once_if (has_key k keys) ≡ 0 = ap once_if is in
+        omega (arith, single, none, times)
+
+-- The rows whose Changes go out in one step are distinct.
+pub keys-distinct : (e : EndState) (given : Input) (heard offered preferred : List Turn) (confirms : List Due) (keys : List Key)
+    → IsNegotiation e.rows → IsNegotiation (turned e.rows (heard ++ offered)) → Occasion e given heard confirms offered preferred keys
+    → AreDistinct keys
+keys-distinct e given heard _ _ confirms _ sound later Plain = none-distinct
+keys-distinct e given heard _ _ confirms _ sound later Offering =
+    asking-distinct (turned e.rows (heard ++ offerings (is_confirmed confirms) every_place)) confirms later
+keys-distinct e given heard _ _ confirms _ sound later (Repeating no_turns no_confirms) = due-distinct e.rows sound
+keys-distinct e given heard _ _ confirms _ sound later (PrefersNow k values wish is wants now no_turns no_confirms) = one-distinct k
+keys-distinct e given heard _ _ confirms _ sound later (PrefersLater k values wish is wants waits no_turns no_confirms) = none-distinct
+
+-- No row has two of the Confirms that are due in one step.
+pub confirms-single : (e : EndState) (given : Input) (hearing : Hearing) (heard : List Turn) (confirms : List Due) (k : Key) → IsNegotiation e.rows
+    → ((a : Incoming) → Came e given a → length a.options ≤ 64) → AreHeard e given hearing heard confirms → times_confirmed k confirms ≤ 1
+confirms-single e given hearing _ _ k sound few Deaf = omega arith
+confirms-single e given hearing _ _ k sound few (Heeds a h taken heeded) =
+    confirms_are_single (counts_in e a) a.ack e.rows a.options h k sound (few a taken.came) heeded
+
+-- So what goes out in one step speaks to a row of the peer once at most, where no packet has more than 64 options.
+pub spoken-once : (e : EndState) (given : Input) (hearing : Hearing) (turns : List Turn) (its : AreTurns e given hearing turns) → IsNegotiation e.rows
+    → IsNegotiation (turned e.rows (its.heard ++ its.offered)) → ((a : Incoming) → Came e given a → length a.options ≤ 64)
+    → (rows : List Row) (k : Key)
+    → times_said_to (k.0, opposite k.1) (map Ok (entries_at 0 (confirm_items its.confirms ++ change_items rows its.keys))) ≤ 1
+spoken-once e given hearing turns its sound later few rows k =
+    own_packets_speak its.confirms rows its.keys k (confirms-single e given hearing its.heard its.confirms k sound few its.hears)
+    (keys-distinct e given its.heard its.offered its.preferred its.confirms its.keys sound later its.occasion)
+    (apart-so its.confirms its.keys k its.apart)

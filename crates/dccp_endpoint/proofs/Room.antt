@@ -1,0 +1,365 @@
+-- What an end says of features has room on its packets: at most 64 Confirms and 18 Changes, of at most 12 bytes each.
+use Rattle.std.proofs.Common.{◌≡◌, ℕ, ◌+◌, ◌*◌, ◌-◌, ◌%◌, ◌≤◌, ◌<◌, nat_lt, Bool, true, false, not, ◌&&◌, if◌then◌else◌, List, [], ◌∷◌, ◌++◌, length, replicate, Option, Some, None, Result, Ok, Err, refl, subst, arith}
+use Rattle.std.specs.Prelude.{slice_index_or, filter}
+use Rattle.std.specs.List.{All}
+use Rattle.std.proofs.lemmas.Bool.{and_parts}
+use Rattle.byteorder.specs.Numbers.{length-bytes_high_first}
+use Rattle.std.proofs.lemmas.List.{length-append, length-map, length-replicate}
+use Rattle.std.proofs.lemmas.List.Elements.{All-append, All-cons, All-head, All-map, All-nil, All-tail}
+use Rattle.std.proofs.lemmas.List.Sums.{count_by-le-length, length-filter}
+use Rattle.byteorder.specs.Endian.{big_bytes}
+use Rattle.dccp_options.specs.Grammar.{Entry}
+use Rattle.dccp_options.specs.Kinds.{is_understood}
+use Rattle.dccp_options.specs.Written.{Item, IsWritable, mark, spelled, written}
+use Rattle.dccp_options.specs.declared.option.OptFault.{OptFault}
+use Rattle.dccp_packets.specs.Grammar.{has_forms, packet_type, padded}
+use Rattle.dccp_packets.specs.Kinds.{is_data}
+use Rattle.dccp_packets.specs.Widths.{HasDetail}
+use Rattle.dccp_packets.specs.declared.header.Kind.{Kind}
+use Rattle.dccp_packets.specs.declared.reset_code.ResetCode.TheVariants as codes
+use Rattle.dccp_states.specs.declared.phase.Role.TheVariants as role
+use Rattle.feature_lists.specs.Features.{described, feature_numbered}
+use Rattle.feature_lists.specs.Wishes.{is_allowed}
+use Rattle.feature_lists.specs.declared.features.Feature.{Feature}
+use Rattle.feature_lists.specs.declared.features.Feature.TheVariants as f
+use Rattle.feature_lists.specs.declared.features.Place.{Place}
+use Rattle.feature_lists.specs.declared.features.Place.TheVariants.{Here, There}
+use Rattle.feature_lists.specs.declared.wishes.Wanted.TheVariants as wanted
+use Rattle.feature_lists.specs.declared.wishes.Wanted.{Wanted}
+use Rattle.feature_lists.proofs.Allowed.{allowed_says}
+use Rattle.feature_machine.specs.Answers.{answered, settling_of}
+use Rattle.feature_machine.specs.Negotiating.{IsNegotiation, changes, changes_known, confirmed, confirms_known, due_keys, is_due, place_of, row_at}
+use Rattle.feature_machine.specs.Rows.{Change, Confirm, RowAnswer, Confirms, Ignored, Settled, Fatal, Opens, Waits, Quiet, Proposed, confirm_body, entries, holding, is_server_priority, proposal, row_line, width}
+use Rattle.feature_machine.specs.Sound.{is_active}
+use Rattle.feature_machine.specs.declared.answers.Settling.{Settling}
+use Rattle.feature_machine.specs.declared.answers.Settling.TheVariants as settling
+use Rattle.feature_machine.specs.declared.judging.Proposal.{Proposal}
+use Rattle.feature_machine.specs.declared.judging.Proposal.TheVariants as p
+use Rattle.feature_machine.specs.declared.row.Row.{Row}
+use Rattle.feature_machine.specs.declared.stands.Stand.{Stand}
+use Rattle.feature_machine.specs.declared.stands.Stand.TheVariants as stand
+use Rattle.feature_machine.proofs.Steps.{stepped_negotiation}
+use Rattle.dccp_endpoint.specs.Causes.{is_code_without_connection}
+use Rattle.dccp_endpoint.specs.Drafts.{IsSendable}
+use Rattle.dccp_endpoint.specs.Heeding.{Due, Heeding, by_answered, by_settling, counted, fault_of, heeds, heeds_body, heeds_change, heeds_confirm, heeds_feature, heeds_item, heeds_then, is_change, is_left, is_of_negotiation, met, misunderstood, place_in_used, unheeded}
+use Rattle.dccp_endpoint.specs.Speaking.{asking, change_item, change_items, change_type, confirm_item, confirm_items, confirm_type, confirming, is_confirmed, saying, wish_bytes}
+use Rattle.dccp_endpoint.specs.Turns.{Key}
+use Rattle.dccp_endpoint.specs.declared.outcome.Fault.{Fault}
+use Rattle.dccp_endpoint.proofs.Frames.{fixed_part_is_short}
+
+-- The data of an answer are a value and at most eight more, or one number.
+
+width-few : (feature : Feature) → (described feature).width ≤ 6
+width-few f.SequenceWindow = omega arith
+width-few f.AckRatio = omega arith
+width-few _ = omega arith
+
+big-length : (count number : ℕ) → length (big_bytes count number) ≡ count
+big-length count number = length-bytes_high_first count number
+
+-- an active list has at most eight entries
+entries-few : (feature : Feature) (place : Place) (active : Option Wanted) → is_active feature place active ≡ true → length (entries active) ≤ 8
+entries-few feature place None is = omega arith
+entries-few feature place (Some (wanted.Number number)) is = omega arith
+entries-few feature place (Some (wanted.List list)) is =
+    ((allowed_says feature place list).0 (and_parts (described feature).is_server_priority (is_allowed feature place list) is).1).few
+
+body-short : (row : Row) → is_active row.feature row.place row.active ≡ true → length (confirm_body row) ≤ 9
+body-short row is = by (is_server_priority row) where
+  by : (listed : Bool) → length (if listed then row.value ∷ entries row.active else big_bytes (width row) row.value) ≤ 9
+  by true = let few = entries-few row.feature row.place row.active is in omega (arith, few)
+  by false = let few = width-few row.feature in let long = big-length (width row) row.value in omega (arith, few, long)
+
+-- the data of the Confirm that an answer is
+abbrev IsShort : RowAnswer → Type 0
+IsShort (Confirms body) = length body ≤ 9
+IsShort Ignored = Unit {0}
+IsShort Settled = Unit {0}
+IsShort (Fatal code) = Unit {0}
+IsShort Opens = Unit {0}
+IsShort Waits = Unit {0}
+IsShort Quiet = Unit {0}
+
+line-short : (row : Row) (s : Stand) (proposed : Proposal) (mandatory : Bool) → is_active row.feature row.place row.active ≡ true
+    → IsShort (row_line row s (Proposed proposed mandatory)).answer
+line-short row s p.Invalid false is = omega arith
+line-short row s p.Invalid true is = tt
+line-short row stand.Unstable p.Unshared mandatory is = tt
+line-short row stand.Unstable (p.Shared value) mandatory is = tt
+line-short row stand.Unstable (p.Told value) mandatory is = tt
+line-short row stand.Stable (p.Shared value) mandatory is = body-short (holding row value) is
+line-short row stand.Changing (p.Shared value) mandatory is = body-short (holding row value) is
+line-short row stand.Stable (p.Told value) mandatory is = body-short (holding row value) is
+line-short row stand.Changing (p.Told value) mandatory is = body-short (holding row value) is
+line-short row stand.Stable p.Unshared false is = body-short row is
+line-short row stand.Changing p.Unshared false is = body-short row is
+line-short row stand.Stable p.Unshared true is = tt
+line-short row stand.Changing p.Unshared true is = tt
+
+-- what a Change and a Confirm leave of the rows, and answer
+change-sound : (rows : List Row) (known : Option Feature) (left : Bool) (body : List ℕ) (mandatory : Bool) → IsNegotiation rows
+    → IsNegotiation (changes_known rows known (place_of left) body mandatory).rows × IsShort (changes_known rows known (place_of left) body mandatory).answer
+change-sound rows None left body true sound = (sound, tt)
+change-sound rows None left body false sound = (sound, omega arith)
+change-sound rows (Some known) left body mandatory sound =
+    let place : Place = place_of left in
+    let row : Row = row_at rows known place in (
+      stepped_negotiation rows known place (Change body mandatory) sound tt,
+      line-short row row.stand (proposal row body) mandatory (sound.each known place).sound.active,
+    )
+
+confirm-sound : (rows : List Row) (known : Option Feature) (left : Bool) (body : List ℕ) (ack : Option ℕ) → IsNegotiation rows
+    → IsNegotiation (confirms_known rows known (place_of left) body ack).rows
+confirm-sound rows None left body ack sound = sound
+confirm-sound rows (Some known) left body ack sound = stepped_negotiation rows known (place_of left) (Confirm body ack) sound tt
+
+-- What holds of each reading: the rows are sound, and the Confirms are few and short; and a fault has the code 5 or 6.
+pub record IsBounded (h : Heeding) : Type 0 where
+  pub rows : IsNegotiation h.rows
+  pub few : length h.confirms ≤ h.changes
+  pub most : h.changes ≤ 64
+  pub short : All (λ due. length due.body ≤ 9) h.confirms
+
+abbrev pub IsBoundedReading : Result Heeding Fault → Type 0
+IsBoundedReading (Ok h) = IsBounded h
+IsBoundedReading (Err fault) = is_code_without_connection role.Server fault.code ≡ false
+
+counted-more : (n : ℕ) (change : Bool) → n ≤ 64 → (n ≤ counted n change) × (counted n change ≤ 64)
+counted-more n false most = (omega arith, most)
+counted-more n true most = by (nat_lt n 64) refl where
+  by : (few : Bool) → nat_lt n 64 ≡ few → (n ≤ (if few then n + 1 else n)) × ((if few then n + 1 else n) ≤ 64)
+  by true is = (omega arith, grind arith)
+  by false is = (omega arith, most)
+
+met-bounded : (h : Heeding) (place : ℕ) (change : Bool) (rows : List Row) → IsBounded h → IsNegotiation rows → IsBounded (met h place change rows h.confirms)
+met-bounded h place change rows b sound =
+    let more = counted-more h.changes change b.most in
+    record { rows = sound; few = (let few = b.few in omega (arith, few, more.0)); most = more.1; short = b.short }
+
+answered-bounded : (h : Heeding) (place : ℕ) (rows : List Row) (entry : Entry) (left : Bool) (number : ℕ) (answer : RowAnswer) → IsBounded h
+    → nat_lt h.changes 64 ≡ true → IsNegotiation rows → IsShort answer → IsBoundedReading (by_answered h place rows entry (answered left number answer))
+answered-bounded h place rows entry left number (Confirms body) b few sound short =
+    let due : Due = record { left = not left; number = number; body = body } in
+    let more : counted h.changes true ≡ h.changes + 1 = rw few refl in
+    record {
+      rows = sound;
+      few = (let long = length-append h.confirms (due ∷ []) in let old = b.few in omega (arith, long, old, more));
+      most = (counted-more h.changes true b.most).1;
+      short = All-append (λ (d : Due). length d.body ≤ 9) h.confirms (due ∷ []) b.short
+          (All-cons (λ (d : Due). length d.body ≤ 9) due [] short (All-nil (λ (d : Due). length d.body ≤ 9)));
+    }
+answered-bounded h place rows entry left number (Fatal code) b few sound short = refl
+answered-bounded h place rows entry left number Ignored b few sound short = met-bounded h place true rows b sound
+answered-bounded h place rows entry left number Settled b few sound short = met-bounded h place true rows b sound
+answered-bounded h place rows entry left number Opens b few sound short = met-bounded h place true rows b sound
+answered-bounded h place rows entry left number Waits b few sound short = met-bounded h place true rows b sound
+answered-bounded h place rows entry left number Quiet b few sound short = met-bounded h place true rows b sound
+
+settling-bounded : (h : Heeding) (place : ℕ) (rows : List Row) (entry : Entry) (x : Settling) → IsBounded h → IsNegotiation rows
+    → IsBoundedReading (by_settling h place rows entry x)
+settling-bounded h place rows entry settling.Settled b sound = met-bounded h place false rows b sound
+settling-bounded h place rows entry settling.Ignored b sound = met-bounded h place false rows b sound
+settling-bounded h place rows entry settling.Fatal b sound = refl
+
+used-bounded : (h : Heeding) (change : Bool) → IsBounded h → IsBounded (record h { changes = counted h.changes change })
+used-bounded h change b =
+    let more = counted-more h.changes change b.most in
+    record { rows = b.rows; few = (let few = b.few in omega (arith, few, more.0)); most = more.1; short = b.short }
+
+feature-bounded : (ack : Option ℕ) (h : Heeding) (entry : Entry) (change left : Bool) (number : ℕ) (body : List ℕ) → IsBounded h
+    → IsBoundedReading (heeds_feature ack h entry change left number body)
+feature-bounded ack h entry true left number body b = by (slice_index_or h.used (place_in_used left number) false) (nat_lt h.changes 64) refl where
+  by : (used few : Bool) → nat_lt h.changes 64 ≡ few
+      → IsBoundedReading (if used then Ok (record h { changes = counted h.changes true })
+      else if few then heeds_change h entry left number body else Ok (met h (place_in_used left number) true h.rows h.confirms))
+  by true few is = used-bounded h true b
+  by false true is =
+      let changed = change-sound h.rows (feature_numbered number) left body entry.mandatory b.rows in
+      answered-bounded h (place_in_used left number) (changes h.rows left number body entry.mandatory).rows entry left number
+      (changes h.rows left number body entry.mandatory).answer b is changed.0 changed.1
+  by false false is = met-bounded h (place_in_used left number) true h.rows b b.rows
+feature-bounded ack h entry false left number body b = by (slice_index_or h.used (place_in_used left number) false) where
+  by : (used : Bool) → IsBoundedReading (if used then Ok (record h { changes = counted h.changes false }) else heeds_confirm ack h entry left number body)
+  by true = used-bounded h false b
+  by false =
+      settling-bounded h (place_in_used left number) (confirmed h.rows left number body ack).rows entry (settling_of (confirmed h.rows left number body ack).answer) b
+      (confirm-sound h.rows (feature_numbered number) left body ack b.rows)
+
+body-bounded : (ack : Option ℕ) (h : Heeding) (entry : Entry) (body : List ℕ) → IsBounded h → IsBoundedReading (heeds_body ack h entry body)
+body-bounded ack h entry [] b = b
+body-bounded ack h entry (number ∷ body) b = feature-bounded ack h entry (is_change entry.kind) (is_left entry.kind) number body b
+
+item-bounded : (count : Bool) (ack : Option ℕ) (h : Heeding) (item : Result Entry OptFault) → IsBounded h → IsBoundedReading (heeds_item count ack h item)
+item-bounded count ack h (Err _) b = refl
+item-bounded count ack h (Ok entry) b = by (is_understood entry.kind (length entry.body)) (count && is_of_negotiation entry.kind) where
+  wrong : (mandatory : Bool) → IsBoundedReading (if mandatory then Err (fault_of codes.MandatoryError entry) else Ok h)
+  wrong true = refl
+  wrong false = b
+
+  by : (known its : Bool) → IsBoundedReading (if not known then misunderstood h entry else if its then heeds_body ack h entry entry.body else Ok h)
+  by false its = wrong entry.mandatory
+  by true true = body-bounded ack h entry entry.body b
+  by true false = b
+
+heeds-bounded : (count : Bool) (ack : Option ℕ) (h : Heeding) (items : List (Result Entry OptFault)) → IsBounded h → IsBoundedReading (heeds count ack h items)
+heeds-bounded count ack h [] b = b
+heeds-bounded count ack h (item ∷ rest) b =
+    joined (heeds_item count ack h item) (item-bounded count ack h item b) (λ next more. heeds-bounded count ack next rest more) where
+      joined : (r : Result Heeding Fault) → IsBoundedReading r → ((next : Heeding) → IsBounded next → IsBoundedReading (heeds count ack next rest))
+          → IsBoundedReading (heeds_then r (λ next. heeds count ack next rest))
+      joined (Ok next) bounded more = more next bounded
+      joined (Err fault) numbered more = numbered
+
+pub reading-bounded : (count : Bool) (ack : Option ℕ) (rows : List Row) (items : List (Result Entry OptFault)) → IsNegotiation rows
+    → IsBoundedReading (heeds count ack (unheeded rows) items)
+reading-bounded count ack rows items sound =
+    heeds-bounded count ack (unheeded rows) items
+    (record { rows = sound; few = omega arith; most = omega arith; short = All-nil (λ (due : Due). length due.body ≤ 9) })
+
+-- the Confirms that are due after a packet's options
+pub record AreShort (confirms : List Due) : Type 0 where
+  pub few : length confirms ≤ 64
+  pub short : All (λ due. length due.body ≤ 9) confirms
+
+pub no-confirms : AreShort []
+no-confirms = record { few = omega arith; short = All-nil (λ (due : Due). length due.body ≤ 9) }
+
+pub confirms-short : (count : Bool) (ack : Option ℕ) (rows : List Row) (items : List (Result Entry OptFault)) (read : Heeding) → IsNegotiation rows
+    → heeds count ack (unheeded rows) items ≡ Ok read → AreShort read.confirms
+confirms-short count ack rows items read sound is =
+    let bounded : IsBounded read = subst IsBoundedReading is (reading-bounded count ack rows items sound) in
+    record { few = (let few = bounded.few in let most = bounded.most in omega (arith, few, most)); short = bounded.short }
+
+-- The options of a packet and their bytes.
+
+-- an option that can be written, in at most 12 bytes
+record IsSmall (item : Item) : Type 0 where
+  writable : IsWritable item
+  short : length (spelled item.mandatory item.kind item.body) ≤ 12
+
+mark-short : (mandatory : Bool) → length (mark mandatory) ≤ 1
+mark-short true = omega arith
+mark-short false = omega arith
+
+small-by : (item : Item) → 32 ≤ item.kind → item.kind < 256 → length (mark item.mandatory) + length item.body ≤ 10 → IsSmall item
+small-by item least most short =
+    let long = length-append (mark item.mandatory) (item.kind ∷ (length item.body + 2) ∷ item.body) in
+    record { writable = record { has_length = least; is_byte = most; fits = omega (arith, short) }; short = omega (arith, short, long) }
+
+confirm-small : (due : Due) → length due.body ≤ 9 → IsSmall (confirm_item due)
+confirm-small due short = small-by (confirm_item due) (least due.left) (most due.left) (omega (arith, short)) where
+  least : (left : Bool) → 32 ≤ confirm_type left
+  least true = omega arith
+  least false = omega arith
+
+  most : (left : Bool) → confirm_type left < 256
+  most true = omega arith
+  most false = omega arith
+
+wish-short : (feature : Feature) (place : Place) (active : Option Wanted) → is_active feature place active ≡ true → length (wish_bytes feature active) ≤ 8
+wish-short feature place None is = omega arith
+wish-short feature place (Some (wanted.List list)) is = entries-few feature place (Some (wanted.List list)) is
+wish-short feature place (Some (wanted.Number number)) is =
+    let few = width-few feature in let long = big-length (described feature).width number in omega (arith, few, long)
+
+change-small : (rows : List Row) → IsNegotiation rows → (k : Key) → IsSmall (change_item k (row_at rows k.0 k.1))
+change-small rows sound k =
+    let row : Row = row_at rows k.0 k.1 in
+    let its = sound.each k.0 k.1 in
+    let active : is_active k.0 k.1 row.active ≡ true =
+    subst (λ (place : Place). is_active k.0 place row.active ≡ true) its.place_is
+    (subst (λ (feature : Feature). is_active feature row.place row.active ≡ true) its.feature_is its.sound.active) in
+    let body = wish-short k.0 k.1 row.active active in
+    let one = mark-short row.mandatory in
+    small-by (change_item k row) (least k.1) (most k.1) (omega (arith, body, one)) where
+      least : (place : Place) → 32 ≤ change_type place
+      least Here = omega arith
+      least There = omega arith
+
+      most : (place : Place) → change_type place < 256
+      most Here = omega arith
+      most There = omega arith
+
+all-so : {X : Type 0} (P : X → Type 0) → ((x : X) → P x) → (xs : List X) → All P xs
+all-so P every [] = All-nil P
+all-so P every (x ∷ xs) = All-cons P x xs (every x) (all-so P every xs)
+
+written-room : (items : List Item) → All IsSmall items → length (written items) ≤ 12 * length items
+written-room [] small = omega arith
+written-room (item ∷ rest) small =
+    let first = (All-head IsSmall item rest small).short in
+    let more = written-room rest (All-tail IsSmall item rest small) in
+    let long = length-append (spelled item.mandatory item.kind item.body) (written rest) in
+    omega (arith, first, more, long)
+
+all-writable : (items : List Item) → All IsSmall items → All IsWritable items
+all-writable [] small = All-nil IsWritable
+all-writable (item ∷ rest) small =
+    All-cons IsWritable item rest (All-head IsSmall item rest small).writable (all-writable rest (All-tail IsSmall item rest small))
+
+confirms-small : (confirms : List Due) → All (λ due. length due.body ≤ 9) confirms → All IsSmall (confirm_items confirms)
+confirms-small [] short = All-nil IsSmall
+confirms-small (due ∷ rest) short =
+    All-cons IsSmall (confirm_item due) (confirm_items rest) (confirm-small due (All-head (λ (d : Due). length d.body ≤ 9) due rest short))
+    (confirms-small rest (All-tail (λ (d : Due). length d.body ≤ 9) due rest short))
+
+-- options of so many bytes can be sent on every type but Data
+padded-room : (area : List ℕ) → length area ≤ 984 → length (padded area) ≤ 984
+padded-room area fits =
+    let long = length-append area (replicate ((4 - length area % 4) % 4) 0) in
+    let pad : length (replicate {A = ℕ} ((4 - length area % 4) % 4) 0) ≡ (4 - length area % 4) % 4 = length-replicate ((4 - length area % 4) % 4) 0 in
+    omega (arith, fits, long, pad)
+
+items-sendable : (k : Kind) (items : List Item) → has_forms true k ≡ true → HasDetail k → is_data (packet_type k) ≡ false → All IsSmall items
+    → length items ≤ 82 → IsSendable (record { kind = k; options = items; payload = [] })
+items-sendable k items long detail other small few =
+    let room = written-room items small in
+    let whole = padded-room (written items) (omega (arith, room, few)) in
+    let short = fixed_part_is_short true (packet_type k) in
+    record {
+      is_long = long;
+      detail = detail;
+      items = all-writable items small;
+      on_data = λ is. cc (is, other);
+      area = omega (arith, whole, short);
+      data_fits = omega arith;
+    }
+
+pub saying-sendable : (k : Kind) (confirms : List Due) (rows : List Row) (keys : List Key) → has_forms true k ≡ true → HasDetail k
+    → is_data (packet_type k) ≡ false → AreShort confirms → IsNegotiation rows → length keys ≤ 18 → IsSendable (saying k confirms rows keys)
+saying-sendable k confirms rows keys long detail other short sound few =
+    let items : List Item = confirm_items confirms ++ change_items rows keys in
+    let small : All IsSmall items =
+    All-append IsSmall (confirm_items confirms) (change_items rows keys) (confirms-small confirms short.short)
+    (All-map IsSmall (λ (k : Key). change_item k (row_at rows k.0 k.1)) keys
+    (all-so (λ (k : Key). IsSmall (change_item k (row_at rows k.0 k.1))) (change-small rows sound) keys)) in
+    let all = length-append (confirm_items confirms) (change_items rows keys) in
+    let first = length-map confirms confirm_item in
+    let second = length-map keys (λ (k : Key). change_item k (row_at rows k.0 k.1)) in
+    let most = short.few in
+    items-sendable k items long detail other small (omega (arith, all, first, second, most, few))
+
+pub confirming-sendable : (k : Kind) (confirms : List Due) → has_forms true k ≡ true → HasDetail k → is_data (packet_type k) ≡ false → AreShort confirms
+    → IsSendable (confirming k confirms)
+confirming-sendable k confirms long detail other short =
+    let first = length-map confirms confirm_item in
+    let most = short.few in
+    items-sendable k (confirm_items confirms) long detail other (confirms-small confirms short.short) (omega (arith, first, most))
+
+-- no more rows ask than there are
+pub due-few : (rows : List Row) → IsNegotiation rows → length (due_keys rows) ≤ 18
+due-few rows sound =
+    let key_of : (Row → Key) = λ row. (row.feature, row.place) in
+    let long = length-map (filter is_due rows) key_of in
+    let passed = length-filter is_due rows in
+    let fewer = count_by-le-length is_due rows in
+    let size = sound.size in
+    omega (arith, long, passed, fewer, size)
+
+pub asking-few : (rows : List Row) (confirms : List Due) → IsNegotiation rows → length (asking rows confirms) ≤ 18
+asking-few rows confirms sound =
+    let test : (Key → Bool) = λ k. not (is_confirmed confirms k) in
+    let long = length-filter test (due_keys rows) in
+    let fewer = count_by-le-length test (due_keys rows) in
+    let few = due-few rows sound in
+    omega (arith, long, fewer, few)

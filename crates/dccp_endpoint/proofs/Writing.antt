@@ -1,0 +1,13 @@
+-- The bytes of options, one behind the other.
+use Rattle.std.proofs.Common.{◌≡◌, ℕ, List, [], ◌∷◌, ◌++◌, refl, sym, ap, ◌∙◌, append_assoc}
+use Rattle.dccp_options.specs.Written.{Item, spelled, written}
+
+pub written-append : (one other : List Item) → written (one ++ other) ≡ written one ++ written other
+written-append [] other = refl
+written-append (item ∷ one) other =
+    ap (λ (rest : List ℕ). spelled item.mandatory item.kind item.body ++ rest) (written-append one other)
+    ∙ sym (append_assoc (spelled item.mandatory item.kind item.body) (written one) (written other))
+
+-- two lists of options that were written one behind the other
+pub written_both : (one other : List Item) → [] ++ written one ++ written other ≡ written (one ++ other)
+written_both one other = sym (written-append one other)

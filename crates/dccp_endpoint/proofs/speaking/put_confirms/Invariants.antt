@@ -1,0 +1,11 @@
+use Rattle.std.proofs.Common.{◌≡◌, ◌≤◌, ◌+◌, ◌*◌, ◌++◌, drop, length, map}
+use Rattle.dccp_options.specs.Written.{written}
+use Rattle.dccp_endpoint.specs.Heeding.{due_of}
+use Rattle.dccp_endpoint.specs.Speaking.{confirm_items}
+use Rattle.dccp_endpoint.proofs.speaking.put_confirms.Given as goal
+
+abbrev pub invariant-loop-confirm : goal.invariant-loop-confirm
+invariant-loop-confirm l = record {
+  short : length l.area ≤ length l.initial.area + 12 * l.confirm-index;
+  joins : l.area ++ written (confirm_items (map due_of (drop l.confirm-index l.confirms))) ≡ l.initial.area ++ written (confirm_items (map due_of l.confirms));
+}

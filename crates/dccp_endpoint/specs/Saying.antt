@@ -1,0 +1,106 @@
+-- What a packet says to a row of the end that it reaches, and what an end's own packets say of its rows (RFC 4340, section 6).
+use Rattle.std.specs.Prelude.{◌≡◌, ◌≢◌, ◌==◌, ◌&&◌, ◌≤◌, if◌then◌else◌, ℕ, ◌+◌, Bool, true, false, List, [], ◌∷◌, ◌++◌, drop, length, map, Option, Some, None, Result, Ok, Err, AllPairs}
+use Rattle.std.specs.List.{list_any}
+use Rattle.dccp_options.specs.Grammar.{Entry}
+use Rattle.dccp_options.specs.Written.{entries_at}
+use Rattle.dccp_options.specs.declared.option.OptFault.{OptFault}
+use Rattle.feature_agreement.specs.Packets.{reply_due}
+use Rattle.feature_agreement.specs.Rows.{opposite}
+use Rattle.feature_lists.specs.Features.{number_of}
+use Rattle.feature_machine.specs.Negotiating.{IsNegotiation, row_at}
+use Rattle.feature_machine.specs.Rows.{RowEvent, Change, Confirm}
+use Rattle.feature_machine.specs.Turns.{events_of}
+use Rattle.feature_machine.specs.declared.row.Row.{Row}
+use Rattle.dccp_endpoint.specs.Heeding.{Due, Heeding, event_of, heard_turns, heeds, is_change, is_left, is_of_negotiation, unheeded}
+use Rattle.dccp_endpoint.specs.Speaking.{change_items, confirm_items, is_confirmed, is_for, is_of_place, wish_bytes}
+use Rattle.dccp_endpoint.specs.Turns.{Key}
+
+-- the data begin with this feature number
+abbrev pub begins_with : ℕ → List ℕ → Bool
+begins_with number [] = false
+begins_with number (first ∷ rest) = first == number
+
+-- The option speaks to the row: it is a Change or a Confirm for the row's feature, by L for a feature at the peer and by R for one here.
+abbrev pub speaks_to : Key → Entry → Bool
+speaks_to k entry = is_of_negotiation entry.kind && (begins_with (number_of k.0) entry.body && is_of_place (is_left entry.kind) (opposite k.1))
+
+-- what the row hears of the option
+abbrev pub event_in : Option ℕ → Entry → RowEvent
+event_in ack entry = event_of ack entry (is_change entry.kind) (drop 1 entry.body)
+
+-- What a packet with these options and this acknowledgement number says to a row: what the first option for it says, and nothing
+-- where there is none or where such options do not count.
+abbrev pub said_to : Bool → Option ℕ → Key → List (Result Entry OptFault) → List RowEvent
+said_to count ack k [] = []
+said_to count ack k (Err _ ∷ rest) = said_to count ack k rest
+said_to count ack k (Ok entry ∷ rest) = if count && speaks_to k entry then event_in ack entry ∷ [] else said_to count ack k rest
+
+-- the data of the Confirm that is due for a row, if one is
+abbrev pub body_if : Bool → List ℕ → Option (List ℕ) → Option (List ℕ)
+body_if true body later = Some body
+body_if false body later = later
+
+abbrev pub confirm_for : Key → List Due → Option (List ℕ)
+confirm_for k [] = None
+confirm_for k (due ∷ rest) = body_if (is_for k due) due.body (confirm_for k rest)
+
+-- Of a packet that was read whole each row hears what the packet says to it, and nothing else, and the Confirm that is due for it is
+-- the row's answer. No packet has more options than 64 that count.
+abbrev pub RowsHearThePacket : Type 0
+RowsHearThePacket =
+    (count : Bool) (ack : Option ℕ) (rows : List Row) (options : List (Result Entry OptFault)) (h : Heeding) (k : Key) → IsNegotiation rows
+    → length options ≤ 64 → heeds count ack (unheeded rows) options ≡ Ok h
+    → (events_of k.0 k.1 (heard_turns count ack (unheeded rows) options) ≡ said_to count ack k options)
+    × (confirm_for k h.confirms ≡ reply_due (row_at rows k.0 k.1) (said_to count ack k options))
+
+-- whether a row is one of these
+abbrev pub is_key : Key → Key → Bool
+is_key one other = number_of one.0 == number_of other.0 && is_of_place (is_of_place true one.1) other.1
+
+abbrev pub has_key : Key → List Key → Bool
+has_key k keys = list_any (is_key k) keys
+
+-- What an end's own packet says of its row: the Confirm for it, or else its Change, or else nothing.
+abbrev pub change_if : Bool → Key → Row → List RowEvent
+change_if true k row = Change (wish_bytes k.0 row.active) row.mandatory ∷ []
+change_if false k row = []
+
+abbrev pub said_of : Option (List ℕ) → Bool → Option ℕ → Key → Row → List RowEvent
+said_of (Some body) asks ack k row = Confirm body ack ∷ []
+said_of None asks ack k row = change_if asks k row
+
+-- to the peer's row of the same feature
+abbrev pub OwnPacketsSayOfARow : Type 0
+OwnPacketsSayOfARow =
+    (ack : Option ℕ) (confirms : List Due) (rows : List Row) (keys : List Key) (k : Key)
+    → said_to true ack (k.0, opposite k.1) (map Ok (entries_at 0 (confirm_items confirms ++ change_items rows keys)))
+    ≡ said_of (confirm_for k confirms) (has_key k keys) ack k (row_at rows k.0 k.1)
+
+-- How often: once where it is so.
+abbrev pub once_if : Bool → ℕ
+once_if true = 1
+once_if false = 0
+
+-- how many of the Confirms are for the row
+abbrev pub times_confirmed : Key → List Due → ℕ
+times_confirmed k [] = 0
+times_confirmed k (due ∷ rest) = once_if (is_for k due) + times_confirmed k rest
+
+-- how many options of a packet speak to the row
+abbrev pub times_said_to : Key → List (Result Entry OptFault) → ℕ
+times_said_to k [] = 0
+times_said_to k (Err _ ∷ rest) = times_said_to k rest
+times_said_to k (Ok entry ∷ rest) = once_if (speaks_to k entry) + times_said_to k rest
+
+-- Of a packet that was read whole no row has two Confirms that are due.
+abbrev pub ConfirmsAreSingle : Type 0
+ConfirmsAreSingle =
+    (count : Bool) (ack : Option ℕ) (rows : List Row) (options : List (Result Entry OptFault)) (h : Heeding) (k : Key) → IsNegotiation rows
+    → length options ≤ 64 → heeds count ack (unheeded rows) options ≡ Ok h → times_confirmed k h.confirms ≤ 1
+
+-- So an end's own packet speaks to a row of the peer once at most: no row's Change goes out twice, nor beside a Confirm for it.
+abbrev pub OwnPacketsSpeakOnce : Type 0
+OwnPacketsSpeakOnce =
+    (confirms : List Due) (rows : List Row) (keys : List Key) (k : Key) → times_confirmed k confirms ≤ 1
+    → AllPairs (λ one other. one ≢ other) keys → (has_key k keys ≡ true → is_confirmed confirms k ≡ false)
+    → times_said_to (k.0, opposite k.1) (map Ok (entries_at 0 (confirm_items confirms ++ change_items rows keys))) ≤ 1

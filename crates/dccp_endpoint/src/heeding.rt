@@ -1,0 +1,280 @@
+//! What the options of a packet say to the rows of an end (RFC 4340, section 8.5, step 8).
+ghost use Rattle.std.specs.Prelude.{◌≡◌, ◌<◌, ◌≤◌, length, map};
+ghost use Rattle.dccp_options.specs.Grammar.{options_of};
+ghost use Rattle.dccp_options.specs.Left.{entry_of, item_of};
+ghost use Rattle.dccp_endpoint.specs.Heeding.{counted, due_of, heeding_or, heeds, heeds_body, heeds_change, heeds_confirm, heeds_entry, heeds_feature, heeds_first, heeds_item, is_change, is_left, is_of_negotiation, met, misunderstood, place_in_used, unheeded};
+
+use crate::Fault;
+use crate::faults::{fault_of, mandatory_fault};
+use arrayvec::ArrayVec;
+use dccp_options::kinds::{CHANGE_L, CHANGE_R, CONFIRM_L, CONFIRM_R};
+use dccp_options::{Opt, OptFault, options};
+use dccp_packets::ResetCode;
+use feature_machine::{Answer, ConfirmOut, Negotiation, Settling};
+use seq_circle::Seq48;
+use std::marker::Model;
+
+// How many Changes of a packet count.
+const MOST_CHANGES: usize = 64;
+
+/// What reading the options of a packet has come to: the rows, which features were spoken of by L and by R, how many Changes were
+/// met, and the Confirms that are due, in order.
+#[derive(Debug, Drop)]
+pub(crate) struct Reading {
+    rows: Negotiation,
+    used: [bool; 512],
+    changes: usize,
+    confirms: ArrayVec<ConfirmOut, MOST_CHANGES>,
+}
+
+impl Model for Reading {
+    ghost use Rattle.std.specs.Prelude.{◌≤◌, length, map};
+    ghost use Rattle.dccp_endpoint.specs.Heeding.{Heeding, due_of};
+
+    ghost Value = { Heeding };
+
+    ghost view = { λ r. record { rows = r.rows; used = r.used; changes = r.changes; confirms = map due_of r.confirms.items } };
+
+    ghost invariant = { λ r. (length r.confirms.items ≤ r.changes) × (r.changes ≤ 64) };
+}
+
+// The place of a feature number and L or R among 512.
+fn place_in_used(left: bool, number: u8) -> usize
+    ensures place { result ≡ place_in_used left number }
+    ensures fits { result < 512 }
+{
+    let even = 2 * usize::from(number);
+    if left { even + 1 } else { even }
+}
+
+// Change L and Confirm L.
+fn is_left(kind: u8) -> bool
+    ensures { result ≡ is_left kind }
+{
+    kind <= CONFIRM_L
+}
+
+// Change L and Change R.
+fn is_change(kind: u8) -> bool
+    ensures { result ≡ is_change kind }
+{
+    kind == CHANGE_L || kind == CHANGE_R
+}
+
+// Change L, Confirm L, Change R and Confirm R.
+fn is_of_negotiation(kind: u8) -> bool
+    ensures { result ≡ is_of_negotiation kind }
+{
+    CHANGE_L <= kind && kind <= CONFIRM_R
+}
+
+impl Reading {
+    // Nothing was read yet.
+    fn new(rows: Negotiation) -> Reading
+        ensures { result ≡ unheeded rows }
+    {
+        Reading {
+            rows,
+            used: [false; 512],
+            changes: 0,
+            confirms: ArrayVec::new(),
+        }
+    }
+
+    /// The rows after what was read.
+    pub(crate) fn rows(&self) -> &Negotiation
+        ensures { result.now ≡ self.now.rows }
+    {
+        &self.rows
+    }
+
+    /// The Confirms that are due.
+    pub(crate) fn confirms(&self) -> &[ConfirmOut]
+        ensures confirms { map due_of result.now ≡ self.now.confirms }
+        ensures few { length result.now ≤ 64 }
+    {
+        self.confirms.as_slice()
+    }
+
+    // One Change more, up to 64.
+    fn count(&mut self, change: bool)
+        ensures { self.new ≡ record self.old { changes = counted self.old.changes change } }
+    {
+        if change && self.changes < MOST_CHANGES {
+            self.changes += 1;
+        }
+    }
+
+    // The option was met: no other one speaks of its feature by its letter.
+    fn meet(&mut self, place: usize, change: bool)
+        requires { place < 512 }
+        ensures { self.new ≡ met self.old place change self.old.rows self.old.confirms }
+    {
+        self.used[place] = true;
+        self.count(change);
+    }
+
+    // A Change, by what its row answers.
+    fn heed_change(
+        &mut self,
+        option: &Opt<'_>,
+        left: bool,
+        number: u8,
+        body: &[u8],
+    ) -> Result<(), Fault>
+        requires { self.old.changes < 64 }
+        ensures { heeding_or self.new result ≡ heeds_change self.old (entry_of option.now) left number body.now }
+    {
+        match self.rows.on_change(left, number, body, option.mandatory) {
+            Answer::Confirm(out) => {
+                self.meet(place_in_used(left, number), true);
+                self.confirms.push(out);
+                Ok(())
+            }
+            Answer::Ignored => {
+                self.meet(place_in_used(left, number), true);
+                Ok(())
+            }
+            Answer::Fatal => Err(fault_of(ResetCode::MandatoryError, option)),
+        }
+    }
+
+    // A Confirm, by what its row answers.
+    fn heed_confirm(
+        &mut self,
+        option: &Opt<'_>,
+        left: bool,
+        number: u8,
+        body: &[u8],
+        ack: &Option<Seq48>,
+    ) -> Result<(), Fault>
+        ensures { heeding_or self.new result ≡ heeds_confirm ack.now self.old (entry_of option.now) left number body.now }
+    {
+        match self.rows.on_confirm(left, number, body, *ack) {
+            Settling::Settled | Settling::Ignored => {
+                self.meet(place_in_used(left, number), false);
+                Ok(())
+            }
+            Settling::Fatal => Err(fault_of(ResetCode::OptionError, option)),
+        }
+    }
+
+    // The first option for a feature by a letter; of Changes, one of the first 64 of the packet.
+    fn heed_first(
+        &mut self,
+        option: &Opt<'_>,
+        change: bool,
+        left: bool,
+        number: u8,
+        body: &[u8],
+        ack: &Option<Seq48>,
+    ) -> Result<(), Fault>
+        ensures { heeding_or self.new result ≡ heeds_first ack.now self.old (entry_of option.now) change left number body.now }
+    {
+        if !change {
+            return self.heed_confirm(option, left, number, body, ack);
+        }
+        if self.changes < MOST_CHANGES {
+            return self.heed_change(option, left, number, body);
+        }
+        self.meet(place_in_used(left, number), true);
+        Ok(())
+    }
+
+    // A later one for the same feature by the same letter is passed over.
+    fn heed_feature(
+        &mut self,
+        option: &Opt<'_>,
+        change: bool,
+        left: bool,
+        number: u8,
+        body: &[u8],
+        ack: &Option<Seq48>,
+    ) -> Result<(), Fault>
+        ensures { heeding_or self.new result ≡ heeds_feature ack.now self.old (entry_of option.now) change left number body.now }
+    {
+        if self.used[place_in_used(left, number)] {
+            self.count(change);
+            return Ok(());
+        }
+        self.heed_first(option, change, left, number, body, ack)
+    }
+
+    // The data are the feature number and what stands behind it.
+    fn heed_body(&mut self, option: &Opt<'_>, ack: &Option<Seq48>) -> Result<(), Fault>
+        ensures { heeding_or self.new result ≡ heeds_body ack.now self.old (entry_of option.now) option.now.body.now }
+    {
+        match option.body {
+            [] => Ok(()),
+            [number, body @ ..] => self.heed_feature(
+                option,
+                is_change(option.kind),
+                is_left(option.kind),
+                *number,
+                body,
+                ack,
+            ),
+        }
+    }
+
+    // An option that is not understood is a fault behind Mandatory alone.
+    fn misunderstand(&self, option: &Opt<'_>) -> Result<(), Fault>
+        ensures { heeding_or self.now result ≡ misunderstood self.now (entry_of option.now) }
+    {
+        if option.mandatory {
+            return Err(fault_of(ResetCode::MandatoryError, option));
+        }
+        Ok(())
+    }
+
+    // An option of the negotiation is heeded where such options count. All others say nothing to the rows.
+    fn heed_option(
+        &mut self,
+        option: &Opt<'_>,
+        count: bool,
+        ack: &Option<Seq48>,
+    ) -> Result<(), Fault>
+        ensures { heeding_or self.new result ≡ heeds_entry count ack.now self.old (entry_of option.now) }
+    {
+        if !option.is_understood() {
+            return self.misunderstand(option);
+        }
+        if count && is_of_negotiation(option.kind) {
+            return self.heed_body(option, ack);
+        }
+        Ok(())
+    }
+
+    fn heed_item(
+        &mut self,
+        item: &Result<Opt<'_>, OptFault>,
+        count: bool,
+        ack: &Option<Seq48>,
+    ) -> Result<(), Fault>
+        ensures { heeding_or self.new result ≡ heeds_item count ack.now self.old (item_of item.now) }
+    {
+        match item {
+            Ok(option) => self.heed_option(option, count, ack),
+            Err(_) => Err(mandatory_fault()),
+        }
+    }
+}
+
+/// Reads the options of an area, on a Data packet or on another, in order, up to the first fault; `count` tells whether those of the
+/// negotiation count, and `ack` is the packet's acknowledgement number.
+pub(crate) fn heed(
+    rows: &Negotiation,
+    area: &[u8],
+    on_data: bool,
+    count: bool,
+    ack: &Option<Seq48>,
+) -> Result<Reading, Fault>
+    requires { length area.now ≤ 1008 }
+    ensures { result ≡ heeds count ack.now (unheeded rows.now) (options_of area.now on_data) }
+{
+    let mut reading = Reading::new(*rows);
+    for item in options(area, on_data) {
+        reading.heed_item(&item, count, ack)?;
+    }
+    Ok(reading)
+}

@@ -1,0 +1,275 @@
+//! What an end says of features on its packets (RFC 4340, section 6).
+ghost use Rattle.std.specs.Prelude.{◌≡◌, ◌+◌, ◌*◌, ◌^◌, ◌<◌, ◌≤◌, ◌++◌, [], ◌∷◌, length, map, true, false, Some};
+ghost use Rattle.arrayvec.specs.ArrayVec.{array_vec_len};
+ghost use Rattle.dccp_options.specs.Written.{written};
+ghost use Rattle.byteorder.specs.Endian.{big_bytes};
+ghost use Rattle.feature_lists.specs.Features.{described};
+ghost use Rattle.feature_lists.specs.Wishes.{is_wish};
+ghost use Rattle.feature_machine.specs.Negotiating.{IsNegotiation, every_place, row_at};
+ghost use Rattle.feature_machine.specs.Turns.{turned};
+ghost use Rattle.feature_machine.specs.declared.stands.Stand.TheVariants.{Changing};
+ghost use Rattle.dccp_endpoint.specs.Heeding.{due_of};
+ghost use Rattle.dccp_endpoint.specs.Speaking.{AreChanging, AreDue, asking, change_item, change_items, change_type, confirm_item, confirm_items, confirm_type, is_confirmed, is_for, is_of_place, wish_bytes};
+ghost use Rattle.dccp_endpoint.specs.Turns.{offerings, sendings};
+
+use arrayvec::ArrayVec;
+use byteorder::{BigEndian, ByteOrder};
+use dccp_options::OptWriter;
+use dccp_options::kinds::{CHANGE_L, CHANGE_R, CONFIRM_L, CONFIRM_R};
+use feature_lists::{Feature, Place, Wanted};
+use feature_machine::{ConfirmOut, Negotiation, Stand};
+use seq_circle::Seq48;
+use std::marker::Model;
+
+// All features at all places, by features, Here before There.
+fn every_place() -> [(Feature, Place); 18]
+    ensures { result ≡ every_place }
+{
+    [
+        (Feature::Ccid, Place::Here),
+        (Feature::Ccid, Place::There),
+        (Feature::ShortSeqnos, Place::Here),
+        (Feature::ShortSeqnos, Place::There),
+        (Feature::SequenceWindow, Place::Here),
+        (Feature::SequenceWindow, Place::There),
+        (Feature::EcnIncapable, Place::Here),
+        (Feature::EcnIncapable, Place::There),
+        (Feature::AckRatio, Place::Here),
+        (Feature::AckRatio, Place::There),
+        (Feature::SendAckVector, Place::Here),
+        (Feature::SendAckVector, Place::There),
+        (Feature::SendNdpCount, Place::Here),
+        (Feature::SendNdpCount, Place::There),
+        (Feature::MinCsCov, Place::Here),
+        (Feature::MinCsCov, Place::There),
+        (Feature::CheckDataChecksum, Place::Here),
+        (Feature::CheckDataChecksum, Place::There),
+    ]
+}
+
+/// Rows by their features and places, at most eighteen.
+#[derive(Debug, Drop)]
+pub(crate) struct Keys {
+    places: [(Feature, Place); 18],
+    count: usize,
+}
+
+impl Model for Keys {
+    ghost use Rattle.std.specs.Prelude.{List, ◌≤◌, take};
+    ghost use Rattle.dccp_endpoint.specs.Turns.{Key};
+
+    ghost Value = { List Key };
+
+    ghost view = { λ k. take k.count k.places };
+
+    ghost invariant = { λ k. k.count ≤ 18 };
+}
+
+impl Keys {
+    fn none() -> Keys
+        ensures { result ≡ [] }
+    {
+        Keys {
+            places: every_place(),
+            count: 0,
+        }
+    }
+
+    fn push(&mut self, feature: Feature, place: Place)
+        requires { length self.old < 18 }
+        ensures { self.new ≡ self.old ++ (feature, place) ∷ [] }
+    {
+        self.places[self.count] = (feature, place);
+        self.count += 1;
+    }
+
+    pub(crate) fn as_slice(&self) -> &[(Feature, Place)]
+        ensures keys { result.now ≡ self.now }
+        ensures few { length result.now ≤ 18 }
+    {
+        &self.places[..self.count]
+    }
+}
+
+// Change L speaks of a feature here, Change R of one at the peer.
+fn change_type(place: Place) -> u8
+    ensures { result ≡ change_type place }
+{
+    match place {
+        Place::Here => CHANGE_L,
+        Place::There => CHANGE_R,
+    }
+}
+
+fn confirm_type(left: bool) -> u8
+    ensures { result ≡ confirm_type left }
+{
+    if left { CONFIRM_L } else { CONFIRM_R }
+}
+
+// Confirm L speaks of a feature here, Confirm R of one at the peer.
+fn is_of_place(left: bool, place: Place) -> bool
+    ensures { result ≡ is_of_place left place }
+{
+    left == (place == Place::Here)
+}
+
+// A Confirm is for the row.
+fn is_for(feature: Feature, place: Place, confirm: &ConfirmOut) -> bool
+    ensures { result ≡ is_for (feature, place) (due_of confirm.now) }
+{
+    confirm.feature == feature.number() && is_of_place(confirm.left, place)
+}
+
+// One of the Confirms is for the row.
+fn is_confirmed(confirms: &[ConfirmOut], feature: Feature, place: Place) -> bool
+    ensures { result ≡ is_confirmed (map due_of confirms.now) (feature, place) }
+{
+    for confirm in confirms {
+        if is_for(feature, place, confirm) {
+            return true;
+        }
+    }
+    false
+}
+
+// The offer of a row comes up; of one that asks already nothing does.
+fn open_offer(rows: &mut Negotiation, feature: Feature, place: Place, confirmed: bool)
+    ensures { rows.new ≡ turned rows.old (offerings (λ k. confirmed) ((feature, place) ∷ [])) }
+{
+    if rows.held(feature, place).stand == Stand::Stable {
+        rows.open_offer(feature, place, confirmed);
+    }
+}
+
+/// All offers that were not made yet come up; of the rows that meet a Confirm they are dropped.
+pub(crate) fn open_offers(rows: &mut Negotiation, confirms: &[ConfirmOut])
+    ensures { rows.new ≡ turned rows.old (offerings (is_confirmed (map due_of confirms.now)) every_place) }
+{
+    let places = every_place();
+    for (feature, place) in &places {
+        let confirmed = is_confirmed(confirms, *feature, *place);
+        open_offer(rows, *feature, *place, confirmed);
+    }
+}
+
+/// The rows whose Change is due and that none of the Confirms is for.
+pub(crate) fn asking(rows: &Negotiation, confirms: &[ConfirmOut]) -> Keys
+    requires { IsNegotiation rows.now }
+    ensures keys { result ≡ asking rows.now (map due_of confirms.now) }
+    ensures due { AreDue rows.now result }
+{
+    let mut keys = Keys::none();
+    for (feature, place) in rows.due() {
+        if !is_confirmed(confirms, feature, place) {
+            keys.push(feature, place);
+        }
+    }
+    keys
+}
+
+/// These rows' Changes go out under this number.
+pub(crate) fn send_all(rows: &mut Negotiation, keys: &[(Feature, Place)], number: Seq48)
+    requires sound { IsNegotiation rows.old }
+    requires due { AreDue rows.old keys.now }
+    ensures rows { rows.new ≡ turned rows.old (sendings number keys.now) }
+    ensures changing { AreChanging rows.new keys.now }
+{
+    for (feature, place) in keys {
+        rows.sent(*feature, *place, number);
+    }
+}
+
+// Writes a value of a non-negotiable feature in its bytes.
+fn put_number(body: &mut ArrayVec<u8, 9>, feature: Feature, value: u64)
+    requires negotiable { (described feature).is_server_priority ≡ false }
+    requires fits { value < 256 ^ (described feature).width }
+    requires room { array_vec_len body.old ≤ 1 }
+    ensures { body.new.items ≡ body.old.items ++ big_bytes (described feature).width value }
+{
+    match feature {
+        Feature::SequenceWindow => {
+            let mut six = [0; 6];
+            BigEndian::write_u48(&mut six, value);
+            let _ = body.try_extend_from_slice(&six);
+        }
+        _ => {
+            let mut two = [0; 2];
+            BigEndian::write_u16(&mut two, value as u16);
+            let _ = body.try_extend_from_slice(&two);
+        }
+    }
+}
+
+// Writes the bytes of a wish: the list, or the one value in as many bytes as the feature has.
+#[tactic(auto, using(crate::proofs::Wishes::number_wish))]
+fn put_wish(body: &mut ArrayVec<u8, 9>, feature: Feature, place: Place, wish: Wanted)
+    requires wish { is_wish feature place wish ≡ true }
+    requires room { array_vec_len body.old ≤ 1 }
+    ensures { body.new.items ≡ body.old.items ++ wish_bytes feature (Some wish) }
+{
+    match wish {
+        Wanted::List(list) => {
+            let _ = body.try_extend_from_slice(list.bytes());
+        }
+        Wanted::Number(number) => put_number(body, feature, number),
+    }
+}
+
+// The data of a row's Change: its feature's number, and the bytes of its active wish.
+fn change_body(rows: &Negotiation, feature: Feature, place: Place) -> ArrayVec<u8, 9>
+    ensures { result.items ≡ (change_item (feature, place) (row_at rows.now feature place)).body }
+{
+    let mut body = ArrayVec::new();
+    body.push(feature.number());
+    if let Some(wish) = rows.active(feature, place) {
+        put_wish(&mut body, feature, place, wish);
+    }
+    body
+}
+
+// Writes the Change of a row that is in CHANGING.
+fn put_change(area: &mut OptWriter, rows: &Negotiation, feature: Feature, place: Place)
+    requires room { length area.old + 12 ≤ 1008 }
+    requires changing { (row_at rows.now feature place).stand ≡ Changing }
+    ensures bytes { area.new ≡ area.old ++ written (change_item (feature, place) (row_at rows.now feature place) ∷ []) }
+    ensures short { length area.new ≤ length area.old + 12 }
+{
+    let body = change_body(rows, feature, place);
+    let mandatory = rows.mandatory(feature, place);
+    let _ = area.put(mandatory, change_type(place), body.as_slice());
+}
+
+/// Writes the Changes of rows that are in CHANGING.
+pub(crate) fn put_changes(area: &mut OptWriter, rows: &Negotiation, keys: &[(Feature, Place)])
+    requires room { length area.old + 12 * length keys.now ≤ 1008 }
+    requires changing { AreChanging rows.now keys.now }
+    ensures bytes { area.new ≡ area.old ++ written (change_items rows.now keys.now) }
+    ensures short { length area.new ≤ length area.old + 12 * length keys.now }
+{
+    for (feature, place) in keys {
+        put_change(area, rows, *feature, *place);
+    }
+}
+
+fn put_confirm(area: &mut OptWriter, confirm: &ConfirmOut)
+    requires room { length area.old + 12 ≤ 1008 }
+    ensures bytes { area.new ≡ area.old ++ written (confirm_item (due_of confirm.now) ∷ []) }
+    ensures short { length area.new ≤ length area.old + 12 }
+{
+    let mut body = ArrayVec::<u8, 10>::new();
+    body.push(confirm.feature);
+    let _ = body.try_extend_from_slice(confirm.body.as_slice());
+    let _ = area.put(false, confirm_type(confirm.left), body.as_slice());
+}
+
+/// Writes Confirms.
+pub(crate) fn put_confirms(area: &mut OptWriter, confirms: &[ConfirmOut])
+    requires room { length area.old + 12 * length confirms.now ≤ 1008 }
+    ensures bytes { area.new ≡ area.old ++ written (confirm_items (map due_of confirms.now)) }
+    ensures short { length area.new ≤ length area.old + 12 * length confirms.now }
+{
+    for confirm in confirms {
+        put_confirm(area, confirm);
+    }
+}

@@ -1,0 +1,434 @@
+//! A Change arrives: each line of the negotiation's table that answers one, at both roles (RFC 4340, section 6, and the table of
+//! this profile). The peer's packet is the next, and acknowledges the last that was sent; told are the outcome, the phase, what the
+//! end then holds for the features that have changed, and what it sends.
+use crate::starts::{OPEN_CLIENT, OPEN_SERVER};
+use crate::tables::{Detail, Start, Table, first_wrong};
+use dccp_endpoint::{Phase, Role};
+use std::test::Fail;
+
+const AT_A_SERVER: [Table<'static>; 13] = [
+    // Not valid: a feature that is not known, also 0 and 255, and no value. The Confirm is empty.
+    Table {
+        start: OPEN_SERVER,
+        rows: "\
+            9c4013890700f83507000000000003ea00000000000007d120040a01: \
+            took, Open, -, 13899c400700f53607000000000007d200000000000003ea23030a00\n\
+            9c4013890700003607000000000003ea00000000000007d122040001: \
+            took, Open, -, 13899c400700013707000000000007d200000000000003ea21030000\n\
+            9c4013890700033707000000000003ea00000000000007d12003ff00: \
+            took, Open, -, 13899c400700003607000000000007d200000000000003ea2303ff00\n\
+            9c4013890700013807000000000003ea00000000000007d120030100: \
+            took, Open, -, 13899c400700fe3607000000000007d200000000000003ea23030100\n\
+            9c4013890700f83707000000000003ea00000000000007d122030800: \
+            took, Open, -, 13899c400700f93607000000000007d200000000000003ea21030800\n",
+    },
+    // Not valid for a non-negotiable feature: a value beyond its range, too many or too few bytes, and Change R.
+    Table {
+        start: OPEN_SERVER,
+        rows: "\
+            9c4013890900de2907000000000003ea00000000000007d120090300000000001f000000 \
+            9c4013890900fce907000000000003ea00000000000007d1200903400000000000000000 \
+            9c4013890800fdca07000000000003ea00000000000007d12008030000000064 \
+            9c4013890900fcc407000000000003ea00000000000007d1200a03000000000000640000 \
+            9c4013890700ff3707000000000003ea00000000000007d120030300: \
+            took, Open, -, 13899c400700fc3607000000000007d200000000000003ea23030300\n\
+            9c4013890700fd3407000000000003ea00000000000007d120040502 \
+            9c4013890800fc2e07000000000003ea00000000000007d12006050000020000: \
+            took, Open, -, 13899c400700fa3607000000000007d200000000000003ea23030500\n\
+            9c4013890900972907000000000003ea00000000000007d1220903000000000064000000: \
+            took, Open, -, 13899c400700fe3607000000000007d200000000000003ea21030300\n\
+            9c4013890800f83107000000000003ea00000000000007d12205050002000000: \
+            took, Open, -, 13899c400700fc3607000000000007d200000000000003ea21030500\n",
+    },
+    // The same with Mandatory is a Mandatory Error, with the first two bytes of the data.
+    Table {
+        start: OPEN_SERVER,
+        rows: "\
+            9c40138908001b0d07000000000003ea00000000000007d10120040a01000000: \
+            sent reset 6 32 10 1, Closed, -, 13899c4007000a190f000000000007d200000000000003ea06200a01\n\
+            9c40138907001e1a07000000000003ea00000000000007d101200301: \
+            sent reset 6 32 1 0, Closed, -, 13899c400700131a0f000000000007d200000000000003ea06200100\n\
+            9c401389090015f107000000000003ea00000000000007d10120090300000000001f0000: \
+            sent reset 6 32 3 0, Closed, -, 13899c400700111a0f000000000007d200000000000003ea06200300\n\
+            9c40138908001b0e07000000000003ea00000000000007d10122050500020000: \
+            sent reset 6 34 5 0, Closed, -, 13899c4007000f180f000000000007d200000000000003ea06220500\n",
+    },
+    // A row in CHANGING and one in UNSTABLE answer so too.
+    Table {
+        start: Start {
+            role: Role::Server,
+            way: "request ack prefer/here/8/1,2",
+            phase: Phase::Open,
+            numbers: "2002 2000 1000 1001 1001",
+        },
+        rows: "\
+            9c4013890700f83607000000000003ea00000000000007d222030800: \
+            took, Open, 8=0*/0, 13899c400700f93507000000000007d300000000000003ea21030800\n\
+            9c40138907001e1007000000000003ea00000000000007d201220308: \
+            sent reset 6 34 8 0, Closed, 8=0*/0, 13899c4007000c170f000000000007d300000000000003ea06220800\n",
+    },
+    Table {
+        start: Start {
+            role: Role::Server,
+            way: "request ack prefer/here/8/1,2 prefer/here/8/2",
+            phase: Phase::Open,
+            numbers: "2002 2000 1000 1001 1001",
+        },
+        rows: "\
+            9c4013890700f83607000000000003ea00000000000007d222030800: \
+            took, Open, 8=0!/0, 13899c400700f93507000000000007d300000000000003ea21030800\n\
+            9c40138907001e1007000000000003ea00000000000007d201220308: \
+            sent reset 6 34 8 0, Closed, 8=0!/0, 13899c4007000c170f000000000007d300000000000003ea06220800\n",
+    },
+    // A row in UNSTABLE ignores a valid Change, with its Mandatory.
+    Table {
+        start: Start {
+            role: Role::Server,
+            way: "request ack prefer/here/8/1,2 prefer/here/8/2",
+            phase: Phase::Open,
+            numbers: "2002 2000 1000 1001 1001",
+        },
+        rows: "\
+            9c4013890700f83307000000000003ea00000000000007d222040802 \
+            9c4013890800170c07000000000003ea00000000000007d20122040805000000: \
+            took, Open, 8=0!/0, -\n",
+    },
+    // A shared value: the server's list decides. It is 2, 248 or 248, 2 for the CCID, and 1, 2, 3 for feature 8.
+    Table {
+        start: Start {
+            role: Role::Server,
+            way: "set/there/8/1,2,3 set/here/1/2,248 request ack",
+            phase: Phase::Open,
+            numbers: "2001 2000 1000 1001 1001",
+        },
+        rows: "\
+            9c4013890800fd3907000000000003ea00000000000007d1200501f802000000: \
+            took, Open, -, 13899c400800fa3507000000000007d200000000000003ea2306010202f80000\n\
+            9c4013890800fb3907000000000003ea00000000000007d1220501f802000000: \
+            took, Open, -, 13899c400800fc3507000000000007d200000000000003ea2106010202f80000\n\
+            9c4013890700003f07000000000003ea00000000000007d1200401f8: \
+            took, Open, 1=2/248, 13899c400800f93f07000000000007d200000000000003ea230601f802f80000\n\
+            9c4013890800f72e07000000000003ea00000000000007d12005080302000000 \
+            9c4013890800f72207000000000003ea00000000000007d12006080902050000: \
+            took, Open, 8=0/2, 13899c400800f22a07000000000007d200000000000003ea2307080201020300\n\
+            9c40138908001b1107000000000003ea00000000000007d10120040601000000: \
+            took, Open, 6=0/1, 13899c400800f72f07000000000007d200000000000003ea2305060101000000\n\
+            9c4013890800f83107000000000003ea00000000000007d12205060001000000: \
+            took, Open, 6=1/0, 13899c400800f92e07000000000007d200000000000003ea2106060101000000\n",
+    },
+    // A row in CHANGING answers with the list that it has sent, takes the value and stays.
+    Table {
+        start: Start {
+            role: Role::Server,
+            way: "request ack prefer/here/8/1,2",
+            phase: Phase::Open,
+            numbers: "2002 2000 1000 1001 1001",
+        },
+        rows: "\
+            9c4013890800f62e07000000000003ea00000000000007d22205080201000000: \
+            took, Open, 8=1*/0, 13899c400800f72b07000000000007d300000000000003ea2106080101020000\n\
+            9c40138908001a0c07000000000003ea00000000000007d20122040802000000: \
+            took, Open, 8=2*/0, 13899c400800f72a07000000000007d300000000000003ea2106080201020000\n",
+    },
+    // Nothing is shared: the Confirm names the value that is held, or with Mandatory it is a Mandatory Error.
+    Table {
+        start: Start {
+            role: Role::Server,
+            way: "set/there/8/1,2 request ack",
+            phase: Phase::Open,
+            numbers: "2001 2000 1000 1001 1001",
+        },
+        rows: "\
+            9c4013890700fa3107000000000003ea00000000000007d120040805: \
+            took, Open, -, 13899c400800f52d07000000000007d200000000000003ea2306080001020000\n\
+            9c4013890700013407000000000003ea00000000000007d120040103: \
+            took, Open, -, 13899c400800fa3507000000000007d200000000000003ea2306010202f80000\n\
+            9c4013890700fe2f07000000000003ea00000000000007d120040407: \
+            took, Open, -, 13899c400800f92f07000000000007d200000000000003ea2306040001000000\n\
+            9c4013890800170f07000000000003ea00000000000007d10120040805000000: \
+            sent reset 6 32 8 5, Closed, -, 13899c4007000c150f000000000007d200000000000003ea06200805\n\
+            9c40138908001b1507000000000003ea00000000000007d10120040201000000: \
+            sent reset 6 32 2 1, Closed, -, 13899c40070012190f000000000007d200000000000003ea06200201\n",
+    },
+    Table {
+        start: Start {
+            role: Role::Server,
+            way: "request ack prefer/there/8/1,2",
+            phase: Phase::Open,
+            numbers: "2002 2000 1000 1001 1001",
+        },
+        rows: "\
+            9c4013890700fa3007000000000003ea00000000000007d220040805: \
+            took, Open, 8=0/0*, 13899c400800f52c07000000000007d300000000000003ea2306080001020000\n\
+            9c4013890800170e07000000000003ea00000000000007d20120040805000000: \
+            sent reset 6 32 8 5, Closed, 8=0/0*, 13899c4007000c140f000000000007d300000000000003ea06200805\n",
+    },
+    // A value of a non-negotiable feature.
+    Table {
+        start: OPEN_SERVER,
+        rows: "\
+            9c4013890900dd2907000000000003ea00000000000007d1200903000000000020000000: \
+            took, Open, 3=100/32, 13899c400900da2807000000000007d200000000000003ea230903000000000020000000\n\
+            9c4013890900d61007000000000003ea00000000000007d1012009033fffffffffff0000: \
+            took, Open, 3=100/70368744177663, 13899c400900fae807000000000007d200000000000003ea2309033fffffffffff000000\n\
+            9c4013890800fc3107000000000003ea00000000000007d12005050000000000: \
+            took, Open, 5=2/0, 13899c400800f93007000000000007d200000000000003ea2305050000000000\n\
+            9c4013890800fc3107000000000003ea00000000000007d1200505ffff000000: \
+            took, Open, 5=2/65535, 13899c400800f93007000000000007d200000000000003ea230505ffff000000\n",
+    },
+    // Several at once are answered in their order; a second one for a feature by the same letter is ignored with its
+    // Mandatory, whatever it is.
+    Table {
+        start: Start {
+            role: Role::Server,
+            way: "set/there/8/1,2 request ack",
+            phase: Phase::Open,
+            numbers: "2001 2000 1000 1001 1001",
+        },
+        rows: "\
+            9c4013890900ae2c07000000000003ea00000000000007d12204060020040802200401f8: \
+            took, Open, 1=2/248 8=0/2, 13899c400b00a22307000000000007d200000000000003ea210606000100230608020102230601f802f80000\n\
+            9c4013890900a62307000000000003ea00000000000007d1200408022204080020040801: \
+            took, Open, 8=0/2, 13899c400900cb2207000000000007d200000000000003ea230608020102210508000000\n\
+            9c4013890900ec0407000000000003ea00000000000007d1200408020120040807000000: \
+            took, Open, 8=0/2, 13899c400800f52b07000000000007d200000000000003ea2306080201020000\n\
+            9c4013890800d02a07000000000003ea00000000000007d12104080220040802: \
+            took, Open, -, -\n\
+            9c4013890900f00307000000000003ea00000000000007d120040a010120040a01000000: \
+            took, Open, -, 13899c400700f53607000000000007d200000000000003ea23030a00\n",
+    },
+    // A fault takes back what an earlier option of the packet did.
+    Table {
+        start: Start {
+            role: Role::Server,
+            way: "set/there/8/1,2 request ack",
+            phase: Phase::Open,
+            numbers: "2001 2000 1000 1001 1001",
+        },
+        rows: "\
+            9c4013890900f20207000000000003ea00000000000007d1200408020120040a01000000: \
+            sent reset 6 32 10 1, Closed, -, 13899c4007000a190f000000000007d200000000000003ea06200a01\n\
+            9c4013890800f83007000000000003ea00000000000007d12004080201000000: \
+            took, Open, 8=0/2, 13899c400800f52b07000000000007d200000000000003ea2306080201020000\n",
+    },
+];
+
+const AT_A_CLIENT: [Table<'static>; 13] = [
+    // Not valid: a feature that is not known, also 0 and 255, and no value. The Confirm is empty.
+    Table {
+        start: OPEN_CLIENT,
+        rows: "\
+            13899c400700f83507000000000007d200000000000003e920040a01: \
+            took, Open, -, 9c4013890700f53607000000000003ea00000000000007d223030a00\n\
+            13899c400700003607000000000007d200000000000003e922040001: \
+            took, Open, -, 9c4013890700013707000000000003ea00000000000007d221030000\n\
+            13899c400700033707000000000007d200000000000003e92003ff00: \
+            took, Open, -, 9c4013890700003607000000000003ea00000000000007d22303ff00\n\
+            13899c400700013807000000000007d200000000000003e920030100: \
+            took, Open, -, 9c4013890700fe3607000000000003ea00000000000007d223030100\n\
+            13899c400700f83707000000000007d200000000000003e922030800: \
+            took, Open, -, 9c4013890700f93607000000000003ea00000000000007d221030800\n",
+    },
+    // Not valid for a non-negotiable feature: a value beyond its range, too many or too few bytes, and Change R.
+    Table {
+        start: OPEN_CLIENT,
+        rows: "\
+            13899c400900de2907000000000007d200000000000003e920090300000000001f000000 \
+            13899c400900fce907000000000007d200000000000003e9200903400000000000000000 \
+            13899c400800fdca07000000000007d200000000000003e92008030000000064 \
+            13899c400900fcc407000000000007d200000000000003e9200a03000000000000640000 \
+            13899c400700ff3707000000000007d200000000000003e920030300: \
+            took, Open, -, 9c4013890700fc3607000000000003ea00000000000007d223030300\n\
+            13899c400700fd3407000000000007d200000000000003e920040502 \
+            13899c400800fc2e07000000000007d200000000000003e92006050000020000: \
+            took, Open, -, 9c4013890700fa3607000000000003ea00000000000007d223030500\n\
+            13899c400900972907000000000007d200000000000003e9220903000000000064000000: \
+            took, Open, -, 9c4013890700fe3607000000000003ea00000000000007d221030300\n\
+            13899c400800f83107000000000007d200000000000003e92205050002000000: \
+            took, Open, -, 9c4013890700fc3607000000000003ea00000000000007d221030500\n",
+    },
+    // The same with Mandatory is a Mandatory Error, with the first two bytes of the data.
+    Table {
+        start: OPEN_CLIENT,
+        rows: "\
+            13899c4008001b0d07000000000007d200000000000003e90120040a01000000: \
+            sent reset 6 32 10 1, Closed, -, 9c40138907000a190f000000000003ea00000000000007d206200a01\n\
+            13899c4007001e1a07000000000007d200000000000003e901200301: \
+            sent reset 6 32 1 0, Closed, -, 9c4013890700131a0f000000000003ea00000000000007d206200100\n\
+            13899c40090015f107000000000007d200000000000003e90120090300000000001f0000: \
+            sent reset 6 32 3 0, Closed, -, 9c4013890700111a0f000000000003ea00000000000007d206200300\n\
+            13899c4008001b0e07000000000007d200000000000003e90122050500020000: \
+            sent reset 6 34 5 0, Closed, -, 9c40138907000f180f000000000003ea00000000000007d206220500\n",
+    },
+    // A row in CHANGING and one in UNSTABLE answer so too.
+    Table {
+        start: Start {
+            role: Role::Client,
+            way: "open response server-ack prefer/here/8/1,2",
+            phase: Phase::Open,
+            numbers: "1002 1000 2000 2001 2001",
+        },
+        rows: "\
+            13899c400700f83607000000000007d200000000000003ea22030800: \
+            took, Open, 8=0*/0, 9c4013890700f93507000000000003eb00000000000007d221030800\n\
+            13899c4007001e1007000000000007d200000000000003ea01220308: \
+            sent reset 6 34 8 0, Closed, 8=0*/0, 9c40138907000c170f000000000003eb00000000000007d206220800\n",
+    },
+    Table {
+        start: Start {
+            role: Role::Client,
+            way: "open response server-ack prefer/here/8/1,2 prefer/here/8/2",
+            phase: Phase::Open,
+            numbers: "1002 1000 2000 2001 2001",
+        },
+        rows: "\
+            13899c400700f83607000000000007d200000000000003ea22030800: \
+            took, Open, 8=0!/0, 9c4013890700f93507000000000003eb00000000000007d221030800\n\
+            13899c4007001e1007000000000007d200000000000003ea01220308: \
+            sent reset 6 34 8 0, Closed, 8=0!/0, 9c40138907000c170f000000000003eb00000000000007d206220800\n",
+    },
+    // A row in UNSTABLE ignores a valid Change, with its Mandatory.
+    Table {
+        start: Start {
+            role: Role::Client,
+            way: "open response server-ack prefer/here/8/1,2 prefer/here/8/2",
+            phase: Phase::Open,
+            numbers: "1002 1000 2000 2001 2001",
+        },
+        rows: "\
+            13899c400700f83307000000000007d200000000000003ea22040802 \
+            13899c400800170c07000000000007d200000000000003ea0122040805000000: \
+            took, Open, 8=0!/0, -\n",
+    },
+    // A shared value: the server's list decides. It is 2, 248 or 248, 2 for the CCID, and 1, 2, 3 for feature 8.
+    Table {
+        start: Start {
+            role: Role::Client,
+            way: "set/there/8/1,2,3 set/here/1/2,248 open response server-ack",
+            phase: Phase::Open,
+            numbers: "1001 1000 2000 2001 2001",
+        },
+        rows: "\
+            13899c400800fd3907000000000007d200000000000003e9200501f802000000: \
+            took, Open, 1=2/248, 9c4013890800f93f07000000000003ea00000000000007d2230601f802f80000\n\
+            13899c400800fb3907000000000007d200000000000003e9220501f802000000: \
+            took, Open, 1=248/2, 9c4013890800fb3f07000000000003ea00000000000007d2210601f802f80000\n\
+            13899c400700003f07000000000007d200000000000003e9200401f8: \
+            took, Open, 1=2/248, 9c4013890800f93f07000000000003ea00000000000007d2230601f802f80000\n\
+            13899c400800f72e07000000000007d200000000000003e92005080302000000: \
+            took, Open, 8=0/3, 9c4013890800f22907000000000003ea00000000000007d22307080301020300\n\
+            13899c400800f72207000000000007d200000000000003e92006080902050000: \
+            took, Open, 8=0/2, 9c4013890800f22a07000000000003ea00000000000007d22307080201020300\n\
+            13899c4008001b1107000000000007d200000000000003e90120040601000000: \
+            took, Open, 6=0/1, 9c4013890800f72f07000000000003ea00000000000007d22305060101000000\n\
+            13899c400800f83107000000000007d200000000000003e92205060001000000: \
+            took, Open, -, 9c4013890800f92f07000000000003ea00000000000007d22106060001000000\n",
+    },
+    // A row in CHANGING answers with the list that it has sent, takes the value and stays.
+    Table {
+        start: Start {
+            role: Role::Client,
+            way: "open response server-ack prefer/here/8/1,2",
+            phase: Phase::Open,
+            numbers: "1002 1000 2000 2001 2001",
+        },
+        rows: "\
+            13899c400800f62e07000000000007d200000000000003ea2205080201000000 \
+            13899c4008001a0c07000000000007d200000000000003ea0122040802000000: \
+            took, Open, 8=2*/0, 9c4013890800f72a07000000000003eb00000000000007d22106080201020000\n",
+    },
+    // Nothing is shared: the Confirm names the value that is held, or with Mandatory it is a Mandatory Error.
+    Table {
+        start: Start {
+            role: Role::Client,
+            way: "set/there/8/1,2 open response server-ack",
+            phase: Phase::Open,
+            numbers: "1001 1000 2000 2001 2001",
+        },
+        rows: "\
+            13899c400700fa3107000000000007d200000000000003e920040805: \
+            took, Open, -, 9c4013890800f52d07000000000003ea00000000000007d22306080001020000\n\
+            13899c400700013407000000000007d200000000000003e920040103: \
+            took, Open, -, 9c4013890800fa3507000000000003ea00000000000007d22306010202f80000\n\
+            13899c400700fe2f07000000000007d200000000000003e920040407: \
+            took, Open, -, 9c4013890800f92f07000000000003ea00000000000007d22306040001000000\n\
+            13899c400800170f07000000000007d200000000000003e90120040805000000: \
+            sent reset 6 32 8 5, Closed, -, 9c40138907000c150f000000000003ea00000000000007d206200805\n\
+            13899c4008001b1507000000000007d200000000000003e90120040201000000: \
+            sent reset 6 32 2 1, Closed, -, 9c401389070012190f000000000003ea00000000000007d206200201\n",
+    },
+    Table {
+        start: Start {
+            role: Role::Client,
+            way: "open response server-ack prefer/there/8/1,2",
+            phase: Phase::Open,
+            numbers: "1002 1000 2000 2001 2001",
+        },
+        rows: "\
+            13899c400700fa3007000000000007d200000000000003ea20040805: \
+            took, Open, 8=0/0*, 9c4013890800f52c07000000000003eb00000000000007d22306080001020000\n\
+            13899c400800170e07000000000007d200000000000003ea0120040805000000: \
+            sent reset 6 32 8 5, Closed, 8=0/0*, 9c40138907000c140f000000000003eb00000000000007d206200805\n",
+    },
+    // A value of a non-negotiable feature.
+    Table {
+        start: OPEN_CLIENT,
+        rows: "\
+            13899c400900dd2907000000000007d200000000000003e9200903000000000020000000: \
+            took, Open, 3=100/32, 9c4013890900da2807000000000003ea00000000000007d2230903000000000020000000\n\
+            13899c400900d61007000000000007d200000000000003e9012009033fffffffffff0000: \
+            took, Open, 3=100/70368744177663, 9c4013890900fae807000000000003ea00000000000007d22309033fffffffffff000000\n\
+            13899c400800fc3107000000000007d200000000000003e92005050000000000: \
+            took, Open, 5=2/0, 9c4013890800f93007000000000003ea00000000000007d22305050000000000\n\
+            13899c400800fc3107000000000007d200000000000003e9200505ffff000000: \
+            took, Open, 5=2/65535, 9c4013890800f93007000000000003ea00000000000007d2230505ffff000000\n",
+    },
+    // Several at once are answered in their order; a second one for a feature by the same letter is ignored with its
+    // Mandatory, whatever it is.
+    Table {
+        start: Start {
+            role: Role::Client,
+            way: "set/there/8/1,2 open response server-ack",
+            phase: Phase::Open,
+            numbers: "1001 1000 2000 2001 2001",
+        },
+        rows: "\
+            13899c400900ae2c07000000000007d200000000000003e92204060020040802200401f8: \
+            took, Open, 1=2/248 8=0/2, 9c4013890b00a22307000000000003ea00000000000007d2210606000100230608020102230601f802f80000\n\
+            13899c400900a62307000000000007d200000000000003e9200408022204080020040801: \
+            took, Open, 8=0/2, 9c4013890900cb2207000000000003ea00000000000007d2230608020102210508000000\n\
+            13899c400900ec0407000000000007d200000000000003e9200408020120040807000000: \
+            took, Open, 8=0/2, 9c4013890800f52b07000000000003ea00000000000007d22306080201020000\n\
+            13899c400800d02a07000000000007d200000000000003e92104080220040802: \
+            took, Open, -, -\n\
+            13899c400900f00307000000000007d200000000000003e920040a010120040a01000000: \
+            took, Open, -, 9c4013890700f53607000000000003ea00000000000007d223030a00\n",
+    },
+    // A fault takes back what an earlier option of the packet did.
+    Table {
+        start: Start {
+            role: Role::Client,
+            way: "set/there/8/1,2 open response server-ack",
+            phase: Phase::Open,
+            numbers: "1001 1000 2000 2001 2001",
+        },
+        rows: "\
+            13899c400900f20207000000000007d200000000000003e9200408020120040a01000000: \
+            sent reset 6 32 10 1, Closed, -, 9c40138907000a190f000000000003ea00000000000007d206200a01\n\
+            13899c400800f83007000000000007d200000000000003e92004080201000000: \
+            took, Open, 8=0/2, 9c4013890800f52b07000000000003ea00000000000007d22306080201020000\n",
+    },
+];
+
+#[test]
+fn each_change_that_arrives(rt: HostRuntime) -> Result<(), Fail> {
+    for table in &AT_A_SERVER {
+        let wrong = first_wrong(rt.alloc(), table, "", Detail::Held)?;
+        assert!(rt; wrong.is_none(), "{:?}: {wrong:?}", table.start.way);
+    }
+    for table in &AT_A_CLIENT {
+        let wrong = first_wrong(rt.alloc(), table, "", Detail::Held)?;
+        assert!(rt; wrong.is_none(), "{:?}: {wrong:?}", table.start.way);
+    }
+    Ok(())
+}

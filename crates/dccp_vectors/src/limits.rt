@@ -1,0 +1,265 @@
+//! The limits of a packet's Changes, Mandatory before what is ignored, unknown or empty, packets that are not the newest, and the
+//! windows that are as wide as the feature Sequence Window says (RFC 4340, sections 5.8, 6 and 7.5).
+use crate::starts::OPEN_SERVER;
+use crate::tables::{Detail, Start, Table, first_wrong};
+use dccp_endpoint::{Phase, Role};
+use std::test::Fail;
+
+const OPTIONS: [Table<'static>; 7] = [
+    // 64 Changes, the last of them of feature 8, and 65: the last is ignored, also with Mandatory before it. Of those
+    // before, each names a feature that is not known.
+    Table {
+        start: Start {
+            role: Role::Server,
+            way: "set/there/8/1,2 request ack",
+            phase: Phase::Open,
+            numbers: "2001 2000 1000 1001 1001",
+        },
+        rows: "\
+            9c4013893700651207000000000003ea00000000000007d120030a20030b20030c20030d20030e20030f20031020031120031220031320031420031520031620031720031820031920031a20031b20031c20031d20031e20031f20032020032120032220032320032420032520032620032720032820032920032a20032b20032c20032d20032e20032f20033020033120033220033320033420033520033620033720033820033920033a20033b20033c20033d20033e20033f20034020034120034220034320034420034520034620034720034820040802000000: \
+            took, Open, 8=0/2, 13899c40370000b007000000000007d200000000000003ea23030a23030b23030c23030d23030e23030f23031023031123031223031323031423031523031623031723031823031923031a23031b23031c23031d23031e23031f23032023032123032223032323032423032523032623032723032823032923032a23032b23032c23032d23032e23032f23033023033123033223033323033423033523033623033723033823033923033a23033b23033c23033d23033e23033f23034023034123034223034323034423034523034623034723034823060802010200\n\
+            9c40138937003fcb07000000000003ea00000000000007d120030a20030b20030c20030d20030e20030f20031020031120031220031320031420031520031620031720031820031920031a20031b20031c20031d20031e20031f20032020032120032220032320032420032520032620032720032820032920032a20032b20032c20032d20032e20032f20033020033120033220033320033420033520033620033720033820033920033a20033b20033c20033d20033e20033f20034020034120034220034320034420034520034620034720034820034920040802 \
+            9c401389380058a507000000000003ea00000000000007d120030a20030b20030c20030d20030e20030f20031020031120031220031320031420031520031620031720031820031920031a20031b20031c20031d20031e20031f20032020032120032220032320032420032520032620032720032820032920032a20032b20032c20032d20032e20032f20033020033120033220033320033420033520033620033720033820033920033a20033b20033c20033d20033e20033f2003402003412003422003432003442003452003462003472003482003490120040809000000: \
+            took, Open, -, 13899c403600087407000000000007d200000000000003ea23030a23030b23030c23030d23030e23030f23031023031123031223031323031423031523031623031723031823031923031a23031b23031c23031d23031e23031f23032023032123032223032323032423032523032623032723032823032923032a23032b23032c23032d23032e23032f23033023033123033223033323033423033523033623033723033823033923033a23033b23033c23033d23033e23033f230340230341230342230343230344230345230346230347230348230349\n",
+    },
+    // Changes that do not count are counted: 63 times the same one, and two for features by themselves.
+    Table {
+        start: Start {
+            role: Role::Server,
+            way: "set/there/8/1,2 request ack",
+            phase: Phase::Open,
+            numbers: "2001 2000 1000 1001 1001",
+        },
+        rows: "\
+            9c4013893800feef07000000000003ea00000000000007d120030a20030a20030a20030a20030a20030a20030a20030a20030a20030a20030a20030a20030a20030a20030a20030a20030a20030a20030a20030a20030a20030a20030a20030a20030a20030a20030a20030a20030a20030a20030a20030a20030a20030a20030a20030a20030a20030a20030a20030a20030a20030a20030a20030a20030a20030a20030a20030a20030a20030a20030a20030a20030a20030a20030a20030a20030a20030a20030a20030a20030a20030a2004080222040600220407000000: \
+            took, Open, 8=0/2, 13899c400a00e1d607000000000007d200000000000003ea23030a23060802010221060600010000\n",
+    },
+    // Mandatory before an option that is ignored, on a packet that is not the newest: one of the negotiation is ignored with
+    // it, and one that is not understood is not.
+    Table {
+        start: Start {
+            role: Role::Server,
+            way: "request ack 9c4013890600233a07000000000003ef00000000000007d1",
+            phase: Phase::Open,
+            numbers: "2001 2001 1000 1007 1001",
+        },
+        rows: "\
+            9c40138908001b0c07000000000003eb00000000000007d10120040a01000000 \
+            9c4013890800231207000000000003eb00000000000007d101200501f8020000 \
+            9c40138907001e1607000000000003eb00000000000007d101230301: \
+            took, Open, -, -\n\
+            9c40138907001e0f07000000000003eb00000000000007d101240307: \
+            sent reset 6 36 7 0, Closed, -, 13899c4007000d110f000000000007d200000000000003ef06240700\n\
+            9c40138907001f1a07000000000003eb00000000000007d101200200: \
+            sent reset 6 32 0 0, Closed, -, 13899c40070014150f000000000007d200000000000003ef06200000\n\
+            9c4013890700213a07000000000003eb00000000000007d101000000: \
+            took, Open, -, -\n\
+            9c40138907001e7207000000000003eb00000000000007d101c80200: \
+            sent reset 6 200 0 0, Closed, -, 13899c400700136d0f000000000007d200000000000003ef06c80000\n",
+    },
+    // The same where such options do not count: in CLOSEREQ, and in CLOSING.
+    Table {
+        start: Start {
+            role: Role::Server,
+            way: "request ack close",
+            phase: Phase::CloseReq,
+            numbers: "2002 2000 1000 1001 1001",
+        },
+        rows: "\
+            9c40138908001b0c07000000000003ea00000000000007d20120040a01000000: \
+            took, CloseReq, -, -\n\
+            9c40138907001f1a07000000000003ea00000000000007d201200200: \
+            sent reset 6 32 0 0, Closed, -, 13899c40070014190f000000000007d300000000000003ea06200000\n",
+    },
+    Table {
+        start: Start {
+            role: Role::Client,
+            way: "open response server-ack close",
+            phase: Phase::Closing,
+            numbers: "1002 1000 2000 2001 2001",
+        },
+        rows: "\
+            13899c4008001b0c07000000000007d200000000000003ea0120040a01000000: \
+            took, Closing, -, -\n\
+            13899c4007001f1a07000000000007d200000000000003ea01200200: \
+            sent reset 6 32 0 0, Closed, -, 9c401389070014190f000000000003eb00000000000007d206200000\n",
+    },
+    // Mandatory before Padding is Padding, and the option behind it is not marked.
+    Table {
+        start: OPEN_SERVER,
+        rows: "\
+            9c4013890800f63107000000000003ea00000000000007d1010020040a010000: \
+            took, Open, -, 13899c400700f53607000000000007d200000000000003ea23030a00\n",
+    },
+    // On a packet that is not the newest neither a Change nor a Confirm counts.
+    Table {
+        start: Start {
+            role: Role::Server,
+            way: "\
+                request \
+                ack \
+                prefer/here/8/1,2 \
+                9c4013890600233707000000000003f200000000000007d1",
+            phase: Phase::Open,
+            numbers: "2002 2001 1000 1010 1001",
+        },
+        rows: "\
+            9c4013890800f52507000000000003f100000000000007d22306080101020000 \
+            9c4013890700f72507000000000003f100000000000007d223040809 \
+            9c4013890700fa2e07000000000003f100000000000007d220040800: \
+            took, Open, 8=0*/0, -\n",
+    },
+];
+
+const WINDOWS: [Table<'static>; 6] = [
+    // The peer's Sequence Window is 32: the greatest number received is 1,051, and packets are valid from 1,044 to 1,075.
+    Table {
+        start: Start {
+            role: Role::Server,
+            way: "\
+                request \
+                ack \
+                9c4013890600230f070000000000041a00000000000007d1 \
+                9c4013890900dcf8070000000000041b00000000000007d1200903000000000020000000",
+            phase: Phase::Open,
+            numbers: "2002 2001 1000 1051 1001",
+        },
+        rows: "\
+            9c40138906002314070000000000041400000000000007d2: \
+            took, Open, 2002 2002 1000 1051 1001, -\n\
+            9c40138906002315070000000000041300000000000007d2: \
+            synced 1043, Open, 2003 2001 1000 1051 1001, 13899c400600191411000000000007d30000000000000413\n\
+            9c401389060022f5070000000000043300000000000007d2: \
+            took, Open, 2002 2002 1000 1075 1001, -\n\
+            9c401389060022f4070000000000043400000000000007d2: \
+            synced 1076, Open, 2003 2001 1000 1051 1001, 13899c40060018f311000000000007d30000000000000434\n",
+    },
+    // The peer's Sequence Window is 100: the greatest number received is 1,051, and packets are valid from 1,027 to 1,126.
+    Table {
+        start: Start {
+            role: Role::Server,
+            way: "\
+                request \
+                ack \
+                9c4013890600230f070000000000041a00000000000007d1 \
+                9c401389090098f8070000000000041b00000000000007d1200903000000000064000000",
+            phase: Phase::Open,
+            numbers: "2002 2001 1000 1051 1001",
+        },
+        rows: "\
+            9c40138906002325070000000000040300000000000007d2: \
+            took, Open, 2002 2002 1000 1051 1001, -\n\
+            9c40138906002326070000000000040200000000000007d2: \
+            synced 1026, Open, 2003 2001 1000 1051 1001, 13899c400600192511000000000007d30000000000000402\n\
+            9c401389060022c2070000000000046600000000000007d2: \
+            took, Open, 2002 2002 1000 1126 1001, -\n\
+            9c401389060022c1070000000000046700000000000007d2: \
+            synced 1127, Open, 2003 2001 1000 1051 1001, 13899c40060018c011000000000007d30000000000000467\n",
+    },
+    // The peer's Sequence Window is the greatest that is permitted, 70,368,744,177,663: the greatest number received is
+    // 1,051, and packets are valid from 1,000 to 52,776,558,134,299.
+    Table {
+        start: Start {
+            role: Role::Server,
+            way: "\
+                request \
+                ack \
+                9c4013890600230f070000000000041a00000000000007d1 \
+                9c4013890900fdb8070000000000041b00000000000007d12009033fffffffffff000000",
+            phase: Phase::Open,
+            numbers: "2002 2001 1000 1051 1001",
+        },
+        rows: "\
+            9c4013890600234007000000000003e800000000000007d2: \
+            took, Open, 2002 2002 1000 1051 1001, -\n\
+            9c4013890600234107000000000003e700000000000007d2: \
+            synced 999, Open, 2003 2001 1000 1051 1001, 13899c400600194011000000000007d300000000000003e7\n\
+            9c4013890600f30c070030000000041b00000000000007d2: \
+            took, Open, 2002 2002 1000 52776558134299 1001, -\n\
+            9c4013890600f30b070030000000041c00000000000007d2: \
+            synced 52776558134300, Open, 2003 2001 1000 1051 1001, 13899c400600e90a11000000000007d3000030000000041c\n",
+    },
+    // The end's own Sequence Window is 32: the greatest number sent is 2,112, and acknowledgements are valid from 2,081 on.
+    Table {
+        start: Start {
+            role: Role::Server,
+            way: "\
+                request \
+                ack \
+                ack-timer*110 \
+                prefer/here/3/32 \
+                9c4013890900d9ba07000000000003ea0000000000000840230903000000000020000000",
+            phase: Phase::Open,
+            numbers: "2112 2112 1000 1002 1001",
+        },
+        rows: "\
+            9c401389060022ee07000000000003eb0000000000000821: \
+            took, Open, 2112 2112 1000 1003 1001, -\n\
+            9c401389060022ef07000000000003eb0000000000000820: \
+            synced 1003, Open, 2113 2112 1000 1002 1001, 13899c40060018ce110000000000084100000000000003eb\n\
+            9c401389060022cf07000000000003eb0000000000000840: \
+            took, Open, 2112 2112 1000 1003 1001, -\n\
+            9c401389060022ce07000000000003eb0000000000000841: \
+            synced 1003, Open, 2113 2112 1000 1002 1001, 13899c40060018ce110000000000084100000000000003eb\n",
+    },
+    // The end's own Sequence Window is 100: the greatest number sent is 2,112, and acknowledgements are valid from 2,013 on.
+    Table {
+        start: Start {
+            role: Role::Server,
+            way: "\
+                request \
+                ack \
+                ack-timer*110 \
+                prefer/here/3/100 \
+                9c401389090095ba07000000000003ea0000000000000840230903000000000064000000",
+            phase: Phase::Open,
+            numbers: "2112 2112 1000 1002 1001",
+        },
+        rows: "\
+            9c4013890600233207000000000003eb00000000000007dd: \
+            took, Open, 2112 2112 1000 1003 1001, -\n\
+            9c4013890600233307000000000003eb00000000000007dc: \
+            synced 1003, Open, 2113 2112 1000 1002 1001, 13899c40060018ce110000000000084100000000000003eb\n\
+            9c401389060022cf07000000000003eb0000000000000840: \
+            took, Open, 2112 2112 1000 1003 1001, -\n\
+            9c401389060022ce07000000000003eb0000000000000841: \
+            synced 1003, Open, 2113 2112 1000 1002 1001, 13899c40060018ce110000000000084100000000000003eb\n",
+    },
+    // The end's own Sequence Window is the greatest that is permitted: the greatest number sent is 2,112, and
+    // acknowledgements are valid from 2,000 on.
+    Table {
+        start: Start {
+            role: Role::Server,
+            way: "\
+                request \
+                ack \
+                ack-timer*110 \
+                prefer/here/3/70368744177663 \
+                9c4013890900fa7a07000000000003ea00000000000008402309033fffffffffff000000",
+            phase: Phase::Open,
+            numbers: "2112 2112 1000 1002 1001",
+        },
+        rows: "\
+            9c4013890600233f07000000000003eb00000000000007d0: \
+            took, Open, 2112 2112 1000 1003 1001, -\n\
+            9c4013890600234007000000000003eb00000000000007cf: \
+            synced 1003, Open, 2113 2112 1000 1002 1001, 13899c40060018ce110000000000084100000000000003eb\n\
+            9c401389060022cf07000000000003eb0000000000000840: \
+            took, Open, 2112 2112 1000 1003 1001, -\n\
+            9c401389060022ce07000000000003eb0000000000000841: \
+            synced 1003, Open, 2113 2112 1000 1002 1001, 13899c40060018ce110000000000084100000000000003eb\n",
+    },
+];
+
+#[test]
+fn each_limit(rt: HostRuntime) -> Result<(), Fail> {
+    for table in &OPTIONS {
+        let wrong = first_wrong(rt.alloc(), table, "", Detail::Held)?;
+        assert!(rt; wrong.is_none(), "{wrong:?}");
+    }
+    for table in &WINDOWS {
+        let wrong = first_wrong(rt.alloc(), table, "", Detail::Whole)?;
+        assert!(rt; wrong.is_none(), "{wrong:?}");
+    }
+    Ok(())
+}
