@@ -2,7 +2,8 @@
 //! and over a full frame. One word says how many rounds; the figures go to standard error.
 //!
 //! `marks` and a number of rounds makes the calls of received numbers and of congestion control, so that what they allocate
-//! can be counted. `ratios` and a number of rounds times marks, the writing of Ack Vectors and the taking of reports.
+//! can be counted. `ratios` and a number of rounds times marks, the writing of Ack Vectors and the taking of reports. `runs` and a
+//! number of rounds times marks in several orders, over both ways to keep runs.
 //!
 //! Nothing is claimed of what it prints.
 #![tactic(auto)]
@@ -11,6 +12,7 @@ mod frames;
 mod marks;
 mod passes;
 mod ratios;
+mod runs;
 
 use crate::frames::{full, worked};
 use crate::passes::{PASSES, Pass, over};
@@ -23,6 +25,7 @@ enum Form {
     Packets,
     Marks,
     Ratios,
+    Runs,
 }
 
 // The form that the first word names, and the rounds that the last one names, or one.
@@ -33,6 +36,7 @@ fn asked(rt: &HostRuntime) -> io::Result<(Form, u32)> {
         match word.as_str() {
             "marks" => form = Form::Marks,
             "ratios" => form = Form::Ratios,
+            "runs" => form = Form::Runs,
             text => rounds = text.parse::<u32>().unwrap_or(1),
         }
     }
@@ -84,5 +88,6 @@ fn main(rt: HostRuntime) -> io::Result<()> {
             }
             Ok(())
         }
+        Form::Runs => runs::all(&rt, rounds),
     }
 }

@@ -22,6 +22,8 @@ mod limits;
 #[cfg(test)]
 mod phases;
 #[cfg(test)]
+mod runs;
+#[cfg(test)]
 mod starts;
 #[cfg(test)]
 mod stories;

@@ -7,3 +7,8 @@ pub mod Found
 pub mod Sets
 pub mod Floors
 pub mod StretchFacts
+pub mod Paths
+pub mod Links
+pub mod Places
+pub mod Cuts
+pub mod Fresh

@@ -6,9 +6,12 @@
 #![tactic(auto)]
 
 mod answers;
-mod edits;
 mod laws;
+mod linked;
 mod list;
+mod plain;
+mod plain_edits;
+mod runs;
 #[cfg(test)]
 mod tests;
 mod walking;
@@ -20,4 +23,6 @@ pub use crate::laws::{
     sets_stay_sound, stretches_are_maximal_runs,
 };
 pub use crate::list::RunList;
+pub use crate::plain::PlainRuns;
+pub use crate::runs::{RunCall, Runs, replay_runs};
 pub use crate::walking::{Stretch, Walk};

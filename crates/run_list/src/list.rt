@@ -5,17 +5,14 @@ ghost use Rattle.seq_circle.specs.Circle.{distance};
 ghost use Rattle.run_list.specs.Stretches.{stretches};
 
 use crate::answers::Marked;
-use crate::edits::{cut, put};
-use crate::walking::{Stretch, Walk};
+use crate::linked::{Linked, all_free, clear, cut, put};
+use crate::walking::Walk;
 use seq_circle::{NoMemory, Seq48};
 use std::alloc::Global;
 use std::marker::Model;
 
 // How far below a marked number its floor may lie.
 const REACH: u64 = 2_047;
-
-// Runs with a gap between any two, inside 2,048 successive numbers, are at most this many.
-const RUNS: usize = 1_024;
 
 /// A set of sequence numbers with a floor: no number below the floor is in it, and a new number pushes the floor up to
 /// 2,047 below itself (own). Contracts see the floor, and the numbers from the newest down.
@@ -25,19 +22,21 @@ const RUNS: usize = 1_024;
 #[derive(Drop)]
 pub struct RunList {
     floor: Seq48,
-    runs: Vec<Stretch>,
+    runs: Linked,
 }
 
 impl Model for RunList {
-    ghost use Rattle.std.specs.Prelude.{◌≡◌, ◌<◌, ◌^◌, vec_capacity};
+    ghost use Rattle.std.specs.Prelude.{◌<◌, ◌^◌};
     ghost use Rattle.run_list.specs.MarkedSet.{MarkedSet};
     ghost use Rattle.run_list.specs.Runs.{AreLaid, numbers_of};
+    ghost use Rattle.run_list.specs.Linked.{IsLinked, runs_from};
 
     ghost Value = { MarkedSet };
 
-    ghost view = { λ r. record { floor = r.floor; numbers = numbers_of r.runs.items } };
+    ghost view = { λ r. record { floor = r.floor; numbers = numbers_of (runs_from r.runs.nodes.items r.runs.first) } };
 
-    ghost invariant = { λ r. (r.floor < 2 ^ 48) × AreLaid r.floor 2048 r.runs.items × (vec_capacity r.runs ≡ 1024) };
+    ghost invariant = { λ r. (r.floor < 2 ^ 48) × AreLaid r.floor 2048 (runs_from r.runs.nodes.items r.runs.first)
+        × IsLinked r.runs.nodes.items r.runs.first r.runs.free };
 }
 
 impl RunList {
@@ -45,9 +44,10 @@ impl RunList {
     pub fn new(alloc: Global) -> Result<RunList, NoMemory>
         ensures { IfOk result (λ set. set ≡ empty_from 0) }
     {
-        let (Ok(runs), Some(floor)) = (Vec::with_capacity(alloc, RUNS), Seq48::new(0)) else {
+        let Some(floor) = Seq48::new(0) else {
             return Err(NoMemory);
         };
+        let runs = all_free(alloc, floor)?;
         Ok(RunList { floor, runs })
     }
 
@@ -55,7 +55,7 @@ impl RunList {
     pub fn start(&mut self, first: Seq48)
         ensures { self.new ≡ empty_from first }
     {
-        self.runs.clear();
+        clear(&mut self.runs);
         self.floor = first;
     }
 
@@ -115,6 +115,6 @@ impl RunList {
     pub fn walk(&self) -> Walk<'_>
         ensures { result ≡ stretches self.now.numbers }
     {
-        Walk::over(&self.runs)
+        Walk::over(&self.runs.nodes, self.runs.first)
     }
 }

@@ -1,4 +1,4 @@
-use crate::{Marked, RunList};
+use crate::{Marked, PlainRuns, RunCall, RunList, Runs, replay_runs};
 use seq_circle::Seq48;
 use std::process::Abort;
 use std::test::Fail;
@@ -176,4 +176,47 @@ fn a_raised_floor(rt: HostRuntime) -> Result<(), Fail> {
     set.start(number(7)?);
     assert_eq!(rt; set.floor().get(), 7);
     Ok(())
+}
+
+// The row of runs is made too, and answers as the linked runs do.
+#[test]
+fn a_plain_row(rt: HostRuntime) -> Result<(), Fail> {
+    let mut set = PlainRuns::new(rt.alloc()).ok().ok_or("no memory")?;
+    set.start(number(10)?);
+    for n in [10, 12, 13, 11] {
+        assert_eq!(rt; set.mark(number(n)?), Marked::New);
+    }
+    assert_eq!(rt; set.mark(number(9)?), Marked::BelowFloor);
+    assert_eq!(rt; set.mark(number(11)?), Marked::Again);
+    assert_eq!(rt; set.mark(number(2_058)?), Marked::New);
+    assert_eq!(rt; set.floor().get(), 11);
+    set.raise(number(12)?);
+    assert_eq!(rt; set.floor().get(), 12);
+    assert_eq!(rt; set.mark(number(11)?), Marked::BelowFloor);
+    Ok(())
+}
+
+// The marks that are New, and the floor, of a list of calls.
+fn told(rt: &impl Abort, runs: &mut impl Runs, name: &str) -> Result<(), Fail> {
+    let calls = [
+        RunCall::Start(number(10)?),
+        RunCall::Mark(number(10)?),
+        RunCall::Mark(number(12)?),
+        RunCall::Mark(number(12)?),
+        RunCall::Mark(number(9)?),
+        RunCall::Raise(number(11)?),
+        RunCall::Mark(number(10)?),
+        RunCall::Mark(number(11)?),
+    ];
+    assert_eq!(rt; replay_runs(runs, &calls), 3, "{name}");
+    assert_eq!(rt; runs.floor().get(), 11, "{name}");
+    Ok(())
+}
+
+#[test]
+fn a_list_of_calls(rt: HostRuntime) -> Result<(), Fail> {
+    let mut linked = RunList::new(rt.alloc()).ok().ok_or("no memory")?;
+    told(&rt, &mut linked, "linked")?;
+    let mut plain = PlainRuns::new(rt.alloc()).ok().ok_or("no memory")?;
+    told(&rt, &mut plain, "plain")
 }

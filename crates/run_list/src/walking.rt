@@ -1,4 +1,5 @@
 //! The runs of a set, one after the other.
+use crate::linked::{NONE, Node};
 use seq_circle::Seq48;
 use std::marker::Model;
 
@@ -14,26 +15,32 @@ pub struct Stretch {
 /// The runs of a set from the newest downwards, as `RunList::walk` gives them. Contracts see those that are left.
 #[derive(Drop)]
 pub struct Walk<'a> {
-    rest: &'a [Stretch],
+    nodes: &'a [Node],
+    at: u16,
 }
 
 impl<'a> Model for Walk<'a> {
     ghost use Rattle.std.specs.Prelude.{List};
     ghost use Rattle.run_list.specs.declared.walking.Stretch.{Stretch};
+    ghost use Rattle.run_list.specs.Linked.{IsChained, runs_from};
 
     ghost Value = { List Stretch };
 
-    ghost view = { λ w. w.rest.now };
+    ghost view = { λ w. runs_from w.nodes.now w.at };
+
+    ghost invariant = { λ w. IsChained w.nodes.now w.at };
 }
 
 impl<'a> Walk<'a> {
     ghost use Rattle.std.specs.Prelude.{◌≡◌};
+    ghost use Rattle.run_list.specs.Linked.{IsChained, runs_from};
 
-    // The walk over the runs of a slice.
-    pub(crate) fn over(rest: &'a [Stretch]) -> Walk<'a>
-        ensures { result ≡ rest.now }
+    // The walk over the runs from a node on.
+    pub(crate) fn over(nodes: &'a [Node], at: u16) -> Walk<'a>
+        requires { IsChained nodes.now at }
+        ensures { result ≡ runs_from nodes.now at }
     {
-        Walk { rest }
+        Walk { nodes, at }
     }
 }
 
@@ -47,8 +54,14 @@ impl<'a> Iterator for Walk<'a> {
     ghost remaining = { item_count (λ w. w) };
 
     fn next(&mut self) -> Option<Stretch> {
-        let (&first, rest) = self.rest.split_first()?;
-        self.rest = rest;
-        Some(first)
+        if self.at == NONE {
+            return None;
+        }
+        let node = self.nodes[usize::from(self.at)];
+        self.at = node.next;
+        Some(Stretch {
+            hi: node.hi,
+            count: node.count,
+        })
     }
 }

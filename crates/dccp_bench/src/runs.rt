@@ -1,0 +1,117 @@
+//! Marks of a set of runs in several orders, over linked runs and over a plain row of them.
+
+use crate::ratios::zero;
+use run_list::{Marked, PlainRuns, RunList, Runs};
+use std::io;
+use std::time::Instant;
+
+// How many successive numbers a full window has.
+const WINDOW: u32 = 2048;
+
+// So many marks: the next place follows from the one before by a factor and a step. With a factor that leaves 1 when divided
+// by 4 and a step of 1, each place of the window comes once.
+#[derive(Clone, Copy)]
+struct Order {
+    name: &'static str,
+    first: u32,
+    factor: u32,
+    step: u32,
+    count: u32,
+    // Whether every second number is there before.
+    gaps: bool,
+}
+
+const EVERY_SECOND: Order = Order {
+    name: "every-second",
+    first: 0,
+    factor: 1,
+    step: 2,
+    count: 1024,
+    gaps: false,
+};
+
+const ORDERS: [Order; 5] = [
+    Order {
+        name: "in-order",
+        first: 0,
+        factor: 1,
+        step: 1,
+        count: WINDOW,
+        gaps: false,
+    },
+    Order {
+        name: "scattered",
+        first: 0,
+        factor: 1229,
+        step: 1,
+        count: WINDOW,
+        gaps: false,
+    },
+    EVERY_SECOND,
+    Order {
+        name: "gaps-up",
+        first: 1,
+        factor: 1,
+        step: 2,
+        count: 1024,
+        gaps: true,
+    },
+    Order {
+        name: "gaps-down",
+        first: 2047,
+        factor: 1,
+        step: 2046,
+        count: 1024,
+        gaps: true,
+    },
+];
+
+// Makes the marks of an order; gives how many are New.
+fn marks<R: Runs>(runs: &mut R, order: Order) -> u64 {
+    let mut sum = 0u64;
+    let mut place = order.first;
+    for _ in 0..order.count {
+        if runs.mark(zero().add(u64::from(place))) == Marked::New {
+            sum = sum.wrapping_add(1);
+        }
+        place = place.wrapping_mul(order.factor).wrapping_add(order.step) % WINDOW;
+    }
+    sum
+}
+
+// Prints what kind of set it is and the order, the nanoseconds of the marks of so many rounds, the marks and the sum.
+fn measure<R: Runs>(
+    rt: &HostRuntime,
+    kind: &str,
+    runs: &mut R,
+    order: Order,
+    rounds: u32,
+) -> io::Result<()> {
+    let mut sum = 0u64;
+    let mut spent = 0u64;
+    for _ in 0..rounds {
+        runs.start(zero());
+        if order.gaps {
+            sum = sum.wrapping_add(marks(runs, EVERY_SECOND));
+        }
+        let start = Instant::now(rt)?;
+        sum = sum.wrapping_add(marks(runs, order));
+        let round = u64::try_from(start.elapsed(rt)?.as_nanos()).unwrap_or(u64::MAX);
+        spent = spent.saturating_add(round);
+    }
+    let calls = u64::from(rounds).saturating_mul(u64::from(order.count));
+    eprintln!(rt; "{} {} {} {} {}", kind, order.name, spent, calls, sum)
+}
+
+/// Prints the nanoseconds of the marks of each order, so many times, over both kinds.
+pub(crate) fn all(rt: &HostRuntime, rounds: u32) -> io::Result<()> {
+    let (Ok(mut linked), Ok(mut plain)) = (RunList::new(rt.alloc()), PlainRuns::new(rt.alloc()))
+    else {
+        return Err(io::Error::other("no memory"));
+    };
+    for order in ORDERS {
+        measure(rt, "linked", &mut linked, order, rounds)?;
+        measure(rt, "plain", &mut plain, order, rounds)?;
+    }
+    Ok(())
+}

@@ -1,0 +1,75 @@
+-- All nodes in one chain of free ones.
+use Rattle.std.proofs.Common.{◌≡◌, ℕ, ◌+◌, ◌-◌, ◌<◌, ◌≤◌, List, [], ◌∷◌, zero, suc, refl, ap, subst, arith, sym, ◌∙◌, inl, inr, length, set}
+use Rattle.std.proofs.lemmas.Bool.{cases_eq}
+use Rattle.std.proofs.lemmas.Grind.{get_or-set_at}
+use Rattle.run_list.specs.declared.linked.Node.{Node}
+use Rattle.run_list.specs.Linked.{no_node, node_at, runs_from, IsPath, times, IsLinked}
+use Rattle.run_list.proofs.Paths.{times-here, times-other, path-set, from-path}
+
+-- so many indices, from one up
+abbrev pub upwards : ℕ → ℕ → List ℕ
+upwards zero at = []
+upwards (suc count) at = at ∷ upwards count (at + 1)
+
+times-below : (i count at : ℕ) → i < at → times i (upwards count at) ≡ 0
+times-below i zero at h = refl
+times-below i (suc count) at h =
+    let ih : times i (upwards count (at + 1)) ≡ 0 = times-below i count (at + 1) (omega arith) in
+    let one = times-other i at (upwards count (at + 1)) (λ e. absurd (omega arith)) in
+    omega arith
+
+times-within : (i count at : ℕ) → at ≤ i → i < at + count → times i (upwards count at) ≡ 1
+times-within i zero at h k = absurd (omega arith)
+times-within i (suc count) at h k =
+    elim (cases_eq i at) [
+      | inl same ↦
+          let none : times i (upwards count (at + 1)) ≡ 0 = times-below i count (at + 1) (omega arith) in
+          let one = times-here i at (upwards count (at + 1)) same in omega arith
+      | inr other ↦
+          let ih : times i (upwards count (at + 1)) ≡ 1 = times-within i count (at + 1) (omega arith) (omega arith) in
+          let one = times-other i at (upwards count (at + 1)) other in omega arith
+    ]
+
+length-upwards : (count at : ℕ) → length (upwards count at) ≡ count
+length-upwards zero at = refl
+length-upwards (suc count) at = ap suc (length-upwards count (at + 1))
+
+-- the chain from an index up to the last
+abbrev pub chain_up : ℕ → List ℕ
+chain_up free = upwards (1024 - free) free
+
+-- the node below a chain comes before it
+pub chain_more : (nodes : List Node) (free next : ℕ) (x : Node) → length nodes ≡ 1024 → next + 1 ≡ free → free ≤ 1024 → x.next ≡ free → IsPath nodes free (chain_up free) 1024
+    → IsPath (set nodes next x) next (chain_up next) 1024
+chain_more nodes free next x s e h k p =
+    let count : 1024 - next ≡ suc (1024 - free) = omega arith in
+    let read : node_at (set nodes next x) next ≡ x = get_or-set_at nodes next next x no_node refl (omega arith) in
+    let none : times next (chain_up free) ≡ 0 = times-below next (1024 - free) free (omega arith) in
+    let tail : IsPath (set nodes next x) free (chain_up free) 1024 = path-set nodes next free 1024 x (chain_up free) none p in
+    let P : ℕ → Type 0 = λ i. IsPath (set nodes next x) i (upwards (1024 - free) free) 1024 in
+    let there : IsPath (set nodes next x) (node_at (set nodes next x) next).next (upwards (1024 - free) free) 1024 =
+    subst P (sym (ap (λ (n : Node). n.next) read ∙ k)) tail in
+    let Q : ℕ → Type 0 = λ i. IsPath (set nodes next x) (node_at (set nodes next x) next).next (upwards (1024 - free) i) 1024 in
+    let R : ℕ → Type 0 = λ c. IsPath (set nodes next x) next (upwards c next) 1024 in
+    subst R (sym count) (refl, omega arith, subst Q (sym e) there)
+
+pub chain_end : (nodes : List Node) (free : ℕ) → 1024 ≤ free → free ≤ 1024 → IsPath nodes free (chain_up free) 1024
+chain_end nodes free h k =
+    let none : 1024 - free ≡ 0 = omega arith in
+    let R : ℕ → Type 0 = λ c. IsPath nodes free (upwards c free) 1024 in
+    subst R (sym none) (omega arith)
+
+pub chain_linked : (nodes : List Node) (free : ℕ) → length nodes ≡ 1024 → free ≡ 0 → IsPath nodes free (chain_up free) 1024 → IsLinked nodes 1024 free × (runs_from nodes 1024 ≡ [])
+chain_linked nodes free s e p =
+    let all : length (chain_up free) ≡ 1024 - free = length-upwards (1024 - free) free in (
+      record {
+        used = [];
+        spare = chain_up free;
+        size = s;
+        used_path = refl;
+        spare_path = p;
+        once = λ i h. (let one : times i (chain_up free) ≡ 1 = times-within i (1024 - free) free (omega arith) (omega arith) in omega arith);
+        all = omega arith;
+      },
+      from-path nodes 1024 [] s (omega arith) refl,
+    )

@@ -1,0 +1,432 @@
+-- Used and free nodes, and what an edit makes of both.
+use Rattle.std.proofs.Common.{◌≡◌, ℕ, ◌+◌, ◌*◌, ◌-◌, ◌^◌, ◌<◌, ◌≤◌, true, List, [], ◌∷◌, ◌++◌, suc, refl, ap, subst, arith, sym, ◌∙◌, length, set, length-append}
+use Rattle.std.proofs.lemmas.List.{length-set}
+use Rattle.std.proofs.lemmas.Grind.{get_or-set_at}
+use Rattle.seq_circle.specs.Circle.{distance}
+use Rattle.run_list.specs.declared.walking.Stretch.{Stretch}
+use Rattle.run_list.specs.declared.linked.Node.{Node}
+use Rattle.run_list.specs.MarkedSet.{has}
+use Rattle.run_list.specs.Stretches.{stretch}
+use Rattle.run_list.specs.Runs.{numbers_of, AreLaid, bound_below, bound_after, Adds}
+use Rattle.run_list.specs.Linked.{no_node, node_at, run_of, runs_at, runs_from, IsPath, times, IsChained, IsParted, IsLinked, IsPlace, Points}
+use Rattle.run_list.proofs.Downs.{inside-present}
+use Rattle.run_list.proofs.Laid.{adds_behind, adds_alone, laid_back, laid_front, laid_below, present_behind, bound_falls, room_for_runs}
+use Rattle.run_list.proofs.Paths.{times-here, times-append, times-cons, last_apart, path-append, one_path, path-end, path-fits, path-some, behind, path-head, runs-append, length-runs, from-path, path-set, runs-set, path-same, runs-edited}
+
+-- a set with its chain is one whose links lead to an end
+pub linked_chained : (nodes : List Node) (first free : ℕ) → IsLinked nodes first free → IsChained nodes first
+linked_chained nodes first free l = let all = l.all in record { chain = l.used; size = l.size; path = l.used_path; few = omega arith }
+
+pub linked_runs : (nodes : List Node) (first free : ℕ) (l : IsLinked nodes first free) → runs_from nodes first ≡ runs_at nodes l.used
+linked_runs nodes first free l = let all = l.all in from-path nodes first l.used l.size (omega arith) l.used_path
+
+-- the used nodes are those before a place and those from it on
+pub linked_place : (nodes : List Node) (first free before at : ℕ) (l : IsLinked nodes first free) (p : IsPlace nodes first before at) → l.used ≡ p.passed ++ p.rest
+linked_place nodes first free before at l p =
+    one_path nodes first l.used (p.passed ++ p.rest) l.used_path (path-append nodes first at 1024 p.passed p.rest p.passed_path p.rest_path)
+
+pub place_runs : (nodes : List Node) (first before at : ℕ) (p : IsPlace nodes first before at) → length nodes ≡ 1024 → runs_from nodes first ≡ runs_at nodes p.passed ++ runs_at nodes p.rest
+place_runs nodes first before at p s =
+    let few = p.few in
+    let both : length (p.passed ++ p.rest) ≡ length p.passed + length p.rest = length-append p.passed p.rest in
+    from-path nodes first (p.passed ++ p.rest) s (omega arith) (path-append nodes first at 1024 p.passed p.rest p.passed_path p.rest_path)
+    ∙ runs-append nodes p.passed p.rest
+
+pub rest_runs : (nodes : List Node) (first before at : ℕ) (p : IsPlace nodes first before at) → length nodes ≡ 1024 → runs_from nodes at ≡ runs_at nodes p.rest
+rest_runs nodes first before at p s = let few = p.few in from-path nodes at p.rest s (omega arith) p.rest_path
+
+-- each index is once before the place, from it on, or among the free ones
+pub place_once : (nodes : List Node) (first free before at i : ℕ) (l : IsLinked nodes first free) (p : IsPlace nodes first before at) → i < 1024
+    → times i p.passed + times i p.rest + times i l.spare ≡ 1
+place_once nodes first free before at i l p h =
+    let once : times i l.used + times i l.spare ≡ 1 = l.once i h in
+    let parts : times i l.used ≡ times i (p.passed ++ p.rest) = ap (λ (js : List ℕ). times i js) (linked_place nodes first free before at l p) in
+    let both : times i (p.passed ++ p.rest) ≡ times i p.passed + times i p.rest = times-append i p.passed p.rest in
+    omega arith
+
+pub place_all : (nodes : List Node) (first free before at : ℕ) (l : IsLinked nodes first free) (p : IsPlace nodes first before at)
+    → length p.passed + length p.rest + length l.spare ≡ 1024
+place_all nodes first free before at l p =
+    let all : length l.used + length l.spare ≡ 1024 = l.all in
+    let parts : length l.used ≡ length (p.passed ++ p.rest) = ap (λ (js : List ℕ). length js) (linked_place nodes first free before at l p) in
+    let both : length (p.passed ++ p.rest) ≡ length p.passed + length p.rest = length-append p.passed p.rest in
+    omega arith
+
+-- what is added behind some runs
+pub adds_runs : (f n : ℕ) (before old new all made : List Stretch) → f < 2 ^ 48 → all ≡ before ++ old → made ≡ before ++ new → AreLaid f 2048 all
+    → distance f n < bound_after f 2048 before → Adds f (bound_after f 2048 before) n old new → Adds f 2048 n all made
+adds_runs f n before old new all made p e d laid above a =
+    let P : List Stretch → Type 0 = λ ts. AreLaid f 2048 ts in
+    let Q : List Stretch → Type 0 = λ ts. Adds f 2048 n ts (before ++ new) in
+    let R : List Stretch → Type 0 = λ ts. Adds f 2048 n all ts in
+    subst R (sym d) (subst Q (sym e) (adds_behind f 2048 n before old new p (subst P e laid) above a))
+
+pub laid_rest : (f : ℕ) (before old all : List Stretch) → all ≡ before ++ old → AreLaid f 2048 all → AreLaid f (bound_after f 2048 before) old
+laid_rest f before old all e laid =
+    let P : List Stretch → Type 0 = λ ts. AreLaid f 2048 ts in
+    laid_back f 2048 before old (subst P e laid)
+
+-- a run of its own finds a free node
+pub link_room : (f n : ℕ) (nodes : List Node) (first free before at : ℕ) (l : IsLinked nodes first free) (p : IsPlace nodes first before at) → f < 2 ^ 48 → n < 2 ^ 48
+    → AreLaid f 2048 (runs_from nodes first) → distance f n < bound_after f 2048 (runs_at nodes p.passed) → AreLaid f (distance f n - 1) (runs_from nodes at) → free < 1024
+link_room f n nodes first free before at l p q r laid above below =
+    let P : List Stretch → Type 0 = λ ts. AreLaid f (distance f n - 1) ts in
+    let alone = adds_alone f (bound_after f 2048 (runs_at nodes p.passed)) n (runs_at nodes p.rest) q r above (subst P (rest_runs nodes first before at p l.size) below) in
+    let adds = adds_runs f n (runs_at nodes p.passed) (runs_at nodes p.rest) (stretch n 1 ∷ runs_at nodes p.rest) (runs_from nodes first)
+    (runs_at nodes p.passed ++ stretch n 1 ∷ runs_at nodes p.rest) q (place_runs nodes first before at p l.size) refl laid above alone in
+    let most : 2 * length (runs_at nodes p.passed ++ stretch n 1 ∷ runs_at nodes p.rest) ≤ 2048 + 1 =
+    room_for_runs f 2048 (runs_at nodes p.passed ++ stretch n 1 ∷ runs_at nodes p.rest) adds.laid in
+    let one : length (runs_at nodes p.passed ++ stretch n 1 ∷ runs_at nodes p.rest) ≡ length (runs_at nodes p.passed) + suc (length (runs_at nodes p.rest)) =
+    length-append (runs_at nodes p.passed) (stretch n 1 ∷ runs_at nodes p.rest) in
+    let two : length (runs_at nodes p.passed) ≡ length p.passed = length-runs nodes p.passed in
+    let three : length (runs_at nodes p.rest) ≡ length p.rest = length-runs nodes p.rest in
+    let all : length p.passed + length p.rest + length l.spare ≡ 1024 = place_all nodes first free before at l p in
+    path-some nodes free l.spare (omega arith) l.spare_path
+
+-- a free node goes between the node before a place and the one at it
+pub link_linked : (nodes new : List Node) (first new_first free before at : ℕ) (x : Node) (l : IsLinked nodes first free) (p : IsPlace nodes first before at)
+    → free < 1024 → x.next ≡ at → Points (set nodes free x) new first new_first before free
+    → IsLinked new new_first (node_at nodes free).next × (runs_from new new_first ≡ runs_at nodes p.passed ++ run_of x ∷ runs_at nodes p.rest)
+link_linked nodes new first new_first free before at x l p h e t =
+    let spare : List ℕ = behind l.spare in
+    let mid : List Node = set nodes free x in
+    let follows : ℕ = (node_at nodes free).next in
+    let head = path-head nodes free l.spare h l.spare_path in
+    let size : length nodes ≡ 1024 = l.size in
+    let sums : (i : ℕ) → i < 1024 → times i p.passed + times i p.rest + (times i (free ∷ []) + times i spare) ≡ 1 = λ i k.
+    (let once : times i p.passed + times i p.rest + times i l.spare ≡ 1 = place_once nodes first free before at i l p k in
+    let one : times i l.spare ≡ times i (free ∷ spare) = ap (λ (js : List ℕ). times i js) head.0 in
+    let two : times i (free ∷ spare) ≡ times i (free ∷ []) + times i spare = times-cons i free spare in
+    omega arith) in
+    let self : times free (free ∷ []) ≡ 1 + times free [] = times-here free free [] refl in
+    let here = sums free h in
+    let no_passed : times free p.passed ≡ 0 = omega arith in
+    let no_rest : times free p.rest ≡ 0 = omega arith in
+    let no_spare : times free spare ≡ 0 = omega arith in
+    let few : (i : ℕ) → i < 1024 → times i p.passed ≤ 1 = λ i k. (let s = sums i k in omega arith) in
+    let behind_passed : IsPath new new_first p.passed free =
+    t.path p.passed at (path-set nodes free first at x p.passed no_passed p.passed_path) p.last few in
+    let read : node_at mid free ≡ x = get_or-set_at nodes free free x no_node refl (omega arith) in
+    let P : ℕ → Type 0 = λ k. IsPath mid k p.rest 1024 in
+    let tail : IsPath mid (node_at mid free).next p.rest 1024 =
+    subst P (sym (ap (λ (n : Node). n.next) read ∙ e)) (path-set nodes free at 1024 x p.rest no_rest p.rest_path) in
+    let apart : times before (free ∷ p.rest) ≡ 0 = last_apart mid before free 1024 p.passed (free ∷ p.rest) p.last (refl, h, tail)
+    (λ i k. (let s = sums i k in let c : times i (free ∷ p.rest) ≡ times i (free ∷ []) + times i p.rest = times-cons i free p.rest in omega arith)) in
+    let apart_spare : times before spare ≡ 0 = last_apart nodes before follows 1024 p.passed spare p.last head.1 (λ i k. (let s = sums i k in omega arith)) in
+    let used_path : IsPath new new_first (p.passed ++ free ∷ p.rest) 1024 =
+    path-append new new_first free 1024 p.passed (free ∷ p.rest) behind_passed (t.others free 1024 (free ∷ p.rest) apart (refl, h, tail)) in
+    let new_size : length new ≡ 1024 = t.size ∙ length-set nodes free x ∙ l.size in
+    let lengths : length (p.passed ++ free ∷ p.rest) ≡ length p.passed + suc (length p.rest) = length-append p.passed (free ∷ p.rest) in
+    let all : length p.passed + length p.rest + length l.spare ≡ 1024 = place_all nodes first free before at l p in
+    let left : length l.spare ≡ suc (length spare) = ap (λ (js : List ℕ). length js) head.0 in (
+      record {
+        used = p.passed ++ free ∷ p.rest;
+        spare = spare;
+        size = new_size;
+        used_path = used_path;
+        spare_path = t.others follows 1024 spare apart_spare (path-set nodes free follows 1024 x spare no_spare head.1);
+        once = λ i k. (let s = sums i k in let c : times i (free ∷ p.rest) ≡ times i (free ∷ []) + times i p.rest = times-cons i free p.rest in
+            let d : times i (p.passed ++ free ∷ p.rest) ≡ times i p.passed + times i (free ∷ p.rest) = times-append i p.passed (free ∷ p.rest) in omega arith);
+        all = omega arith;
+      },
+      from-path new new_first (p.passed ++ free ∷ p.rest) new_size (omega arith) used_path
+          ∙ t.runs (p.passed ++ free ∷ p.rest) ∙ runs-edited nodes free x p.passed p.rest (omega arith) no_passed no_rest,
+    )
+
+-- the node at a place is in no other place
+pub place_head : (nodes : List Node) (first free before at i : ℕ) (l : IsLinked nodes first free) (p : IsPlace nodes first before at) → at < 1024 → i < 1024
+    → times i p.passed + times i (at ∷ []) + times i (behind p.rest) + times i l.spare ≡ 1
+place_head nodes first free before at i l p h k =
+    let head = path-head nodes at p.rest h p.rest_path in
+    let once : times i p.passed + times i p.rest + times i l.spare ≡ 1 = place_once nodes first free before at i l p k in
+    let one : times i p.rest ≡ times i (at ∷ behind p.rest) = ap (λ (js : List ℕ). times i js) head.0 in
+    let two : times i (at ∷ behind p.rest) ≡ times i (at ∷ []) + times i (behind p.rest) = times-cons i at (behind p.rest) in
+    omega arith
+
+-- the run at a place changes where it is
+pub edit_linked : (nodes : List Node) (first free before at : ℕ) (x : Node) (l : IsLinked nodes first free) (p : IsPlace nodes first before at)
+    → at < 1024 → x.next ≡ (node_at nodes at).next
+    → IsLinked (set nodes at x) first free × (runs_from (set nodes at x) first ≡ runs_at nodes p.passed ++ run_of x ∷ runs_at nodes (behind p.rest))
+edit_linked nodes first free before at x l p h e =
+    let size : length nodes ≡ 1024 = l.size in
+    let all : length l.used + length l.spare ≡ 1024 = l.all in
+    let head = path-head nodes at p.rest h p.rest_path in
+    let self : times at (at ∷ []) ≡ 1 + times at [] = times-here at at [] refl in
+    let once = place_head nodes first free before at at l p h h in
+    let used_path : IsPath (set nodes at x) first l.used 1024 = path-same nodes at first 1024 x l.used (omega arith) e l.used_path in
+    let new_size : length (set nodes at x) ≡ 1024 = length-set nodes at x ∙ l.size in
+    let parts : l.used ≡ p.passed ++ at ∷ behind p.rest =
+    linked_place nodes first free before at l p ∙ ap (λ (js : List ℕ). p.passed ++ js) head.0 in (
+      record {
+        used = l.used;
+        spare = l.spare;
+        size = new_size;
+        used_path = used_path;
+        spare_path = path-same nodes at free 1024 x l.spare (omega arith) e l.spare_path;
+        once = l.once;
+        all = l.all;
+      },
+      from-path (set nodes at x) first l.used new_size (omega arith) used_path
+          ∙ ap (λ (js : List ℕ). runs_at (set nodes at x) js) parts
+          ∙ runs-edited nodes at x p.passed (behind p.rest) (omega arith) (omega arith) (omega arith),
+    )
+
+-- the run at a place takes that behind it in, and the node of that is free
+pub join_linked : (nodes : List Node) (first free before at next : ℕ) (x y : Node) (l : IsLinked nodes first free) (p : IsPlace nodes first before at)
+    → at < 1024 → next ≡ (node_at nodes at).next → next < 1024 → x.next ≡ (node_at nodes next).next → y.next ≡ free
+    → IsLinked (set (set nodes at x) next y) first next
+    × (runs_from (set (set nodes at x) next y) first ≡ runs_at nodes p.passed ++ run_of x ∷ runs_at nodes (behind (behind p.rest)))
+join_linked nodes first free before at next x y l p h e g d c =
+    let size : length nodes ≡ 1024 = l.size in
+    let rest : List ℕ = behind (behind p.rest) in
+    let mid : List Node = set nodes at x in
+    let new : List Node = set mid next y in
+    let mid_size : length mid ≡ 1024 = length-set nodes at x ∙ l.size in
+    let new_size : length new ≡ 1024 = length-set mid next y ∙ mid_size in
+    let head = path-head nodes at p.rest h p.rest_path in
+    let Q : ℕ → Type 0 = λ k. IsPath nodes k (behind p.rest) 1024 in
+    let second = path-head nodes next (behind p.rest) g (subst Q (sym e) head.1) in
+    let sums : (i : ℕ) → i < 1024 → times i p.passed + times i (at ∷ []) + (times i (next ∷ []) + times i rest) + times i l.spare ≡ 1 = λ i k.
+    (let once = place_head nodes first free before at i l p h k in
+    let one : times i (behind p.rest) ≡ times i (next ∷ rest) = ap (λ (js : List ℕ). times i js) second.0 in
+    let two : times i (next ∷ rest) ≡ times i (next ∷ []) + times i rest = times-cons i next rest in
+    omega arith) in
+    let self : times at (at ∷ []) ≡ 1 + times at [] = times-here at at [] refl in
+    let other : times next (next ∷ []) ≡ 1 + times next [] = times-here next next [] refl in
+    let here = sums at h in
+    let there = sums next g in
+    let cons : times next (at ∷ rest) ≡ times next (at ∷ []) + times next rest = times-cons next at rest in
+    let both : times next (p.passed ++ at ∷ rest) ≡ times next p.passed + times next (at ∷ rest) = times-append next p.passed (at ∷ rest) in
+    let free_of : times next (p.passed ++ at ∷ rest) ≡ 0 = omega arith in
+    let passed_next : times next p.passed ≡ 0 = omega arith in
+    let at_next : times next (at ∷ rest) ≡ 0 = omega arith in
+    let spare_next : times next l.spare ≡ 0 = omega arith in
+    let passed_at : times at p.passed ≡ 0 = omega arith in
+    let rest_at : times at rest ≡ 0 = omega arith in
+    let spare_at : times at l.spare ≡ 0 = omega arith in
+    let read : node_at mid at ≡ x = get_or-set_at nodes at at x no_node refl (omega arith) in
+    let read_next : node_at new next ≡ y = get_or-set_at mid next next y no_node refl (omega arith) in
+    let P : ℕ → Type 0 = λ k. IsPath mid k rest 1024 in
+    let tail : IsPath mid (node_at mid at).next rest 1024 =
+    subst P (sym (ap (λ (n : Node). n.next) read ∙ d)) (path-set nodes at (node_at nodes next).next 1024 x rest rest_at second.1) in
+    let mid_used : IsPath mid first (p.passed ++ at ∷ rest) 1024 =
+    path-append mid first at 1024 p.passed (at ∷ rest) (path-set nodes at first at x p.passed passed_at p.passed_path) (refl, h, tail) in
+    let used_path : IsPath new first (p.passed ++ at ∷ rest) 1024 = path-set mid next first 1024 y (p.passed ++ at ∷ rest) free_of mid_used in
+    let mid_spare : IsPath new free l.spare 1024 =
+    path-set mid next free 1024 y l.spare spare_next (path-set nodes at free 1024 x l.spare spare_at l.spare_path) in
+    let R : ℕ → Type 0 = λ k. IsPath new k l.spare 1024 in
+    let all : length p.passed + length p.rest + length l.spare ≡ 1024 = place_all nodes first free before at l p in
+    let lengths : length (p.passed ++ at ∷ rest) ≡ length p.passed + suc (length rest) = length-append p.passed (at ∷ rest) in
+    let one : length p.rest ≡ suc (length (behind p.rest)) = ap (λ (js : List ℕ). length js) head.0 in
+    let two : length (behind p.rest) ≡ suc (length rest) = ap (λ (js : List ℕ). length js) second.0 in (
+      record {
+        used = p.passed ++ at ∷ rest;
+        spare = next ∷ l.spare;
+        size = new_size;
+        used_path = used_path;
+        spare_path = (refl, g, subst R (sym (ap (λ (n : Node). n.next) read_next ∙ c)) mid_spare);
+        once = λ i k. (let s = sums i k in
+            let a : times i (next ∷ l.spare) ≡ times i (next ∷ []) + times i l.spare = times-cons i next l.spare in
+            let b : times i (at ∷ rest) ≡ times i (at ∷ []) + times i rest = times-cons i at rest in
+            let f : times i (p.passed ++ at ∷ rest) ≡ times i p.passed + times i (at ∷ rest) = times-append i p.passed (at ∷ rest) in omega arith);
+        all = omega arith;
+      },
+      from-path new first (p.passed ++ at ∷ rest) new_size (omega arith) used_path
+          ∙ runs-set mid next y (p.passed ++ at ∷ rest) free_of
+          ∙ runs-edited nodes at x p.passed rest (omega arith) passed_at rest_at,
+    )
+
+-- a node that is being freed comes before the free ones
+pub parted_step : (nodes : List Node) (first free from : ℕ) (x : Node) (d : IsParted nodes first free from) → from < 1024 → x.next ≡ free
+    → IsParted (set nodes from x) first from (node_at nodes from).next × (runs_from (set nodes from x) first ≡ runs_from nodes first)
+parted_step nodes first free from x d h e =
+    let size : length nodes ≡ 1024 = d.size in
+    let new : List Node = set nodes from x in
+    let new_size : length new ≡ 1024 = length-set nodes from x ∙ d.size in
+    let loose : List ℕ = behind d.loose in
+    let head = path-head nodes from d.loose h d.loose_path in
+    let sums : (i : ℕ) → i < 1024 → times i d.used + times i d.spare + (times i (from ∷ []) + times i loose) ≡ 1 = λ i k.
+    (let once : times i d.used + times i d.spare + times i d.loose ≡ 1 = d.once i k in
+    let one : times i d.loose ≡ times i (from ∷ loose) = ap (λ (js : List ℕ). times i js) head.0 in
+    let two : times i (from ∷ loose) ≡ times i (from ∷ []) + times i loose = times-cons i from loose in
+    omega arith) in
+    let self : times from (from ∷ []) ≡ 1 + times from [] = times-here from from [] refl in
+    let here = sums from h in
+    let no_used : times from d.used ≡ 0 = omega arith in
+    let no_spare : times from d.spare ≡ 0 = omega arith in
+    let no_loose : times from loose ≡ 0 = omega arith in
+    let read : node_at new from ≡ x = get_or-set_at nodes from from x no_node refl (omega arith) in
+    let R : ℕ → Type 0 = λ k. IsPath new k d.spare 1024 in
+    let all : length d.used + length d.spare + length d.loose ≡ 1024 = d.all in
+    let one : length d.loose ≡ suc (length loose) = ap (λ (js : List ℕ). length js) head.0 in
+    let used_path : IsPath new first d.used 1024 = path-set nodes from first 1024 x d.used no_used d.used_path in (
+      record {
+        used = d.used;
+        spare = from ∷ d.spare;
+        loose = loose;
+        size = new_size;
+        used_path = used_path;
+        spare_path = (refl, h, subst R (sym (ap (λ (n : Node). n.next) read ∙ e)) (path-set nodes from free 1024 x d.spare no_spare d.spare_path));
+        loose_path = path-set nodes from (node_at nodes from).next 1024 x loose no_loose head.1;
+        once = λ i k. (let s = sums i k in let a : times i (from ∷ d.spare) ≡ times i (from ∷ []) + times i d.spare = times-cons i from d.spare in omega arith);
+        all = omega arith;
+      },
+      from-path new first d.used new_size (omega arith) used_path ∙ runs-set nodes from x d.used no_used
+          ∙ sym (from-path nodes first d.used d.size (omega arith) d.used_path),
+    )
+
+-- how many are left to be freed
+pub parted_left : (nodes : List Node) (first free from : ℕ) (d : IsParted nodes first free from) → length (runs_from nodes from) ≡ length d.loose
+parted_left nodes first free from d =
+    let all = d.all in
+    ap (λ (ss : List Stretch). length ss) (from-path nodes from d.loose d.size (omega arith) d.loose_path) ∙ length-runs nodes d.loose
+
+pub parted_falls : (nodes : List Node) (first free from : ℕ) (x : Node) (d : IsParted nodes first free from) → from < 1024 → x.next ≡ free
+    → length (runs_from (set nodes from x) (node_at nodes from).next) < length (runs_from nodes from)
+unfolding parted_step
+parted_falls nodes first free from x d h e =
+    let next = (parted_step nodes first free from x d h e).0 in
+    let old : length (runs_from nodes from) ≡ length d.loose = parted_left nodes first free from d in
+    let new : length (runs_from (set nodes from x) (node_at nodes from).next) ≡ length (behind d.loose) = parted_left (set nodes from x) first from (node_at nodes from).next next in
+    let one : length d.loose ≡ suc (length (behind d.loose)) = ap (λ (js : List ℕ). length js) (path-head nodes from d.loose h d.loose_path).0 in
+    omega arith
+
+-- where none is left, all are used or free
+pub parted_end : (nodes : List Node) (first free from : ℕ) → IsParted nodes first free from → 1024 ≤ from → IsLinked nodes first free
+parted_end nodes first free from d h =
+    let none : d.loose ≡ [] = path-end nodes from d.loose h d.loose_path in
+    let zero : length d.loose ≡ 0 = ap (λ (js : List ℕ). length js) none in
+    let all = d.all in
+    record {
+      used = d.used;
+      spare = d.spare;
+      size = d.size;
+      used_path = d.used_path;
+      spare_path = d.spare_path;
+      once = λ i k. (let once = d.once i k in let no : times i d.loose ≡ 0 = ap (λ (js : List ℕ). times i js) none in omega arith);
+      all = omega arith;
+    }
+
+-- no node is used any more
+pub all_parted : (nodes : List Node) (first free : ℕ) → IsLinked nodes first free → IsParted nodes 1024 free first × (runs_from nodes 1024 ≡ [])
+all_parted nodes first free l =
+    let all = l.all in (
+      record {
+        used = [];
+        spare = l.spare;
+        loose = l.used;
+        size = l.size;
+        used_path = refl;
+        spare_path = l.spare_path;
+        loose_path = l.used_path;
+        once = λ i k. (let once = l.once i k in omega arith);
+        all = omega arith;
+      },
+      from-path nodes 1024 [] l.size (omega arith) refl,
+    )
+
+-- the runs at a place and behind it
+pub place_parts : (nodes : List Node) (first before at : ℕ) (p : IsPlace nodes first before at) → at < 1024
+    → runs_at nodes p.rest ≡ run_of (node_at nodes at) ∷ runs_at nodes (behind p.rest)
+place_parts nodes first before at p h = ap (λ (js : List ℕ). runs_at nodes js) (path-head nodes at p.rest h p.rest_path).0
+
+-- the run at a place is laid, with those behind it
+pub place_laid : (f : ℕ) (nodes : List Node) (first before at : ℕ) (p : IsPlace nodes first before at) → length nodes ≡ 1024 → at < 1024 → AreLaid f 2048 (runs_from nodes first)
+    → AreLaid f (bound_after f 2048 (runs_at nodes p.passed)) (run_of (node_at nodes at) ∷ runs_at nodes (behind p.rest))
+place_laid f nodes first before at p s h laid =
+    let P : List Stretch → Type 0 = λ ts. AreLaid f (bound_after f 2048 (runs_at nodes p.passed)) ts in
+    subst P (place_parts nodes first before at p h)
+    (laid_rest f (runs_at nodes p.passed) (runs_at nodes p.rest) (runs_from nodes first) (place_runs nodes first before at p s) laid)
+
+-- what comes before a place is no higher than all
+pub place_bound : (f : ℕ) (nodes : List Node) (first before at : ℕ) (p : IsPlace nodes first before at) → length nodes ≡ 1024 → AreLaid f 2048 (runs_from nodes first)
+    → bound_after f 2048 (runs_at nodes p.passed) ≤ 2048
+place_bound f nodes first before at p s laid =
+    let P : List Stretch → Type 0 = λ ts. AreLaid f 2048 ts in
+    bound_falls f 2048 (runs_at nodes p.passed)
+    (laid_front f 2048 (runs_at nodes p.passed) (runs_at nodes p.rest) (subst P (place_runs nodes first before at p s) laid))
+
+-- what an edit at a place adds
+pub adds_place : (f n : ℕ) (nodes : List Node) (first before at : ℕ) (p : IsPlace nodes first before at) (new made : List Stretch) → length nodes ≡ 1024 → f < 2 ^ 48 → at < 1024
+    → AreLaid f 2048 (runs_from nodes first) → distance f n < bound_after f 2048 (runs_at nodes p.passed) → made ≡ runs_at nodes p.passed ++ new
+    → Adds f (bound_after f 2048 (runs_at nodes p.passed)) n (run_of (node_at nodes at) ∷ runs_at nodes (behind p.rest)) new → Adds f 2048 n (runs_from nodes first) made
+adds_place f n nodes first before at p new made s q h laid above e a =
+    adds_runs f n (runs_at nodes p.passed) (run_of (node_at nodes at) ∷ runs_at nodes (behind p.rest)) new (runs_from nodes first) made q
+    (place_runs nodes first before at p s ∙ ap (λ (ss : List Stretch). runs_at nodes p.passed ++ ss) (place_parts nodes first before at p h)) e laid above a
+
+-- the runs behind that at a place: one and those behind it, or none
+pub below_parts : (nodes : List Node) (first before at next : ℕ) (p : IsPlace nodes first before at) → at < 1024 → next ≡ (node_at nodes at).next → next < 1024
+    → runs_at nodes (behind p.rest) ≡ run_of (node_at nodes next) ∷ runs_at nodes (behind (behind p.rest))
+below_parts nodes first before at next p h e k =
+    let Q : ℕ → Type 0 = λ i. IsPath nodes i (behind p.rest) 1024 in
+    ap (λ (js : List ℕ). runs_at nodes js) (path-head nodes next (behind p.rest) k (subst Q (sym e) (path-head nodes at p.rest h p.rest_path).1)).0
+
+pub below_none : (nodes : List Node) (first before at : ℕ) (p : IsPlace nodes first before at) → at < 1024 → 1024 ≤ (node_at nodes at).next
+    → runs_at nodes (behind p.rest) ≡ []
+below_none nodes first before at p h k =
+    ap (λ (js : List ℕ). runs_at nodes js) (path-end nodes (node_at nodes at).next (behind p.rest) k (path-head nodes at p.rest h p.rest_path).1)
+
+-- both runs, laid
+pub both_laid : (f : ℕ) (nodes : List Node) (first before at next : ℕ) (p : IsPlace nodes first before at) → length nodes ≡ 1024 → at < 1024 → next ≡ (node_at nodes at).next → next < 1024
+    → AreLaid f 2048 (runs_from nodes first)
+    → AreLaid f (bound_after f 2048 (runs_at nodes p.passed)) (run_of (node_at nodes at) ∷ run_of (node_at nodes next) ∷ runs_at nodes (behind (behind p.rest)))
+both_laid f nodes first before at next p s h e k laid =
+    let P : List Stretch → Type 0 = λ ts. AreLaid f (bound_after f 2048 (runs_at nodes p.passed)) (run_of (node_at nodes at) ∷ ts) in
+    subst P (below_parts nodes first before at next p h e k) (place_laid f nodes first before at p s h laid)
+
+-- a gap is left below a number under a run, where no run ends right below it
+pub gap_left : (f n : ℕ) (nodes : List Node) (first before at next : ℕ) (p : IsPlace nodes first before at) → length nodes ≡ 1024 → at < 1024 → next ≡ (node_at nodes at).next → next < 1024
+    → AreLaid f 2048 (runs_from nodes first) → distance f n + (node_at nodes at).count ≡ distance f (node_at nodes at).hi
+    → ((distance f (node_at nodes next).hi + 1 ≡ distance f n) → ⊥) → AreLaid f (distance f n - 1) (runs_at nodes (behind p.rest))
+gap_left f n nodes first before at next p s h e k laid d ne =
+    let both = both_laid f nodes first before at next p s h e k laid in
+    let under : distance f (node_at nodes next).hi < bound_below f (run_of (node_at nodes at)) = both.1.0.below in
+    let P : List Stretch → Type 0 = λ ts. AreLaid f (distance f n - 1) ts in
+    subst P (sym (below_parts nodes first before at next p h e k))
+    (laid_below f (bound_below f (run_of (node_at nodes at))) (distance f n - 1) (run_of (node_at nodes next)) (runs_at nodes (behind (behind p.rest))) (omega arith) both.1)
+
+-- what is below the place of a number: no run, one with a gap, or one that has it
+pub below_end : (f c : ℕ) (nodes : List Node) (at : ℕ) → length nodes ≡ 1024 → at ≡ 1024 → AreLaid f c (runs_from nodes at)
+below_end f c nodes at s e =
+    let P : List Stretch → Type 0 = λ ts. AreLaid f c ts in
+    subst P (sym (from-path nodes at [] s (omega arith) e)) tt
+
+pub below_far : (f c : ℕ) (nodes : List Node) (first before at : ℕ) (p : IsPlace nodes first before at) → length nodes ≡ 1024 → at < 1024 → AreLaid f 2048 (runs_from nodes first)
+    → distance f (node_at nodes at).hi < c → AreLaid f c (runs_from nodes at)
+below_far f c nodes first before at p s h laid d =
+    let P : List Stretch → Type 0 = λ ts. AreLaid f c ts in
+    subst P (sym (rest_runs nodes first before at p s ∙ place_parts nodes first before at p h))
+    (laid_below f (bound_after f 2048 (runs_at nodes p.passed)) c (run_of (node_at nodes at)) (runs_at nodes (behind p.rest)) d (place_laid f nodes first before at p s h laid))
+
+pub present_in : (f n : ℕ) (nodes : List Node) (first before at : ℕ) (p : IsPlace nodes first before at) → length nodes ≡ 1024 → f < 2 ^ 48 → n < 2 ^ 48 → at < 1024
+    → AreLaid f 2048 (runs_from nodes first) → distance f n < bound_after f 2048 (runs_at nodes p.passed) → distance f n ≤ distance f (node_at nodes at).hi
+    → distance f (node_at nodes at).hi < distance f n + (node_at nodes at).count → has (numbers_of (runs_from nodes first)) n ≡ true
+present_in f n nodes first before at p s q r h laid above d k =
+    let P : List Stretch → Type 0 = λ ts. AreLaid f 2048 ts in
+    let here = place_laid f nodes first before at p s h laid in
+    let old : List Stretch = run_of (node_at nodes at) ∷ runs_at nodes (behind p.rest) in
+    let parts : runs_from nodes first ≡ runs_at nodes p.passed ++ old =
+    place_runs nodes first before at p s ∙ ap (λ (ss : List Stretch). runs_at nodes p.passed ++ ss) (place_parts nodes first before at p h) in
+    let there : has (numbers_of old) n ≡ true =
+    inside-present f n (node_at nodes at).count (node_at nodes at).hi (numbers_of (runs_at nodes (behind p.rest))) q here.0.fits r d k in
+    ap (λ (ts : List Stretch). has (numbers_of ts) n) parts ∙ present_behind f 2048 n (runs_at nodes p.passed) old q (subst P parts laid) above there
+
+-- the walk goes on behind a node, and ends where there is none
+pub chain_step : (nodes : List Node) (at : ℕ) → IsChained nodes at → at < 1024
+    → IsChained nodes (node_at nodes at).next × (runs_from nodes at ≡ run_of (node_at nodes at) ∷ runs_from nodes (node_at nodes at).next)
+chain_step nodes at k h =
+    let few = k.few in
+    let head = path-head nodes at k.chain h k.path in
+    let one : length k.chain ≡ suc (length (behind k.chain)) = ap (λ (js : List ℕ). length js) head.0 in (
+      record { chain = behind k.chain; size = k.size; path = head.1; few = omega arith },
+      from-path nodes at k.chain k.size k.few k.path
+          ∙ ap (λ (js : List ℕ). runs_at nodes js) head.0
+          ∙ ap (λ (ss : List Stretch). run_of (node_at nodes at) ∷ ss)
+          (sym (from-path nodes (node_at nodes at).next (behind k.chain) k.size (omega arith) head.1)),
+    )
+
+pub chain_stop : (nodes : List Node) (at : ℕ) → IsChained nodes at → at ≡ 1024 → runs_from nodes at ≡ []
+chain_stop nodes at k e = from-path nodes at [] k.size (omega arith) e
+
+pub chain_fits : (nodes : List Node) (at : ℕ) → IsChained nodes at → at ≤ 1024
+chain_fits nodes at k = path-fits nodes at k.chain k.path

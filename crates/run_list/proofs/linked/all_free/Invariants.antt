@@ -1,0 +1,14 @@
+use Rattle.std.proofs.Common.{◌≡◌, ◌≤◌, length}
+use Rattle.run_list.specs.Linked.{IsPath}
+use Rattle.run_list.proofs.Fresh.{chain_up}
+use Rattle.run_list.proofs.linked.all_free.Given as goal
+
+abbrev pub invariant-loop-free : goal.invariant-loop-free
+invariant-loop-free l = record {
+  size : length l.nodes.items ≡ 1024;
+  fits : l.free ≤ 1024;
+  path : IsPath l.nodes.items l.free (chain_up l.free) 1024;
+}
+
+abbrev pub decreases-loop-free : goal.decreases-loop-free
+decreases-loop-free l = l.free

@@ -1,0 +1,112 @@
+-- Runs as they are linked: one chain of nodes from the greatest run down, and one of free nodes. Index 1,024 stands for no node.
+use Rattle.std.specs.Prelude.{◌≡◌, ℕ, ◌+◌, ◌<◌, ◌≤◌, ◌==◌, nat_lt, List, [], ◌∷◌, zero, suc, length, slice_index_or, if◌then◌else◌}
+use Rattle.run_list.specs.declared.walking.Stretch.{Stretch}
+use Rattle.run_list.specs.declared.linked.Node.{Node}
+use Rattle.run_list.specs.Runs.{Touches, bound_after}
+use Rattle.seq_circle.specs.Circle.{distance}
+
+-- what is read at an index that no node has
+abbrev pub no_node : Node
+no_node = record { hi = 0; count = 0; next = 1024 }
+
+-- the node at an index
+abbrev pub node_at : List Node → ℕ → Node
+node_at nodes at = slice_index_or nodes at no_node
+
+-- the run of a node
+abbrev pub run_of : Node → Stretch
+run_of node = record { hi = node.hi; count = node.count }
+
+-- the runs of the nodes with these indices
+abbrev pub runs_at : List Node → List ℕ → List Stretch
+runs_at nodes [] = []
+runs_at nodes (i ∷ is) = run_of (node_at nodes i) ∷ runs_at nodes is
+
+-- the links lead from an index over those of the list to another index
+abbrev pub IsPath : List Node → ℕ → List ℕ → ℕ → Type 0
+IsPath nodes from [] to = from ≡ to
+IsPath nodes from (i ∷ is) to = (from ≡ i) × (i < 1024) × IsPath nodes (node_at nodes i).next is to
+
+-- the runs along the links, so many at most
+abbrev pub walked : ℕ → List Node → ℕ → List Stretch
+walked zero nodes at = []
+walked (suc fuel) nodes at =
+    if nat_lt at 1024 then run_of (node_at nodes at) ∷ walked fuel nodes (node_at nodes at).next else []
+
+-- the runs from an index down; a chain has at most as many as there are nodes
+abbrev pub runs_from : List Node → ℕ → List Stretch
+runs_from nodes at = walked (length nodes) nodes at
+
+-- how often the list has the index
+abbrev pub times : ℕ → List ℕ → ℕ
+times i [] = 0
+times i (j ∷ js) = (if i == j then 1 else 0) + times i js
+
+-- the last index of the list, and 1,024 where it has none
+abbrev pub IsLast : List ℕ → ℕ → Type 0
+IsLast [] last = last ≡ 1024
+IsLast (i ∷ []) last = last ≡ i
+IsLast (i ∷ j ∷ js) last = IsLast (j ∷ js) last
+
+-- the links lead from the index to no node, over at most 1,024
+pub record IsChained (nodes : List Node) (at : ℕ) : Type 0 where
+  pub chain : List ℕ
+  pub size : length nodes ≡ 1024
+  pub path : IsPath nodes at chain 1024
+  pub few : length chain ≤ 1024
+
+-- each index is once in one of three chains: the used nodes, the free ones, and those that are being freed
+pub record IsParted (nodes : List Node) (first free from : ℕ) : Type 0 where
+  pub used : List ℕ
+  pub spare : List ℕ
+  pub loose : List ℕ
+  pub size : length nodes ≡ 1024
+  pub used_path : IsPath nodes first used 1024
+  pub spare_path : IsPath nodes free spare 1024
+  pub loose_path : IsPath nodes from loose 1024
+  pub once : (i : ℕ) → i < 1024 → times i used + times i spare + times i loose ≡ 1
+  pub all : length used + length spare + length loose ≡ 1024
+
+-- each index is once in one of two chains: the used nodes and the free ones
+pub record IsLinked (nodes : List Node) (first free : ℕ) : Type 0 where
+  pub used : List ℕ
+  pub spare : List ℕ
+  pub size : length nodes ≡ 1024
+  pub used_path : IsPath nodes first used 1024
+  pub spare_path : IsPath nodes free spare 1024
+  pub once : (i : ℕ) → i < 1024 → times i used + times i spare ≡ 1
+  pub all : length used + length spare ≡ 1024
+
+-- a place in the chain: the links lead from the first node to `at`, behind `before`, and from there on to no node
+pub record IsPlace (nodes : List Node) (first before at : ℕ) : Type 0 where
+  pub passed : List ℕ
+  pub rest : List ℕ
+  pub few : length passed + length rest ≤ 1024
+  pub passed_path : IsPath nodes first passed at
+  pub rest_path : IsPath nodes at rest 1024
+  pub last : IsLast passed before
+
+-- a place all runs before which lie above a number, with a gap
+pub record IsPassed (floor n : ℕ) (nodes : List Node) (first before at : ℕ) : Type 0 where
+  pub place : IsPlace nodes first before at
+  pub above : distance floor n < bound_after floor 2048 (runs_at nodes place.passed)
+
+-- the place of a number: all runs before it lie above the number, with a gap, and the one at it does not
+pub record IsPlaceFor (floor n : ℕ) (nodes : List Node) (first before at : ℕ) : Type 0 where
+  pub place : IsPlace nodes first before at
+  pub above : distance floor n < bound_after floor 2048 (runs_at nodes place.passed)
+  pub touches : at < 1024 → Touches floor n (run_of (node_at nodes at))
+
+-- the place where a risen floor cuts: the run before it ends at the floor or above, and the one at it ends below
+pub record IsPlaceBelow (floor rise : ℕ) (nodes : List Node) (first before at : ℕ) : Type 0 where
+  pub place : IsPlace nodes first before at
+  pub kept : before < 1024 → rise ≤ distance floor (node_at nodes before).hi
+  pub dropped : at < 1024 → distance floor (node_at nodes at).hi < rise
+
+-- the links lead as before, but that another node follows behind one, or comes first where that is none
+pub record Points (old new : List Node) (old_first new_first before to : ℕ) : Type 0 where
+  pub size : length new ≡ length old
+  pub runs : (js : List ℕ) → runs_at new js ≡ runs_at old js
+  pub path : (passed : List ℕ) (at : ℕ) → IsPath old old_first passed at → IsLast passed before
+      → ((i : ℕ) → i < 1024 → times i passed ≤ 1) → IsPath new new_first passed to
+  pub others : (from to : ℕ) (js : List ℕ) → times before js ≡ 0 → IsPath old from js to → IsPath new from js to

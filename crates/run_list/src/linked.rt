@@ -1,0 +1,265 @@
+//! The runs as they are linked: where a number goes, what it joins, and what a raised floor leaves.
+ghost use Rattle.std.specs.Prelude.{◌≡◌, [], ◌+◌, ◌-◌, ◌^◌, ◌<◌, ◌≤◌, filter, true, length, IfOk};
+ghost use Rattle.std.specs.Bool.{OnTrue, OnFalse};
+ghost use Rattle.seq_circle.specs.Circle.{distance, IsBefore};
+ghost use Rattle.run_list.specs.MarkedSet.{has, is_from};
+ghost use Rattle.run_list.specs.Runs.{AreLaid, numbers_of, Adds};
+ghost use Rattle.run_list.specs.Linked.{IsChained, IsParted, IsLinked, IsPlaceFor, IsPlaceBelow, Points, node_at, runs_from};
+
+use seq_circle::{NoMemory, Seq48};
+use std::alloc::Global;
+
+// Runs with a gap between any two, inside 2,048 successive numbers, are at most this many.
+const NODES: usize = 1_024;
+
+// The index that stands for no node.
+pub(crate) const NONE: u16 = 1_024;
+
+// A run, and the index of the node behind it.
+#[derive(Clone, Copy)]
+pub struct Node {
+    pub hi: Seq48,
+    pub count: u16,
+    pub next: u16,
+}
+
+// The nodes, with the first used one and the first free one.
+#[derive(Drop)]
+pub struct Linked {
+    pub nodes: Vec<Node>,
+    pub first: u16,
+    pub free: u16,
+}
+
+// A place in the chain of used nodes: the node that stands there, and the one before it.
+#[derive(Clone, Copy)]
+struct Place {
+    before: u16,
+    at: u16,
+}
+
+// All nodes are free.
+pub(crate) fn all_free(alloc: Global, zero: Seq48) -> Result<Linked, NoMemory>
+    ensures linked { IfOk result (λ made. IsLinked made.nodes.items made.first made.free) }
+    ensures empty { IfOk result (λ made. runs_from made.nodes.items made.first ≡ []) }
+{
+    let empty = Node {
+        hi: zero,
+        count: 0,
+        next: NONE,
+    };
+    let mut nodes = vec![in alloc; empty; NODES]?;
+    let mut free = NONE;
+    while free > 0 {
+        let next = free - 1;
+        nodes[usize::from(next)].next = free;
+        free = next;
+    }
+    Ok(Linked {
+        nodes,
+        first: NONE,
+        free,
+    })
+}
+
+// The place of the first run that `n` touches, is in, or stands above.
+fn place_for(nodes: &[Node], first: u16, floor: Seq48, n: Seq48) -> Place
+    requires near { distance floor n < 2048 }
+    requires chained { IsChained nodes.now first }
+    requires laid { AreLaid floor 2048 (runs_from nodes.now first) }
+    ensures place { IsPlaceFor floor n nodes.now first result.before result.at }
+{
+    let place = floor.distance(n);
+    let mut before = NONE;
+    let mut at = first;
+    while at < NONE {
+        let node = nodes[usize::from(at)];
+        if floor.distance(node.hi) <= place + u64::from(node.count) {
+            break;
+        }
+        before = at;
+        at = node.next;
+    }
+    Place { before, at }
+}
+
+// The place of the first run that ends below a number that lies so far above the floor.
+fn place_below(nodes: &[Node], first: u16, floor: Seq48, rise: u64) -> Place
+    requires chained { IsChained nodes.now first }
+    ensures place { IsPlaceBelow floor rise nodes.now first result.before result.at }
+{
+    let mut before = NONE;
+    let mut at = first;
+    while at < NONE {
+        let node = nodes[usize::from(at)];
+        if floor.distance(node.hi) < rise {
+            break;
+        }
+        before = at;
+        at = node.next;
+    }
+    Place { before, at }
+}
+
+// Lets the node `to` follow behind `before`, or come first where that is none.
+fn point(runs: &mut Linked, before: u16, to: u16)
+    requires size { length runs.old.nodes.items ≡ 1024 }
+    requires within { before ≤ 1024 }
+    ensures points { Points runs.old.nodes.items runs.new.nodes.items runs.old.first runs.new.first before to }
+    ensures free { runs.new.free ≡ runs.old.free }
+{
+    if before == NONE {
+        runs.first = to;
+    } else {
+        runs.nodes[usize::from(before)].next = to;
+    }
+}
+
+// Links a run of `n` alone between `before` and `at`.
+fn link(runs: &mut Linked, floor: Seq48, before: u16, at: u16, n: Seq48)
+    requires linked { IsLinked runs.old.nodes.items runs.old.first runs.old.free }
+    requires laid { AreLaid floor 2048 (runs_from runs.old.nodes.items runs.old.first) }
+    requires place { IsPlaceFor floor n runs.old.nodes.items runs.old.first before at }
+    requires below { AreLaid floor (distance floor n - 1) (runs_from runs.old.nodes.items at) }
+    ensures linked { IsLinked runs.new.nodes.items runs.new.first runs.new.free }
+    ensures adds { Adds floor 2048 n (runs_from runs.old.nodes.items runs.old.first) (runs_from runs.new.nodes.items runs.new.first) }
+{
+    let new = runs.free;
+    runs.free = runs.nodes[usize::from(new)].next;
+    runs.nodes[usize::from(new)] = Node {
+        hi: n,
+        count: 1,
+        next: at,
+    };
+    point(runs, before, new);
+}
+
+// Puts `n` on top of the run at `at`, which ends right below it.
+fn extend_up(runs: &mut Linked, floor: Seq48, before: u16, at: u16, n: Seq48)
+    requires linked { IsLinked runs.old.nodes.items runs.old.first runs.old.free }
+    requires laid { AreLaid floor 2048 (runs_from runs.old.nodes.items runs.old.first) }
+    requires place { IsPlaceFor floor n runs.old.nodes.items runs.old.first before at }
+    requires within { at < 1024 }
+    requires right_below { distance floor (node_at runs.old.nodes.items at).hi + 1 ≡ distance floor n }
+    ensures linked { IsLinked runs.new.nodes.items runs.new.first runs.new.free }
+    ensures adds { Adds floor 2048 n (runs_from runs.old.nodes.items runs.old.first) (runs_from runs.new.nodes.items runs.new.first) }
+{
+    let node = runs.nodes[usize::from(at)];
+    runs.nodes[usize::from(at)] = Node {
+        hi: n,
+        count: node.count + 1,
+        next: node.next,
+    };
+}
+
+// Puts `n` under the run at `at`, which begins right above it, and joins that with the next run where it ends right below.
+fn extend_down(runs: &mut Linked, floor: Seq48, before: u16, at: u16, n: Seq48)
+    requires linked { IsLinked runs.old.nodes.items runs.old.first runs.old.free }
+    requires laid { AreLaid floor 2048 (runs_from runs.old.nodes.items runs.old.first) }
+    requires place { IsPlaceFor floor n runs.old.nodes.items runs.old.first before at }
+    requires within { at < 1024 }
+    requires right_above { distance floor n + (node_at runs.old.nodes.items at).count ≡ distance floor (node_at runs.old.nodes.items at).hi }
+    ensures linked { IsLinked runs.new.nodes.items runs.new.first runs.new.free }
+    ensures adds { Adds floor 2048 n (runs_from runs.old.nodes.items runs.old.first) (runs_from runs.new.nodes.items runs.new.first) }
+{
+    let node = runs.nodes[usize::from(at)];
+    if node.next < NONE {
+        let below = runs.nodes[usize::from(node.next)];
+        if floor.distance(below.hi) + 1 == floor.distance(n) {
+            runs.nodes[usize::from(at)] = Node {
+                hi: node.hi,
+                count: node.count + 1 + below.count,
+                next: below.next,
+            };
+            runs.nodes[usize::from(node.next)].next = runs.free;
+            runs.free = node.next;
+            return;
+        }
+    }
+    runs.nodes[usize::from(at)] = Node {
+        hi: node.hi,
+        count: node.count + 1,
+        next: node.next,
+    };
+}
+
+// Adds `n` where it is not there; tells whether it was added.
+pub(crate) fn put(runs: &mut Linked, floor: Seq48, n: Seq48) -> bool
+    requires near { distance floor n < 2048 }
+    requires laid { AreLaid floor 2048 (runs_from runs.old.nodes.items runs.old.first) }
+    requires linked { IsLinked runs.old.nodes.items runs.old.first runs.old.free }
+    ensures linked { IsLinked runs.new.nodes.items runs.new.first runs.new.free }
+    ensures adds { OnTrue result (Adds floor 2048 n (runs_from runs.old.nodes.items runs.old.first) (runs_from runs.new.nodes.items runs.new.first)) }
+    ensures there { OnFalse result (has (numbers_of (runs_from runs.old.nodes.items runs.old.first)) n ≡ true) }
+    ensures stays { OnFalse result (runs_from runs.new.nodes.items runs.new.first ≡ runs_from runs.old.nodes.items runs.old.first) }
+{
+    let Place { before, at } = place_for(&runs.nodes, runs.first, floor, n);
+    if at == NONE {
+        link(runs, floor, before, at, n);
+        return true;
+    }
+    let node = runs.nodes[usize::from(at)];
+    let hi = floor.distance(node.hi);
+    let place = floor.distance(n);
+    if hi + 1 < place {
+        link(runs, floor, before, at, n);
+    } else if hi + 1 == place {
+        extend_up(runs, floor, before, at, n);
+    } else if hi == place + u64::from(node.count) {
+        extend_down(runs, floor, before, at, n);
+    } else {
+        return false;
+    }
+    true
+}
+
+// Frees the nodes from one on.
+fn release(runs: &mut Linked, from: u16)
+    requires parted { IsParted runs.old.nodes.items runs.old.first runs.old.free from }
+    ensures linked { IsLinked runs.new.nodes.items runs.new.first runs.new.free }
+    ensures stays { runs_from runs.new.nodes.items runs.new.first ≡ runs_from runs.old.nodes.items runs.old.first }
+{
+    let mut at = from;
+    while at < NONE {
+        let next = runs.nodes[usize::from(at)].next;
+        runs.nodes[usize::from(at)].next = runs.free;
+        runs.free = at;
+        at = next;
+    }
+}
+
+// Frees all nodes.
+pub(crate) fn clear(runs: &mut Linked)
+    requires linked { IsLinked runs.old.nodes.items runs.old.first runs.old.free }
+    ensures linked { IsLinked runs.new.nodes.items runs.new.first runs.new.free }
+    ensures empty { runs_from runs.new.nodes.items runs.new.first ≡ [] }
+{
+    let from = runs.first;
+    runs.first = NONE;
+    release(runs, from);
+}
+
+// Takes the numbers below `to` from the runs above `floor`.
+pub(crate) fn cut(runs: &mut Linked, floor: Seq48, to: Seq48)
+    requires before { IsBefore floor to }
+    requires laid { AreLaid floor 2048 (runs_from runs.old.nodes.items runs.old.first) }
+    requires linked { IsLinked runs.old.nodes.items runs.old.first runs.old.free }
+    ensures linked { IsLinked runs.new.nodes.items runs.new.first runs.new.free }
+    ensures laid { AreLaid to 2048 (runs_from runs.new.nodes.items runs.new.first) }
+    ensures numbers { numbers_of (runs_from runs.new.nodes.items runs.new.first) ≡ filter (is_from to) (numbers_of (runs_from runs.old.nodes.items runs.old.first)) }
+{
+    let rise = floor.distance(to);
+    let Place { before, at } = place_below(&runs.nodes, runs.first, floor, rise);
+    if before == NONE {
+        runs.first = NONE;
+    } else {
+        let last = runs.nodes[usize::from(before)];
+        let left = floor.distance(last.hi) - rise + 1;
+        runs.nodes[usize::from(before)] = Node {
+            hi: last.hi,
+            count: u64::from(last.count).min(left) as u16,
+            next: NONE,
+        };
+    }
+    release(runs, at);
+}
