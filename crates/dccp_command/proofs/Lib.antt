@@ -3,6 +3,7 @@ pub mod Ending
 pub mod FirstLine
 pub mod HexText
 pub mod LoopInvariant
+pub mod ReplayInvariant
 pub mod RowTexts
 pub mod Showing
 pub mod Telling

@@ -3,6 +3,7 @@ pub mod Lines
 pub mod RunLines
 pub mod Built
 pub mod Transcript
+pub mod Replay
 pub mod Words
 pub mod Top
 pub mod CaptureText

@@ -27,10 +27,13 @@ abbrev pub arrived : WorldState → Event → List ℕ
 arrived w (event.Deliver from index) = bytes_of (slice_get (half_of w from).frames index)
 arrived w _ = []
 
--- The line of a frame that was sent.
+-- The line of a frame of these bytes that was sent.
+abbrev pub bytes_line : Side → ℕ → List ℕ → List ℕ
+bytes_line side index bytes = codes "sent " ++ frame_name side index ++ codes " " ++ encode_lower bytes ++ codes "\n"
+
 abbrev pub frame_line : Side → ℕ → Option SentFrame → List ℕ
 frame_line side index None = []
-frame_line side index (Some frame) = codes "sent " ++ frame_name side index ++ codes " " ++ encode_lower frame.bytes ++ codes "\n"
+frame_line side index (Some frame) = bytes_line side index frame.bytes
 
 -- The line of the frame that a side sent in a step, where it had sent so many before; nothing where it sent none.
 abbrev pub sent_line : WorldState → Side → ℕ → List ℕ

@@ -164,9 +164,12 @@ by_line play piece (Ok (line.Set side place feature values)) = configures play (
 by_line play piece (Ok (line.Offer side place feature mandatory)) = configures play (with_offered side feature place mandatory (behind play piece))
 by_line play piece (Ok (line.Event event)) = says_event play piece event
 
--- The bytes up to a line's newline, or up to the one at which it is too long, lie within those that an input may have.
+-- Behind so many bytes, those up to a line's newline, or up to the one at which it is too long, lie within those that an input may have.
+abbrev pub ends_within : ℕ → List ℕ → Bool
+ends_within read piece = nat_le (read + min (length piece) 4097) most_bytes
+
 abbrev pub is_within : Play → List ℕ → Bool
-is_within play piece = nat_le (play.read + min (length piece) 4097) most_bytes
+is_within play piece = ends_within play.read piece
 
 -- A line with its newline. Its faults are judged in this order: the bytes of the input, the line by itself up to its words, that it
 -- stands before all events, what an end may wish, the count of events, what is not built, the frame that it names.

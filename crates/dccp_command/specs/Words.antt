@@ -1,18 +1,63 @@
 -- What the words after the program's name ask for (own).
-use Rattle.std.specs.Prelude.{ℕ, List, [], ◌∷◌, codes, Option, Some, None, if◌then◌else◌, String, string_bytes}
+use Rattle.std.specs.Prelude.{ℕ, Bool, true, false, ◌&&◌, List, [], ◌∷◌, codes, Option, Some, None, if◌then◌else◌, String, string_bytes}
 use Rattle.std.specs.Str.{bytes_eq}
 use Rattle.std.specs.declared.alloc.Global.{Global}
+use Rattle.two_ends.specs.declared.event.Side.{Side}
+use Rattle.two_ends.specs.declared.event.Side.TheVariants.{Client, Server}
 use Rattle.dccp_command.specs.declared.words.Form.{Form}
 use Rattle.dccp_command.specs.declared.words.Form.TheVariants as form
 
--- The form that the words have, of those that are built: `run` and `show`.
+-- A word is this text.
+abbrev pub says : String Global → List ℕ → Bool
+says word text = bytes_eq (string_bytes word) text
+
+-- the value of `--side`, as a word of its own
+abbrev pub named_side : String Global → Option Side
+named_side word =
+    if says word (codes "server") then Some Server
+    else if says word (codes "client") then Some Client
+    else None
+
+-- the same in one word with its name
+abbrev pub joined_side : String Global → Option Side
+joined_side word =
+    if says word (codes "--side=server") then Some Server
+    else if says word (codes "--side=client") then Some Client
+    else None
+
+abbrev pub replays : Bool → Option Side → Option Form
+replays plain None = None
+replays plain (Some side) = Some (form.Replay side plain)
+
+-- The words behind `replay`, in all ways in which they may stand: the side once, as one word or two, and `--plain` at most once, before it
+-- or behind it.
+abbrev pub replay_of : List (String Global) → Option Form
+replay_of [] = None
+replay_of (side ∷ []) = replays false (joined_side side)
+replay_of (first ∷ (second ∷ [])) =
+    if says first (codes "--plain") then replays true (joined_side second)
+    else if says second (codes "--plain") then replays true (joined_side first)
+    else if says first (codes "--side") then replays false (named_side second)
+    else None
+replay_of (first ∷ (second ∷ (third ∷ []))) =
+    if says first (codes "--plain") && says second (codes "--side") then replays true (named_side third)
+    else if says first (codes "--side") && says third (codes "--plain") then replays true (named_side second)
+    else None
+replay_of (first ∷ (second ∷ (third ∷ (fourth ∷ words)))) = None
+
+-- No word may follow `run` and `show`.
+abbrev pub alone : Form → List (String Global) → Option Form
+alone form [] = Some form
+alone form (word ∷ words) = None
+
+-- The form that the words have, of those that are built: `run`, `replay` and `show`.
 abbrev pub form_of : List (String Global) → Option Form
 form_of [] = None
-form_of (word ∷ []) =
-    if bytes_eq (string_bytes word) (codes "run") then Some form.Run
-    else if bytes_eq (string_bytes word) (codes "show") then Some form.Show
+form_of (first ∷ words) =
+    if says first (codes "run") then alone form.Run words
+    else if says first (codes "replay") then replay_of words
+    else if says first (codes "show") then alone form.Show words
     else None
-form_of (word ∷ (next ∷ words)) = None
 
 -- The line that answers all other words.
 abbrev pub usage : List ℕ

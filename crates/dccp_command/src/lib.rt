@@ -1,7 +1,7 @@
 //! The tool's one call: what its words ask for, done over a source and a sink (own).
 //!
-//! It plays the two ends of a world as a schedule's lines say, and answers for no end itself; and it shows the packets of a
-//! capture. It opens no file, socket or clock, starts no thread, and reads and writes nothing but the source and the sink
+//! It plays the two ends of a world as a schedule's lines say, or hands the frames of a replay to one end, and answers for no end
+//! itself; and it shows the packets of a capture. It opens no file, socket or clock, starts no thread, and reads and writes nothing but the source and the sink
 //! that it is lent.
 #![tactic(auto)]
 
@@ -13,6 +13,10 @@ mod lines;
 #[cfg(test)]
 mod negotiations;
 mod play;
+mod replay;
+mod replaying;
+#[cfg(test)]
+mod replays;
 mod run_lines;
 mod show;
 #[cfg(test)]

@@ -1,8 +1,8 @@
 //! A schedule while it is played.
-ghost use Rattle.std.specs.Prelude.{◌≡◌, ◌++◌, ℕ, List, is_some, if◌then◌else◌, IfOk, OnOk, Some, Ok, Err};
+ghost use Rattle.std.specs.Prelude.{◌≡◌, ◌++◌, ◌+◌, ◌^◌, ◌<◌, length, ℕ, List, is_some, if◌then◌else◌, IfOk, OnOk, Some, Ok, Err};
 ghost use Rattle.dccp_command.specs.Built.{not_built};
 ghost use Rattle.dccp_command.specs.RunLines.{end_lines};
-ghost use Rattle.dccp_command.specs.Transcript.{first_play, world_of, ArePeers, IsReady, IsBehind, Shows, event_shown, Judges, judged, by_line, is_within, behind, configures, says_plain, with_iss, with_set, with_offered, without_offers, wishing, offering, in_place, says_event, whole_line, no_such_frame};
+ghost use Rattle.dccp_command.specs.Transcript.{first_play, world_of, ArePeers, IsReady, IsBehind, Shows, event_shown, Judges, judged, by_line, ends_within, behind, configures, says_plain, with_iss, with_set, with_offered, without_offers, wishing, offering, in_place, says_event, whole_line, no_such_frame};
 ghost use Rattle.dccp_endpoint.specs.Drafts.{Fits};
 ghost use Rattle.feature_lists.specs.Wishes.{wish_of};
 ghost use Rattle.feature_machine.specs.Lists.{IsLists};
@@ -70,7 +70,7 @@ impl Play {
         ensures verdict { IfOk result (λ answer. Judges (judged self.old line.now) text.old.items text.new.items self.new answer) }
         ensures onward { IfOk result (λ answer. answer ≡ Ok tt → IsBehind self.old line.now self.new) }
     {
-        if !self.is_within(line) {
+        if !ends_within(self.read, line) {
             return Ok(Err(whole_line(LineWhy::TooMuchInput)));
         }
         match read_built(text_of(line)) {
@@ -111,14 +111,6 @@ impl Play {
             } => Ok(self.say_offer(line, *side, *feature, *place, *mandatory)),
             Line::Event(event) => self.say_event(alloc, line, event, text),
         }
-    }
-
-    // The bytes up to the line's newline, or to the one at which it is too long, are among those that an input may have.
-    fn is_within(&self, line: &[u8]) -> bool
-        requires { IsReady self.now line.now }
-        ensures { result ≡ is_within self.now line.now }
-    {
-        self.read + line.len().min(ONE_TOO_MANY) as u64 <= MOST_BYTES
     }
 
     // What an end may not wish is judged behind that its line stands before all events.
@@ -343,8 +335,17 @@ fn show_event(
     }
 }
 
-// The fault of a whole line, at its first byte.
-fn whole_line(why: LineWhy) -> LineFault
+/// Behind so many bytes, those up to the line's newline, or to the one at which it is too long, are among those that an
+/// input may have.
+pub(crate) fn ends_within(read: u64, line: &[u8]) -> bool
+    requires { read + length line.now < 2 ^ 64 }
+    ensures { result ≡ ends_within read line.now }
+{
+    read + line.len().min(ONE_TOO_MANY) as u64 <= MOST_BYTES
+}
+
+/// The fault of a whole line, at its first byte.
+pub(crate) fn whole_line(why: LineWhy) -> LineFault
     ensures { result ≡ whole_line why }
 {
     LineFault { column: 1, why }

@@ -1,15 +1,15 @@
-//! The lines that `run` writes.
+//! The lines that `run` and `replay` write.
 ghost use Rattle.std.specs.Prelude.{◌≡◌, ◌++◌, OnOk, Some};
 ghost use Rattle.schedule_text.specs.Names.{side_name};
 ghost use Rattle.schedule_text.specs.Printing.{side_letter, frame_name};
 ghost use Rattle.dccp_command.specs.Text.{phase_name, stand_mark};
-ghost use Rattle.dccp_command.specs.RunLines.{arrived, frame_line, sent_line, held_text, row_text, end_name, end_counts, end_rows, end_line, end_lines};
+ghost use Rattle.dccp_command.specs.RunLines.{arrived, bytes_line, frame_line, sent_line, held_text, row_text, end_name, end_counts, end_rows, end_line, end_lines};
 
 use crate::text::{put, put_hex, put_number};
 use dccp_endpoint::{Endpoint, Held, Phase, Stand};
 use feature_lists::{Feature, Place};
 use seq_circle::NoMemory;
-use two_ends::{Event, SentFrame, Side, World};
+use two_ends::{Event, Side, World};
 
 const FEATURES: [Feature; 9] = [
     Feature::Ccid,
@@ -87,18 +87,19 @@ pub(crate) fn arrived<'a>(world: &'a World, event: &Event) -> &'a [u8]
     }
 }
 
-fn put_frame_line(
+/// Puts the line of a frame that was sent.
+pub(crate) fn put_frame_line(
     text: &mut Vec<u8>,
     side: Side,
     index: u64,
-    frame: &SentFrame,
+    bytes: &[u8],
 ) -> Result<(), NoMemory>
-    ensures { OnOk result (text.new.items ≡ text.old.items ++ frame_line side index (Some frame.now)) }
+    ensures { OnOk result (text.new.items ≡ text.old.items ++ bytes_line side index bytes.now) }
 {
     put(text, b"sent ")?;
     put_frame_name(text, side, index)?;
     put(text, b" ")?;
-    put_hex(text, frame.bytes.as_slice())?;
+    put_hex(text, bytes)?;
     put(text, b"\n")
 }
 
@@ -112,7 +113,7 @@ pub(crate) fn put_sent_line(
     ensures { OnOk result (text.new.items ≡ text.old.items ++ sent_line world.now side before) }
 {
     match world.frames(side).get(before) {
-        Some(frame) => put_frame_line(text, side, before as u64, frame),
+        Some(frame) => put_frame_line(text, side, before as u64, frame.bytes.as_slice()),
         None => Ok(()),
     }
 }
@@ -164,7 +165,8 @@ fn put_end_counts(text: &mut Vec<u8>, end: &Endpoint) -> Result<(), NoMemory>
     put_number(text, u64::from(end.in_flight()))
 }
 
-fn put_end_line(text: &mut Vec<u8>, side: Side, end: &Endpoint) -> Result<(), NoMemory>
+/// Puts the line of an end when the input is over.
+pub(crate) fn put_end_line(text: &mut Vec<u8>, side: Side, end: &Endpoint) -> Result<(), NoMemory>
     ensures { OnOk result (text.new.items ≡ text.old.items ++ end_line side end.now) }
 {
     put_end_name(text, side, end)?;

@@ -119,7 +119,7 @@ const USAGE: &[u8] =
 const ROOM: usize = 131_072;
 
 // The texts as words of their own.
-fn words_of(alloc: Global, texts: &[&str]) -> Result<Vec<String>, Fail> {
+pub(crate) fn words_of(alloc: Global, texts: &[&str]) -> Result<Vec<String>, Fail> {
     let mut words = Vec::new(alloc);
     for text in texts {
         words.push(String::from_str(alloc, text)?)?;
@@ -344,7 +344,11 @@ fn faults_of_a_place(rt: HostRuntime) -> Result<(), Fail> {
 }
 
 // Whether a call of these words over the handshake came to the usage line, where the sink takes 7 bytes a call.
-fn shows_usage<R: Threads + Sync>(rt: &R, alloc: Global, texts: &[&str]) -> Result<bool, Fail> {
+pub(crate) fn shows_usage<R: Threads + Sync>(
+    rt: &R,
+    alloc: Global,
+    texts: &[&str],
+) -> Result<bool, Fail> {
     let words = words_of(alloc, texts)?;
     let bytes = HANDSHAKE.to_vec(alloc)?;
     let mut input = MemorySource::new(bytes, Vec::new(alloc), ROOM);

@@ -9,7 +9,7 @@ use seq_circle::NoMemory;
 use std::alloc::Global;
 use two_ends::every_run_is_safe;
 
-/// What `run` writes of an input, and whether a line was refused.
+/// What `run` or `replay` writes of an input, and whether a line was refused.
 #[derive(Drop)]
 pub(crate) struct Transcript {
     pub(crate) text: Vec<u8>,

@@ -94,6 +94,10 @@ result_text bytes seen = codes ": " ++ seen_text bytes seen ++ codes "\n"
 abbrev pub seen_line : ℕ → Event → Seen → List ℕ → List ℕ
 seen_line number event seen bytes = told_text number event ++ result_text bytes seen
 
+-- what was seen of a replay's frame, under the number of its line
+abbrev pub result_line : ℕ → Seen → List ℕ → List ℕ
+result_line number seen bytes = decimal number ++ result_text bytes seen
+
 -- Data that is delivered stands in the frame.
 
 abbrev pub IsPlaceIn : List ℕ → Option (ℕ × ℕ) → Type 0

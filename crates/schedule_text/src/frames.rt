@@ -1,5 +1,5 @@
 //! Lines of replays, read.
-ghost use Rattle.std.specs.Prelude.{◌≡◌};
+ghost use Rattle.std.specs.Prelude.{◌≡◌, ◌≤◌, length, true, IfOk, IfSome};
 ghost use Rattle.schedule_text.specs.Left.{left_of};
 ghost use Rattle.schedule_text.specs.Frames as spec;
 
@@ -13,7 +13,8 @@ const SEALED: usize = 8;
 
 // The frame of these bytes, if it has neither too many nor too few.
 fn sized(seal: bool, column: u32, bytes: &[u8]) -> Result<Option<FrameLine>, LineFault>
-    ensures { result ≡ spec.sized seal column bytes.now }
+    ensures value { result ≡ spec.sized seal column bytes.now }
+    ensures seals { IfOk result (λ said. IfSome said (λ frame. frame.seal ≡ true → 8 ≤ length frame.bytes)) }
 {
     let Some(frame) = Frame::of(bytes) else {
         return Err(fault_at(column, LineWhy::FrameTooLong));
@@ -25,7 +26,8 @@ fn sized(seal: bool, column: u32, bytes: &[u8]) -> Result<Option<FrameLine>, Lin
 }
 
 fn frame(seal: bool, words: &mut Words<'_>) -> Result<Option<FrameLine>, LineFault>
-    ensures { result ≡ spec.frame_of seal (left_of words.old) }
+    ensures value { result ≡ spec.frame_of seal (left_of words.old) }
+    ensures seals { IfOk result (λ said. IfSome said (λ frame. frame.seal ≡ true → 8 ≤ length frame.bytes)) }
 {
     let word = words.next_word();
     let bytes = word.digits()?;
@@ -34,7 +36,8 @@ fn frame(seal: bool, words: &mut Words<'_>) -> Result<Option<FrameLine>, LineFau
 }
 
 fn read_digits(words: &mut Words<'_>) -> Result<Option<FrameLine>, LineFault>
-    ensures { result ≡ spec.read_digits (left_of words.old) }
+    ensures value { result ≡ spec.read_digits (left_of words.old) }
+    ensures seals { IfOk result (λ said. IfSome said (λ frame. frame.seal ≡ true → 8 ≤ length frame.bytes)) }
 {
     let mut all = *words;
     let first = words.next_word();
@@ -50,7 +53,8 @@ fn read_digits(words: &mut Words<'_>) -> Result<Option<FrameLine>, LineFault>
 ///
 /// A frame stands as digits of its bytes, one to 2,044 of them; behind the word `seal` at least eight.
 pub fn read_frame(line: &[u8]) -> Result<Option<FrameLine>, LineFault>
-    ensures { result ≡ spec.read_frame line.now }
+    ensures value { result ≡ spec.read_frame line.now }
+    ensures seals { IfOk result (λ said. IfSome said (λ frame. frame.seal ≡ true → 8 ≤ length frame.bytes)) }
 {
     clean(line)?;
     if says_nothing(line) {

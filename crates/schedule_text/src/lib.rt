@@ -27,7 +27,7 @@ pub use crate::laws::{
     the_first_fault_of_a_frame_is_answered, words_stand_at_their_columns,
 };
 pub use crate::line::{FrameLine, Line, LineFault, LineWhy};
-pub use crate::printing::{print_event, print_seen};
+pub use crate::printing::{print_event, print_result, print_seen};
 pub use crate::reading::read_line;
 pub use crate::unbuilt::is_unbuilt;
 pub use two_ends::Values;

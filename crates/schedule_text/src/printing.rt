@@ -380,3 +380,28 @@ pub fn print_seen(
     }
     printed
 }
+
+fn put_numbered(text: &mut Vec<u8>, line: u64, seen: &Seen, input: &[u8]) -> Result<(), NoMemory>
+    requires { spec.IsSeenOf input.now seen.now }
+    ensures ok { OnOk result (text.new.items ≡ text.old.items ++ spec.result_line line seen.now input.now) }
+    ensures err { OnErr result (Keeps text.old.items text.new.items) }
+{
+    put_number(text, line)?;
+    put_result(text, input, seen)?;
+    Ok(())
+}
+
+/// Appends the line `K: RESULT` of a replay's frame, under the number K of its line in the input, and a newline (own). `input`
+/// is the bytes of the frame. After NoMemory the text is as before.
+pub fn print_result(line: u64, seen: &Seen, input: &[u8], to: &mut Vec<u8>) -> Result<(), NoMemory>
+    requires { spec.IsSeenOf input.now seen.now }
+    ensures ok { OnOk result (to.new.items ≡ to.old.items ++ spec.result_line line seen.now input.now) }
+    ensures err { OnErr result (to.new.items ≡ to.old.items) }
+{
+    let before = to.len();
+    let printed = put_numbered(to, line, seen, input);
+    if printed.is_err() {
+        to.truncate(before);
+    }
+    printed
+}

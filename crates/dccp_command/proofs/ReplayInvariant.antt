@@ -1,0 +1,132 @@
+-- A replay while it is played: what was put into the text, and what is left, make the whole.
+use Rattle.std.proofs.Common.{◌≡◌, refl, sym, ap, ◌∙◌, ℕ, ◌+◌, ◌≤◌, ◌<◌, List, [], ◌∷◌, ◌++◌, length, Bool, true, false, append_assoc, zero-add, length-append, Option, Some, None, Ok, Err, arith}
+use Rattle.two_ends.specs.declared.event.Side.{Side}
+use Rattle.two_ends.specs.declared.event.Side.TheVariants.{Client, Server}
+use Rattle.schedule_text.specs.declared.line.LineFault.{LineFault}
+use Rattle.dccp_endpoint.specs.Calling.{opens}
+use Rattle.dccp_command.specs.declared.replay.Replay.{Replay}
+use Rattle.dccp_command.specs.Lines.{lines_of}
+use Rattle.dccp_command.specs.RunLines.{end_line, refusal_line}
+use Rattle.dccp_command.specs.Replay.{Verdict, Accepted, Refused, judged, Judges, IsBehind, Replayed, onto, ends_at, continues_with, replayed_from, first_replay, count, begun_from, begun, begun_with, replayed, replay_text, is_refused}
+
+-- Before a line: the text so far goes before that of the lines that are left, and the counters are at most the bytes read.
+pub record ReplayInvariant (side : Side) (plain : Bool) (replay : Replay) (rest text input : List ℕ) : Type 0 where
+  pub same : replayed side plain input ≡ onto text (replayed_from replay (lines_of rest))
+  pub number : replay.number ≤ replay.read + 1
+  pub sent : replay.sent ≤ replay.number
+  pub read : replay.read + length rest ≡ length input
+
+one-at-most : (frame : Option (List ℕ)) → count frame ≤ 1
+one-at-most None = omega arith
+one-at-most (Some bytes) = omega arith
+
+begun-number : (first : Replay) (side : Side) → (begun_from first side).replay.number ≡ first.number
+begun-number first Client = refl
+begun-number first Server = refl
+
+begun-read : (first : Replay) (side : Side) → (begun_from first side).replay.read ≡ first.read
+begun-read first Client = refl
+begun-read first Server = refl
+
+begun-sent : (first : Replay) (side : Side) → (begun_from first side).replay.sent ≤ first.sent + 1
+begun-sent first Client = let one = one-at-most (opens first.end).frame in omega arith
+begun-sent first Server = omega arith
+
+pub at-start : (side : Side) (plain : Bool) (replay : Replay) (text input : List ℕ) → replay ≡ (begun side plain).replay → text ≡ [] ++ (begun side plain).text
+    → ReplayInvariant side plain replay input text input
+at-start side plain replay text input start put =
+    let number : replay.number ≡ 1 = ap (λ (first : Replay). first.number) start ∙ begun-number (first_replay side plain) side in
+    let read : replay.read ≡ 0 = ap (λ (first : Replay). first.read) start ∙ begun-read (first_replay side plain) side in
+    let sent_is : replay.sent ≡ (begun side plain).replay.sent = ap (λ (first : Replay). first.sent) start in
+    let sent_by : (begun side plain).replay.sent ≤ 0 + 1 = begun-sent (first_replay side plain) side in
+    record {
+      same =
+          ap (λ (front : List ℕ). onto front (replayed_from (begun side plain).replay (lines_of input))) (sym put)
+          ∙ ap (λ (first : Replay). onto text (replayed_from first (lines_of input))) (sym start);
+      number = omega arith;
+      sent = omega arith;
+      read = ap (λ (n : ℕ). n + length input) read ∙ zero-add (length input);
+    }
+
+onto-onto : (text more : List ℕ) (rest : Replayed) → onto text (onto more rest) ≡ onto (text ++ more) rest
+onto-onto text more rest = ap (λ (whole : List ℕ). record rest { text = whole }) (sym (append_assoc text more rest.text))
+
+accepted-by : (side : Side) (plain : Bool) (replay next : Replay) (rest behind line text after input : List ℕ) (before : ReplayInvariant side plain replay rest text input)
+    (verdict : Verdict) → judged replay line ≡ verdict → Judges verdict text after next (Ok tt) → IsBehind replay line next → lines_of rest ≡ line ∷ lines_of behind
+    → length rest ≡ length line + length behind → 0 < length line → ReplayInvariant side plain next behind after input
+accepted-by side plain replay next rest behind line text after input before (Refused fault) is judges further cut counted some = cc judges.1
+accepted-by side plain replay next rest behind line text after input before (Accepted more onward) is judges further cut counted some =
+    let number = before.number in
+    let read = before.read in
+    let sent = before.sent in
+    let next_number = further.number in
+    let next_read = further.read in
+    let next_sent = further.sent in
+    record {
+      same =
+          before.same
+          ∙ ap (λ (lines : List (List ℕ)). onto text (replayed_from replay lines)) cut
+          ∙ ap (λ (v : Verdict). onto text (continues_with replay v (λ r. replayed_from r (lines_of behind)))) is
+          ∙ onto-onto text more (replayed_from onward (lines_of behind))
+          ∙ ap (λ (all : List ℕ). onto all (replayed_from onward (lines_of behind))) (sym judges.0)
+          ∙ ap (λ (r : Replay). onto after (replayed_from r (lines_of behind))) (sym judges.1);
+      number = omega arith;
+      sent = omega arith;
+      read = omega arith;
+    }
+
+-- behind an accepted line
+pub after-line : (side : Side) (plain : Bool) (replay next : Replay) (rest behind line text after input : List ℕ) → ReplayInvariant side plain replay rest text input
+    → Judges (judged replay line) text after next (Ok tt) → IsBehind replay line next → lines_of rest ≡ line ∷ lines_of behind → rest ≡ line ++ behind → 0 < length line
+    → ReplayInvariant side plain next behind after input
+after-line side plain replay next rest behind line text after input before judges further cut whole some =
+    accepted-by side plain replay next rest behind line text after input before (judged replay line) refl judges further cut (ap length whole ∙ length-append line behind) some
+
+-- What is known when the replay is over.
+pub record IsOver (side : Side) (plain : Bool) (input text : List ℕ) (refused : Bool) : Type 0 where
+  pub text_is : text ≡ replay_text side plain input
+  pub refused_is : refused ≡ is_refused side plain input
+
+over-at : (side : Side) (plain : Bool) (replay : Replay) (rest text more input : List ℕ) (refused : Bool) (before : ReplayInvariant side plain replay rest text input)
+    → replayed_from replay (lines_of rest) ≡ ends_at more refused → IsOver side plain input (text ++ more) refused
+over-at side plain replay rest text more input refused before over =
+    let whole : replayed side plain input ≡ onto text (ends_at more refused) = before.same ∙ ap (onto text) over in
+    record {
+      text_is = sym (ap (λ (r : Replayed). r.text) whole);
+      refused_is = sym (ap (λ (r : Replayed). r.is_refused) whole);
+    }
+
+no-bytes : (bytes : List ℕ) → length bytes ≡ 0 → bytes ≡ []
+no-bytes [] none = refl
+no-bytes (byte ∷ bytes) none = absurd (omega arith)
+
+-- the input was replayed to its end
+pub at-end : (side : Side) (plain : Bool) (replay : Replay) (rest text input : List ℕ) → ReplayInvariant side plain replay rest text input → length rest ≡ 0
+    → IsOver side plain input (text ++ end_line replay.side replay.end) false
+at-end side plain replay rest text input before none =
+    over-at side plain replay rest text (end_line replay.side replay.end) input false before
+    (ap (λ (left : List ℕ). replayed_from replay (lines_of left)) (no-bytes rest none))
+
+refused-by : (side : Side) (plain : Bool) (replay next : Replay) (rest behind line text after input : List ℕ) (given : LineFault)
+    (before : ReplayInvariant side plain replay rest text input) (verdict : Verdict) → judged replay line ≡ verdict → Judges verdict text after next (Err given)
+    → lines_of rest ≡ line ∷ lines_of behind → IsOver side plain input (after ++ refusal_line replay.number given) true
+refused-by side plain replay next rest behind line text after input given before (Accepted more onward) is judges cut = cc judges.2
+refused-by side plain replay next rest behind line text after input given before (Refused fault) is judges cut =
+    let over : replayed_from replay (lines_of rest) ≡ ends_at (refusal_line replay.number fault) true =
+    ap (replayed_from replay) cut ∙ ap (λ (v : Verdict). continues_with replay v (λ r. replayed_from r (lines_of behind))) is in
+    let same : fault ≡ given = cc judges.1 in
+    let ends = over-at side plain replay rest text (refusal_line replay.number fault) input true before over in
+    record {
+      text_is =
+          ap (λ (front : List ℕ). front ++ refusal_line replay.number given) judges.0
+          ∙ ap (λ (f : LineFault). text ++ refusal_line replay.number f) (sym same)
+          ∙ ends.text_is;
+      refused_is = ends.refused_is;
+    }
+
+-- a line was refused
+pub at-refusal : (side : Side) (plain : Bool) (replay next : Replay) (rest behind line text after input : List ℕ) (given : LineFault)
+    → ReplayInvariant side plain replay rest text input → Judges (judged replay line) text after next (Err given) → lines_of rest ≡ line ∷ lines_of behind
+    → IsOver side plain input (after ++ refusal_line replay.number given) true
+at-refusal side plain replay next rest behind line text after input given before judges cut =
+    refused-by side plain replay next rest behind line text after input given before (judged replay line) refl judges cut

@@ -1,0 +1,160 @@
+-- What `replay` writes of an input: what one end does with its frames, line by line, then the end's line or the line of the first
+-- refusal (own).
+use Rattle.std.specs.Prelude.{◌≡◌, ℕ, ◌+◌, ◌^◌, ◌<◌, ◌≤◌, ◌++◌, Bool, true, false, if◌then◌else◌, List, [], ◌∷◌, length, codes, Option, Some, None, Result, Ok, Err}
+use Rattle.dccp_endpoint.specs.Calling.{opens}
+use Rattle.dccp_endpoint.specs.End.{fresh}
+use Rattle.dccp_endpoint.specs.Receiving.{receives}
+use Rattle.dccp_endpoint.specs.Steps.{Step}
+use Rattle.dccp_endpoint.specs.Usual.{usual}
+use Rattle.dccp_endpoint.specs.declared.calls.OpenFault.{OpenFault}
+use Rattle.dccp_endpoint.specs.declared.config.Config.{Config}
+use Rattle.dccp_endpoint.specs.declared.outcome.Outcome.{Outcome}
+use Rattle.dccp_states.specs.declared.phase.Role.{Role}
+use Rattle.dccp_states.specs.declared.phase.Role.TheVariants as role
+use Rattle.dccp_sum.specs.Checksum.{sealed}
+use Rattle.two_ends.specs.declared.event.Seen.TheVariants as seen
+use Rattle.two_ends.specs.declared.event.Side.{Side}
+use Rattle.two_ends.specs.declared.event.Side.TheVariants.{Client, Server}
+use Rattle.schedule_text.specs.Frames.{read_frame}
+use Rattle.schedule_text.specs.Results.{result_line}
+use Rattle.schedule_text.specs.declared.line.FrameLine.{FrameLine}
+use Rattle.schedule_text.specs.declared.line.LineFault.{LineFault}
+use Rattle.schedule_text.specs.declared.line.LineWhy.TheVariants as why
+use Rattle.dccp_command.specs.declared.replay.Replay.{Replay}
+use Rattle.dccp_command.specs.Built.{not_built, seen_told, is_told}
+use Rattle.dccp_command.specs.Lines.{lines_of, text_of}
+use Rattle.dccp_command.specs.RunLines.{bytes_line, end_line, refusal_line}
+use Rattle.dccp_command.specs.Transcript.{ends_within, whole_line, without_offers}
+
+abbrev pub role_of : Side → Role
+role_of Client = role.Client
+role_of Server = role.Server
+
+-- The usual end of a side, with its offers or without.
+abbrev pub replay_config : Side → Bool → Config
+replay_config side plain = if plain then without_offers (usual (role_of side)) else usual (role_of side)
+
+-- Before all: the end is new, and it has sent nothing.
+abbrev pub first_replay : Side → Bool → Replay
+first_replay side plain = record { number = 1; read = 0; sent = 0; side = side; end = fresh (replay_config side plain) }
+
+abbrev pub count : Option (List ℕ) → ℕ
+count None = 0
+count (Some bytes) = 1
+
+-- The line of the frame that a step sent, under its name; nothing where it sent none.
+abbrev pub reply_line : Side → ℕ → Option (List ℕ) → List ℕ
+reply_line side index None = []
+reply_line side index (Some bytes) = bytes_line side index bytes
+
+-- The end after a step, and how many frames it has sent then.
+abbrev pub after_step : {Answer : Type 0} → Replay → Step Answer → Replay
+after_step replay step = record replay { end = step.after; sent = replay.sent + count step.frame }
+
+-- The line of the call `open`.
+abbrev pub open_line : Result (Unit {0}) OpenFault → List ℕ
+open_line (Ok _) = codes "open: ok\n"
+open_line (Err _) = codes "open: refused NotFresh\n"
+
+-- What stands before the first line: its text, and where the replay then stands.
+pub record Begun : Type 0 where
+  pub text : List ℕ
+  pub replay : Replay
+
+abbrev pub opening : Replay → Step (Result (Unit {0}) OpenFault) → Begun
+opening replay step = record { text = open_line step.answer ++ reply_line replay.side replay.sent step.frame; replay = after_step replay step }
+
+-- A client opens first; a server waits.
+abbrev pub begun_from : Replay → Side → Begun
+begun_from replay Client = opening replay (opens replay.end)
+begun_from replay Server = record { text = []; replay = replay }
+
+abbrev pub begun : Side → Bool → Begun
+begun side plain = begun_from (first_replay side plain) side
+
+-- The next line begins behind this one.
+abbrev pub behind : Replay → List ℕ → Replay
+behind replay piece = record replay { number = replay.number + 1; read = replay.read + length piece }
+
+-- What a line comes to: it is accepted, with its text and where the replay then stands, or refused.
+pub data Verdict : Type 0 where
+  Accepted : (text : List ℕ) (next : Replay) → Verdict
+  Refused : (fault : LineFault) → Verdict
+
+-- The frame that arrives at the end of a side: with `seal` the checksum is set for the addresses of its peer and itself, unless the
+-- coverage passes the frame's end.
+abbrev pub arriving : Side → FrameLine → List ℕ
+arriving side frame = if frame.seal then sealed (usual (role_of side)).pseudo_in frame.bytes else frame.bytes
+
+-- The line of what the end does with the frame, and that of the frame that it sends.
+abbrev pub told : Replay → List ℕ → Step Outcome → List ℕ
+told replay bytes step =
+    result_line replay.number (seen_told (seen.Received step.answer)) bytes ++ reply_line replay.side replay.sent step.frame
+
+abbrev pub by_step : Replay → List ℕ → List ℕ → Step Outcome → Verdict
+by_step replay piece bytes step =
+    if is_told (seen.Received step.answer) bytes then Accepted (told replay bytes step) (behind (after_step replay step) piece)
+    else Refused not_built
+
+abbrev pub by_frame : Replay → List ℕ → List ℕ → Verdict
+by_frame replay piece bytes = by_step replay piece bytes (receives replay.end bytes)
+
+abbrev pub by_line : Replay → List ℕ → Result (Option FrameLine) LineFault → Verdict
+by_line replay piece (Err fault) = Refused fault
+by_line replay piece (Ok None) = Accepted [] (behind replay piece)
+by_line replay piece (Ok (Some frame)) = by_frame replay piece (arriving replay.side frame)
+
+-- A line with its newline. The bytes of the input are judged before the line by itself, and behind it what is not built.
+abbrev pub judged : Replay → List ℕ → Verdict
+judged replay piece =
+    if ends_within replay.read piece then by_line replay piece (read_frame (text_of piece)) else Refused (whole_line why.TooMuchInput)
+
+-- A line was replayed so: an accepted one leaves its text at the text's end and leads on, a refused one leaves the text as it was.
+abbrev pub Judges : Verdict → List ℕ → List ℕ → Replay → Result (Unit {0}) LineFault → Type 0
+Judges (Accepted text next) old new replay answer = (new ≡ old ++ text) × (replay ≡ next) × (answer ≡ Ok tt)
+Judges (Refused fault) old new replay answer = (new ≡ old) × (answer ≡ Err fault)
+
+-- The counters have room for one more line and one more frame.
+pub record IsReady (replay : Replay) (piece : List ℕ) : Type 0 where
+  pub number : replay.number + 1 < 2 ^ 64
+  pub read : replay.read + length piece < 2 ^ 64
+  pub sent : replay.sent + 1 < 2 ^ 64
+
+-- One line further, with at most one frame more.
+pub record IsBehind (before : Replay) (piece : List ℕ) (after : Replay) : Type 0 where
+  pub number : after.number ≡ before.number + 1
+  pub read : after.read ≡ before.read + length piece
+  pub sent : after.sent ≤ before.sent + 1
+
+-- What a whole input comes to.
+pub record Replayed : Type 0 where
+  pub text : List ℕ
+  pub is_refused : Bool
+
+abbrev pub onto : List ℕ → Replayed → Replayed
+onto text rest = record rest { text = text ++ rest.text }
+
+abbrev pub ends_at : List ℕ → Bool → Replayed
+ends_at text refused = record { text = text; is_refused = refused }
+
+abbrev pub continues_with : Replay → Verdict → (Replay → Replayed) → Replayed
+continues_with replay (Accepted text next) rest = onto text (rest next)
+continues_with replay (Refused fault) rest = ends_at (refusal_line replay.number fault) true
+
+abbrev pub replayed_from : Replay → List (List ℕ) → Replayed
+replayed_from replay [] = ends_at (end_line replay.side replay.end) false
+replayed_from replay (piece ∷ pieces) = continues_with replay (judged replay piece) (λ next. replayed_from next pieces)
+
+abbrev pub begun_with : Begun → List (List ℕ) → Replayed
+begun_with begun pieces = onto begun.text (replayed_from begun.replay pieces)
+
+abbrev pub replayed : Side → Bool → List ℕ → Replayed
+replayed side plain input = begun_with (begun side plain) (lines_of input)
+
+-- What `replay` writes of an input.
+abbrev pub replay_text : Side → Bool → List ℕ → List ℕ
+replay_text side plain input = (replayed side plain input).text
+
+-- The input is refused at some line.
+abbrev pub is_refused : Side → Bool → List ℕ → Bool
+is_refused side plain input = (replayed side plain input).is_refused
