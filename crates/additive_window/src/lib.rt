@@ -72,6 +72,10 @@ impl Congestion for AdditiveWindow {
         self.flight.out()
     }
 
+    fn is_reported(&self, number: Seq48) -> bool {
+        self.flight.is_reported(number)
+    }
+
     fn may_send(&self) -> bool {
         self.flight.out() < self.window
     }

@@ -30,3 +30,19 @@ fn grows_and_is_halved(rt: HostRuntime) -> Result<(), Fail> {
     assert_eq!(rt; (kind.window(), kind.in_flight()), (1, 0));
     Ok(())
 }
+
+// A packet for each report, up to 1,024.
+#[test]
+fn grows_up_to_the_cap(rt: HostRuntime) -> Result<(), Fail> {
+    let mut kind = AdditiveWindow::new(rt.alloc())?;
+    for number in 1..1026 {
+        assert!(rt; kind.may_send());
+        kind.on_sent(Seq48::new(u64::from(number)).ok_or("below 2^48")?);
+        let wanted = (number + 1).min(1024);
+        assert_eq!(rt;
+            take_report(&mut kind, u64::from(number), 0x00)?,
+            (wanted, 0)
+        );
+    }
+    Ok(())
+}

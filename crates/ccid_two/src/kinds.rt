@@ -84,6 +84,13 @@ impl Congestion for Kinds {
         }
     }
 
+    fn is_reported(&self, number: Seq48) -> bool {
+        match self.kind {
+            Kind::CcidTwo => self.ccid_two.is_reported(number),
+            Kind::Fixed => self.fixed.is_reported(number),
+        }
+    }
+
     fn may_send(&self) -> bool {
         match self.kind {
             Kind::CcidTwo => self.ccid_two.may_send(),

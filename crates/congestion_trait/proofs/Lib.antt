@@ -5,3 +5,4 @@ pub mod Near
 pub mod Standings
 pub mod Calls
 pub mod Numbers
+pub mod Halves

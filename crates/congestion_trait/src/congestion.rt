@@ -1,7 +1,8 @@
 //! What every congestion control does.
 ghost use Rattle.std.specs.Prelude.{◌≡◌, ℕ, ◌<◌, ◌≤◌, ◌↔◌, IsTrue};
 ghost use Rattle.dccp_options.specs.Vectors.{state_at};
-ghost use Rattle.congestion_trait.specs.Flight.{pipe_of};
+ghost use Rattle.congestion_trait.specs.Flight.{Has, pipe_of};
+ghost use Rattle.congestion_trait.specs.declared.flight.Standing.TheVariants.{Reported};
 ghost use Rattle.congestion_trait.specs.Control.{Control, IsLawful, may_send};
 
 use dccp_options::AckReport;
@@ -38,6 +39,10 @@ pub trait Congestion {
     /// How many packets are in flight: sent, and neither reported nor taken for lost.
     fn in_flight(&self) -> u32
         ensures { result ≡ pipe_of (control.flight self.now) };
+
+    /// Tells whether the flight list has a data packet of this number that was reported.
+    fn is_reported(&self, number: Seq48) -> bool
+        ensures { IsTrue result ↔ Has (control.flight self.now) number Reported };
 
     /// Tells whether a further data packet may be sent: fewer are in flight than the window.
     fn may_send(&self) -> bool

@@ -66,6 +66,10 @@ impl Congestion for FixedWindow {
         self.flight.out()
     }
 
+    fn is_reported(&self, number: Seq48) -> bool {
+        self.flight.is_reported(number)
+    }
+
     fn may_send(&self) -> bool {
         self.in_flight() < WINDOW
     }

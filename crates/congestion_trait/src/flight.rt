@@ -1,9 +1,10 @@
 //! The flight list.
-ghost use Rattle.std.specs.Prelude.{◌≡◌, ℕ, ◌+◌, ◌-◌, ◌^◌, ◌<◌, ◌≤◌, [], ◌∷◌, ◌++◌, length, IfOk, Option, if◌then◌else◌};
+ghost use Rattle.std.specs.Prelude.{◌≡◌, ℕ, ◌+◌, ◌-◌, ◌^◌, ◌<◌, ◌≤◌, [], ◌∷◌, ◌++◌, ◌↔◌, IsTrue, Contains, length, IfOk, Option, if◌then◌else◌};
 ghost use Rattle.std.specs.Option.{option_to_list};
 ghost use Rattle.dccp_options.specs.Vectors.{state_at};
-ghost use Rattle.congestion_trait.specs.Flight.{pipe_of, sent, after_report, acked_count, is_congested};
+ghost use Rattle.congestion_trait.specs.Flight.{Has, pipe_of, sent, after_report, acked_count, is_congested};
 ghost use Rattle.congestion_trait.specs.Walk.{was_out, numbers, AreNear};
+ghost use Rattle.congestion_trait.specs.declared.flight.Standing.TheVariants.{Reported};
 
 use crate::walk::{Counts, settle, settled_from};
 use circular_buffer::HeapCircularBuffer;
@@ -97,6 +98,17 @@ impl Flight {
         self.counts.out
     }
 
+    /// Tells whether the list has a packet of this number that was reported. The cost is that of the whole list.
+    pub fn is_reported(&self, number: Seq48) -> bool
+        ensures { IsTrue result ↔ Has self.now number Reported }
+    {
+        let entry = Entry {
+            number,
+            standing: Standing::Reported,
+        };
+        is_in(&self.entries, &entry)
+    }
+
     /// Notes a packet that was sent. The 2,049th drives the oldest out.
     pub fn sent(&mut self, number: Seq48)
         ensures { self.new ≡ sent self.old number }
@@ -152,6 +164,21 @@ impl Counts {
             span: self.span.saturating_add(step),
         }
     }
+}
+
+// Tells whether an entry is in the list.
+fn is_in(entries: &HeapCircularBuffer<Entry>, entry: &Entry) -> bool
+    ensures { IsTrue result ↔ Contains entries.now.items entry.now }
+{
+    let (older, newer) = entries.as_slices();
+    is_among(older, entry) || is_among(newer, entry)
+}
+
+// Tells whether an entry is among these.
+fn is_among(entries: &[Entry], entry: &Entry) -> bool
+    ensures { IsTrue result ↔ Contains entries.now entry.now }
+{
+    entries.contains(entry)
 }
 
 // How many steps up a number is from the newest entry's.

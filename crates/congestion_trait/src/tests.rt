@@ -83,6 +83,9 @@ fn oldest_entries_leave(rt: HostRuntime) -> Result<(), Fail> {
     assert_eq!(rt; flight.out(), 2048);
     let news = told(&mut flight, 1, 0x00, 0x00, None)?;
     assert_eq!(rt; news.acked, 1, "1 is there, and 0 has left");
+    for (number, is_reported) in [(0, false), (1, true), (2, false), (2049, false)] {
+        assert_eq!(rt; flight.is_reported(seq(number)?), is_reported, "{number}");
+    }
     flight.clear();
     assert_eq!(rt; flight.out(), 0);
     Ok(())
@@ -101,8 +104,10 @@ fn fixed_window_is_eight(rt: HostRuntime) -> Result<(), Fail> {
     let Some(report) = AckReport::of(seq(8)?, options(&area, false)) else {
         return Err(Fail::from("no vector"));
     };
+    assert!(rt; !fixed.is_reported(seq(6)?));
     fixed.on_report(&report, 2);
     assert_eq!(rt; (fixed.window(), fixed.in_flight()), (8, 0));
+    assert!(rt; fixed.is_reported(seq(6)?) && !fixed.is_reported(seq(5)?));
     fixed.on_timeout();
     fixed.start(248);
     assert_eq!(rt; (fixed.window(), fixed.in_flight()), (8, 0));

@@ -1,0 +1,7 @@
+use Rattle.congestion_trait.proofs.Halves.{in_either}
+use Rattle.congestion_trait.proofs.flight.is_in.Goals as goal
+
+pub returns-else-is_among : goal.returns-else-is_among
+returns-else-is_among c =
+    in_either c.args.entry.now c.as_slices.result.0.now c.as_slices.result.1.now c.is_among.result c.is_among-else-is_among.result
+    c.if-is_among.false c.is_among.ensures c.is_among-else-is_among.ensures c.args.entries.now.items c.as_slices.ensures
