@@ -106,6 +106,8 @@ fn records_in_the_ring(rt: HostRuntime) -> Result<(), Fail> {
         !received.peer_acked(number(0)?),
         "the oldest of 65 is dropped"
     );
+    assert!(rt; received.peer_acked(number(1)?), "the oldest of 64 is kept");
+    assert_eq!(rt; received.floor().get(), 0);
     received.sent(number(64)?, number(0)?, true);
     assert!(rt; received.peer_acked(number(64)?));
     assert_eq!(rt;

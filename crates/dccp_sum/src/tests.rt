@@ -142,6 +142,26 @@ fn coverage_too_large(rt: HostRuntime) {
     assert!(rt; !seal(&TO_SERVER, &mut request));
 }
 
+// A coverage that ends just where the packet does is whole; with one word more there is none.
+#[test]
+fn coverage_to_the_packets_end(rt: HostRuntime) {
+    let mut request = [
+        0x9c, 0x40, 0x13, 0x89, 0x05, 0x01, 0x31, 0xeb, 0x01, 0x00, 0x00, 0x00, 0x00, 0x00, 0x03,
+        0xe8, 0x00, 0x00, 0x00, 0x2a,
+    ];
+    assert_eq!(rt; covered(&request), Some(20));
+    assert_eq!(rt; check(&TO_SERVER, &request), Ok(()));
+    request[5] = 2;
+    assert_eq!(rt; covered(&request), None);
+    assert_eq!(rt;
+        check(&TO_SERVER, &request),
+        Err(SumFault::CoverageTooLarge)
+    );
+    // The upper half of the same byte is CCVal, which counts for nothing here.
+    request[5] = 0xf1;
+    assert_eq!(rt; covered(&request), Some(20));
+}
+
 #[test]
 fn both_spellings_of_zero(rt: HostRuntime) {
     let mut request = REQUEST;
@@ -155,4 +175,10 @@ fn both_spellings_of_zero(rt: HostRuntime) {
     }
     request[7] = 0xfe;
     assert_eq!(rt; check(&TO_SERVER, &request), Err(SumFault::Wrong));
+    assert!(rt; seal(&TO_SERVER, &mut request));
+    assert_eq!(rt;
+        (request[6], request[7]),
+        (0, 0),
+        "a sum of zero is written as it is"
+    );
 }

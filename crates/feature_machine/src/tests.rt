@@ -658,6 +658,10 @@ fn offers_and_due_rows(rt: HostRuntime) -> Result<(), Fail> {
         "it met a Confirm"
     );
     assert!(rt;
+        !open(&mut rows, Feature::SendAckVector, Place::There, false)?,
+        "and is dropped with that"
+    );
+    assert!(rt;
         !open(&mut rows, Feature::Ccid, Place::Here, false)?,
         "it was not offered"
     );

@@ -211,7 +211,7 @@ pub(crate) const OPTIONS: [(&str, &str, &str); 28] = [
     ),
 ];
 
-pub(crate) const CARRIED: [(&str, &str, &str); 18] = [
+pub(crate) const CARRIED: [(&str, &str, &str); 19] = [
     (
         "a wrong checksum",
         "4500002c00010000402100000a0000010a0000029c4013890400621e05000000000000073132333435363739",
@@ -275,6 +275,11 @@ pub(crate) const CARRIED: [(&str, &str, &str); 18] = [
     (
         "no DCCP byte",
         "4500001400010000402100000a0000010a000002",
+        "1 1.500000 malformed Short\n",
+    ),
+    (
+        "no DCCP byte of IPv6",
+        "600000000000214000000000000000000000000000000000ffff10000100001000010000abcd8000",
         "1 1.500000 malformed Short\n",
     ),
     (

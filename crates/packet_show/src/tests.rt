@@ -64,20 +64,22 @@ fn networks_sums_and_malformed_packets(rt: HostRuntime) -> Result<(), Fail> {
         let text = text_of(rt.alloc(), &record_of(101, &bytes))?;
         assert_eq!(rt; text.as_slice(), line.as_bytes(), "{name}");
         // The same behind an Ethernet header, where its type is that of the version.
-        let kind = match bytes.first() {
-            Some(first) if *first < 0x60 => [8, 0],
-            _ => [0x86, 0xdd],
+        let (kind, other) = match bytes.first() {
+            Some(first) if *first < 0x60 => ([8, 0], [0x86, 0xdd]),
+            _ => ([0x86, 0xdd], [8, 0]),
         };
         let frame = frame_of(rt.alloc(), kind, &bytes)?;
         let text = text_of(rt.alloc(), &record_of(1, &frame))?;
         assert_eq!(rt; text.as_slice(), line.as_bytes(), "{name} in Ethernet");
-        let frame = frame_of(rt.alloc(), [8, 6], &bytes)?;
-        let text = text_of(rt.alloc(), &record_of(1, &frame))?;
-        assert_eq!(rt;
-            text.as_slice(),
-            b"skipped".as_slice(),
-            "{name} of another type"
-        );
+        for kind in [other, [8, 6]] {
+            let frame = frame_of(rt.alloc(), kind, &bytes)?;
+            let text = text_of(rt.alloc(), &record_of(1, &frame))?;
+            assert_eq!(rt;
+                text.as_slice(),
+                b"skipped".as_slice(),
+                "{name} of another type"
+            );
+        }
     }
     Ok(())
 }

@@ -8,6 +8,17 @@ fn extended_numbers(rt: HostRuntime) -> Result<(), Fail> {
         (0xff_fff0, 0x0000_0200_0005, 0x0000_01ff_fff0),
         (7, 0, 7),
         (0xff_ffff, 0, 0xffff_ffff_ffff),
+        // Just half the short circle away, on either side: neither is before the other, and the turn stays.
+        (0x80_0000, 0x0000_0100_0000, 0x0000_0180_0000),
+        (0, 0x0000_0180_0000, 0x0000_0100_0000),
+        // One step less on either side: the nearer turn.
+        (0x7f_ffff, 0x0000_0100_0000, 0x0000_017f_ffff),
+        (0x80_0001, 0x0000_0100_0000, 0x0000_0080_0001),
+        (0, 0x0000_0180_0001, 0x0000_0200_0000),
+        (0, 0x0000_017f_ffff, 0x0000_0100_0000),
+        // The reference itself, and the turn after the last.
+        (0x80_0000, 0x0000_0180_0000, 0x0000_0180_0000),
+        (1, 0xffff_ffff_fff0, 1),
     ];
     for (short, reference, wanted) in cases {
         let short = Seq24::new(short).ok_or("below 2^24")?;

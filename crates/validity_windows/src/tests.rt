@@ -197,6 +197,14 @@ fn what_a_packet_raises(rt: HostRuntime) -> Result<(), Fail> {
     assert_eq!(rt; (marks.gsr.get(), marks.gar.get()), (3060, 1480));
     take(&mut marks, PacketType::DataAck, 3040, 1460)?;
     assert_eq!(rt; (marks.gsr.get(), marks.gar.get()), (3060, 1480));
+    take(&mut marks, PacketType::SyncAck, 3061, 1481)?;
+    assert_eq!(rt; (marks.gsr.get(), marks.gar.get()), (3061, 1481));
+    take(&mut marks, PacketType::Response, 3062, 1482)?;
+    assert_eq!(rt; (marks.gsr.get(), marks.gar.get()), (3062, 1482));
+    take(&mut marks, PacketType::CloseReq, 3063, 1483)?;
+    assert_eq!(rt; (marks.gsr.get(), marks.gar.get()), (3063, 1483));
+    take(&mut marks, PacketType::Close, 3064, 1484)?;
+    assert_eq!(rt; (marks.gsr.get(), marks.gar.get()), (3064, 1484));
     Ok(())
 }
 
