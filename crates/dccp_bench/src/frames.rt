@@ -26,8 +26,17 @@ const WORKED: [&str; 7] = [
 
 /// The worked frames.
 pub(crate) fn worked(alloc: Global) -> io::Result<Vec<Vec<u8>>> {
+    decoded(alloc, &WORKED)
+}
+
+/// Those of them that take a server to OPEN: the client's Request and its Ack.
+pub(crate) fn opening(alloc: Global) -> io::Result<Vec<Vec<u8>>> {
+    decoded(alloc, &[WORKED[0], WORKED[2]])
+}
+
+fn decoded(alloc: Global, texts: &[&str]) -> io::Result<Vec<Vec<u8>>> {
     let mut frames = Vec::new(alloc);
-    for text in WORKED {
+    for text in texts {
         let Ok(frame) = hex::decode(alloc, text) else {
             return Err(io::Error::other("a worked frame is no hexadecimal"));
         };

@@ -1,13 +1,16 @@
 //! How long it takes to read a packet (own): decoding, listing its options and checking its sum, over frames of worked runs
 //! and over a full frame. One word says how many rounds; the figures go to standard error.
 //!
-//! `marks` and a number of rounds makes the calls of received numbers and of congestion control, so that what they allocate
-//! can be counted. `ratios` and a number of rounds times marks, the writing of Ack Vectors and the taking of reports. `runs` and a
-//! number of rounds times marks in several orders, over both ways to keep runs.
+//! `marks` and a number of rounds makes the calls of received numbers and of congestion control, hands packets to an end, and lets two
+//! ends send each other data, so that what they allocate can be counted. `ratios` and a number of rounds times marks, the writing of Ack Vectors and the taking of reports. `runs` and a
+//! number of rounds times marks in several orders, over both ways to keep runs. `ends` and a number of rounds times an end in OPEN to
+//! which packets of data come.
 //!
 //! Nothing is claimed of what it prints.
 #![tactic(auto)]
 
+mod data;
+mod ends;
 mod frames;
 mod marks;
 mod passes;
@@ -26,6 +29,7 @@ enum Form {
     Marks,
     Ratios,
     Runs,
+    Ends,
 }
 
 // The form that the first word names, and the rounds that the last one names, or one.
@@ -37,6 +41,7 @@ fn asked(rt: &HostRuntime) -> io::Result<(Form, u32)> {
             "marks" => form = Form::Marks,
             "ratios" => form = Form::Ratios,
             "runs" => form = Form::Runs,
+            "ends" => form = Form::Ends,
             text => rounds = text.parse::<u32>().unwrap_or(1),
         }
     }
@@ -89,5 +94,6 @@ fn main(rt: HostRuntime) -> io::Result<()> {
             Ok(())
         }
         Form::Runs => runs::all(&rt, rounds),
+        Form::Ends => ends::all(&rt, rounds),
     }
 }

@@ -1,5 +1,7 @@
-//! Calls of the set of received numbers and of congestion control, over and over, for a count of what they allocate.
+//! Calls of the set of received numbers, of congestion control and of ends, over and over, for a count of what they allocate.
 
+use crate::data::exchange;
+use crate::ends::take;
 use crate::ratios::zero;
 use ack_vectors::{Received, VectorBytes};
 use ccid_two::Ccid2;
@@ -89,8 +91,16 @@ pub(crate) fn all(alloc: Global, rounds: u32) -> io::Result<u64> {
     let Ok(mut fixed) = FixedWindow::new(alloc) else {
         return Err(io::Error::other("no memory"));
     };
+    let taken = take(alloc, rounds)?;
+    let sent = exchange(alloc, rounds)?;
     let marked = marks(&mut received, rounds);
     let two = sends(&mut ccid, 2, rounds);
     let eight = sends(&mut fixed, 248, rounds);
-    Ok(marked.wrapping_add(two).wrapping_add(eight))
+    Ok(
+        taken
+            .wrapping_add(sent)
+            .wrapping_add(marked)
+            .wrapping_add(two)
+            .wrapping_add(eight),
+    )
 }

@@ -29,7 +29,7 @@ begun-read first Client = refl
 begun-read first Server = refl
 
 begun-sent : (first : Replay) (side : Side) → (begun_from first side).replay.sent ≤ first.sent + 1
-begun-sent first Client = let one = one-at-most (opens first.end).frame in omega arith
+begun-sent first Client = let one = one-at-most (opens first.end.state).frame in omega arith
 begun-sent first Server = omega arith
 
 pub at-start : (side : Side) (plain : Bool) (replay : Replay) (text input : List ℕ) → replay ≡ (begun side plain).replay → text ≡ [] ++ (begun side plain).text

@@ -1,23 +1,215 @@
--- Data that a line tells stands within the bytes that arrived.
-use Rattle.std.proofs.Common.{◌≡◌, ℕ, ◌≤◌, List, length, true, ◌&&◌, nat_le, Some, None, Ok, Err, arith}
-use Rattle.std.proofs.lemmas.Bool.Decides.{nat_tests}
-use Rattle.dccp_endpoint.specs.declared.outcome.Outcome.TheVariants.{Took, Dropped, Synced, WasReset, SentReset, NotBuilt}
+-- Data that are delivered stand within the bytes that arrived, so the line of each event can tell them.
+use Rattle.std.proofs.Common.{◌≡◌, refl, sym, ap, ◌∙◌, subst, ℕ, List, Bool, true, false, if◌then◌else◌, Option, Some, None, Result, Ok, Err, IfOk, slice_get, arith}
+use Rattle.ccid_two.specs.Kinds.{Both, kinds_control}
+use Rattle.dccp_packets.specs.Grammar.{Parts, decoded}
+use Rattle.dccp_packets.specs.declared.reading.Malformed.{Malformed}
+use Rattle.dccp_states.specs.Entrance.{gate}
+use Rattle.dccp_states.specs.Phases.{after}
+use Rattle.dccp_states.specs.declared.phase.Phase.{Phase}
+use Rattle.dccp_states.specs.declared.reply.Reply.{Reply}
+use Rattle.dccp_states.specs.declared.reply.Reply.TheVariants as reply
+use Rattle.run_list.specs.MarkedSet.{answer_to}
+use Rattle.run_list.specs.declared.answers.Marked.{Marked}
+use Rattle.dccp_endpoint.specs.Calling.{aborts, closes, fires, opens, prefers, sends_payload}
+use Rattle.dccp_endpoint.specs.Controlled.{End, EndStep, with_control}
+use Rattle.dccp_endpoint.specs.End.{EndState, with_rows}
+use Rattle.dccp_endpoint.specs.Heeding.{Due, Heeding}
+use Rattle.dccp_endpoint.specs.Incoming.{Incoming}
+use Rattle.dccp_endpoint.specs.Inputs as input
+use Rattle.dccp_endpoint.specs.Receiving.{Course, Goes, Leaves, accounted, acknowledges, arrives, checks_header, delivering, ends_as, heeded, leaves, moved_to, moves, needs_ack, reads_options, received, receives, replies, the_steps, through, with_number, with_packet}
+use Rattle.dccp_endpoint.specs.Reporting.{counts_data, delivered_if, delivers}
+use Rattle.dccp_endpoint.specs.Steps.{Step, idle}
+use Rattle.dccp_endpoint.specs.declared.exit.Exit.{Exit}
+use Rattle.dccp_endpoint.specs.declared.exit.Exit.TheVariants as exits
+use Rattle.dccp_endpoint.specs.declared.outcome.Fault.{Fault}
+use Rattle.dccp_endpoint.specs.declared.outcome.Outcome.{Outcome}
+use Rattle.dccp_endpoint.specs.declared.outcome.Outcome.TheVariants.{Took}
+use Rattle.dccp_endpoint.specs.declared.outcome.Why.{Why}
+use Rattle.two_ends.specs.Controlled.{Controlled, ControlledStep, congestion_of, controlled, controls, happens_to, said_by}
+use Rattle.two_ends.specs.World.{Half, HalfStep, Said, WorldState, WorldStep, actor, arrives as arrives_at, half_of, half_steps, happens, is_full, other, refusal_of, seen_of_call, send_refusal_of, with_half}
+use Rattle.two_ends.specs.declared.event.Event.{Event}
+use Rattle.two_ends.specs.declared.event.Event.TheVariants as event
+use Rattle.two_ends.specs.declared.event.Refusal.{Refusal}
+use Rattle.two_ends.specs.declared.event.Refusal.TheVariants as refusal
 use Rattle.two_ends.specs.declared.event.Seen.{Seen}
-use Rattle.two_ends.specs.declared.event.Seen.TheVariants as seen
-use Rattle.schedule_text.specs.Results.{IsSeenOf}
-use Rattle.dccp_command.specs.Built.{seen_told, is_told}
+use Rattle.two_ends.specs.declared.event.Side.{Side}
+use Rattle.two_ends.specs.declared.event.Side.TheVariants.{Client, Server}
+use Rattle.two_ends.specs.declared.event.WorldFault.{WorldFault}
+use Rattle.two_ends.specs.declared.event.WorldFault.TheVariants as fault
+use Rattle.two_ends.specs.declared.frames.SentFrame.{SentFrame}
+use Rattle.schedule_text.specs.Results.{HasItsData, IsPlaceIn, IsSeenOf}
+use Rattle.dccp_command.specs.RunLines.{arrived, bytes_of}
 
-in-order : (first past all : ℕ) → (nat_le first past && nat_le past all) ≡ true → (first ≤ past) × (past ≤ all)
-in-order first past all is = (grind (arith, nat_tests), grind (arith, nat_tests))
+-- One end: the data of a packet end where its bytes do.
 
-pub told-place : (given : Seen) (bytes : List ℕ) → is_told given bytes ≡ true → IsSeenOf bytes (seen_told given)
-told-place (seen.Called (Ok answer)) bytes is = tt
-told-place (seen.Called (Err fault)) bytes is = tt
-told-place (seen.Fired applies) bytes is = tt
-told-place (seen.Received (Took None)) bytes is = tt
-told-place (seen.Received (Took (Some place))) bytes is = in-order place.0 place.1 (length bytes) is
-told-place (seen.Received (Dropped why)) bytes is = tt
-told-place (seen.Received (Synced number)) bytes is = tt
-told-place (seen.Received (WasReset code)) bytes is = tt
-told-place (seen.Received (SentReset code detail)) bytes is = tt
-told-place (seen.Received NotBuilt) bytes is = tt
+numbered-place : (e : EndState) (bytes : List ℕ) (p : Parts) (number : Result ℕ Why)
+    → IfOk (with_number e bytes p number) (λ (a : Incoming). IsPlaceIn bytes (Some a.data_place))
+numbered-place e bytes p (Ok number) = (omega arith, omega arith)
+numbered-place e bytes p (Err why) = tt
+
+packet-place : (e : EndState) (bytes : List ℕ) (read : Result Parts Malformed)
+    → IfOk (with_packet e bytes read) (λ (a : Incoming). IsPlaceIn bytes (Some a.data_place))
+packet-place e bytes (Ok p) = numbered-place e bytes p (checks_header e bytes p.header)
+packet-place e bytes (Err fault) = tt
+
+delivered-in : (bytes : List ℕ) (place : ℕ × ℕ) (new : Bool) → IsPlaceIn bytes (Some place) → HasItsData bytes (Took (delivered_if new place))
+delivered-in bytes place true inside = inside
+delivered-in bytes place false inside = tt
+
+-- an Ack that is needed, or nothing
+acking-in : (bytes : List ℕ) (ack none : Step Outcome) (needed : Bool) → HasItsData bytes ack.answer → HasItsData bytes none.answer
+    → HasItsData bytes (if needed then ack else none).answer
+acking-in bytes ack none true in_ack in_none = in_ack
+acking-in bytes ack none false in_ack in_none = in_none
+
+replied-in : (bytes : List ℕ) (e : EndState) (a : Incoming) (confirms : List Due) (took : Outcome) (answer : Reply) → HasItsData bytes took
+    → HasItsData bytes (replies e a confirms took answer).answer
+replied-in bytes e a confirms took reply.Nothing inside =
+    acking-in bytes (acknowledges e confirms took) (idle e took) (needs_ack e.phase confirms e.rows e.unacked) inside inside
+replied-in bytes e a confirms took reply.Response inside = inside
+replied-in bytes e a confirms took reply.Ack inside = inside
+replied-in bytes e a confirms took reply.Close inside = inside
+replied-in bytes e a confirms took reply.ResetClosed inside = tt
+replied-in bytes e a confirms took reply.SyncAck inside = inside
+replied-in bytes e a confirms took reply.Torn inside = inside
+
+delivering-in : (bytes : List ℕ) (e : EndState) (a : Incoming) (confirms : List Due) (new : Bool) (answer : Reply) → IsPlaceIn bytes (Some a.data_place)
+    → HasItsData bytes (delivering e a confirms new answer).answer
+delivering-in bytes e a confirms new answer inside =
+    replied-in bytes (counts_data e new) a confirms (Took (delivered_if new a.data_place)) answer (delivered-in bytes a.data_place new inside)
+
+left-in : (bytes : List ℕ) (x : EndState) (a : Incoming) (exit : Exit) → HasItsData bytes (leaves x a exit).answer
+left-in bytes x a (exits.Drop why) = tt
+left-in bytes x a (exits.Sync number) = tt
+left-in bytes x a (exits.ResetWithoutConnection code) = tt
+left-in bytes x a exits.PacketError = tt
+left-in bytes x a (exits.Shut fault) = tt
+left-in bytes x a (exits.TimeWait code) = tt
+
+moved-in : (bytes : List ℕ) (e : EndState) (a : Incoming) (confirms : List Due) (mark : Marked) (to : Phase × Reply) → IsPlaceIn bytes (Some a.data_place)
+    → HasItsData bytes (moves e a confirms mark to).answer
+moved-in bytes e a confirms mark to inside =
+    delivering-in bytes (moved_to e to.0 a.number) a confirms (delivers a.kind to.0 mark) to.1 inside
+
+heeded-in : (bytes : List ℕ) (x : EndState) (a : Incoming) (heeding : Result Heeding Fault) → IsPlaceIn bytes (Some a.data_place)
+    → HasItsData bytes (heeded x a heeding).answer
+heeded-in bytes x a (Ok h) inside =
+    let e = with_rows x h.rows in
+    moved-in bytes (accounted e a) a h.confirms (answer_to e.received.set a.number) (after e.phase a.kind) inside
+heeded-in bytes x a (Err fault) inside = tt
+
+ended-in : (bytes : List ℕ) (a : Incoming) (course : Course) → IsPlaceIn bytes (Some a.data_place) → HasItsData bytes (ends_as a course).answer
+ended-in bytes a (Goes x) inside = heeded-in bytes x a (reads_options x a) inside
+ended-in bytes a (Leaves x exit) inside = left-in bytes x a exit
+
+received-in : (e : EndState) (bytes : List ℕ) (read : Result Incoming Why) → IfOk read (λ (a : Incoming). IsPlaceIn bytes (Some a.data_place))
+    → HasItsData bytes (received e read).answer
+received-in e bytes (Ok a) inside = ended-in bytes a (through (Goes e) (the_steps a (gate e.phase a.kind))) inside
+received-in e bytes (Err why) inside = tt
+
+data-in-frame : (e : EndState) (bytes : List ℕ) → HasItsData bytes (receives e bytes).answer
+unfolding receives
+data-in-frame e bytes = received-in e bytes (arrives e bytes) (packet-place e bytes (decoded bytes))
+
+-- The world: a call tells no data, and a frame that arrived stands where it was sent.
+
+call-told : {Fault : Type 0} (bytes : List ℕ) (named : Fault → Refusal) (result : Result (Unit {0}) Fault) → IsSeenOf bytes (seen_of_call named result)
+call-told bytes named (Ok _) = tt
+call-told bytes named (Err fault) = tt
+
+abbrev seen-or : Seen → Result WorldStep WorldFault → Seen
+seen-or none (Ok step) = step.seen
+seen-or none (Err fault) = none
+
+abbrev world-or : WorldState → Result WorldStep WorldFault → WorldState
+world-or none (Ok step) = step.world
+world-or none (Err fault) = none
+
+-- a step of a side, if it may send a frame
+abbrev stepping : WorldState → Side → HalfStep → Bool → Result WorldStep WorldFault
+stepping w side half full = if full then Err fault.Full else Ok (record { world = with_half w side half.half; calls = half.calls; seen = half.seen })
+
+called-told : (w : WorldState) (side : Side) (half : HalfStep) (full : Bool) (step : WorldStep) (bytes : List ℕ) → stepping w side half full ≡ Ok step
+    → IsSeenOf bytes half.seen → IsSeenOf bytes step.seen
+called-told w side half true step bytes is told = cc is
+called-told w side half false step bytes is told = subst (IsSeenOf bytes) (ap (seen-or half.seen) is) told
+
+half-kept : (w : WorldState) (from : Side) (half : Half) → half_of (with_half w (other from) half) from ≡ half_of w from
+half-kept w Client half = refl
+half-kept w Server half = refl
+
+frame-told : (w : WorldState) (from : Side) (index : ℕ) (frame : SentFrame) (half : HalfStep) (full : Bool) (step : WorldStep)
+    → slice_get (half_of w from).frames index ≡ Some frame → stepping w (other from) half full ≡ Ok step → IsSeenOf frame.bytes half.seen
+    → IsSeenOf (arrived step.world (event.Deliver from index)) step.seen
+frame-told w from index frame half true step found is told = cc is
+frame-told w from index frame half false step found is told =
+    let stands : frame.bytes ≡ arrived step.world (event.Deliver from index) =
+    sym (ap bytes_of found)
+    ∙ sym (ap (λ (h : Half). bytes_of (slice_get h.frames index)) (half-kept w from half.half))
+    ∙ ap (λ (x : WorldState). bytes_of (slice_get (half_of x from).frames index)) (ap (world-or w) is) in
+    subst (λ (bytes : List ℕ). IsSeenOf bytes step.seen) stands (subst (IsSeenOf frame.bytes) (ap (seen-or half.seen) is) told)
+
+delivery-told : (w : WorldState) (from : Side) (index : ℕ) (frame : Option SentFrame) (step : WorldStep) → slice_get (half_of w from).frames index ≡ frame
+    → arrives_at w from frame ≡ Ok step → IsSeenOf (arrived step.world (event.Deliver from index)) step.seen
+delivery-told w from index None step found is = cc is
+delivery-told w from index (Some frame) step found is =
+    let half = half_of w (other from) in
+    frame-told w from index frame (half_steps half (input.Arrives frame.bytes)) (is_full half) step found is (data-in-frame half.end frame.bytes)
+
+event-told : (w : WorldState) (given : Event) (said : Said) (step : WorldStep) → happens w given said ≡ Ok step → IsSeenOf (arrived step.world given) step.seen
+event-told w event.Open said step is =
+    called-told w Client (half_steps w.client input.Opens) (is_full w.client) step (arrived step.world event.Open) is
+    (call-told (arrived step.world event.Open) (λ fault. refusal.NotFresh) (opens w.client.end).answer)
+event-told w (event.Deliver from index) said step is = delivery-told w from index (slice_get (half_of w from).frames index) step refl is
+event-told w (event.Send side payload) said step is =
+    called-told w side (half_steps (half_of w side) (input.Sends payload said.may_send)) (is_full (half_of w side)) step (arrived step.world (event.Send side payload)) is
+    (call-told (arrived step.world (event.Send side payload)) send_refusal_of (sends_payload (half_of w side).end payload said.may_send).answer)
+event-told w (event.Prefer side feature place values) said step is =
+    called-told w side (half_steps (half_of w side) (input.Prefers (feature, place) values)) (is_full (half_of w side)) step (arrived step.world (event.Prefer side feature place values)) is
+    (call-told (arrived step.world (event.Prefer side feature place values)) refusal_of (prefers (half_of w side).end (feature, place) values).answer)
+event-told w (event.Timer side timer) said step is =
+    called-told w side (half_steps (half_of w side) (input.Fires timer said.in_flight)) (is_full (half_of w side)) step (arrived step.world (event.Timer side timer)) is tt
+event-told w (event.Close side) said step is =
+    called-told w side (half_steps (half_of w side) input.Closes) (is_full (half_of w side)) step (arrived step.world (event.Close side)) is
+    (call-told (arrived step.world (event.Close side)) (λ fault. refusal.NotOpen) (closes (half_of w side).end).answer)
+event-told w (event.Abort side) said step is =
+    called-told w side (half_steps (half_of w side) input.Aborts) (is_full (half_of w side)) step (arrived step.world (event.Abort side)) is
+    (call-told (arrived step.world (event.Abort side)) (λ fault. refusal.NotLive) (aborts (half_of w side).end).answer)
+
+abbrev controlled-seen-or : Seen → Result (ControlledStep Both) WorldFault → Seen
+controlled-seen-or none (Ok step) = step.seen
+controlled-seen-or none (Err fault) = none
+
+abbrev controlled-world-or : WorldState → Result (ControlledStep Both) WorldFault → WorldState
+controlled-world-or none (Ok step) = step.after.world
+controlled-world-or none (Err fault) = none
+
+same-world : (w : Controlled Both) (side : Side) (step : WorldStep) → step.world ≡ (controlled kinds_control w side step).world
+same-world w Client step = refl
+same-world w Server step = refl
+
+controlled-told : (w next : Controlled Both) (side : Side) (given : Event) (seen : Seen) (result : Result WorldStep WorldFault)
+    → controls kinds_control w side result ≡ Ok (record { after = next; seen = seen })
+    → ((step : WorldStep) → result ≡ Ok step → IsSeenOf (arrived step.world given) step.seen) → IsSeenOf (arrived next.world given) seen
+controlled-told w next side given seen (Ok step) is told =
+    let world : step.world ≡ next.world = same-world w side step ∙ ap (controlled-world-or step.world) is in
+    subst (λ (x : WorldState). IsSeenOf (arrived x given) seen) world
+    (subst (IsSeenOf (arrived step.world given)) (ap (controlled-seen-or step.seen) is) (told step refl))
+controlled-told w next side given seen (Err fault) is told = cc is
+
+event-in-place : (w next : Controlled Both) (given : Event) (seen : Seen) → happens_to kinds_control w given ≡ Ok (record { after = next; seen = seen })
+    → IsSeenOf (arrived next.world given) seen
+event-in-place w next given seen is =
+    let said = said_by kinds_control (congestion_of w (actor given)) in
+    controlled-told w next (actor given) given seen (happens w.world given said) is (λ step. event-told w.world given said step)
+
+-- Whatever is seen of an event, the bytes that arrived have the data that it delivers.
+pub event_is_told : (w next : Controlled Both) (given : Event) (seen : Seen) (bytes : List ℕ)
+    → happens_to kinds_control w given ≡ Ok (record { after = next; seen = seen }) → bytes ≡ arrived next.world given → IsSeenOf bytes seen
+event_is_told w next given seen bytes is same = subst (λ (b : List ℕ). IsSeenOf b seen) (sym same) (event-in-place w next given seen is)
+
+-- The same of a step of one end.
+pub answer_is_told : (e : EndState) (congestion : Both) (bytes : List ℕ) (next : End Both) (frame : Option (List ℕ)) (answer : Outcome)
+    → record { after = next; frame = frame; answer = answer } ≡ with_control kinds_control congestion (receives e bytes) → HasItsData bytes answer
+answer_is_told e congestion bytes next frame answer is =
+    subst (HasItsData bytes) (sym (ap (λ (step : EndStep Both Outcome). step.answer) is)) (data-in-frame e bytes)

@@ -1,7 +1,6 @@
 pub mod Text
 pub mod Lines
 pub mod RunLines
-pub mod Built
 pub mod Transcript
 pub mod Replay
 pub mod Words

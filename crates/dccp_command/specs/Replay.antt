@@ -1,8 +1,9 @@
 -- What `replay` writes of an input: what one end does with its frames, line by line, then the end's line or the line of the first
 -- refusal (own).
 use Rattle.std.specs.Prelude.{◌≡◌, ℕ, ◌+◌, ◌^◌, ◌<◌, ◌≤◌, ◌++◌, Bool, true, false, if◌then◌else◌, List, [], ◌∷◌, length, codes, Option, Some, None, Result, Ok, Err}
+use Rattle.ccid_two.specs.Kinds.{Both, at_first, kinds_control}
 use Rattle.dccp_endpoint.specs.Calling.{opens}
-use Rattle.dccp_endpoint.specs.End.{fresh}
+use Rattle.dccp_endpoint.specs.Controlled.{End, EndStep, begins, with_control}
 use Rattle.dccp_endpoint.specs.Receiving.{receives}
 use Rattle.dccp_endpoint.specs.Steps.{Step}
 use Rattle.dccp_endpoint.specs.Usual.{usual}
@@ -21,7 +22,6 @@ use Rattle.schedule_text.specs.declared.line.FrameLine.{FrameLine}
 use Rattle.schedule_text.specs.declared.line.LineFault.{LineFault}
 use Rattle.schedule_text.specs.declared.line.LineWhy.TheVariants as why
 use Rattle.dccp_command.specs.declared.replay.Replay.{Replay}
-use Rattle.dccp_command.specs.Built.{not_built, seen_told, is_told}
 use Rattle.dccp_command.specs.Lines.{lines_of, text_of}
 use Rattle.dccp_command.specs.RunLines.{bytes_line, end_line, refusal_line}
 use Rattle.dccp_command.specs.Transcript.{ends_within, whole_line, without_offers}
@@ -36,7 +36,8 @@ replay_config side plain = if plain then without_offers (usual (role_of side)) e
 
 -- Before all: the end is new, and it has sent nothing.
 abbrev pub first_replay : Side → Bool → Replay
-first_replay side plain = record { number = 1; read = 0; sent = 0; side = side; end = fresh (replay_config side plain) }
+first_replay side plain =
+    record { number = 1; read = 0; sent = 0; side = side; end = begins kinds_control (replay_config side plain) at_first }
 
 abbrev pub count : Option (List ℕ) → ℕ
 count None = 0
@@ -47,8 +48,12 @@ abbrev pub reply_line : Side → ℕ → Option (List ℕ) → List ℕ
 reply_line side index None = []
 reply_line side index (Some bytes) = bytes_line side index bytes
 
+-- A step of the end, with what it makes of its congestion control.
+abbrev pub controlled : {Answer : Type 0} → Replay → Step Answer → EndStep Both Answer
+controlled replay step = with_control kinds_control replay.end.congestion step
+
 -- The end after a step, and how many frames it has sent then.
-abbrev pub after_step : {Answer : Type 0} → Replay → Step Answer → Replay
+abbrev pub after_step : {Answer : Type 0} → Replay → EndStep Both Answer → Replay
 after_step replay step = record replay { end = step.after; sent = replay.sent + count step.frame }
 
 -- The line of the call `open`.
@@ -61,12 +66,12 @@ pub record Begun : Type 0 where
   pub text : List ℕ
   pub replay : Replay
 
-abbrev pub opening : Replay → Step (Result (Unit {0}) OpenFault) → Begun
+abbrev pub opening : Replay → EndStep Both (Result (Unit {0}) OpenFault) → Begun
 opening replay step = record { text = open_line step.answer ++ reply_line replay.side replay.sent step.frame; replay = after_step replay step }
 
 -- A client opens first; a server waits.
 abbrev pub begun_from : Replay → Side → Begun
-begun_from replay Client = opening replay (opens replay.end)
+begun_from replay Client = opening replay (controlled replay (opens replay.end.state))
 begun_from replay Server = record { text = []; replay = replay }
 
 abbrev pub begun : Side → Bool → Begun
@@ -87,24 +92,22 @@ abbrev pub arriving : Side → FrameLine → List ℕ
 arriving side frame = if frame.seal then sealed (usual (role_of side)).pseudo_in frame.bytes else frame.bytes
 
 -- The line of what the end does with the frame, and that of the frame that it sends.
-abbrev pub told : Replay → List ℕ → Step Outcome → List ℕ
+abbrev pub told : Replay → List ℕ → EndStep Both Outcome → List ℕ
 told replay bytes step =
-    result_line replay.number (seen_told (seen.Received step.answer)) bytes ++ reply_line replay.side replay.sent step.frame
+    result_line replay.number (seen.Received step.answer) bytes ++ reply_line replay.side replay.sent step.frame
 
-abbrev pub by_step : Replay → List ℕ → List ℕ → Step Outcome → Verdict
-by_step replay piece bytes step =
-    if is_told (seen.Received step.answer) bytes then Accepted (told replay bytes step) (behind (after_step replay step) piece)
-    else Refused not_built
+abbrev pub by_step : Replay → List ℕ → List ℕ → EndStep Both Outcome → Verdict
+by_step replay piece bytes step = Accepted (told replay bytes step) (behind (after_step replay step) piece)
 
 abbrev pub by_frame : Replay → List ℕ → List ℕ → Verdict
-by_frame replay piece bytes = by_step replay piece bytes (receives replay.end bytes)
+by_frame replay piece bytes = by_step replay piece bytes (controlled replay (receives replay.end.state bytes))
 
 abbrev pub by_line : Replay → List ℕ → Result (Option FrameLine) LineFault → Verdict
 by_line replay piece (Err fault) = Refused fault
 by_line replay piece (Ok None) = Accepted [] (behind replay piece)
 by_line replay piece (Ok (Some frame)) = by_frame replay piece (arriving replay.side frame)
 
--- A line with its newline. The bytes of the input are judged before the line by itself, and behind it what is not built.
+-- A line with its newline. The bytes of the input are judged before the line by itself.
 abbrev pub judged : Replay → List ℕ → Verdict
 judged replay piece =
     if ends_within replay.read piece then by_line replay piece (read_frame (text_of piece)) else Refused (whole_line why.TooMuchInput)

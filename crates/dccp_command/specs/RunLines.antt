@@ -5,8 +5,11 @@ use Rattle.feature_lists.specs.Features.{number_of}
 use Rattle.feature_lists.specs.declared.features.Feature.{Feature}
 use Rattle.feature_lists.specs.declared.features.Feature.TheVariants as feature
 use Rattle.feature_lists.specs.declared.features.Place.TheVariants.{Here, There}
-use Rattle.dccp_endpoint.specs.End.{EndState, held_of, window_of, in_flight_of}
+use Rattle.ccid_two.specs.Kinds.{Both, kinds_control}
+use Rattle.dccp_endpoint.specs.Controlled.{End, window_of, in_flight_of}
+use Rattle.dccp_endpoint.specs.End.{EndState, held_of}
 use Rattle.feature_machine.specs.declared.stands.Held.{Held}
+use Rattle.two_ends.specs.Controlled.{Controlled, end_of}
 use Rattle.two_ends.specs.World.{WorldState, half_of}
 use Rattle.two_ends.specs.declared.frames.SentFrame.{SentFrame}
 use Rattle.two_ends.specs.declared.event.Side.{Side}
@@ -56,17 +59,19 @@ all_features =
 abbrev pub end_name : Side → EndState → List ℕ
 end_name side e = codes "end " ++ side_name side ++ codes " " ++ phase_name e.phase
 
-abbrev pub end_counts : EndState → List ℕ
-end_counts e = codes " window " ++ decimal (window_of e) ++ codes " flight " ++ decimal (in_flight_of e)
+-- how many data packets may be in flight, and how many are
+abbrev pub end_counts : Both → List ℕ
+end_counts both =
+    codes " window " ++ decimal (window_of kinds_control both) ++ codes " flight " ++ decimal (in_flight_of kinds_control both)
 
 unfoldable pub end_rows : EndState → List ℕ
 end_rows e = flat_map (row_text e) all_features
 
-abbrev pub end_line : Side → EndState → List ℕ
-end_line side e = end_name side e ++ end_counts e ++ end_rows e ++ codes "\n"
+abbrev pub end_line : Side → End Both → List ℕ
+end_line side e = end_name side e.state ++ end_counts e.congestion ++ end_rows e.state ++ codes "\n"
 
-abbrev pub end_lines : WorldState → List ℕ
-end_lines w = end_line Client w.client.end ++ end_line Server w.server.end
+abbrev pub end_lines : Controlled Both → List ℕ
+end_lines w = end_line Client (end_of w Client) ++ end_line Server (end_of w Server)
 
 -- The line of a refusal, under the number of the line that is refused.
 abbrev pub refusal_line : ℕ → LineFault → List ℕ

@@ -30,7 +30,6 @@ abbrev pub line_why_name : LineWhy → List ℕ
 line_why_name why.TooMuchInput = codes "TooMuchInput"
 line_why_name why.LineTooLong = codes "LineTooLong"
 line_why_name why.NotText = codes "NotText"
-line_why_name why.NotBuilt = codes "NotBuilt"
 line_why_name why.Missing = codes "Missing"
 line_why_name why.UnknownWord = codes "UnknownWord"
 line_why_name why.BadNumber = codes "BadNumber"

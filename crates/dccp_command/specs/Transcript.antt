@@ -10,7 +10,9 @@ use Rattle.feature_lists.specs.declared.wishes.PreferFault.{PreferFault}
 use Rattle.feature_lists.specs.declared.wishes.Wanted.{Wanted}
 use Rattle.feature_machine.specs.Lists as listed
 use Rattle.feature_machine.specs.Lists.{with_wish, with_offer}
-use Rattle.two_ends.specs.World.{WorldState, WorldStep, at_start, happens, half_of, actor, run}
+use Rattle.ccid_two.specs.Kinds.{Both, at_first, kinds_control}
+use Rattle.two_ends.specs.Controlled.{Controlled, ControlledStep, begins_with, happens_to, plays}
+use Rattle.two_ends.specs.World.{actor, half_of}
 use Rattle.dccp_endpoint.specs.Drafts.{Fits}
 use Rattle.two_ends.specs.Safe.{Safe}
 use Rattle.two_ends.specs.declared.event.Event.{Event}
@@ -18,8 +20,8 @@ use Rattle.two_ends.specs.declared.event.Side.{Side}
 use Rattle.two_ends.specs.declared.event.Side.TheVariants.{Client, Server}
 use Rattle.two_ends.specs.declared.event.WorldFault.{WorldFault}
 use Rattle.two_ends.specs.declared.event.WorldFault.TheVariants as fault
+use Rattle.schedule_text.specs.Reading.{read_line}
 use Rattle.schedule_text.specs.Results.{seen_line}
-use Rattle.schedule_text.specs.declared.event.Event as text_event
 use Rattle.schedule_text.specs.declared.line.Line.{Line}
 use Rattle.schedule_text.specs.declared.line.Line.TheVariants as line
 use Rattle.schedule_text.specs.declared.line.LineFault.{LineFault}
@@ -27,7 +29,6 @@ use Rattle.schedule_text.specs.declared.line.LineWhy.{LineWhy}
 use Rattle.schedule_text.specs.declared.line.LineWhy.TheVariants as why
 use Rattle.dccp_command.specs.declared.play.Play.{Play}
 use Rattle.dccp_command.specs.Lines.{lines_of, text_of}
-use Rattle.dccp_command.specs.Built.{not_built, read_built, built_event, seen_told, is_told}
 use Rattle.dccp_command.specs.RunLines.{arrived, sent_line, end_lines, refusal_line}
 
 -- The most bytes of an input.
@@ -42,12 +43,16 @@ most_events = 16384
 abbrev pub first_play : Play
 first_play = record { number = 1; read = 0; events = 0; client = usual role.Client; server = usual role.Server; world = None }
 
-abbrev pub world_or_start : Config → Config → Option WorldState → WorldState
-world_or_start client server None = at_start client server
+-- two ends of these configurations that have sent and received nothing, each with its own congestion control
+abbrev pub starts : Config → Config → Controlled Both
+starts client server = begins_with kinds_control client server at_first at_first
+
+abbrev pub world_or_start : Config → Config → Option (Controlled Both) → Controlled Both
+world_or_start client server None = starts client server
 world_or_start client server (Some w) = w
 
 -- The world of a schedule: until its first event, that of the two configurations.
-abbrev pub world_of : Play → WorldState
+abbrev pub world_of : Play → Controlled Both
 world_of play = world_or_start play.client play.server play.world
 
 -- The next line begins behind this one.
@@ -111,38 +116,33 @@ with_offered side feature place mandatory play = with_config side (offering (con
 -- The text of an event that took place, and the world after it.
 pub record Shown : Type 0 where
   pub text : List ℕ
-  pub world : WorldState
+  pub world : Controlled Both
 
--- An event that took place, with the frame that its actor sent; its line tells it as that line said it.
-abbrev pub took_place : ℕ → text_event.Event → WorldState → Event → WorldStep → Shown
-took_place number said before event step = record {
+-- An event that took place, with the frame that its actor sent.
+abbrev pub took_place : ℕ → Controlled Both → Event → ControlledStep Both → Shown
+took_place number before event step = record {
   text =
-      seen_line number said (seen_told step.seen) (arrived step.world event)
-      ++ sent_line step.world (actor event) (length (half_of before (actor event)).frames);
-  world = step.world;
+      seen_line number event step.seen (arrived step.after.world event)
+      ++ sent_line step.after.world (actor event) (length (half_of before.world (actor event)).frames);
+  world = step.after;
 }
 
-abbrev pub by_step : ℕ → text_event.Event → WorldState → Event → Result WorldStep WorldFault → Result Shown LineFault
-by_step number said before event (Ok step) =
-    if is_told step.seen (arrived step.world event) then Ok (took_place number said before event step) else Err not_built
-by_step number said before event (Err fault.NoSuchFrame) = Err no_such_frame
-by_step number said before event (Err _) = Err (whole_line why.TooManyEvents)
+abbrev pub by_step : ℕ → Controlled Both → Event → Result (ControlledStep Both) WorldFault → Result Shown LineFault
+by_step number before event (Ok step) = Ok (took_place number before event step)
+by_step number before event (Err fault.NoSuchFrame) = Err no_such_frame
+by_step number before event (Err _) = Err (whole_line why.TooManyEvents)
 
 -- An event of a world, under the number of its line.
-abbrev pub event_shown : ℕ → text_event.Event → WorldState → Event → Result Shown LineFault
-event_shown number said before event = by_step number said before event (happens before event)
+abbrev pub event_shown : ℕ → Controlled Both → Event → Result Shown LineFault
+event_shown number before event = by_step number before event (happens_to kinds_control before event)
 
 abbrev pub by_shown : Play → List ℕ → Event → Result Shown LineFault → Verdict
 by_shown play piece event (Ok shown) = Accepted shown.text (event ∷ []) (record (behind play piece) { events = play.events + 1; world = Some shown.world })
 by_shown play piece event (Err fault) = Refused fault
 
-abbrev pub by_event : Play → List ℕ → text_event.Event → Option Event → Verdict
-by_event play piece said None = Refused not_built
-by_event play piece said (Some event) = by_shown play piece event (event_shown play.number said (world_of play) event)
-
-abbrev pub says_event : Play → List ℕ → text_event.Event → Verdict
-says_event play piece said =
-    if nat_lt play.events most_events then by_event play piece said (built_event said)
+abbrev pub says_event : Play → List ℕ → Event → Verdict
+says_event play piece event =
+    if nat_lt play.events most_events then by_shown play piece event (event_shown play.number (world_of play) event)
     else Refused (whole_line why.TooManyEvents)
 
 -- a wish or an offer that an end may not have
@@ -172,10 +172,10 @@ abbrev pub is_within : Play → List ℕ → Bool
 is_within play piece = ends_within play.read piece
 
 -- A line with its newline. Its faults are judged in this order: the bytes of the input, the line by itself up to its words, that it
--- stands before all events, what an end may wish, the count of events, what is not built, the frame that it names.
+-- stands before all events, what an end may wish, the count of events, the frame that it names.
 abbrev pub judged : Play → List ℕ → Verdict
 judged play piece =
-    if is_within play piece then by_line play piece (read_built (text_of piece)) else Refused (whole_line why.TooMuchInput)
+    if is_within play piece then by_line play piece (read_line (text_of piece)) else Refused (whole_line why.TooMuchInput)
 
 -- A line was played so: an accepted one leaves its text at the text's end and leads on, a refused one leaves the text as it was.
 abbrev pub Judges : Verdict → List ℕ → List ℕ → Play → Result (Unit {0}) LineFault → Type 0
@@ -183,7 +183,7 @@ Judges (Accepted text events next) old new play answer = (new ≡ old ++ text) �
 Judges (Refused fault) old new play answer = (new ≡ old) × (answer ≡ Err fault)
 
 -- An event was shown so.
-abbrev pub Shows : Result Shown LineFault → List ℕ → List ℕ → WorldState → Result (Unit {0}) LineFault → Type 0
+abbrev pub Shows : Result Shown LineFault → List ℕ → List ℕ → Controlled Both → Result (Unit {0}) LineFault → Type 0
 Shows (Ok shown) old new after answer = (new ≡ old ++ shown.text) × (after ≡ shown.world) × (answer ≡ Ok tt)
 Shows (Err fault) old new after answer = (new ≡ old) × (answer ≡ Err fault)
 
@@ -241,7 +241,7 @@ is_refused input = (performed input).is_refused
 
 -- From the two ends as they are configured, the world is safe after each prefix of the accepted events.
 abbrev pub IsSafeThroughout : Performance → Type 0
-IsSafeThroughout whole = (n : ℕ) → Safe (run (at_start whole.client whole.server) (take n whole.events))
+IsSafeThroughout whole = (n : ℕ) → Safe kinds_control (plays kinds_control (starts whole.client whole.server) (take n whole.events))
 
 abbrev pub SafeThroughout : List ℕ → Type 0
 SafeThroughout input = IsSafeThroughout (performed input)

@@ -14,7 +14,6 @@ fn line_why_name(why: LineWhy) -> &'static [u8]
         LineWhy::TooMuchInput => b"TooMuchInput",
         LineWhy::LineTooLong => b"LineTooLong",
         LineWhy::NotText => b"NotText",
-        LineWhy::NotBuilt => b"NotBuilt",
         LineWhy::Missing => b"Missing",
         LineWhy::UnknownWord => b"UnknownWord",
         LineWhy::BadNumber => b"BadNumber",

@@ -6,7 +6,6 @@
 #![tactic(auto)]
 
 mod blocks;
-mod built;
 mod capture_lines;
 mod fault;
 mod lines;

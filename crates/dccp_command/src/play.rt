@@ -1,18 +1,17 @@
 //! A schedule while it is played.
 ghost use Rattle.std.specs.Prelude.{◌≡◌, ◌++◌, ◌+◌, ◌^◌, ◌<◌, length, ℕ, List, is_some, if◌then◌else◌, IfOk, OnOk, Some, Ok, Err};
-ghost use Rattle.dccp_command.specs.Built.{not_built};
 ghost use Rattle.dccp_command.specs.RunLines.{end_lines};
 ghost use Rattle.dccp_command.specs.Transcript.{first_play, world_of, ArePeers, IsReady, IsBehind, Shows, event_shown, Judges, judged, by_line, ends_within, behind, configures, says_plain, with_iss, with_set, with_offered, without_offers, wishing, offering, in_place, says_event, whole_line, no_such_frame};
 ghost use Rattle.dccp_endpoint.specs.Drafts.{Fits};
 ghost use Rattle.feature_lists.specs.Wishes.{wish_of};
 ghost use Rattle.feature_machine.specs.Lists.{IsLists};
 
-use crate::built::{built_event, is_told, not_built, read_built, seen_told};
 use crate::lines::text_of;
 use crate::run_lines::{arrived, put_end_lines, put_sent_line};
+use ccid_two::Kinds;
 use dccp_endpoint::{Config, Role};
 use feature_lists::{Feature, Place};
-use schedule_text::{Line, LineFault, LineWhy, print_seen};
+use schedule_text::{Line, LineFault, LineWhy, print_seen, read_line};
 use seq_circle::{NoMemory, Seq48};
 use std::alloc::Global;
 use two_ends::{Event, Side, World, WorldFault};
@@ -38,7 +37,7 @@ pub(crate) struct Play {
     /// What the server is made from.
     pub(crate) server: Config,
     /// The two ends, from the first event on.
-    pub(crate) world: Option<World>,
+    pub(crate) world: Option<World<Kinds>>,
 }
 
 impl Play {
@@ -58,8 +57,7 @@ impl Play {
 
     /// Plays one line, which has its newline, or answers why it is refused. The faults that need more than the line are
     /// judged here, each at its place among those of the line itself: the limit of bytes before them, and behind them that
-    /// it has to stand before all events (but before what an end may wish), the limit of events, what is not built, and a frame
-    /// that was not sent.
+    /// it has to stand before all events (but before what an end may wish), the limit of events, and a frame that was not sent.
     pub(crate) fn judge(
         &mut self,
         alloc: Global,
@@ -73,7 +71,7 @@ impl Play {
         if !ends_within(self.read, line) {
             return Ok(Err(whole_line(LineWhy::TooMuchInput)));
         }
-        match read_built(text_of(line)) {
+        match read_line(text_of(line)) {
             Err(fault) => Ok(Err(self.in_place(fault))),
             Ok(said) => self.say(alloc, line, &said, text),
         }
@@ -218,24 +216,21 @@ impl Play {
         &mut self,
         alloc: Global,
         line: &[u8],
-        said: &schedule_text::Event,
+        event: &Event,
         text: &mut Vec<u8>,
     ) -> Result<Result<(), LineFault>, NoMemory>
         requires { IsReady self.old line.now }
-        ensures verdict { IfOk result (λ answer. Judges (says_event self.old line.now said.now) text.old.items text.new.items self.new answer) }
+        ensures verdict { IfOk result (λ answer. Judges (says_event self.old line.now event.now) text.old.items text.new.items self.new answer) }
         ensures onward { IfOk result (λ answer. answer ≡ Ok tt → IsBehind self.old line.now self.new) }
     {
         if MOST_EVENTS <= self.events {
             return Ok(Err(whole_line(LineWhy::TooManyEvents)));
         }
-        let Some(event) = built_event(said) else {
-            return Ok(Err(not_built()));
-        };
         self.make_world(alloc)?;
         let Some(world) = &mut self.world else {
             unreachable!()
         };
-        let answer = show_event(world, self.number, said, &event, text)?;
+        let answer = show_event(world, self.number, event, text)?;
         if answer.is_ok() {
             self.pass(line);
             self.events += 1;
@@ -243,13 +238,15 @@ impl Play {
         Ok(answer)
     }
 
-    // Makes the world of the two configurations, where none is made yet.
+    // Makes the world of the two configurations, where none is made yet. Each end may use CCID 2 and 248.
     fn make_world(&mut self, alloc: Global) -> Result<(), NoMemory>
         requires { ArePeers self.old.client self.old.server }
         ensures { OnOk result (self.new ≡ record self.old { world = Some (world_of self.old) }) }
     {
         if self.world.is_none() {
-            let world = World::new(alloc, self.client, self.server)?;
+            let for_client = Kinds::new(alloc)?;
+            let for_server = Kinds::new(alloc)?;
+            let world = World::new(alloc, self.client, self.server, for_client, for_server)?;
             self.world = Some(world);
         }
         Ok(())
@@ -308,24 +305,21 @@ fn lists_fit(config: &Config)
 }
 
 // Lets an event happen and puts its lines, or answers why its line is refused.
+#[tactic(auto, using(crate::proofs::Telling::event_is_told))]
 fn show_event(
-    world: &mut World,
+    world: &mut World<Kinds>,
     number: u64,
-    said: &schedule_text::Event,
     event: &Event,
     text: &mut Vec<u8>,
 ) -> Result<Result<(), LineFault>, NoMemory>
-    ensures { IfOk result (λ answer. Shows (event_shown number said.now world.old event.now) text.old.items text.new.items world.new answer) }
+    ensures { IfOk result (λ answer. Shows (event_shown number world.old event.now) text.old.items text.new.items world.new answer) }
 {
     let actor = event.actor();
     let before = world.frames(actor).len();
     match world.step(event) {
         Ok(seen) => {
             let bytes = arrived(world, event);
-            if !is_told(&seen, bytes) {
-                return Ok(Err(not_built()));
-            }
-            print_seen(number, said, &seen_told(&seen), bytes, text)?;
+            print_seen(number, event, &seen, bytes, text)?;
             put_sent_line(text, world, actor, before)?;
             Ok(Ok(()))
         }

@@ -1,21 +1,25 @@
 //! A replay while it is played: one end, at which frames arrive.
-ghost use Rattle.std.specs.Prelude.{◌≡◌, ◌++◌, ◌+◌, ◌^◌, ◌<◌, ◌≤◌, [], length, true, IfOk, OnOk, Some, Ok};
+ghost use Rattle.std.specs.Prelude.{◌≡◌, ◌++◌, ◌+◌, ◌^◌, ◌<◌, ◌≤◌, length, true, IfOk, OnOk, Some, Ok};
+ghost use Rattle.ccid_two.specs.Kinds.{kinds_control};
+ghost use Rattle.dccp_endpoint.specs.Controlled.{with_control};
 ghost use Rattle.dccp_endpoint.specs.Receiving.{receives};
 ghost use Rattle.dccp_endpoint.specs.Usual.{usual};
 ghost use Rattle.dccp_sum.specs.Checksum.{sealed};
+ghost use Rattle.schedule_text.specs.Results.{HasItsData};
 ghost use Rattle.dccp_command.specs.RunLines.{end_line};
 ghost use Rattle.dccp_command.specs.Replay.{role_of, replay_config, first_replay, open_line, reply_line, count, begun, begun_from, IsReady, IsBehind, behind, arriving, by_frame, judged, Judges};
 
-use crate::built::{is_told, not_built, seen_told};
 use crate::lines::text_of;
 use crate::play::{ends_within, whole_line};
 use crate::run_lines::{put_end_line, put_frame_line};
 use crate::text::put;
+use ccid_two::Kinds;
 use dccp_endpoint::{Config, Endpoint, OpenFault, Outcome, Role};
 use dccp_packets::{Frame, Outbox};
 use dccp_sum::{Pseudo, seal};
 use schedule_text::{FrameLine, LineFault, LineWhy, print_result, read_frame};
 use seq_circle::NoMemory;
+use std::alloc::Global;
 use two_ends::{Seen, Side};
 
 /// Where a replay stands.
@@ -30,15 +34,16 @@ pub(crate) struct Replay {
     /// Whose end it is.
     pub(crate) side: Side,
     /// The end.
-    pub(crate) end: Endpoint,
+    pub(crate) end: Endpoint<Kinds>,
 }
 
 impl Replay {
     // Before all: the end is new.
-    fn new(side: Side, plain: bool) -> Result<Replay, NoMemory>
+    fn new(alloc: Global, side: Side, plain: bool) -> Result<Replay, NoMemory>
         ensures { IfOk result (λ replay. replay ≡ first_replay side plain) }
     {
-        let end = Endpoint::new(replay_config(side, plain))?;
+        let congestion = Kinds::new(alloc)?;
+        let end = Endpoint::new(alloc, replay_config(side, plain), congestion)?;
         Ok(Replay {
             number: 1,
             read: 0,
@@ -49,11 +54,16 @@ impl Replay {
     }
 
     /// Where a replay stands before its first line; a client has opened then, and the lines of that were put.
-    pub(crate) fn begin(side: Side, plain: bool, text: &mut Vec<u8>) -> Result<Replay, NoMemory>
+    pub(crate) fn begin(
+        alloc: Global,
+        side: Side,
+        plain: bool,
+        text: &mut Vec<u8>,
+    ) -> Result<Replay, NoMemory>
         ensures value { IfOk result (λ replay. replay ≡ (begun side plain).replay) }
         ensures text { OnOk result (text.new.items ≡ text.old.items ++ (begun side plain).text) }
     {
-        let mut replay = Replay::new(side, plain)?;
+        let mut replay = Replay::new(alloc, side, plain)?;
         if side == Side::Client {
             replay.open(text)?;
         }
@@ -86,7 +96,7 @@ impl Replay {
     }
 
     /// Replays one line, which has its newline, or answers why it is refused. The limit of bytes is judged before the line
-    /// itself, and behind it what is not built.
+    /// itself.
     pub(crate) fn judge(
         &mut self,
         line: &[u8],
@@ -126,10 +136,7 @@ impl Replay {
         let mut out = Outbox::new();
         let bytes = frame.bytes();
         let seen = Seen::Received(arrive(&mut self.end, bytes, &mut out));
-        if !is_told(&seen, bytes) {
-            return Ok(Err(not_built()));
-        }
-        print_result(self.number, &seen_told(&seen), bytes, text)?;
+        print_result(self.number, &seen, bytes, text)?;
         self.put_sent(&out, text)?;
         self.pass(line);
         Ok(Ok(()))
@@ -208,10 +215,11 @@ fn seal_frame(pseudo: &Pseudo, frame: &mut Frame)
     let _ = seal(pseudo, bytes);
 }
 
-// The step of the end alone.
-fn arrive(end: &mut Endpoint, bytes: &[u8], out: &mut Outbox) -> Outcome
+// The step of the end alone. Data that it delivers stand within the bytes.
+fn arrive(end: &mut Endpoint<Kinds>, bytes: &[u8], out: &mut Outbox) -> Outcome
     requires { length bytes.now ≤ 2044 }
-    ensures { record { after = end.new; frame = out.new; calls = []; answer = result } ≡ receives end.old bytes.now }
+    ensures step { record { after = end.new; frame = out.new; answer = result } ≡ with_control kinds_control end.old.congestion (receives end.old.state bytes.now) }
+    ensures told { HasItsData bytes.now result }
 {
     end.receive(bytes, out)
 }

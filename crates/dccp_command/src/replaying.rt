@@ -21,7 +21,7 @@ pub(crate) fn replay_all(
     ensures refused { IfOk result (λ played. played.refused ≡ is_refused side plain input.now) }
 {
     let mut text = Vec::new(alloc);
-    let mut replay = Replay::begin(side, plain, &mut text)?;
+    let mut replay = Replay::begin(alloc, side, plain, &mut text)?;
     let mut rest = input;
     while !rest.is_empty() {
         let (line, behind) = first_line(rest);

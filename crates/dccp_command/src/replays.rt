@@ -135,6 +135,30 @@ end server LISTEN window 4 flight 0 1=2/2 2=0/0 3=100/100 4=0/0 5=2/2 6=0/0 7=0/
     Ok(())
 }
 
+// Data in OPEN, and data of no bytes; every second packet of data is answered by an Ack.
+#[test]
+fn data_are_told(rt: HostRuntime) -> Result<(), Fail> {
+    assert!(rt;
+        serves(
+            &rt,
+            rt.alloc(),
+            "seal 9c4013890500000001000000000003e80000002a\n\
+seal 9c4013890600000007000000000003e900000000000007d0\n\
+seal 9c4013890400000005000000000003eaaa05\n\
+seal 9c4013890400000005000000000003eb\n",
+            "1: took\n\
+sent s0 13899c400700261403000000000007d000000000000003e80000002a\n\
+2: took\n\
+sent s1 13899c400600234007000000000007d100000000000003e9\n\
+3: took data aa05\n\
+4: took data -\n\
+sent s2 13899c400600233d07000000000007d200000000000003eb\n\
+end server OPEN window 4 flight 0 1=2/2 2=0/0 3=100/100 4=0/0 5=2/2 6=0/0 7=0/0 8=0/0 9=0/0\n",
+        )?
+    );
+    Ok(())
+}
+
 // Lines that say nothing; and lines that are refused, with their number and column.
 #[test]
 fn refused_lines(rt: HostRuntime) -> Result<(), Fail> {

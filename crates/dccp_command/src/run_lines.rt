@@ -6,6 +6,7 @@ ghost use Rattle.dccp_command.specs.Text.{phase_name, stand_mark};
 ghost use Rattle.dccp_command.specs.RunLines.{arrived, bytes_line, frame_line, sent_line, held_text, row_text, end_name, end_counts, end_rows, end_line, end_lines};
 
 use crate::text::{put, put_hex, put_number};
+use ccid_two::Kinds;
 use dccp_endpoint::{Endpoint, Held, Phase, Stand};
 use feature_lists::{Feature, Place};
 use seq_circle::NoMemory;
@@ -75,8 +76,8 @@ fn put_frame_name(text: &mut Vec<u8>, side: Side, index: u64) -> Result<(), NoMe
 }
 
 /// The bytes of the frame that an event brought to an end; none for a call.
-pub(crate) fn arrived<'a>(world: &'a World, event: &Event) -> &'a [u8]
-    ensures { result.now ≡ arrived world.now event.now }
+pub(crate) fn arrived<'a>(world: &'a World<Kinds>, event: &Event) -> &'a [u8]
+    ensures { result.now ≡ arrived world.now.world event.now }
 {
     let Event::Deliver { from, index } = event else {
         return &[];
@@ -106,11 +107,11 @@ pub(crate) fn put_frame_line(
 /// Puts the line of the frame that a side sent in a step, if it sent one, where it had sent `before` frames before.
 pub(crate) fn put_sent_line(
     text: &mut Vec<u8>,
-    world: &World,
+    world: &World<Kinds>,
     side: Side,
     before: usize,
 ) -> Result<(), NoMemory>
-    ensures { OnOk result (text.new.items ≡ text.old.items ++ sent_line world.now side before) }
+    ensures { OnOk result (text.new.items ≡ text.old.items ++ sent_line world.now.world side before) }
 {
     match world.frames(side).get(before) {
         Some(frame) => put_frame_line(text, side, before as u64, frame.bytes.as_slice()),
@@ -126,8 +127,8 @@ fn put_held(text: &mut Vec<u8>, held: Held) -> Result<(), NoMemory>
 }
 
 #[tactic(auto, unfolding(crate::specs::RunLines::row_text))]
-fn put_row(text: &mut Vec<u8>, end: &Endpoint, feature: Feature) -> Result<(), NoMemory>
-    ensures { OnOk result (text.new.items ≡ text.old.items ++ row_text end.now feature) }
+fn put_row(text: &mut Vec<u8>, end: &Endpoint<Kinds>, feature: Feature) -> Result<(), NoMemory>
+    ensures { OnOk result (text.new.items ≡ text.old.items ++ row_text end.now.state feature) }
 {
     put(text, b" ")?;
     put_number(text, u64::from(feature.number()))?;
@@ -138,8 +139,8 @@ fn put_row(text: &mut Vec<u8>, end: &Endpoint, feature: Feature) -> Result<(), N
 }
 
 #[tactic(auto, unfolding(crate::specs::RunLines::end_rows))]
-fn put_rows(text: &mut Vec<u8>, end: &Endpoint) -> Result<(), NoMemory>
-    ensures { OnOk result (text.new.items ≡ text.old.items ++ end_rows end.now) }
+fn put_rows(text: &mut Vec<u8>, end: &Endpoint<Kinds>) -> Result<(), NoMemory>
+    ensures { OnOk result (text.new.items ≡ text.old.items ++ end_rows end.now.state) }
 {
     for feature in &FEATURES {
         put_row(text, end, *feature)?;
@@ -147,8 +148,8 @@ fn put_rows(text: &mut Vec<u8>, end: &Endpoint) -> Result<(), NoMemory>
     Ok(())
 }
 
-fn put_end_name(text: &mut Vec<u8>, side: Side, end: &Endpoint) -> Result<(), NoMemory>
-    ensures { OnOk result (text.new.items ≡ text.old.items ++ end_name side end.now) }
+fn put_end_name(text: &mut Vec<u8>, side: Side, end: &Endpoint<Kinds>) -> Result<(), NoMemory>
+    ensures { OnOk result (text.new.items ≡ text.old.items ++ end_name side end.now.state) }
 {
     put(text, b"end ")?;
     put(text, side_name(side))?;
@@ -156,8 +157,8 @@ fn put_end_name(text: &mut Vec<u8>, side: Side, end: &Endpoint) -> Result<(), No
     put(text, phase_name(end.phase()))
 }
 
-fn put_end_counts(text: &mut Vec<u8>, end: &Endpoint) -> Result<(), NoMemory>
-    ensures { OnOk result (text.new.items ≡ text.old.items ++ end_counts end.now) }
+fn put_end_counts(text: &mut Vec<u8>, end: &Endpoint<Kinds>) -> Result<(), NoMemory>
+    ensures { OnOk result (text.new.items ≡ text.old.items ++ end_counts end.now.congestion) }
 {
     put(text, b" window ")?;
     put_number(text, u64::from(end.window()))?;
@@ -166,7 +167,11 @@ fn put_end_counts(text: &mut Vec<u8>, end: &Endpoint) -> Result<(), NoMemory>
 }
 
 /// Puts the line of an end when the input is over.
-pub(crate) fn put_end_line(text: &mut Vec<u8>, side: Side, end: &Endpoint) -> Result<(), NoMemory>
+pub(crate) fn put_end_line(
+    text: &mut Vec<u8>,
+    side: Side,
+    end: &Endpoint<Kinds>,
+) -> Result<(), NoMemory>
     ensures { OnOk result (text.new.items ≡ text.old.items ++ end_line side end.now) }
 {
     put_end_name(text, side, end)?;
@@ -176,7 +181,7 @@ pub(crate) fn put_end_line(text: &mut Vec<u8>, side: Side, end: &Endpoint) -> Re
 }
 
 /// Puts the two lines at a schedule's end.
-pub(crate) fn put_end_lines(text: &mut Vec<u8>, world: &World) -> Result<(), NoMemory>
+pub(crate) fn put_end_lines(text: &mut Vec<u8>, world: &World<Kinds>) -> Result<(), NoMemory>
     ensures { OnOk result (text.new.items ≡ text.old.items ++ end_lines world.now) }
 {
     put_end_line(text, Side::Client, world.end(Side::Client))?;

@@ -83,6 +83,10 @@ deliver c0\n\
 deliver s0\n\
 deliver c1\n\
 deliver s1\n\
+send client aa\n\
+prefer client there 3 200\n\
+prefer client here 1 3\n\
+timer client rto\n\
 open\n\
 close client\n\
 deliver c2\n\
@@ -100,17 +104,68 @@ sent c1 9c4013890600234107000000000003e900000000000007d0\n\
 5 deliver c1: took\n\
 sent s1 13899c400600234007000000000007d100000000000003e9\n\
 6 deliver s1: took\n\
-7 open: refused NotFresh\n\
-8 close client: ok\n\
+7 send client aa: refused NotNegotiated\n\
+8 prefer client there 3 200: refused NotOurs\n\
+9 prefer client here 1 3: refused BadList\n\
+10 timer client rto: idle\n\
+11 open: refused NotFresh\n\
+12 close client: ok\n\
 sent c2 9c40138906001d3f0d000000000003ea00000000000007d1\n\
-9 deliver c2: sent reset 1 0 0 0\n\
+13 deliver c2: sent reset 1 0 0 0\n\
 sent s2 13899c400700193a0f000000000007d200000000000003ea01000000\n\
-10 deliver s2: was reset 1\n\
-11 timer client timewait: fired\n\
-12 abort client: refused NotLive\n\
-13 close server: refused NotOpen\n\
+14 deliver s2: was reset 1\n\
+15 timer client timewait: fired\n\
+16 abort client: refused NotLive\n\
+17 close server: refused NotOpen\n\
 end client CLOSED window 4 flight 0 1=2/2 2=0/0 3=100/100 4=0/0 5=2/2 6=0/0 7=0/0 8=0/0 9=0/0\n\
 end server CLOSED window 4 flight 0 1=2/2 2=0/0 3=100/100 4=0/0 5=2/2 6=0/0 7=0/0 8=0/0 9=0/0\n";
+
+const USUAL_CONNECTION_WITH_DATA: &[u8] =
+    b"# The usual ends, and data of the client. The frame c4 overtakes c3, which then comes below the floor of the Ack Vectors:\n\
+# it is taken, and its data is not delivered. Two data packets are in flight at the end.\n\
+open\n\
+deliver c0\n\
+deliver s0\n\
+deliver c1\n\
+deliver s1\n\
+send client aa\n\
+send client bb\n\
+send client cc\n\
+deliver c2\n\
+deliver c4\n\
+deliver s2\n\
+send client dd\n\
+deliver c5\n\
+deliver c3\n\
+timer server ack\n";
+
+const USUAL_CONNECTION_WITH_DATA_TEXT: &[u8] = b"3 open: ok\n\
+sent c0 9c401389080000b601000000000003e80000002a012004040101220406010000\n\
+4 deliver c0: took\n\
+sent s0 13899c400d00a1c303000000000007d000000000000003e80000002a230604010100210606010100012004040101220406010000\n\
+5 deliver s0: took\n\
+sent c1 9c4013890a00eadd07000000000003e900000000000007d026030023060401010021060601010000\n\
+6 deliver c1: took\n\
+sent s1 13899c400700fb3807000000000007d100000000000003e926030100\n\
+7 deliver s1: took\n\
+8 send client aa: ok\n\
+sent c2 9c4013890700503609000000000003ea00000000000007d126030000aa\n\
+9 send client bb: ok\n\
+sent c3 9c4013890400741505000000000003ebbb\n\
+10 send client cc: ok\n\
+sent c4 9c4013890400631405000000000003eccc\n\
+11 deliver c2: took data aa\n\
+12 deliver c4: took data cc\n\
+sent s2 13899c400800fa6e07000000000007d200000000000003ec260500c000000000\n\
+13 deliver s2: took\n\
+14 send client dd: ok\n\
+sent c5 9c40138907001c3209000000000003ed00000000000007d226030100dd\n\
+15 deliver c5: took data dd\n\
+16 deliver c3: took\n\
+17 timer server ack: fired\n\
+sent s3 13899c400700fc3207000000000007d300000000000003ed26030000\n\
+end client OPEN window 5 flight 2 1=2/2 2=0/0 3=100/100 4=1/1 5=2/2 6=1/1 7=0/0 8=0/0 9=0/0\n\
+end server OPEN window 4 flight 0 1=2/2 2=0/0 3=100/100 4=1/1 5=2/2 6=1/1 7=0/0 8=0/0 9=0/0\n";
 
 const USAGE: &[u8] =
     b"usage: dccp run | replay --side server|client [--plain] | campaign --first F --seeds N --events E --workers W | show\n";
@@ -225,6 +280,7 @@ fn worked_schedules(rt: HostRuntime) -> Result<(), Fail> {
         (NUMBER_WRAP, NUMBER_WRAP_TEXT),
         (OLDER_REQUEST_LAST, OLDER_REQUEST_LAST_TEXT),
         (REFUSED_CALLS_AND_CLOSING, REFUSED_CALLS_AND_CLOSING_TEXT),
+        (USUAL_CONNECTION_WITH_DATA, USUAL_CONNECTION_WITH_DATA_TEXT),
     ] {
         let (status, text) = played(&rt, rt.alloc(), schedule, ROOM)?;
         assert_eq!(rt; status, Status::Done, "{schedule:?}");
@@ -252,8 +308,9 @@ fn faults_of_a_line(rt: HostRuntime) -> Result<(), Fail> {
         (too_long, b"line 1 column 4097: LineTooLong\n".as_slice()),
         (b"plain\n#\t\n", b"line 2 column 2: NotText\n"),
         (b"set\x7f", b"line 1 column 4: NotText\n"),
-        (b"send\n", b"line 1 column 1: NotBuilt\n"),
-        (b"#\nsend client  x\n", b"line 2 column 1: NotBuilt\n"),
+        (b"send\n", b"line 1 column 6: Missing\n"),
+        (b"#\nsend client  x\n", b"line 2 column 13: Missing\n"),
+        (b"send client abc\n", b"line 1 column 16: BadHex\n"),
         (b"set\n", b"line 1 column 5: Missing\n"),
         (b"#\nprefer client  x\n", b"line 2 column 15: Missing\n"),
         (b"settle\n", b"line 1 column 1: UnknownWord\n"),
@@ -324,7 +381,14 @@ fn faults_of_a_place(rt: HostRuntime) -> Result<(), Fail> {
             b"open\noffer client here 1 mandatory\n",
             b"line 2 column 1: HeaderLate\n",
         ),
-        (b"timer server rto\n", b"line 1 column 1: NotBuilt\n"),
+        (
+            b"send client 00\niss client 1\n",
+            b"line 2 column 1: HeaderLate\n",
+        ),
+        (
+            b"timer server rto\ndeliver s0\n",
+            b"line 2 column 9: NoSuchFrame\n",
+        ),
         (b"timer server rto 1\n", b"line 1 column 18: Trailing\n"),
         (
             b"deliver c140737488355327\n",

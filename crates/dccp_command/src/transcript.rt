@@ -5,6 +5,7 @@ ghost use Rattle.dccp_command.specs.Transcript.{transcript, is_refused, SafeThro
 use crate::fault::put_refusal;
 use crate::lines::first_line;
 use crate::play::Play;
+use ccid_two::Kinds;
 use seq_circle::NoMemory;
 use std::alloc::Global;
 use two_ends::every_run_is_safe;
@@ -23,7 +24,7 @@ pub(crate) fn play_all(alloc: Global, input: &[u8]) -> Result<Transcript, NoMemo
     ensures safe { OnOk result (SafeThroughout input.now) }
 {
     // The law, which `safe` follows from.
-    every_run_is_safe();
+    every_run_is_safe::<Kinds>();
     let mut play = Play::new();
     let mut text = Vec::new(alloc);
     let mut rest = input;

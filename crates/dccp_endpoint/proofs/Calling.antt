@@ -1,8 +1,9 @@
 -- Every step of a proper end has an effect. A call or a timer does nothing, moves the phase alone, or sends a packet.
-use Rattle.std.proofs.Common.{◌≡◌, inl, inr, refl, ap, sym, ◌∙◌, subst, ℕ, Bool, true, false, List, [], ◌∷◌, None, Result, Ok, Err, arith}
+use Rattle.std.proofs.Common.{◌≡◌, inl, inr, refl, ap, sym, ◌∙◌, subst, ℕ, ◌≤◌, nat_lt, Bool, true, false, not, if◌then◌else◌, List, [], ◌∷◌, length, Option, Some, None, Result, Ok, Err, arith}
 use Rattle.std.specs.List.{All}
 use Rattle.std.proofs.lemmas.Bool.{false≢true}
 use Rattle.std.proofs.lemmas.List.Elements.{All-cons, All-nil}
+use Rattle.congestion_trait.specs.Calls as call
 use Rattle.dccp_packets.specs.Grammar.{has_forms, packet_type}
 use Rattle.dccp_packets.specs.Kinds.{ack_of}
 use Rattle.dccp_packets.specs.Widths.{HasDetail}
@@ -24,21 +25,26 @@ use Rattle.feature_machine.specs.Rows as event
 use Rattle.feature_machine.specs.Turns.{Turn, turned}
 use Rattle.feature_machine.specs.declared.row.Row.{Row}
 use Rattle.feature_machine.proofs.Turning.{turned-joined}
-use Rattle.dccp_endpoint.specs.Calling.{aborts, aborts_in, asks_all, asks_now, closes, closes_in, closes_now, aborts_now, fires, fires_in, is_asking_now, opens, opens_as, preferring, prefers, prefers_in, prefers_so, prefers_wish, requests, requests_asking}
-use Rattle.dccp_endpoint.specs.Causes.{Acknowledges, AreHeard, AreTurns, ByCall, Deaf, EveryStepHasOneEffect, Greatest, HasEffect, Keeps, LeavesIt, NotNow, Nothing, PrefersLater, PrefersNow, Repeating, StaysSo, is_acking, is_waiting, is_without_connection}
-use Rattle.dccp_endpoint.specs.Drafts.{alone}
-use Rattle.dccp_endpoint.specs.Effects.{Unheard, opened_by}
-use Rattle.dccp_endpoint.specs.End.{EndState, IsProper, is_connected, is_live, is_phase_of, with_rows}
+use Rattle.dccp_endpoint.specs.Calling.{aborts, aborts_in, asks_all, asks_now, closes, closes_in, closes_now, aborts_now, fires, fires_in, is_asking_now, lacks_vectors, most_data, opens, opens_as, preferring, prefers, prefers_in, prefers_so, prefers_wish, requests, requests_asking, sends_data, sends_payload, sends_unless, times_out}
+use Rattle.dccp_endpoint.specs.Causes.{Acknowledges, AreHeard, AreTurns, ByCall, CallsSent, CallsTimeout, Deaf, EveryStepHasOneEffect, Greatest, HasEffect, Keeps, LeavesIt, LooksNowhere, NotNow, Nothing, PrefersLater, PrefersNow, Repeating, StaysSo, is_waiting, is_without_connection}
+use Rattle.dccp_endpoint.specs.Drafts.{IsSendable, alone, carrying}
+use Rattle.dccp_endpoint.specs.Effects.{Next, Unheard, effect_of, end_after, frame_by, opened_by}
+use Rattle.dccp_endpoint.specs.End.{EndState, IsProper, is_connected, is_live, is_open, is_phase_of, with_rows}
 use Rattle.dccp_endpoint.specs.Inputs.{Input, Arrives, Opens, Closes, Aborts, Fires, Prefers, stepped}
+use Rattle.dccp_endpoint.specs.Inputs as input
+use Rattle.dccp_endpoint.specs.Reporting.{is_acking, sends_ack}
 use Rattle.dccp_endpoint.specs.Speaking.{change_items, is_confirmed, saying}
-use Rattle.dccp_endpoint.specs.Steps.{Step, in_phase, sends, detail_of, next_number, without_detail}
+use Rattle.dccp_endpoint.specs.Steps.{Step, idle, in_phase, detail_of, next_number, with_calls, without_detail}
 use Rattle.dccp_endpoint.specs.Turns.{Key, offerings, sendings, turn_of}
+use Rattle.dccp_endpoint.specs.declared.calls.SendFault.{SendFault}
+use Rattle.dccp_endpoint.specs.declared.calls.SendFault.TheVariants as send
 use Rattle.dccp_endpoint.specs.declared.calls.Timer.{Timer}
 use Rattle.dccp_endpoint.specs.declared.calls.Timer.TheVariants as timers
-use Rattle.dccp_endpoint.proofs.Deriving.{Ready, ack-caused, has-by, left, next-caused, offered_keys, offered_turns, offering, plain-caused, quiet, rest, silent-caused, wide, wide-proper, widened}
+use Rattle.dccp_endpoint.proofs.Deriving.{Ready, ack-caused, calling-caused, data-ack-caused, front_of, has-by, left, next-caused, offered_keys, offered_turns, offering, plain-caused, quiet, rest, silent-caused, wide, wide-proper, widened}
 use Rattle.dccp_endpoint.proofs.Lawful.{offered-sound, rows-kept}
 use Rattle.dccp_endpoint.proofs.OwnFrames.{alone-sendable}
-use Rattle.dccp_endpoint.proofs.Room.{asking-few, due-few, no-confirms, saying-sendable}
+use Rattle.dccp_endpoint.proofs.Phases.{open-is}
+use Rattle.dccp_endpoint.proofs.Room.{asking-few, due-few, front-confirming-sendable, front-saying-sendable, no-confirms, saying-sendable, vector-front}
 use Rattle.dccp_endpoint.proofs.Tables.{numbered-code}
 use Rattle.dccp_endpoint.proofs.Walking.{receives-told}
 
@@ -102,23 +108,25 @@ module _ (o : EndState) (given : Input) (proper : IsProper (wide o)) where
 
   -- a phase without windows, where nothing is heard
   apart : (ph : Phase) → is_live ph ≡ false → is_waiting ph ≡ false → is_phase_of ph e.config.role ≡ true
-      → (e.phase ≡ phase.Closed → ph ≡ phase.Closed) → Ready e given Unheard None false ph false
+      → (e.phase ≡ phase.Closed → ph ≡ phase.Closed) → Ready e given Unheard None false ph false None
   apart ph dead heard its_role shut =
       left ph dead its_role (λ is. absurd (false≢true (sym heard ∙ is))) (λ closed. inl (shut closed)) (Keeps (λ is. absurd (false≢true (sym dead ∙ is)))) LeavesIt NotNow
 
   idle-has : HasEffect e given e None []
-  idle-has = has-by (silent-caused (rest proper) quiet refl refl (λ is. is))
+  idle-has = has-by (silent-caused (rest proper) e.owed e.unacked quiet refl refl (λ is. is))
 
-  plain-has : {ph : Phase} {called : Bool} → Ready e given Unheard None false ph called → (k : Kind) → has_forms true k ≡ true → HasDetail k
+  plain-has : {ph : Phase} {called : Bool} → Ready e given Unheard None false ph called None → (k : Kind) → has_forms true k ≡ true → HasDetail k
       → is_acking (packet_type k) ≡ false → Acknowledges e given e.marks.gsr (ack_of k) → is_without_connection e.config.role k ≡ false
-      → Has e given (sends (record e { opened = opened_by e.opened called; phase = ph }) (alone k) true)
+      → HasEffect e given (end_after e (effect_of e Unheard None false ph called (Next (alone k)))) (frame_by e (Next (alone k))) []
   plain-has ready k long detail other acknowledges numbered = has-by (plain-caused ready k long detail other acknowledges numbered)
 
-  ack-has : is_connected e.phase ≡ true → Has e given (sends e (alone (kind.Ack (Long e.marks.gsr))) true)
-  ack-has connected = has-by (ack-caused (rest proper) quiet [] (alone-sendable (kind.Ack (Long e.marks.gsr)) refl tt) refl (inl refl) connected)
+  ack-has : is_connected e.phase ≡ true → Has e given (sends_ack e (alone (kind.Ack (Long e.marks.gsr))) true)
+  ack-has connected = has-by (ack-caused (rest proper) quiet []
+      (front-confirming-sendable (kind.Ack (Long e.marks.gsr)) (front_of (rest {given = given} proper) []) [] refl tt refl (vector-front _ _ _) no-confirms)
+      refl (inl refl) connected)
 
   -- A Request: all offers come up, and the Changes go out of all rows that ask then.
-  requested-has : (ph : Phase) (called : Bool) → Ready e given Unheard None false ph called
+  requested-has : (ph : Phase) (called : Bool) → Ready e given Unheard None false ph called None
       → Has e given (requests (record e { opened = opened_by e.opened called; phase = ph }) true)
   requested-has ph called ready =
       let offered : List Turn = offerings (is_confirmed []) every_place in
@@ -128,7 +136,7 @@ module _ (o : EndState) (given : Input) (proper : IsProper (wide o)) where
       let kept = rows-kept proper (offering hears) in
       subst (λ (rows : List Row). Has e given (requests_asking (with_rows (record e { opened = opened_by e.opened called; phase = ph }) rows) keys true))
       (turned-joined e.rows offered (sendings (next_number e) keys))
-      (has-by (next-caused ready (offering hears) (saying packet [] (turned e.rows (offered_turns e [] [])) keys)
+      (has-by (next-caused ready e.owed e.unacked (offering hears) (saying packet [] (turned e.rows (offered_turns e [] [])) keys)
       (saying-sendable packet [] (turned e.rows (offered_turns e [] [])) keys refl tt refl no-confirms kept.sound
       (asking-few (turned e.rows offered) [] (offered-sound proper hears)))
       refl (inl refl) refl Nothing refl))
@@ -142,7 +150,8 @@ module _ (o : EndState) (given : Input) (proper : IsProper (wide o)) where
       let kept = rows-kept proper turns in
       subst (λ (ks : List Key). Has e given (asks_now e ks true)) is
       (has-by (ack-caused (rest proper) repeating (change_items rows (due_keys e.rows))
-      (saying-sendable (kind.Ack (Long e.marks.gsr)) [] rows (due_keys e.rows) refl tt refl no-confirms kept.sound (due-few e.rows proper.rows.sound))
+      (front-saying-sendable (kind.Ack (Long e.marks.gsr)) (front_of (rest {given = given} proper) (sendings (next_number e) (due_keys e.rows))) [] rows
+      (due_keys e.rows) refl tt refl (vector-front _ _ _) no-confirms kept.sound (due-few e.rows proper.rows.sound))
       refl (inl refl) connected))
 
   -- prefer
@@ -152,9 +161,11 @@ module _ (o : EndState) (given : Input) (proper : IsProper (wide o)) where
       let rows : List Row = turned e.rows (turn_of k (event.Prefers wish) ∷ sendings (next_number e) (k ∷ [])) in
       let kept = rows-kept proper (preferring-now {e = e} k values wish called is now) in
       has-by (ack-caused (rest proper) (preferring-now k values wish called is now) (change_items rows (k ∷ []))
-      (saying-sendable (kind.Ack (Long e.marks.gsr)) [] rows (k ∷ []) refl tt refl no-confirms kept.sound (omega arith)) refl (inl refl) connected)
+      (front-saying-sendable (kind.Ack (Long e.marks.gsr))
+      (front_of (rest {given = given} proper) (turn_of k (event.Prefers wish) ∷ sendings (next_number e) (k ∷ []))) [] rows (k ∷ []) refl tt refl
+      (vector-front _ _ _) no-confirms kept.sound (omega arith)) refl (inl refl) connected)
   preferred-has k values called connected wish is false later =
-      has-by (silent-caused (rest proper) (preferring-later k values wish called is later) refl refl (λ so. so))
+      has-by (silent-caused (rest proper) e.owed e.unacked (preferring-later k values wish called is later) refl refl (λ so. so))
 
   wished-has : (k : Key) (values : List ℕ) → given ≡ Prefers k values → is_connected e.phase ≡ true → (wish : Result Wanted PreferFault)
       → wish_of k.0 k.1 values ≡ wish → Has e given (prefers_wish e k wish)
@@ -177,7 +188,7 @@ module _ (o : EndState) (given : Input) (proper : IsProper (wide o)) where
 
   -- close
   closing : (ph : Phase) → is_live e.phase ≡ true → is_phase_of ph e.config.role ≡ true → (ph ≡ phase.Open → e.phase ≡ phase.Open) → is_waiting ph ≡ false
-      → Ready e given Unheard None false ph false
+      → Ready e given Unheard None false ph false None
   closing ph live its_role same heard =
       record {
         hears = Keeps (λ _. live);
@@ -188,6 +199,7 @@ module _ (o : EndState) (given : Input) (proper : IsProper (wide o)) where
         shut = λ closed. absurd (false≢true (sym (ap is_live closed) ∙ live));
         opening = StaysSo same;
         opened = NotNow;
+        looks = LooksNowhere;
       }
 
   closes-has : is_live e.phase ≡ true → (r : Role) → e.config.role ≡ r → Has e given (closes_now e r)
@@ -209,7 +221,7 @@ module _ (o : EndState) (given : Input) (proper : IsProper (wide o)) where
 
   -- the phase alone becomes CLOSED
   closed-has : HasEffect e given (in_phase e phase.Closed) None []
-  closed-has = has-by (silent-caused (apart phase.Closed refl refl refl (λ closed. refl)) quiet refl refl (λ is. absurd (false≢true is)))
+  closed-has = has-by (silent-caused (apart phase.Closed refl refl refl (λ closed. refl)) e.owed e.unacked quiet refl refl (λ is. absurd (false≢true is)))
 
   aborts-in : (ph : Phase) → Has e given (aborts_in e ph)
   aborts-in phase.Closed = idle-has
@@ -218,29 +230,74 @@ module _ (o : EndState) (given : Input) (proper : IsProper (wide o)) where
   aborts-in phase.Request = closed-has
   aborts-in _ = aborts-has
 
+  -- send: the same draft with data has a frame, too
+  data-sendable : (k : Kind) (payload : List ℕ) → IsSendable (alone k) → length payload ≤ 1024 → IsSendable (carrying k payload)
+  data-sendable k payload empty fits =
+      record { is_long = empty.is_long; detail = empty.detail; items = empty.items; on_data = empty.on_data; area = empty.area; data_fits = fits }
+
+  data-has : (payload : List ℕ) → given ≡ input.Sends payload true → e.phase ≡ phase.Open → length payload ≤ 1024 → (owed : Bool)
+      → Has e given (with_calls (call.Sends (next_number e) ∷ []) (sends_data e payload owed))
+  data-has payload called in_open fits true =
+      let packet : Kind = kind.DataAck (Long e.marks.gsr) in
+      let empty = front-confirming-sendable packet (front_of (rest {given = given} proper) []) [] refl tt refl (vector-front _ _ _) no-confirms in
+      has-by (calling-caused (CallsSent payload called in_open refl)
+      (data-ack-caused (rest proper) payload
+      (record { is_long = empty.is_long; detail = empty.detail; items = empty.items; on_data = empty.on_data; area = empty.area; data_fits = fits })
+      (ap is_connected in_open)))
+  data-has payload called in_open fits false =
+      has-by (calling-caused (CallsSent payload called in_open refl)
+      (next-caused (rest proper) e.owed e.unacked quiet (carrying kind.Data payload)
+      (data-sendable kind.Data payload (alone-sendable kind.Data refl tt) fits) refl (inl refl) refl Nothing refl))
+
+  -- whatever it is refused for
+  sends-has : (payload : List ℕ) (may_send : Bool) → given ≡ input.Sends payload may_send → (in_open long lacks : Bool) → is_open e.phase ≡ in_open
+      → nat_lt most_data (length payload) ≡ long
+      → Has e given (sends_unless e payload
+      (if not in_open then Some send.NotOpen
+      else if long then Some send.TooLong
+      else if lacks then Some send.NotNegotiated
+      else if not may_send then Some send.WindowFull
+      else None))
+  sends-has payload may_send called false long lacks apart is = idle-has
+  sends-has payload may_send called true true lacks in_open is = idle-has
+  sends-has payload may_send called true false true in_open is = idle-has
+  sends-has payload false called true false false in_open is = idle-has
+  sends-has payload true called true false false in_open is = data-has payload called (open-is e.phase in_open) (grind (arith, is)) e.owed
+
   -- the timers
-  fires-in : (timer : Timer) (ph : Phase) → e.phase ≡ ph → Has e given (fires_in e timer ph)
-  fires-in timers.Request phase.Request is = requested-has e.phase false (rest proper)
-  fires-in timers.Ack phase.PartOpen is = ack-has (ap is_connected is)
-  fires-in timers.Ack phase.Open is = ack-has (ap is_connected is)
-  fires-in timers.Negotiate phase.PartOpen is = asked-has (ap is_connected is) (due_keys e.rows) refl
-  fires-in timers.Negotiate phase.Open is = asked-has (ap is_connected is) (due_keys e.rows) refl
-  fires-in timers.Close phase.CloseReq is = plain-has (rest proper) (kind.CloseReq e.marks.gsr) refl tt refl Greatest refl
-  fires-in timers.Close phase.Closing is = plain-has (rest proper) (kind.Close e.marks.gsr) refl tt refl Greatest refl
-  fires-in timers.TimeWait phase.TimeWait is = closed-has
-  fires-in _ _ is = idle-has
+  times-out : given ≡ Fires timers.Rto true → e.phase ≡ phase.Open → Has e given (times_out e true)
+  times-out called in_open =
+      has-by (calling-caused (CallsTimeout called in_open) (silent-caused (rest proper) e.owed e.unacked quiet refl refl (λ is. is)))
+
+  rto-has : (in_flight : Bool) → given ≡ Fires timers.Rto in_flight → e.phase ≡ phase.Open → Has e given (times_out e in_flight)
+  rto-has true called in_open = times-out called in_open
+  rto-has false called in_open = idle-has
+
+  fires-in : (timer : Timer) (in_flight : Bool) (ph : Phase) → given ≡ Fires timer in_flight → e.phase ≡ ph → Has e given (fires_in e timer in_flight ph)
+  fires-in timers.Request in_flight phase.Request called is = requested-has e.phase false (rest proper)
+  fires-in timers.Ack in_flight phase.PartOpen called is = ack-has (ap is_connected is)
+  fires-in timers.Ack in_flight phase.Open called is = ack-has (ap is_connected is)
+  fires-in timers.Negotiate in_flight phase.PartOpen called is = asked-has (ap is_connected is) (due_keys e.rows) refl
+  fires-in timers.Negotiate in_flight phase.Open called is = asked-has (ap is_connected is) (due_keys e.rows) refl
+  fires-in timers.Rto in_flight phase.Open called is = rto-has in_flight called is
+  fires-in timers.Close in_flight phase.CloseReq called is = plain-has (rest proper) (kind.CloseReq e.marks.gsr) refl tt refl Greatest refl
+  fires-in timers.Close in_flight phase.Closing called is = plain-has (rest proper) (kind.Close e.marks.gsr) refl tt refl Greatest refl
+  fires-in timers.TimeWait in_flight phase.TimeWait called is = closed-has
+  fires-in _ in_flight _ called is = idle-has
 
 -- an end as wide as its rows say
 wide-has : (o : EndState) (given : Input) → IsProper (wide o) → Has (wide o) given (stepped (wide o) given)
-unfolding opens closes aborts fires prefers
+unfolding opens closes aborts fires prefers sends_payload
 wide-has o (Arrives bytes) is =
     let told = (receives-told (wide o) bytes is).effect in
     record { effect = told.effect; after_is = told.after_is; frame_is = told.frame_is; calls_are = told.calls_are; because = told.because }
 wide-has o Opens is = opens-has o Opens is refl o.config.role refl o.opened refl
 wide-has o Closes is = closes-in o Closes is o.phase refl
 wide-has o Aborts is = aborts-in o Aborts is o.phase
-wide-has o (Fires timer in_flight) is = fires-in o (Fires timer in_flight) is timer o.phase refl
+wide-has o (Fires timer in_flight) is = fires-in o (Fires timer in_flight) is timer in_flight o.phase refl refl
 wide-has o (Prefers k values) is = prefers-has o (Prefers k values) is k values refl (is_connected o.phase) refl
+wide-has o (input.Sends payload may_send) is =
+    sends-has o (input.Sends payload may_send) is payload may_send refl (is_open o.phase) (nat_lt most_data (length payload)) (lacks_vectors o.rows) refl refl
 
 pub every_step_has_an_effect : EveryStepHasOneEffect
 every_step_has_an_effect e given proper =

@@ -2,12 +2,13 @@
 --
 -- An effect takes the widths of the windows from the rows. So steps are told of an end that is written with these widths, `wide`; a
 -- proper end is equal to one.
-use Rattle.std.proofs.Common.{◌≡◌, ◌⊎◌, inl, inr, refl, ap, sym, ◌∙◌, subst, ℕ, Bool, true, false, not, List, [], ◌++◌, Option, Some, None}
+use Rattle.std.proofs.Common.{◌≡◌, ◌⊎◌, inl, inr, refl, ap, sym, ◌∙◌, subst, ℕ, Bool, true, false, not, ◌&&◌, List, [], ◌++◌, Option, Some, None}
 use Rattle.std.specs.List.{All}
 use Rattle.std.specs.Prelude.{filter}
 use Rattle.std.proofs.lemmas.Bool.{false≢true}
 use Rattle.std.proofs.lemmas.List.{append-nil}
 use Rattle.std.proofs.lemmas.List.Elements.{All-nil, filter_passes}
+use Rattle.congestion_trait.specs.Calls.{Call}
 use Rattle.dccp_options.specs.Written.{Item}
 use Rattle.dccp_packets.specs.Grammar.{has_forms, packet_type}
 use Rattle.dccp_packets.specs.Kinds.{ack_of}
@@ -19,13 +20,14 @@ use Rattle.dccp_states.specs.declared.phase.Phase.{Phase}
 use Rattle.dccp_states.specs.declared.phase.Phase.TheVariants as phase
 use Rattle.feature_machine.specs.Negotiating.{due_keys, every_place}
 use Rattle.feature_machine.specs.Turns.{Turn, turned}
-use Rattle.dccp_endpoint.specs.Causes.{HasEffect, Acknowledges, Answers, AreHeard, AreTurns, Deaf, HasFrame, HasNext, IsAcknowledging, IsCaused, IsFirst, IsHearing, IsOpened, IsOpening, IsSending, Keeps, LeavesIt, NotNow, Offering, Others, Plain, Rests, Says, SaysAll, SaysNothing, StaysSo, Acks, is_acking, is_waiting, is_without_connection}
+use Rattle.dccp_endpoint.specs.Causes.{HasEffect, Acknowledges, Answers, AreHeard, AreTurns, CallsNothing, Deaf, HasFrame, HasNext, IsAcknowledging, IsCalling, IsCaused, IsFirst, IsHearing, IsOpened, IsOpening, IsSending, Keeps, LeavesIt, NotNow, Offering, Others, Plain, Refuses, Rests, Says, SaysAll, SaysApart, SaysNothing, StaysSo, Acks, IsLooking, LooksNowhere, is_waiting, vector_of, is_without_connection}
 use Rattle.dccp_endpoint.specs.Drafts.{Draft, IsSendable, alone}
-use Rattle.dccp_endpoint.specs.Effects.{Effect, frame_by, Hearing, Unheard, Sending, Silent, Next, effect_of, end_after, greatest_by}
+use Rattle.dccp_endpoint.specs.Effects.{Effect, frame_by, Hearing, Unheard, Sending, Silent, Next, effect_of, end_after, greatest_by, heard_by, owed_by, rows_by, told_by}
 use Rattle.dccp_endpoint.specs.End.{EndState, IsProper, is_begun, is_connected, is_live, is_phase_of, with_rows, with_widths}
 use Rattle.dccp_endpoint.specs.Heeding.{Due}
 use Rattle.dccp_endpoint.specs.Inputs.{Input, Arrives}
 use Rattle.dccp_endpoint.specs.Outcomes.{HasCause, HasEffectOf, HasForm}
+use Rattle.dccp_endpoint.specs.Reporting.{is_acking, looked_by, sends_vectors, vector_items}
 use Rattle.dccp_endpoint.specs.Speaking.{asking, change_items, confirm_items, is_confirmed}
 use Rattle.dccp_endpoint.specs.Steps.{Step, next_number}
 use Rattle.dccp_endpoint.specs.Turns.{Key, offerings, sendings}
@@ -45,7 +47,7 @@ pub wide-proper : (o : EndState) → IsProper o → IsProper (wide o)
 wide-proper o proper = subst IsProper (widened o proper) proper
 
 -- what a step made of the end before anything goes out, and why
-pub record Ready (e : EndState) (given : Input) (h : Hearing) (ack : Option ℕ) (opens : Bool) (ph : Phase) (called : Bool) : Type 0 where
+pub record Ready (e : EndState) (given : Input) (h : Hearing) (ack : Option ℕ) (opens : Bool) (ph : Phase) (called : Bool) (looked : Option ℕ) : Type 0 where
   pub hears : IsHearing e given ph h
   pub acks : IsAcknowledging e given ack
   pub its_role : is_phase_of ph e.config.role ≡ true
@@ -54,9 +56,10 @@ pub record Ready (e : EndState) (given : Input) (h : Hearing) (ack : Option ℕ)
   pub shut : e.phase ≡ phase.Closed → (ph ≡ phase.Closed) ⊎ (called ≡ true)
   pub opening : IsOpening e ph opens
   pub opened : IsOpened e given called
+  pub looks : IsLooking e given h looked
 
 -- nothing, so far
-pub rest : {e : EndState} {given : Input} → IsProper e → Ready e given Unheard None false e.phase false
+pub rest : {e : EndState} {given : Input} → IsProper e → Ready e given Unheard None false e.phase false None
 rest proper =
     record {
       hears = Keeps (λ is. is);
@@ -67,12 +70,13 @@ rest proper =
       shut = λ is. inl is;
       opening = StaysSo (λ is. is);
       opened = NotNow;
+      looks = LooksNowhere;
     }
 
 -- it was brought to a phase without windows
 pub left : {e : EndState} {given : Input} {h : Hearing} {ack : Option ℕ} {called : Bool} (ph : Phase) → is_live ph ≡ false → is_phase_of ph e.config.role ≡ true
     → (is_waiting ph ≡ true → called ≡ true) → (e.phase ≡ phase.Closed → (ph ≡ phase.Closed) ⊎ (called ≡ true))
-    → IsHearing e given ph h → IsAcknowledging e given ack → IsOpened e given called → Ready e given h ack false ph called
+    → IsHearing e given ph h → IsAcknowledging e given ack → IsOpened e given called → Ready e given h ack false ph called None
 left ph dead its_role waits shut hears acks opened =
     record {
       hears = hears;
@@ -83,6 +87,7 @@ left ph dead its_role waits shut hears acks opened =
       shut = shut;
       opening = StaysSo (λ is. absurd (false≢true (sym dead ∙ ap is_live is)));
       opened = opened;
+      looks = LooksNowhere;
     }
 
 -- No row has a turn.
@@ -145,63 +150,137 @@ offering {e = e} {heard = heard} {confirms = confirms} hears =
       apart = asking-apart confirms (due_keys (turned e.rows (heard ++ offerings (is_confirmed confirms) every_place)));
     }
 
--- The effect of a step in which the rows have turns.
-abbrev pub effect_with : List Turn → Hearing → Option ℕ → Bool → Phase → Bool → Sending → Effect
-effect_with turns h ack opens ph called s = record (effect_of h ack opens ph called s) { turns = turns }
+-- An effect, part by part, with nothing that is due to the congestion control.
+abbrev pub effect_with : List Turn → Hearing → Option ℕ → Bool → Phase → Bool → Option ℕ → Bool → ℕ → Sending → Effect
+effect_with turns h ack opens ph called looked owed unacked s =
+    record {
+      hearing = h;
+      acknowledged = ack;
+      opening = opens;
+      phase = ph;
+      opens = called;
+      looked_up = looked;
+      turns = turns;
+      calls = [];
+      sending = s;
+      owed = owed;
+      unacked = unacked;
+    }
 
-module _ {e : EndState} {given : Input} {h : Hearing} {ack : Option ℕ} {opens : Bool} {ph : Phase} {called : Bool} (ready : Ready e given h ack opens ph called) where
-  abbrev pub caused : {turns : List Turn} (at : AreTurns e given h turns) (s : Sending) → (is_begun ph ≡ true → (is_begun e.phase ≡ true) ⊎ HasNext s)
-      → Says e (effect_with turns h ack opens ph called s) at.confirms at.keys s → HasFrame s
-      → IsSending e given (effect_with turns h ack opens ph called s) s → IsCaused e given (effect_with turns h ack opens ph called s)
-  caused at s begun says framed sends =
+-- A packet that is no Ack and no DataAck has no Ack Vector.
+pub no-vector : (e : EndState) (f : Effect) (k : Kind) → is_acking (packet_type k) ≡ false → [] ≡ vector_of e f k
+no-vector e f k other =
+    ap (λ (acks : Bool). vector_items (acks && sends_vectors (rows_by e.rows f)) (told_by e.received f).set (greatest_by e.marks.gsr f.hearing)) (sym other)
+
+module _ {e : EndState} {given : Input} {h : Hearing} {ack : Option ℕ} {opens : Bool} {ph : Phase} {called : Bool} {looked : Option ℕ}
+    (ready : Ready e given h ack opens ph called looked) where
+  abbrev pub caused : {turns : List Turn} (owed : Bool) (unacked : ℕ) (at : AreTurns e given h turns) (s : Sending)
+      → (is_begun ph ≡ true → (is_begun e.phase ≡ true) ⊎ HasNext s)
+      → Says e (effect_with turns h ack opens ph called looked owed unacked s) at.confirms at.keys s → HasFrame s
+      → IsSending e given (effect_with turns h ack opens ph called looked owed unacked s) s
+      → IsCaused e given (effect_with turns h ack opens ph called looked owed unacked s)
+  caused owed unacked at s begun says framed sends =
       record {
         hears = ready.hears;
         acks = ready.acks;
         moves = record { its_role = ready.its_role; live = ready.live; begun = begun; waits = ready.waits; shut = ready.shut };
         opening = ready.opening;
         opened = ready.opened;
-        looks = refl;
+        looks = ready.looks;
         turns = at;
         says = says;
         framed = framed;
         sends = sends;
-        calls = refl;
-        owed = refl;
-        unacked = refl;
+        calls = CallsNothing;
       }
 
   -- nothing goes out
-  abbrev pub silent-caused : {turns : List Turn} (at : AreTurns e given h turns) → at.confirms ≡ [] → at.keys ≡ [] → (is_begun ph ≡ true → is_begun e.phase ≡ true)
-      → IsCaused e given (effect_with turns h ack opens ph called Silent)
-  silent-caused at none unasked begun = caused at Silent (λ is. inl (begun is)) (SaysNothing none unasked) tt Rests
+  abbrev pub silent-caused : {turns : List Turn} (owed : Bool) (unacked : ℕ) (at : AreTurns e given h turns) → at.confirms ≡ [] → at.keys ≡ []
+      → (is_begun ph ≡ true → is_begun e.phase ≡ true) → IsCaused e given (effect_with turns h ack opens ph called looked owed unacked Silent)
+  silent-caused owed unacked at none unasked begun =
+      caused owed unacked at Silent (λ is. inl (begun is)) (SaysNothing none unasked) tt Rests
 
   -- a packet goes out that is no Ack and no DataAck
-  abbrev pub next-caused : {turns : List Turn} (at : AreTurns e given h turns) (packet : Draft) → IsSendable packet
+  abbrev pub next-caused : {turns : List Turn} (owed : Bool) (unacked : ℕ) (at : AreTurns e given h turns) (packet : Draft) → IsSendable packet
       → packet.options ≡ confirm_items at.confirms ++ change_items (turned e.rows turns) at.keys
       → (at.confirms ≡ []) ⊎ Answers h (ack_of packet.kind) → is_acking (packet_type packet.kind) ≡ false
       → Acknowledges e given (greatest_by e.marks.gsr h) (ack_of packet.kind) → is_without_connection e.config.role packet.kind ≡ false
-      → IsCaused e given (effect_with turns h ack opens ph called (Next packet))
-  next-caused at packet sendable says answers other acknowledges numbered =
-      caused at (Next packet) (λ is. inr tt) (SaysAll packet says answers) sendable (Others packet other acknowledges numbered)
+      → IsCaused e given (effect_with turns h ack opens ph called looked owed unacked (Next packet))
+  next-caused {turns = turns} owed unacked at packet sendable says answers other acknowledges numbered =
+      caused owed unacked at (Next packet) (λ is. inr tt)
+      (SaysAll packet
+      (says
+      ∙ ap (λ (front : List Item). front ++ (confirm_items at.confirms ++ change_items (turned e.rows turns) at.keys))
+      (no-vector e (effect_with turns h ack opens ph called looked owed unacked (Next packet)) packet.kind other))
+      answers)
+      sendable (Others packet other acknowledges numbered)
 
-  -- one that says nothing of features
-  abbrev pub plain-caused : (k : Kind) → has_forms true k ≡ true → HasDetail k → is_acking (packet_type k) ≡ false
-      → Acknowledges e given (greatest_by e.marks.gsr h) (ack_of k) → is_without_connection e.config.role k ≡ false
-      → IsCaused e given (effect_of h ack opens ph called (Next (alone k)))
-  plain-caused k long detail other acknowledges numbered =
-      next-caused quiet (alone k) (alone-sendable k long detail) refl (inl refl) other acknowledges numbered
+  -- the Ack Vector of what was received, and the Ack that goes out
+  abbrev pub front_of : List Turn → List Item
+  front_of turns = vector_items (sends_vectors (turned e.rows turns)) (looked_by (heard_by e.received h) looked).set (greatest_by e.marks.gsr h)
 
-  -- the Ack that goes out
-  abbrev pub ack_with : List Item → Draft
-  ack_with options = record { kind = kind.Ack (Long (greatest_by e.marks.gsr h)); options = options; payload = [] }
+  abbrev pub ack_with : List Turn → List Item → Draft
+  ack_with turns options = record { kind = kind.Ack (Long (greatest_by e.marks.gsr h)); options = front_of turns ++ options; payload = [] }
 
-  abbrev pub ack-caused : {turns : List Turn} (at : AreTurns e given h turns) (options : List Item) → IsSendable (ack_with options)
+  abbrev pub ack-caused : {turns : List Turn} (at : AreTurns e given h turns) (options : List Item) → IsSendable (ack_with turns options)
       → options ≡ confirm_items at.confirms ++ change_items (turned e.rows turns) at.keys
       → (at.confirms ≡ []) ⊎ Answers h (Some (greatest_by e.marks.gsr h)) → is_connected ph ≡ true
-      → IsCaused e given (effect_with turns h ack opens ph called (Next (ack_with options)))
-  ack-caused at options sendable says answers connected =
-      caused at (Next (ack_with options)) (λ is. inr tt) (SaysAll (ack_with options) says answers) sendable
-      (Acks (ack_with options) refl refl connected refl refl)
+      → IsCaused e given (effect_with turns h ack opens ph called looked false 0 (Next (ack_with turns options)))
+  ack-caused {turns = turns} at options sendable says answers connected =
+      caused false 0 at (Next (ack_with turns options)) (λ is. inr tt)
+      (SaysAll (ack_with turns options) (ap (λ (rest : List Item). front_of turns ++ rest) says) answers) sendable
+      (Acks (ack_with turns options) refl refl connected refl refl)
+
+  -- a DataAck goes out with these data
+  abbrev pub data_ack_with : List ℕ → Draft
+  data_ack_with payload = record { kind = kind.DataAck (Long (greatest_by e.marks.gsr h)); options = front_of [] ++ []; payload = payload }
+
+  abbrev pub data-ack-caused : (payload : List ℕ) → IsSendable (data_ack_with payload) → is_connected ph ≡ true
+      → IsCaused e given (effect_with [] h ack opens ph called looked false 0 (Next (data_ack_with payload)))
+  data-ack-caused payload sendable connected =
+      caused false 0 quiet (Next (data_ack_with payload)) (λ is. inr tt) (SaysAll (data_ack_with payload) refl (inl refl)) sendable
+      (Acks (data_ack_with payload) refl refl connected refl refl)
+
+-- one that says nothing of features, where nothing is looked up
+abbrev pub plain-caused : {e : EndState} {given : Input} {h : Hearing} {ack : Option ℕ} {opens : Bool} {ph : Phase} {called : Bool}
+    → Ready e given h ack opens ph called None → (k : Kind) → has_forms true k ≡ true → HasDetail k → is_acking (packet_type k) ≡ false
+    → Acknowledges e given (greatest_by e.marks.gsr h) (ack_of k) → is_without_connection e.config.role k ≡ false
+    → IsCaused e given (effect_of e h ack opens ph called (Next (alone k)))
+plain-caused {e = e} {h = h} ready k long detail other acknowledges numbered =
+    next-caused ready (owed_by e.owed h) e.unacked quiet (alone k) (alone-sendable k long detail) refl (inl refl) other acknowledges numbered
+
+-- The effect with these calls due to the congestion control. They decide no other part.
+abbrev pub calling : List Call → Effect → Effect
+calling calls f = record f { calls = calls }
+
+pub says-calling : {e : EndState} {f : Effect} {confirms : List Due} {keys : List Key} {s : Sending} (calls : List Call) → Says e f confirms keys s
+    → Says e (calling calls f) confirms keys s
+says-calling calls (SaysNothing none unasked) = SaysNothing none unasked
+says-calling calls (SaysAll packet says answers) = SaysAll packet says answers
+says-calling calls (SaysApart number packet none unasked) = SaysApart number packet none unasked
+
+pub sends-calling : {e : EndState} {given : Input} {f : Effect} {s : Sending} (calls : List Call) → IsSending e given f s → IsSending e given (calling calls f) s
+sends-calling calls Rests = Rests
+sends-calling calls (Acks packet is acks connected owes counts) = Acks packet is acks connected owes counts
+sends-calling calls (Others packet other acknowledges numbered) = Others packet other acknowledges numbered
+sends-calling calls (Refuses a code came is_code unheard still same) = Refuses a code came is_code unheard still same
+
+abbrev pub calling-caused : {e : EndState} {given : Input} {f : Effect} {calls : List Call} → IsCalling e given f.hearing f.sending calls → IsCaused e given f
+    → IsCaused e given (calling calls f)
+calling-caused {calls = calls} why because =
+    record {
+      hears = because.hears;
+      acks = because.acks;
+      moves = because.moves;
+      opening = because.opening;
+      opened = because.opened;
+      looks = because.looks;
+      turns = because.turns;
+      says = says-calling calls because.says;
+      framed = because.framed;
+      sends = sends-calling calls because.sends;
+      calls = why;
+    }
 
 -- all that there is to tell of a step of `receive`
 pub record Told (e : EndState) (bytes : List ℕ) (step : Step Outcome) : Type 0 where

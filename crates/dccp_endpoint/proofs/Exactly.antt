@@ -1,5 +1,5 @@
 -- No outcome of `receive` but its own has a cause: each cause is put into the steps, from the first on.
-use Rattle.std.proofs.Common.{◌≡◌, ◌≢◌, refl, ap, ◌∙◌, ℕ, List, [], ◌∷◌, None, Bool, true, false, if◌then◌else◌}
+use Rattle.std.proofs.Common.{◌≡◌, ◌≢◌, refl, ap, ◌∙◌, ℕ, List, [], ◌∷◌, Bool, true, false, if◌then◌else◌}
 use Rattle.dccp_packets.specs.declared.header.PacketType.{PacketType}
 use Rattle.dccp_packets.specs.declared.header.PacketType.TheVariants as types
 use Rattle.dccp_states.specs.declared.reply.Reply.{Reply}
@@ -10,12 +10,14 @@ use Rattle.dccp_endpoint.specs.Heeding.{Due}
 use Rattle.dccp_endpoint.specs.Incoming.{Incoming}
 use Rattle.dccp_endpoint.specs.Inputs.{Input, Arrives}
 use Rattle.dccp_endpoint.specs.Outcomes.{HasCause, HasNoOtherCause, IsAdmitted, IsReset, IsValid, IsValidPacket, IsValidReset, OutOfWindow, Unexpected, NoConnection, OtherService, NoAnswer, OtherType, OtherRequest, WrongService, Faulted, AnswersClose, OpensConnection, ResponseToRequest, PacketInWindow, ResetToRequest, ResetInWindow, StrayWithoutConnection, StrayInRequest}
-use Rattle.dccp_endpoint.specs.Receiving.{Course, Goes, Leaves, acknowledges, answers, checks_type, ends_as, ends_by_reset, heeded, moved_to, needs_ack, raised, raises, reads, receives, replies, started, takes, through, took}
+use Rattle.dccp_endpoint.specs.Receiving.{Course, Goes, Leaves, accounted, acknowledges, answers, checks_type, ends_as, ends_by_reset, heeded, moved_to, needs_ack, raised, raises, reads_options, receives, replies, started, takes, through}
+use Rattle.dccp_endpoint.specs.Reporting.{counts_data, delivered_if, delivers}
+use Rattle.run_list.specs.MarkedSet.{answer_to}
 use Rattle.dccp_endpoint.specs.Steps.{Step, detail_of, idle}
 use Rattle.dccp_endpoint.specs.declared.exit.Exit.TheVariants as exits
 use Rattle.dccp_endpoint.specs.declared.outcome.Fault.{Fault}
 use Rattle.dccp_endpoint.specs.declared.outcome.Outcome.{Outcome}
-use Rattle.dccp_endpoint.specs.declared.outcome.Outcome.TheVariants.{Dropped, NotBuilt, SentReset, Synced, Took, WasReset}
+use Rattle.dccp_endpoint.specs.declared.outcome.Outcome.TheVariants.{Dropped, SentReset, Synced, Took, WasReset}
 use Rattle.dccp_endpoint.specs.declared.outcome.Why.{Why}
 use Rattle.dccp_endpoint.specs.declared.outcome.Why.TheVariants as why
 use Rattle.dccp_endpoint.proofs.Phases.{accept-so}
@@ -31,20 +33,21 @@ no-reset : (a : Incoming) (e : EndState) (t : PacketType) → t ≢ types.Reset 
 no-reset a e types.Reset other = absurd (other refl)
 no-reset a e _ other = record { passes = λ x. refl; rises = refl; responds = refl; fails = refl }
 
-taken-answers : (e : EndState) (a : Incoming) (confirms : List Due) (r : Reply) → r ≢ reply.ResetClosed → (replies e a confirms r).answer ≡ Took None
-taken-answers e a confirms reply.ResetClosed no_reset = absurd (no_reset refl)
-taken-answers e a confirms reply.Nothing no_reset = by (needs_ack e confirms) where
-  by : (due : Bool) → (if due then acknowledges e confirms else idle e took).answer ≡ Took None
+taken-answers : (e : EndState) (a : Incoming) (confirms : List Due) (took : Outcome) (r : Reply) → r ≢ reply.ResetClosed
+    → (replies e a confirms took r).answer ≡ took
+taken-answers e a confirms took reply.ResetClosed no_reset = absurd (no_reset refl)
+taken-answers e a confirms took reply.Nothing no_reset = by (needs_ack e.phase confirms e.rows e.unacked) where
+  by : (due : Bool) → (if due then acknowledges e confirms took else idle e took).answer ≡ took
   by true = refl
   by false = refl
-taken-answers e a confirms _ no_reset = refl
+taken-answers e a confirms took _ no_reset = refl
 
 abbrev answer_of : Step Outcome → Outcome
 answer_of step = step.answer
 
 -- the steps that are left
-abbrev from : EndState → Incoming → Course → List (EndState → Course) → Step Outcome
-from e a course steps = ends_as e a (through course steps)
+abbrev from : Incoming → Course → List (EndState → Course) → Step Outcome
+from a course steps = ends_as a (through course steps)
 
 module _ (e : EndState) (bytes : List ℕ) where
   -- step 1
@@ -57,9 +60,9 @@ module _ (e : EndState) (bytes : List ℕ) where
 
   -- steps 2 to 6
   valid-goes : (a : Incoming) (entered : EndState) → IsValidPacket e bytes a entered
-      → receives e bytes ≡ from e a (Goes entered) (checks_type a ∷ [])
+      → receives e bytes ≡ from a (Goes entered) (checks_type a ∷ [])
   valid-goes a entered valid = by valid.is_valid where
-    by : IsValid e a entered → receives e bytes ≡ from e a (Goes entered) (checks_type a ∷ [])
+    by : IsValid e a entered → receives e bytes ≡ from a (Goes entered) (checks_type a ∷ [])
     by (OpensConnection is ours same) =
         let other = no-reset a e a.kind (λ reset. cc ((accept-so e.phase a.kind is).1, reset)) in
         rw (came-goes a valid.came, same, is) (rw (ours, other.passes _, through) refl)
@@ -71,9 +74,8 @@ module _ (e : EndState) (bytes : List ℕ) where
         rw (came-goes a valid.came, same, is) (rw (fits, other.rises, other.passes _, through) refl)
 
   -- step 7
-  admitted-goes : (a : Incoming) (entered : EndState) (unbuilt : Bool) → IsAdmitted e bytes a entered unbuilt
-      → receives e bytes ≡ heeded e entered a (reads entered a unbuilt)
-  admitted-goes a entered unbuilt admitted = rw (valid-goes a entered admitted.valid) (rw (admitted.expected, admitted.for_us, admitted.needs, through) refl)
+  admitted-goes : (a : Incoming) (entered : EndState) → IsAdmitted e bytes a entered → receives e bytes ≡ heeded entered a (reads_options entered a)
+  admitted-goes a entered admitted = rw (valid-goes a entered admitted.valid) (rw (admitted.expected, admitted.for_us, through) refl)
 
   reset-answers : (fault : Fault) → IsReset e bytes fault → (receives e bytes).answer ≡ SentReset fault.code (detail_of fault)
   reset-answers fault (NoConnection a came is) = rw (came-goes a came, is) refl
@@ -82,8 +84,8 @@ module _ (e : EndState) (bytes : List ℕ) where
   reset-answers fault (NoAnswer a came (OtherRequest is no_reset wrong)) =
       rw (came-goes a came, is) (rw (wrong, (no-reset a e a.kind no_reset).fails, through) refl)
   reset-answers fault (WrongService a entered valid expected other) = rw (valid-goes a entered valid) (rw (expected, other, through) refl)
-  reset-answers fault (Faulted a entered first admitted is) = rw (admitted-goes a entered false admitted) (rw (is, through) refl)
-  reset-answers fault (AnswersClose a entered h to admitted none row) = rw (admitted-goes a entered false admitted) (rw (none, row, through) refl)
+  reset-answers fault (Faulted a entered first admitted is) = rw (admitted-goes a entered admitted) (rw (is, through) refl)
+  reset-answers fault (AnswersClose a entered h to admitted none row) = rw (admitted-goes a entered admitted) (rw (none, row, through) refl)
 
   dropped-so : (w : Why) → HasCause e bytes (Dropped w) → (receives e bytes).answer ≡ Dropped w
   unfolding receives
@@ -104,10 +106,11 @@ module _ (e : EndState) (bytes : List ℕ) where
     ending (ResetToRequest entrance fits) = rw (came-goes is.packet is.came, entrance, is.has_code) (rw (fits, is.is_reset, is.is_reset, through) refl)
     ending (ResetInWindow entrance fits) = rw (came-goes is.packet is.came, entrance, is.has_code) (rw (fits, is.is_reset, is.is_reset, through) refl)
   answers-so (SentReset code detail) is = reset-answers is.fault is.why ∙ rw (is.has_code, is.has_detail) refl
-  answers-so NotBuilt is = ap answer_of (admitted-goes is.packet is.entered true is.admitted)
   answers-so (Took delivered) is =
-      rw (admitted-goes is.packet is.entered false is.admitted, is.no_data) (rw (is.no_fault, is.row, through)
-      (taken-answers (moved_to (with_rows is.entered is.heeding.rows) is.to is.packet.number) is.packet is.heeding.confirms is.answer is.no_reset))
+      let new : Bool = delivers is.packet.kind is.to (answer_to is.entered.received.set is.packet.number) in
+      let x : EndState = counts_data (moved_to (accounted (with_rows is.entered is.heeding.rows) is.packet) is.to is.packet.number) new in
+      rw (admitted-goes is.packet is.entered is.admitted, is.delivery) (rw (is.no_fault, is.row)
+      (taken-answers x is.packet is.heeding.confirms (Took (delivered_if new is.packet.data_place)) is.answer is.no_reset))
 
 -- as the contract of `receive` says it
 pub no_other_cause : (e : EndState) (bytes : List ℕ) (step : Step Outcome) → step ≡ receives e bytes → HasNoOtherCause e bytes step.answer

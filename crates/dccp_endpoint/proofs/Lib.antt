@@ -5,9 +5,9 @@ pub mod Phases
 pub mod Arriving
 pub mod Tables
 pub mod Heard
+pub mod OneRow
 pub mod Room
 pub mod Lawful
-pub mod OneRow
 pub mod OneConfirm
 pub mod Keys
 pub mod OwnPackets
@@ -18,6 +18,7 @@ pub mod Exactly
 pub mod Staying
 pub mod Wishes
 pub mod Writing
+pub mod Handing
 pub mod Asking
 pub mod Keeping
 pub mod RowsSeen
@@ -25,3 +26,6 @@ pub mod Rows
 pub mod RowsOffers
 pub mod RowsOptions
 pub mod RowsPrefers
+pub mod RowsVectors
+pub mod RowsData
+pub mod RowsReports

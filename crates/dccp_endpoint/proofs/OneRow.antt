@@ -104,7 +104,7 @@ spot-so true false m n is = absurd (omega arith)
 spot-so false true m n is = absurd (omega arith)
 
 -- a feature that is found by a number has it
-found : (number : ℕ) (feature : Feature) → feature_numbered number ≡ Some feature → number_of feature ≡ number
+pub found : (number : ℕ) (feature : Feature) → feature_numbered number ≡ Some feature → number_of feature ≡ number
 found number feature is =
     by 1 f.Ccid refl (number == 1) refl
     (by 2 f.ShortSeqnos refl (number == 2) refl

@@ -4,7 +4,9 @@ use Rattle.std.proofs.Common.{◌≡◌, ◌==◌, ◌&&◌, ◌||◌, ◌≤◌
 use Rattle.std.specs.Prelude.{if◌then◌else◌}
 use Rattle.std.proofs.lemmas.Bool.{cond-false, cond-true, eq-eqb, eqb-false, ne_eqb}
 use Rattle.std.proofs.Common.{eqb-true}
+use Rattle.ack_vectors.specs.Vector.{vector}
 use Rattle.dccp_options.specs.Grammar.{Entry}
+use Rattle.dccp_options.specs.Kinds as options
 use Rattle.dccp_options.specs.Written.{Item, entries_at, mark, spelled}
 use Rattle.dccp_options.specs.declared.option.OptFault.{OptFault}
 use Rattle.feature_agreement.specs.Rows.{opposite}
@@ -15,13 +17,14 @@ use Rattle.feature_machine.specs.Negotiating.{IsNegotiation, every_place, row_at
 use Rattle.feature_machine.specs.Turns.{Turn, turned}
 use Rattle.feature_machine.specs.Rows.{RowEvent, Change, Confirm}
 use Rattle.feature_machine.specs.declared.row.Row.{Row}
+use Rattle.run_list.specs.MarkedSet.{MarkedSet, has}
 use Rattle.dccp_endpoint.specs.Causes.{AreHeard, AreTurns, Came, Deaf, Heeds, Occasion, Offering, Plain, PrefersLater, PrefersNow, Repeating, counts_in}
 use Rattle.dccp_endpoint.specs.Effects.{Hearing}
 use Rattle.dccp_endpoint.specs.End.{EndState}
 use Rattle.dccp_endpoint.specs.Incoming.{Incoming}
 use Rattle.dccp_endpoint.specs.Inputs.{Input}
 use Rattle.dccp_endpoint.specs.Heeding.{Due, event_of, is_change, is_left, is_of_negotiation}
-use Rattle.dccp_endpoint.specs.Saying.{OwnPacketsSayOfARow, OwnPacketsSpeakOnce, body_if, change_if, confirm_for, event_in, has_key, is_key, once_if, said_of, said_to, speaks_to, times_confirmed, times_said_to}
+use Rattle.dccp_endpoint.specs.Saying.{OwnPacketsSayOfARow, OwnPacketsSpeakOnce, body_if, change_if, confirm_for, event_in, has_key, is_key, once_if, own_options, said_of, said_to, speaks_to, times_confirmed, times_said_to}
 use Rattle.dccp_endpoint.specs.Speaking.{change_item, change_items, change_type, confirm_item, confirm_items, confirm_type, is_confirmed, is_for, is_of_place, wish_bytes}
 use Rattle.dccp_endpoint.specs.Turns.{Key, offerings}
 use Rattle.dccp_endpoint.proofs.Keys.{AreDistinct, apart-so, asking-distinct, due-distinct, first-apart, key-so, none-distinct, one-distinct, rest-distinct, times-none}
@@ -138,9 +141,22 @@ module _ (ack : Option ℕ) (rows : List Row) (k : Key) where
       by false speaks others =
           cond-false (speaks_to (theirs k) entry) (event_in ack entry ∷ []) (said_to true ack (theirs k) later) speaks ∙ others
 
+-- where the options behind the Ack Vector stand, if there is one
+abbrev behind_vector : Bool → MarkedSet → ℕ → ℕ
+behind_vector true set greatest = behind 0 (record { mandatory = false; kind = options.ack_vector_0; body = vector (has set.numbers) set.floor greatest })
+behind_vector false set greatest = 0
+
+-- An Ack Vector speaks to no row.
+vector-says-nothing : (ack : Option ℕ) (has_vector : Bool) (set : MarkedSet) (greatest : ℕ) (confirms : List Due) (rows : List Row) (keys : List Key) (k : Key)
+    → said_to true ack (theirs k) (as_read 0 (own_options has_vector set greatest confirms rows keys))
+    ≡ said_to true ack (theirs k) (as_read (behind_vector has_vector set greatest) (confirm_items confirms ++ change_items rows keys))
+vector-says-nothing ack true set greatest confirms rows keys k = refl
+vector-says-nothing ack false set greatest confirms rows keys k = refl
+
 -- the law on what own packets say
 pub own_packets_say : OwnPacketsSayOfARow
-own_packets_say = λ ack confirms rows keys k. all-said ack rows k confirms keys 0
+own_packets_say = λ ack has_vector set greatest confirms rows keys k.
+    vector-says-nothing ack has_vector set greatest confirms rows keys k ∙ all-said ack rows k confirms keys (behind_vector has_vector set greatest)
 
 module _ (rows : List Row) (k : Key) where
   changes-times : (keys : List Key) (place : ℕ) → AreDistinct keys
@@ -177,10 +193,18 @@ module _ (rows : List Row) (k : Key) where
       let later = all-times rest keys (behind place (confirm_item due)) distinct in
       omega (arith, now, later)
 
+vector-never-speaks : (has_vector : Bool) (set : MarkedSet) (greatest : ℕ) (confirms : List Due) (rows : List Row) (keys : List Key) (k : Key)
+    → times_said_to (theirs k) (as_read 0 (own_options has_vector set greatest confirms rows keys))
+    ≡ times_said_to (theirs k) (as_read (behind_vector has_vector set greatest) (confirm_items confirms ++ change_items rows keys))
+vector-never-speaks true set greatest confirms rows keys k = omega arith
+vector-never-speaks false set greatest confirms rows keys k = refl
+
 -- the law that they speak once
 pub own_packets_speak : OwnPacketsSpeakOnce
-own_packets_speak = λ confirms rows keys k single distinct apart.
-    let times = all-times rows k confirms keys 0 distinct in
+own_packets_speak = λ has_vector set greatest confirms rows keys k single distinct apart.
+    let times =
+    vector-never-speaks has_vector set greatest confirms rows keys k
+    ∙ all-times rows k confirms keys (behind_vector has_vector set greatest) distinct in
     by confirms keys k single apart (has_key k keys) refl times
   where
     by : (confirms : List Due) (keys : List Key) (k : Key) → times_confirmed k confirms ≤ 1
@@ -215,9 +239,9 @@ confirms-single e given hearing _ _ k sound few (Heeds a h taken heeded) =
 -- So what goes out in one step speaks to a row of the peer once at most, where no packet has more than 64 options.
 pub spoken-once : (e : EndState) (given : Input) (hearing : Hearing) (turns : List Turn) (its : AreTurns e given hearing turns) → IsNegotiation e.rows
     → IsNegotiation (turned e.rows (its.heard ++ its.offered)) → ((a : Incoming) → Came e given a → length a.options ≤ 64)
-    → (rows : List Row) (k : Key)
-    → times_said_to (k.0, opposite k.1) (map Ok (entries_at 0 (confirm_items its.confirms ++ change_items rows its.keys))) ≤ 1
-spoken-once e given hearing turns its sound later few rows k =
-    own_packets_speak its.confirms rows its.keys k (confirms-single e given hearing its.heard its.confirms k sound few its.hears)
+    → (has_vector : Bool) (set : MarkedSet) (greatest : ℕ) (rows : List Row) (k : Key)
+    → times_said_to (k.0, opposite k.1) (map Ok (entries_at 0 (own_options has_vector set greatest its.confirms rows its.keys))) ≤ 1
+spoken-once e given hearing turns its sound later few has_vector set greatest rows k =
+    own_packets_speak has_vector set greatest its.confirms rows its.keys k (confirms-single e given hearing its.heard its.confirms k sound few its.hears)
     (keys-distinct e given its.heard its.offered its.preferred its.confirms its.keys sound later its.occasion)
     (apart-so its.confirms its.keys k its.apart)

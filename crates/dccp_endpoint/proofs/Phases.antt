@@ -78,6 +78,16 @@ row-fits _ _ = refl
 pub fits-reply : (ph : Phase) (t : PacketType) (to : Phase) (r : Reply) → after ph t ≡ (to, r) → FitsReply to r
 fits-reply ph t to r is = subst (λ (row : Phase × Reply). FitsReply row.0 row.1) is (row-fits ph t)
 
+-- it answers a Close
+closes-row : (ph : Phase) (t : PacketType) → (after ph t).1 ≡ reply.ResetClosed → t ≡ types.Close
+closes-row phase.Closed types.Request is = cc is
+closes-row _ types.Close is = refl
+closes-row _ types.Reset is = cc is
+closes-row _ _ is = cc is
+
+pub answers-close : (ph : Phase) (t : PacketType) (to : Phase) → after ph t ≡ (to, reply.ResetClosed) → t ≡ types.Close
+answers-close ph t to is = closes-row ph t (ap (λ (row : Phase × Reply). row.1) is)
+
 -- where a first number was received
 pub live-begun : (ph : Phase) → is_live ph ≡ true → is_begun ph ≡ true
 live-begun phase.Closed is = cc is

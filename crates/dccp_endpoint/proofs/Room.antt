@@ -1,14 +1,17 @@
--- What an end says of features has room on its packets: at most 64 Confirms and 18 Changes, of at most 12 bytes each.
-use Rattle.std.proofs.Common.{◌≡◌, ℕ, ◌+◌, ◌*◌, ◌-◌, ◌%◌, ◌≤◌, ◌<◌, nat_lt, Bool, true, false, not, ◌&&◌, if◌then◌else◌, List, [], ◌∷◌, ◌++◌, length, replicate, Option, Some, None, Result, Ok, Err, refl, subst, arith}
-use Rattle.std.specs.Prelude.{slice_index_or, filter}
+-- What an end says has room on its packets: an Ack Vector of at most 255 bytes, the Confirms for a packet, of at most 354 bytes, and 18
+-- Changes of at most 12 bytes each.
+use Rattle.std.proofs.Common.{◌≡◌, ℕ, ◌+◌, ◌*◌, ◌-◌, ◌%◌, ◌≤◌, ◌<◌, min, nat_lt, ◌==◌, Bool, true, false, not, ◌&&◌, ◌||◌, if◌then◌else◌, List, [], ◌∷◌, ◌++◌, zero, suc, length, replicate, Option, Some, None, Result, Ok, Err, refl, ap, sym, ◌∙◌, subst, arith, eqb-true, get_or-set_same, length-set}
+use Rattle.std.specs.Prelude.{slice_index_or, slice_set, filter}
 use Rattle.std.specs.List.{All}
-use Rattle.std.proofs.lemmas.Bool.{and_parts}
+use Rattle.std.proofs.lemmas.Bool.{and_parts, false≢true}
 use Rattle.byteorder.specs.Numbers.{length-bytes_high_first}
-use Rattle.std.proofs.lemmas.List.{length-append, length-map, length-replicate}
+use Rattle.std.proofs.lemmas.List.{append-nil, length-append, length-map, length-replicate, length-take, map-append}
+use Rattle.std.proofs.Math.Nat.{min-le_left}
 use Rattle.std.proofs.lemmas.List.Elements.{All-append, All-cons, All-head, All-map, All-nil, All-tail}
 use Rattle.std.proofs.lemmas.List.Sums.{count_by-le-length, length-filter}
 use Rattle.byteorder.specs.Endian.{big_bytes}
 use Rattle.dccp_options.specs.Grammar.{Entry}
+use Rattle.dccp_options.specs.Kinds as options
 use Rattle.dccp_options.specs.Kinds.{is_understood}
 use Rattle.dccp_options.specs.Written.{Item, IsWritable, mark, spelled, written}
 use Rattle.dccp_options.specs.declared.option.OptFault.{OptFault}
@@ -18,7 +21,7 @@ use Rattle.dccp_packets.specs.Widths.{HasDetail}
 use Rattle.dccp_packets.specs.declared.header.Kind.{Kind}
 use Rattle.dccp_packets.specs.declared.reset_code.ResetCode.TheVariants as codes
 use Rattle.dccp_states.specs.declared.phase.Role.TheVariants as role
-use Rattle.feature_lists.specs.Features.{described, feature_numbered}
+use Rattle.feature_lists.specs.Features.{described, feature_numbered, number_of}
 use Rattle.feature_lists.specs.Wishes.{is_allowed}
 use Rattle.feature_lists.specs.declared.features.Feature.{Feature}
 use Rattle.feature_lists.specs.declared.features.Feature.TheVariants as f
@@ -28,7 +31,7 @@ use Rattle.feature_lists.specs.declared.wishes.Wanted.TheVariants as wanted
 use Rattle.feature_lists.specs.declared.wishes.Wanted.{Wanted}
 use Rattle.feature_lists.proofs.Allowed.{allowed_says}
 use Rattle.feature_machine.specs.Answers.{answered, settling_of}
-use Rattle.feature_machine.specs.Negotiating.{IsNegotiation, changes, changes_known, confirmed, confirms_known, due_keys, is_due, place_of, row_at}
+use Rattle.feature_machine.specs.Negotiating.{IsNegotiation, changes, changes_known, confirmed, confirms_known, due_keys, every_place, is_due, place_of, row_at}
 use Rattle.feature_machine.specs.Rows.{Change, Confirm, RowAnswer, Confirms, Ignored, Settled, Fatal, Opens, Waits, Quiet, Proposed, confirm_body, entries, holding, is_server_priority, proposal, row_line, width}
 use Rattle.feature_machine.specs.Sound.{is_active}
 use Rattle.feature_machine.specs.declared.answers.Settling.{Settling}
@@ -42,10 +45,15 @@ use Rattle.feature_machine.proofs.Steps.{stepped_negotiation}
 use Rattle.dccp_endpoint.specs.Causes.{is_code_without_connection}
 use Rattle.dccp_endpoint.specs.Drafts.{IsSendable}
 use Rattle.dccp_endpoint.specs.Heeding.{Due, Heeding, by_answered, by_settling, counted, fault_of, heeds, heeds_body, heeds_change, heeds_confirm, heeds_feature, heeds_item, heeds_then, is_change, is_left, is_of_negotiation, met, misunderstood, place_in_used, unheeded}
-use Rattle.dccp_endpoint.specs.Speaking.{asking, change_item, change_items, change_type, confirm_item, confirm_items, confirm_type, confirming, is_confirmed, saying, wish_bytes}
+use Rattle.dccp_endpoint.specs.Reporting.{vector_items}
+use Rattle.dccp_endpoint.specs.Saying.{ConfirmsHaveRoom, once_if}
+use Rattle.dccp_endpoint.specs.Speaking.{HaveRoom, asking, change_item, change_items, change_type, confirm_item, confirm_items, confirm_type, confirming, is_confirmed, saying, wish_bytes}
 use Rattle.dccp_endpoint.specs.Turns.{Key}
 use Rattle.dccp_endpoint.specs.declared.outcome.Fault.{Fault}
 use Rattle.dccp_endpoint.proofs.Frames.{fixed_part_is_short}
+use Rattle.dccp_endpoint.proofs.OneRow.{found, letter_to, spot, spot-below}
+use Rattle.ack_vectors.specs.Vector.{all_bytes, option_room, set_states, vector}
+use Rattle.run_list.specs.MarkedSet.{MarkedSet, has}
 
 -- The data of an answer are a value and at most eight more, or one number.
 
@@ -71,17 +79,17 @@ body-short row is = by (is_server_priority row) where
   by false = let few = width-few row.feature in let long = big-length (width row) row.value in omega (arith, few, long)
 
 -- the data of the Confirm that an answer is
-abbrev IsShort : RowAnswer → Type 0
-IsShort (Confirms body) = length body ≤ 9
-IsShort Ignored = Unit {0}
-IsShort Settled = Unit {0}
-IsShort (Fatal code) = Unit {0}
-IsShort Opens = Unit {0}
-IsShort Waits = Unit {0}
-IsShort Quiet = Unit {0}
+abbrev IsShort : ℕ → RowAnswer → Type 0
+IsShort most (Confirms body) = length body ≤ most
+IsShort most Ignored = Unit {0}
+IsShort most Settled = Unit {0}
+IsShort most (Fatal code) = Unit {0}
+IsShort most Opens = Unit {0}
+IsShort most Waits = Unit {0}
+IsShort most Quiet = Unit {0}
 
 line-short : (row : Row) (s : Stand) (proposed : Proposal) (mandatory : Bool) → is_active row.feature row.place row.active ≡ true
-    → IsShort (row_line row s (Proposed proposed mandatory)).answer
+    → IsShort 9 (row_line row s (Proposed proposed mandatory)).answer
 line-short row s p.Invalid false is = omega arith
 line-short row s p.Invalid true is = tt
 line-short row stand.Unstable p.Unshared mandatory is = tt
@@ -96,9 +104,18 @@ line-short row stand.Changing p.Unshared false is = body-short row is
 line-short row stand.Stable p.Unshared true is = tt
 line-short row stand.Changing p.Unshared true is = tt
 
+-- a feature that is known has a row
+abbrev rows_of : Option Feature → ℕ
+rows_of None = 0
+rows_of (Some feature) = 1
+
+rows-few : (known : Option Feature) → rows_of known ≤ 1
+rows-few None = omega arith
+rows-few (Some feature) = omega arith
+
 -- what a Change and a Confirm leave of the rows, and answer
 change-sound : (rows : List Row) (known : Option Feature) (left : Bool) (body : List ℕ) (mandatory : Bool) → IsNegotiation rows
-    → IsNegotiation (changes_known rows known (place_of left) body mandatory).rows × IsShort (changes_known rows known (place_of left) body mandatory).answer
+    → IsNegotiation (changes_known rows known (place_of left) body mandatory).rows × IsShort (9 * rows_of known) (changes_known rows known (place_of left) body mandatory).answer
 change-sound rows None left body true sound = (sound, tt)
 change-sound rows None left body false sound = (sound, omega arith)
 change-sound rows (Some known) left body mandatory sound =
@@ -113,12 +130,104 @@ confirm-sound : (rows : List Row) (known : Option Feature) (left : Bool) (body :
 confirm-sound rows None left body ack sound = sound
 confirm-sound rows (Some known) left body ack sound = stepped_negotiation rows known (place_of left) (Confirm body ack) sound tt
 
--- What holds of each reading: the rows are sound, and the Confirms are few and short; and a fault has the code 5 or 6.
+-- How many of these rows the options spoke of.
+abbrev rows_used : List Bool → List Key → ℕ
+rows_used used [] = 0
+rows_used used (k ∷ keys) = once_if (slice_index_or used (spot k) false) + rows_used used keys
+
+once-few : (b : Bool) → once_if b ≤ 1
+once-few true = omega arith
+once-few false = omega arith
+
+used-few : (used : List Bool) (keys : List Key) → rows_used used keys ≤ length keys
+used-few used [] = omega arith
+used-few used (k ∷ keys) =
+    let one = once-few (slice_index_or used (spot k) false) in let rest = used-few used keys in omega (arith, one, rest)
+
+-- an option more takes no place away
+stays-used : (used : List Bool) (place other : ℕ) → once_if (slice_index_or used other false) ≤ once_if (slice_index_or (slice_set used place true) other false)
+stays-used [] place other = omega arith
+stays-used (b ∷ used) zero zero = once-few b
+stays-used (b ∷ used) zero (suc other) = omega arith
+stays-used (b ∷ used) (suc place) zero = omega arith
+stays-used (b ∷ used) (suc place) (suc other) = stays-used used place other
+
+more-used : (used : List Bool) (place : ℕ) (keys : List Key) → rows_used used keys ≤ rows_used (slice_set used place true) keys
+more-used used place [] = omega arith
+more-used used place (k ∷ keys) =
+    let one = stays-used used place (spot k) in let rest = more-used used place keys in omega (arith, one, rest)
+
+-- the place is that of one of the rows
+abbrev has_spot : ℕ → List Key → Bool
+has_spot place [] = false
+has_spot place (k ∷ keys) = spot k == place || has_spot place keys
+
+-- and the first option for a row adds the row
+one-used : (used : List Bool) (place : ℕ) (keys : List Key) → place < length used → slice_index_or used place false ≡ false → has_spot place keys ≡ true
+    → rows_used used keys + 1 ≤ rows_used (slice_set used place true) keys
+one-used used place [] inside free its = absurd (false≢true its)
+one-used used place (k ∷ keys) inside free its = by (spot k == place) refl (λ more. one-used used place keys inside free more) where
+  by : (same : Bool) → (spot k == place) ≡ same → (has_spot place keys ≡ true → rows_used used keys + 1 ≤ rows_used (slice_set used place true) keys)
+      → rows_used used (k ∷ keys) + 1 ≤ rows_used (slice_set used place true) (k ∷ keys)
+  by true is later =
+      let at : spot k ≡ place = eqb-true (spot k) place is in
+      let old : once_if (slice_index_or used (spot k) false) ≡ 0 =
+      ap once_if (ap (λ (there : ℕ). slice_index_or used there false) at ∙ free) in
+      let new : once_if (slice_index_or (slice_set used place true) (spot k) false) ≡ 1 =
+      ap once_if (ap (λ (there : ℕ). slice_index_or (slice_set used place true) there false) at ∙ get_or-set_same used place true false inside) in
+      let rest = more-used used place keys in
+      omega (arith, old, new, rest)
+  by false is later =
+      let one = stays-used used place (spot k) in
+      let rest = later (ap (λ (c : Bool). c || has_spot place keys) (sym is) ∙ its) in
+      omega (arith, one, rest)
+
+-- each feature has a row at each place
+has-row : (feature : Feature) (place : Place) → has_spot (spot (feature, place)) every_place ≡ true
+has-row f.Ccid Here = refl
+has-row f.Ccid There = refl
+has-row f.ShortSeqnos Here = refl
+has-row f.ShortSeqnos There = refl
+has-row f.SequenceWindow Here = refl
+has-row f.SequenceWindow There = refl
+has-row f.EcnIncapable Here = refl
+has-row f.EcnIncapable There = refl
+has-row f.AckRatio Here = refl
+has-row f.AckRatio There = refl
+has-row f.SendAckVector Here = refl
+has-row f.SendAckVector There = refl
+has-row f.SendNdpCount Here = refl
+has-row f.SendNdpCount There = refl
+has-row f.MinCsCov Here = refl
+has-row f.MinCsCov There = refl
+has-row f.CheckDataChecksum Here = refl
+has-row f.CheckDataChecksum There = refl
+
+letter-kept : (left : Bool) → letter_to (place_of left) ≡ left
+letter-kept true = refl
+letter-kept false = refl
+
+feature-used : (used : List Bool) (left : Bool) (number : ℕ) (known : Option Feature) → feature_numbered number ≡ known → length used ≡ 512
+    → slice_index_or used (place_in_used left number) false ≡ false
+    → rows_used used every_place + rows_of known ≤ rows_used (slice_set used (place_in_used left number) true) every_place
+feature-used used left number None is size free = let more = more-used used (place_in_used left number) every_place in omega (arith, more)
+feature-used used left number (Some feature) is size free =
+    let k : Key = (feature, place_of left) in
+    let at : spot k ≡ place_in_used left number =
+    ap (λ (l : Bool). place_in_used l (number_of feature)) (letter-kept left) ∙ ap (place_in_used left) (found number feature is) in
+    let below = spot-below k in
+    one-used used (place_in_used left number) every_place (omega (arith, below, at, size)) free
+    (ap (λ (place : ℕ). has_spot place every_place) (sym at) ∙ has-row feature (place_of left))
+
+-- What holds of each reading: the rows are sound, and the Confirms are few and short, and shorter where no row answers; and a fault has
+-- the code 5 or 6.
 pub record IsBounded (h : Heeding) : Type 0 where
   pub rows : IsNegotiation h.rows
+  pub size : length h.used ≡ 512
   pub few : length h.confirms ≤ h.changes
   pub most : h.changes ≤ 64
   pub short : All (λ due. length due.body ≤ 9) h.confirms
+  pub room : length (written (confirm_items h.confirms)) ≤ 3 * h.changes + 9 * rows_used h.used every_place
 
 abbrev pub IsBoundedReading : Result Heeding Fault → Type 0
 IsBoundedReading (Ok h) = IsBounded h
@@ -134,26 +243,61 @@ counted-more n true most = by (nat_lt n 64) refl where
 met-bounded : (h : Heeding) (place : ℕ) (change : Bool) (rows : List Row) → IsBounded h → IsNegotiation rows → IsBounded (met h place change rows h.confirms)
 met-bounded h place change rows b sound =
     let more = counted-more h.changes change b.most in
-    record { rows = sound; few = (let few = b.few in omega (arith, few, more.0)); most = more.1; short = b.short }
+    let used = more-used h.used place every_place in
+    record {
+      rows = sound;
+      size = length-set h.used place true ∙ b.size;
+      few = (let few = b.few in omega (arith, few, more.0));
+      most = more.1;
+      short = b.short;
+      room = (let room = b.room in omega (arith, room, more.0, used));
+    }
 
-answered-bounded : (h : Heeding) (place : ℕ) (rows : List Row) (entry : Entry) (left : Bool) (number : ℕ) (answer : RowAnswer) → IsBounded h
-    → nat_lt h.changes 64 ≡ true → IsNegotiation rows → IsShort answer → IsBoundedReading (by_answered h place rows entry (answered left number answer))
-answered-bounded h place rows entry left number (Confirms body) b few sound short =
+-- the bytes of a Confirm more
+length-written : (items : List Item) (more : List Item) → length (written (items ++ more)) ≡ length (written items) + length (written more)
+length-written [] more = omega arith
+length-written (item ∷ rest) more =
+    let one : List ℕ = spelled item.mandatory item.kind item.body in
+    let all = length-append one (written (rest ++ more)) in
+    let old = length-append one (written rest) in
+    let later = length-written rest more in
+    omega (arith, all, old, later)
+
+length-confirm : (due : Due) → length (written (confirm_items (due ∷ []))) ≡ 3 + length due.body
+length-confirm due =
+    let alone = ap length (append-nil (spelled false (confirm_type due.left) (due.number ∷ due.body))) in omega (arith, alone)
+
+length-confirms : (confirms : List Due) (due : Due)
+    → length (written (confirm_items (confirms ++ due ∷ []))) ≡ length (written (confirm_items confirms)) + (3 + length due.body)
+length-confirms confirms due =
+    let joined : confirm_items (confirms ++ due ∷ []) ≡ confirm_items confirms ++ confirm_items (due ∷ []) = map-append confirm_item confirms (due ∷ []) in
+    let all = ap (λ (items : List Item). length (written items)) joined in
+    let parts = length-written (confirm_items confirms) (confirm_items (due ∷ [])) in
+    let one = length-confirm due in
+    omega (arith, all, parts, one)
+
+-- a Change, by what its row answers, where there is one
+answered-bounded : (h : Heeding) (place : ℕ) (rows : List Row) (entry : Entry) (left : Bool) (number : ℕ) (answer : RowAnswer) (its : ℕ) → its ≤ 1
+    → rows_used h.used every_place + its ≤ rows_used (slice_set h.used place true) every_place → IsBounded h → nat_lt h.changes 64 ≡ true → IsNegotiation rows
+    → IsShort (9 * its) answer → IsBoundedReading (by_answered h place rows entry (answered left number answer))
+answered-bounded h place rows entry left number (Confirms body) its one used b few sound short =
     let due : Due = record { left = not left; number = number; body = body } in
     let more : counted h.changes true ≡ h.changes + 1 = rw few refl in
     record {
       rows = sound;
+      size = length-set h.used place true ∙ b.size;
       few = (let long = length-append h.confirms (due ∷ []) in let old = b.few in omega (arith, long, old, more));
       most = (counted-more h.changes true b.most).1;
       short = All-append (λ (d : Due). length d.body ≤ 9) h.confirms (due ∷ []) b.short
-          (All-cons (λ (d : Due). length d.body ≤ 9) due [] short (All-nil (λ (d : Due). length d.body ≤ 9)));
+          (All-cons (λ (d : Due). length d.body ≤ 9) due [] (omega (arith, short, one)) (All-nil (λ (d : Due). length d.body ≤ 9)));
+      room = (let long = length-confirms h.confirms due in let old = b.room in omega (arith, long, old, more, used, short));
     }
-answered-bounded h place rows entry left number (Fatal code) b few sound short = refl
-answered-bounded h place rows entry left number Ignored b few sound short = met-bounded h place true rows b sound
-answered-bounded h place rows entry left number Settled b few sound short = met-bounded h place true rows b sound
-answered-bounded h place rows entry left number Opens b few sound short = met-bounded h place true rows b sound
-answered-bounded h place rows entry left number Waits b few sound short = met-bounded h place true rows b sound
-answered-bounded h place rows entry left number Quiet b few sound short = met-bounded h place true rows b sound
+answered-bounded h place rows entry left number (Fatal code) its one used b few sound short = refl
+answered-bounded h place rows entry left number Ignored its one used b few sound short = met-bounded h place true rows b sound
+answered-bounded h place rows entry left number Settled its one used b few sound short = met-bounded h place true rows b sound
+answered-bounded h place rows entry left number Opens its one used b few sound short = met-bounded h place true rows b sound
+answered-bounded h place rows entry left number Waits its one used b few sound short = met-bounded h place true rows b sound
+answered-bounded h place rows entry left number Quiet its one used b few sound short = met-bounded h place true rows b sound
 
 settling-bounded : (h : Heeding) (place : ℕ) (rows : List Row) (entry : Entry) (x : Settling) → IsBounded h → IsNegotiation rows
     → IsBoundedReading (by_settling h place rows entry x)
@@ -164,20 +308,29 @@ settling-bounded h place rows entry settling.Fatal b sound = refl
 used-bounded : (h : Heeding) (change : Bool) → IsBounded h → IsBounded (record h { changes = counted h.changes change })
 used-bounded h change b =
     let more = counted-more h.changes change b.most in
-    record { rows = b.rows; few = (let few = b.few in omega (arith, few, more.0)); most = more.1; short = b.short }
+    record {
+      rows = b.rows;
+      size = b.size;
+      few = (let few = b.few in omega (arith, few, more.0));
+      most = more.1;
+      short = b.short;
+      room = (let room = b.room in omega (arith, room, more.0));
+    }
 
 feature-bounded : (ack : Option ℕ) (h : Heeding) (entry : Entry) (change left : Bool) (number : ℕ) (body : List ℕ) → IsBounded h
     → IsBoundedReading (heeds_feature ack h entry change left number body)
-feature-bounded ack h entry true left number body b = by (slice_index_or h.used (place_in_used left number) false) (nat_lt h.changes 64) refl where
-  by : (used few : Bool) → nat_lt h.changes 64 ≡ few
+feature-bounded ack h entry true left number body b = by (slice_index_or h.used (place_in_used left number) false) (nat_lt h.changes 64) refl refl where
+  by : (used few : Bool) → slice_index_or h.used (place_in_used left number) false ≡ used → nat_lt h.changes 64 ≡ few
       → IsBoundedReading (if used then Ok (record h { changes = counted h.changes true })
       else if few then heeds_change h entry left number body else Ok (met h (place_in_used left number) true h.rows h.confirms))
-  by true few is = used-bounded h true b
-  by false true is =
-      let changed = change-sound h.rows (feature_numbered number) left body entry.mandatory b.rows in
+  by true few was is = used-bounded h true b
+  by false true free is =
+      let known : Option Feature = feature_numbered number in
+      let changed = change-sound h.rows known left body entry.mandatory b.rows in
       answered-bounded h (place_in_used left number) (changes h.rows left number body entry.mandatory).rows entry left number
-      (changes h.rows left number body entry.mandatory).answer b is changed.0 changed.1
-  by false false is = met-bounded h (place_in_used left number) true h.rows b b.rows
+      (changes h.rows left number body entry.mandatory).answer (rows_of known) (rows-few known) (feature-used h.used left number known refl b.size free) b is
+      changed.0 changed.1
+  by false false free is = met-bounded h (place_in_used left number) true h.rows b b.rows
 feature-bounded ack h entry false left number body b = by (slice_index_or h.used (place_in_used left number) false) where
   by : (used : Bool) → IsBoundedReading (if used then Ok (record h { changes = counted h.changes false }) else heeds_confirm ack h entry left number body)
   by true = used-bounded h false b
@@ -214,21 +367,39 @@ pub reading-bounded : (count : Bool) (ack : Option ℕ) (rows : List Row) (items
     → IsBoundedReading (heeds count ack (unheeded rows) items)
 reading-bounded count ack rows items sound =
     heeds-bounded count ack (unheeded rows) items
-    (record { rows = sound; few = omega arith; most = omega arith; short = All-nil (λ (due : Due). length due.body ≤ 9) })
+    (record {
+      rows = sound;
+      size = length-replicate 512 false;
+      few = omega arith;
+      most = omega arith;
+      short = All-nil (λ (due : Due). length due.body ≤ 9);
+      room = omega arith;
+    })
 
 -- the Confirms that are due after a packet's options
 pub record AreShort (confirms : List Due) : Type 0 where
   pub few : length confirms ≤ 64
   pub short : All (λ due. length due.body ≤ 9) confirms
+  pub room : HaveRoom confirms
 
 pub no-confirms : AreShort []
-no-confirms = record { few = omega arith; short = All-nil (λ (due : Due). length due.body ≤ 9) }
+no-confirms = record { few = omega arith; short = All-nil (λ (due : Due). length due.body ≤ 9); room = omega arith }
 
 pub confirms-short : (count : Bool) (ack : Option ℕ) (rows : List Row) (items : List (Result Entry OptFault)) (read : Heeding) → IsNegotiation rows
     → heeds count ack (unheeded rows) items ≡ Ok read → AreShort read.confirms
 confirms-short count ack rows items read sound is =
     let bounded : IsBounded read = subst IsBoundedReading is (reading-bounded count ack rows items sound) in
-    record { few = (let few = bounded.few in let most = bounded.most in omega (arith, few, most)); short = bounded.short }
+    let most = bounded.most in
+    let used : rows_used read.used every_place ≤ 18 = used-few read.used every_place in
+    record {
+      few = (let few = bounded.few in omega (arith, few, most));
+      short = bounded.short;
+      room = (let room = bounded.room in omega (arith, room, most, used));
+    }
+
+-- as it is stated
+pub confirms_have_room : ConfirmsHaveRoom
+confirms_have_room count ack rows options h sound is = (confirms-short count ack rows options h sound is).room
 
 -- The options of a packet and their bytes.
 
@@ -310,41 +481,82 @@ padded-room area fits =
     let pad : length (replicate {A = ℕ} ((4 - length area % 4) % 4) 0) ≡ (4 - length area % 4) % 4 = length-replicate ((4 - length area % 4) % 4) 0 in
     omega (arith, fits, long, pad)
 
-items-sendable : (k : Kind) (items : List Item) → has_forms true k ≡ true → HasDetail k → is_data (packet_type k) ≡ false → All IsSmall items
-    → length items ≤ 82 → IsSendable (record { kind = k; options = items; payload = [] })
-items-sendable k items long detail other small few =
-    let room = written-room items small in
-    let whole = padded-room (written items) (omega (arith, room, few)) in
+items-sendable : (k : Kind) (items : List Item) → has_forms true k ≡ true → HasDetail k → is_data (packet_type k) ≡ false → All IsWritable items
+    → length (written items) ≤ 984 → IsSendable (record { kind = k; options = items; payload = [] })
+items-sendable k items long detail other writable room =
+    let whole = padded-room (written items) room in
     let short = fixed_part_is_short true (packet_type k) in
     record {
       is_long = long;
       detail = detail;
-      items = all-writable items small;
+      items = writable;
       on_data = λ is. cc (is, other);
       area = omega (arith, whole, short);
       data_fits = omega arith;
     }
 
+-- options of at most 255 bytes, as an Ack Vector is one
+pub record IsFront (items : List Item) : Type 0 where
+  writable : All IsWritable items
+  short : length (written items) ≤ 255
+
+no-front : IsFront []
+no-front = record { writable = All-nil IsWritable; short = omega arith }
+
+pub vector-front : (has_vector : Bool) (set : MarkedSet) (greatest : ℕ) → IsFront (vector_items has_vector set greatest)
+vector-front false set greatest = no-front
+vector-front true set greatest =
+    let bytes : List ℕ = all_bytes (set_states (has set.numbers)) set.floor greatest in
+    let body : List ℕ = vector (has set.numbers) set.floor greatest in
+    let cut : length body ≡ min option_room (length bytes) = length-take option_room bytes in
+    let most = min-le_left option_room (length bytes) in
+    let few : length body ≤ 253 = omega (arith, cut, most) in
+    let item : Item = record { mandatory = false; kind = options.ack_vector_0; body = body } in
+    let one : length (written (item ∷ [])) ≡ length (spelled false options.ack_vector_0 body) = ap length (append-nil (spelled false options.ack_vector_0 body)) in
+    record {
+      writable = All-cons IsWritable item [] (record { has_length = omega arith; is_byte = omega arith; fits = few }) (All-nil IsWritable);
+      short = omega (arith, one, few);
+    }
+
+-- such options, and behind them others
+front-sendable : (k : Kind) (front items : List Item) → has_forms true k ≡ true → HasDetail k → is_data (packet_type k) ≡ false → IsFront front
+    → All IsWritable items → length (written items) ≤ 729 → IsSendable (record { kind = k; options = front ++ items; payload = [] })
+front-sendable k front items long detail other first writable room =
+    items-sendable k (front ++ items) long detail other (All-append IsWritable front items first.writable writable)
+    (let all = length-written front items in let short = first.short in omega (arith, all, short, room))
+
+-- options in front, the Confirms for a packet, and Changes of at most eighteen rows
+pub front-saying-sendable : (k : Kind) (front : List Item) (confirms : List Due) (rows : List Row) (keys : List Key) → has_forms true k ≡ true → HasDetail k
+    → is_data (packet_type k) ≡ false → IsFront front → AreShort confirms → IsNegotiation rows → length keys ≤ 18
+    → IsSendable (record { kind = k; options = front ++ (confirm_items confirms ++ change_items rows keys); payload = [] })
+front-saying-sendable k front confirms rows keys long detail other first short sound few =
+    let changes : List Item = change_items rows keys in
+    let small : All IsSmall changes =
+    All-map IsSmall (λ (k : Key). change_item k (row_at rows k.0 k.1)) keys
+    (all-so (λ (k : Key). IsSmall (change_item k (row_at rows k.0 k.1))) (change-small rows sound) keys) in
+    let writable : All IsWritable (confirm_items confirms ++ changes) =
+    All-append IsWritable (confirm_items confirms) changes (all-writable (confirm_items confirms) (confirms-small confirms short.short)) (all-writable changes small) in
+    let all = length-written (confirm_items confirms) changes in
+    let room = short.room in
+    let more = written-room changes small in
+    let count = length-map keys (λ (k : Key). change_item k (row_at rows k.0 k.1)) in
+    front-sendable k front (confirm_items confirms ++ changes) long detail other first writable (omega (arith, all, room, more, count, few))
+
 pub saying-sendable : (k : Kind) (confirms : List Due) (rows : List Row) (keys : List Key) → has_forms true k ≡ true → HasDetail k
     → is_data (packet_type k) ≡ false → AreShort confirms → IsNegotiation rows → length keys ≤ 18 → IsSendable (saying k confirms rows keys)
 saying-sendable k confirms rows keys long detail other short sound few =
-    let items : List Item = confirm_items confirms ++ change_items rows keys in
-    let small : All IsSmall items =
-    All-append IsSmall (confirm_items confirms) (change_items rows keys) (confirms-small confirms short.short)
-    (All-map IsSmall (λ (k : Key). change_item k (row_at rows k.0 k.1)) keys
-    (all-so (λ (k : Key). IsSmall (change_item k (row_at rows k.0 k.1))) (change-small rows sound) keys)) in
-    let all = length-append (confirm_items confirms) (change_items rows keys) in
-    let first = length-map confirms confirm_item in
-    let second = length-map keys (λ (k : Key). change_item k (row_at rows k.0 k.1)) in
-    let most = short.few in
-    items-sendable k items long detail other small (omega (arith, all, first, second, most, few))
+    front-saying-sendable k [] confirms rows keys long detail other no-front short sound few
+
+-- options in front, and Confirms alone
+pub front-confirming-sendable : (k : Kind) (front : List Item) (confirms : List Due) → has_forms true k ≡ true → HasDetail k → is_data (packet_type k) ≡ false
+    → IsFront front → AreShort confirms → IsSendable (record { kind = k; options = front ++ confirm_items confirms; payload = [] })
+front-confirming-sendable k front confirms long detail other first short =
+    front-sendable k front (confirm_items confirms) long detail other first (all-writable (confirm_items confirms) (confirms-small confirms short.short))
+    (let room = short.room in omega (arith, room))
 
 pub confirming-sendable : (k : Kind) (confirms : List Due) → has_forms true k ≡ true → HasDetail k → is_data (packet_type k) ≡ false → AreShort confirms
     → IsSendable (confirming k confirms)
-confirming-sendable k confirms long detail other short =
-    let first = length-map confirms confirm_item in
-    let most = short.few in
-    items-sendable k (confirm_items confirms) long detail other (confirms-small confirms short.short) (omega (arith, first, most))
+confirming-sendable k confirms long detail other short = front-confirming-sendable k [] confirms long detail other no-front short
 
 -- no more rows ask than there are
 pub due-few : (rows : List Row) → IsNegotiation rows → length (due_keys rows) ≤ 18

@@ -21,29 +21,34 @@ use Rattle.dccp_endpoint.proofs.RowsSeen.{arrives, client_ack, initial_rows, lis
 abbrev usual_request : String
 usual_request = "9c401389080000b601000000000003e80000002a012004040101220406010000"
 
-abbrev usual_response : String
+abbrev pub usual_response : String
 usual_response = "13899c400d00a1c303000000000007d000000000000003e80000002a230604010100210606010100012004040101220406010000"
 
-abbrev usual_ack : String
-usual_ack = "9c4013890900d02607000000000003e900000000000007d0230604010100210606010100"
+abbrev pub usual_ack : String
+usual_ack = "9c4013890a00eadd07000000000003e900000000000007d026030023060401010021060601010000"
+
+-- the server's Ack behind it tells of both packets of the client
+abbrev pub usual_vector : String
+usual_vector = "13899c400700fb3807000000000007d100000000000003e926030100"
 
 -- the ends on the way through it
 abbrev usual_listening : EndState
 usual_listening = fresh (usual Server)
 
-abbrev usual_requesting : EndState
+abbrev pub usual_requesting : EndState
 usual_requesting = (opens (fresh (usual Client))).after
 
-abbrev usual_responding : EndState
+abbrev pub usual_responding : EndState
 usual_responding = (arrives usual_listening usual_request).after
 
-abbrev usual_part_open : EndState
+abbrev pub usual_part_open : EndState
 usual_part_open = (arrives usual_requesting usual_response).after
 
-abbrev usual_open : EndState
+abbrev pub usual_open : EndState
 usual_open = (arrives usual_responding usual_ack).after
 
--- Each end confirms what the other offers and is confirmed what it offers itself: both are STABLE at the usual rows.
+-- Each end confirms what the other offers and is confirmed what it offers itself: both are STABLE at the usual rows, and their Acks carry
+-- Ack Vectors.
 usual-handshake :
     (seen (opens (fresh (usual Client))) ≡ (Ok tt, sent usual_request, phase.Request))
     × (shown usual_requesting ≡ row f.EcnIncapable Here 0 Changing (row f.SendAckVector There 0 Changing initial_rows))
@@ -52,10 +57,10 @@ usual-handshake :
     ≡ row f.EcnIncapable Here 0 Changing (row f.EcnIncapable There 1 Stable (row f.SendAckVector Here 1 Stable (row f.SendAckVector There 0 Changing initial_rows))))
     × (seen (arrives usual_requesting usual_response) ≡ (Took None, sent usual_ack, phase.PartOpen))
     × (shown usual_part_open ≡ usual_rows)
-    × (seen (arrives usual_responding usual_ack) ≡ (Took None, sent server_ack, phase.Open))
+    × (seen (arrives usual_responding usual_ack) ≡ (Took None, sent usual_vector, phase.Open))
     × (shown usual_open ≡ usual_rows)
-    × (seen (arrives usual_part_open server_ack) ≡ (Took None, None, phase.Open))
-    × (shown (arrives usual_part_open server_ack).after ≡ usual_rows)
+    × (seen (arrives usual_part_open usual_vector) ≡ (Took None, None, phase.Open))
+    × (shown (arrives usual_part_open usual_vector).after ≡ usual_rows)
 unfolding receives opens framed
 usual-handshake = (refl, refl, refl, refl, refl, refl, refl, refl, refl, refl)
 
@@ -94,12 +99,12 @@ offers-go-out-again :
     × (seen (arrives usual_responding "9c401389080000b501000000000003e90000002a012004040101220406010000")
     ≡ (Took None, sent "13899c400d00a1c103000000000007d100000000000003e90000002a230604010100210606010100012004040101220406010000", phase.Respond))
     × (seen (arrives again_requesting "13899c400d00a1c103000000000007d100000000000003e90000002a230604010100210606010100012004040101220406010000")
-    ≡ (Took None, sent "9c4013890900d02407000000000003ea00000000000007d1230604010100210606010100", phase.PartOpen))
-    × (seen (arrives again_requesting usual_response) ≡ (Took None, sent "9c4013890900d02507000000000003ea00000000000007d0230604010100210606010100", phase.PartOpen))
+    ≡ (Took None, sent "9c4013890a00eadb07000000000003ea00000000000007d126030023060401010021060601010000", phase.PartOpen))
+    × (seen (arrives again_requesting usual_response) ≡ (Took None, sent "9c4013890a00eadc07000000000003ea00000000000007d026030023060401010021060601010000", phase.PartOpen))
     × (shown (arrives again_requesting usual_response).after ≡ usual_rows)
-    × (seen (arrives again_responding "9c4013890900d02507000000000003ea00000000000007d0230604010100210606010100")
-    ≡ (Took None, sent "13899c400600233e07000000000007d200000000000003ea", phase.Open))
-    × (shown (arrives again_responding "9c4013890900d02507000000000003ea00000000000007d0230604010100210606010100").after ≡ usual_rows)
+    × (seen (arrives again_responding "9c4013890a00eadc07000000000003ea00000000000007d026030023060401010021060601010000")
+    ≡ (Took None, sent "13899c400700fa3607000000000007d200000000000003ea26030200", phase.Open))
+    × (shown (arrives again_responding "9c4013890a00eadc07000000000003ea00000000000007d026030023060401010021060601010000").after ≡ usual_rows)
 unfolding receives opens fires framed
 offers-go-out-again = (refl, refl, refl, refl, refl, refl, refl)
 
@@ -112,12 +117,12 @@ request-twice :
     (seen (arrives usual_responding usual_request)
     ≡ (Took None, sent "13899c400a00f4dc03000000000007d100000000000003e80000002a012004040101220406010000", phase.Respond))
     × (seen (arrives usual_requesting "13899c400a00f4dc03000000000007d100000000000003e80000002a012004040101220406010000")
-    ≡ (Took None, sent "9c4013890900d02507000000000003e900000000000007d1230604010100210606010100", phase.PartOpen))
+    ≡ (Took None, sent "9c4013890a00eadc07000000000003e900000000000007d126030023060401010021060601010000", phase.PartOpen))
     × (shown half_open
     ≡ row f.EcnIncapable Here 0 Changing (row f.EcnIncapable There 1 Stable (row f.SendAckVector Here 1 Stable (row f.SendAckVector There 0 Changing initial_rows))))
-    × (seen (fires half_open timers.Negotiate false) ≡ (true, sent "9c4013890900f20807000000000003ea00000000000007d1012004040101220406010000", phase.PartOpen))
+    × (seen (fires half_open timers.Negotiate false) ≡ (true, sent "9c4013890a00cefd07000000000003ea00000000000007d126030001200404010122040601000000", phase.PartOpen))
     × (seen (arrives usual_part_open "13899c400a00f4dc03000000000007d100000000000003e80000002a012004040101220406010000")
-    ≡ (Took None, sent "9c4013890900d02407000000000003ea00000000000007d1230604010100210606010100", phase.PartOpen))
+    ≡ (Took None, sent "9c4013890a00e9db07000000000003ea00000000000007d126030123060401010021060601010000", phase.PartOpen))
     × (shown (arrives usual_part_open "13899c400a00f4dc03000000000007d100000000000003e80000002a012004040101220406010000").after ≡ usual_rows)
 unfolding receives opens fires framed
 request-twice = (refl, refl, refl, refl, refl, refl)
@@ -161,13 +166,13 @@ asking-row-is-confirmed = (refl, refl, refl)
 
 -- The server's list decides: the client offers 2, 248 for its CCID, and the server prefers 248; then the client prefers 248, and the
 -- server 2.
-abbrev choosing_248 : EndState
+abbrev pub choosing_248 : EndState
 choosing_248 = fresh (wishing (plain Server) f.Ccid There (wanted.List (248 ∷ 2 ∷ [])))
 
-abbrev offering_2 : EndState
+abbrev pub offering_2 : EndState
 offering_2 = requests_as (offering (plain Client) f.Ccid Here false)
 
-abbrev offering_248 : EndState
+abbrev pub offering_248 : EndState
 offering_248 = requests_as (offering (wishing (plain Client) f.Ccid Here (wanted.List (248 ∷ 2 ∷ []))) f.Ccid Here false)
 
 server-order-wins :
@@ -265,7 +270,7 @@ confirms-in-order :
     (seen (arrives listening "9c4013890700e3d901000000000003e80000002a2204060120040401")
     ≡ (Took None, sent "13899c400a00d2f903000000000007d000000000000003e80000002a210606010100230604010100", phase.Respond))
     × (seen (arrives requesting "13899c400900d80103000000000007d000000000000003e80000002a2204060120040401")
-    ≡ (Took None, sent "9c4013890900d02607000000000003e900000000000007d0210606010100230604010100", phase.PartOpen))
+    ≡ (Took None, sent "9c4013890a00eadd07000000000003e900000000000007d026030021060601010023060401010000", phase.PartOpen))
 unfolding receives opens framed
 confirms-in-order = (refl, refl)
 

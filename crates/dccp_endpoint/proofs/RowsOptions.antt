@@ -12,7 +12,7 @@ use Rattle.dccp_endpoint.specs.Drafts.{framed}
 use Rattle.dccp_endpoint.specs.End.{EndState}
 use Rattle.dccp_endpoint.specs.Receiving.{receives}
 use Rattle.dccp_endpoint.specs.Usual.{usual}
-use Rattle.dccp_endpoint.specs.declared.outcome.Outcome.TheVariants.{NotBuilt, SentReset, Took}
+use Rattle.dccp_endpoint.specs.declared.outcome.Outcome.TheVariants.{SentReset, Took}
 use Rattle.dccp_endpoint.proofs.RowsSeen.{arrives, bytes, client_ack, closed, initial_rows, listening, offering, open_client, open_server, plain, requesting, requests_as, responds_as, response, row, seen, sent, server_ack, shown, wishing}
 
 -- Sequence Window at a server: 31 is too small, 32 and 2^46 - 1 are taken, and 2^46 is too large.
@@ -239,13 +239,15 @@ confirms-of-numbers :
 unfolding receives opens framed
 confirms-of-numbers = (refl, refl, refl, refl, refl, refl, refl, refl)
 
--- Data and DataAck are not built yet, whatever they say.
-data-is-not-built :
-    (seen (arrives open_server "9c4013890700543d09000000000003ea00000000000007d1200401f8aa") ≡ (NotBuilt, None, phase.Open))
-    × (shown (arrives open_server "9c4013890700543d09000000000003ea00000000000007d1200401f8aa").after ≡ initial_rows)
-    × (seen (arrives open_client "13899c400400812e05000000000007d2aa") ≡ (NotBuilt, None, phase.Open))
+-- A DataAck negotiates and delivers its data, and the Confirm goes out on an Ack. On Data no option of the negotiation is read.
+options-beside-data :
+    (seen (arrives open_server "9c4013890700543d09000000000003ea00000000000007d1200401f8aa")
+    ≡ (Took (Some (28, 29)), sent "13899c400800f93f07000000000007d200000000000003ea230601f802f80000", phase.Open))
+    × (shown (arrives open_server "9c4013890700543d09000000000003ea00000000000007d1200401f8aa").after ≡ row f.Ccid There 248 Stable initial_rows)
+    × (seen (arrives open_server "9c4013890500621605000000000003ea200401f8aa") ≡ (Took (Some (20, 21)), None, phase.Open))
+    × (shown (arrives open_server "9c4013890500621605000000000003ea200401f8aa").after ≡ initial_rows)
 unfolding receives opens framed
-data-is-not-built = (refl, refl, refl)
+options-beside-data = (refl, refl, refl, refl)
 
 -- Options of so many features in a row, none of them known, from this number on: Changes without values, or empty Confirms.
 abbrev empty_options : ℕ → ℕ → ℕ → List ℕ

@@ -1,7 +1,9 @@
 -- What the worked packets are seen by: bytes spelled by hexadecimal digits, what a step shows, and two ends that offer nothing, on
 -- their way through a handshake.
-use Rattle.std.specs.Prelude.{ℕ, ◌+◌, ◌-◌, ◌*◌, nat_le, if◌then◌else◌, Bool, List, [], ◌∷◌, map, slice_set, Option, Some, codes}
+use Rattle.std.specs.Prelude.{ℕ, ◌+◌, ◌-◌, ◌*◌, nat_le, if◌then◌else◌, Bool, true, List, [], ◌∷◌, map, slice_set, Option, Some, codes}
 use Prim.Native.String.{String}
+use Rattle.congestion_trait.specs.Calls.{Call}
+use Rattle.congestion_trait.specs.Calls as call
 use Rattle.dccp_states.specs.declared.phase.Phase.{Phase}
 use Rattle.dccp_states.specs.declared.phase.Role.{Role}
 use Rattle.dccp_states.specs.declared.phase.Role.TheVariants.{Client, Server}
@@ -13,9 +15,10 @@ use Rattle.feature_machine.specs.declared.stands.Stand.{Stand}
 use Rattle.feature_machine.specs.declared.stands.Stand.TheVariants.{Stable}
 use Rattle.dccp_endpoint.specs.End.{EndState, fresh}
 use Rattle.dccp_endpoint.specs.Receiving.{receives}
-use Rattle.dccp_endpoint.specs.Calling.{opens}
+use Rattle.dccp_endpoint.specs.Calling.{Called, opens, sends_payload}
 use Rattle.dccp_endpoint.specs.Steps.{Step}
 use Rattle.dccp_endpoint.specs.Usual.{usual}
+use Rattle.dccp_endpoint.specs.declared.calls.SendFault.{SendFault}
 use Rattle.dccp_endpoint.specs.declared.config.Config.{Config}
 use Rattle.dccp_endpoint.specs.declared.outcome.Outcome.{Outcome}
 
@@ -38,6 +41,26 @@ arrives e digits = receives e (bytes (codes digits))
 -- what is seen of a step: its answer, its frame and the phase after it
 abbrev pub seen : {Answer : Type 0} → Step Answer → Answer × Option (List ℕ) × Phase
 seen step = (step.answer, step.frame, step.after.phase)
+
+-- what is seen of a call of the congestion control: of a report, the states that it gives these numbers
+pub data SeenCall : Type 0 where
+  Started : (ccid : ℕ) → SeenCall
+  Sent : (number : ℕ) → SeenCall
+  Reported : (states : List (Option ℕ)) (ratio : ℕ) → SeenCall
+  TimedOut : SeenCall
+
+abbrev pub seen_call : List ℕ → Call → SeenCall
+seen_call numbers (call.Starts ccid) = Started ccid
+seen_call numbers (call.Sends number) = Sent number
+seen_call numbers (call.Reports states ratio) = Reported (map states numbers) ratio
+seen_call numbers call.TimesOut = TimedOut
+
+abbrev pub calls_at : {Answer : Type 0} → List ℕ → Step Answer → List SeenCall
+calls_at numbers step = map (seen_call numbers) step.calls
+
+-- data are sent; the congestion control lets them
+abbrev pub sends : EndState → String → Called SendFault
+sends e digits = sends_payload e (bytes (codes digits)) true
 
 -- the packets of a handshake, and of its end from the client's side
 abbrev pub request : String

@@ -14,7 +14,8 @@ use Rattle.validity_windows.specs.Verdict.{gar_after, verdict}
 use Rattle.validity_windows.specs.declared.marks.Marks.{Marks}
 use Rattle.validity_windows.specs.declared.verdict.Verdict.{Verdict}
 use Rattle.validity_windows.specs.declared.verdict.Verdict.TheVariants as verdicts
-use Rattle.dccp_endpoint.specs.Causes.{is_acking, is_code_without_connection}
+use Rattle.dccp_endpoint.specs.Causes.{is_code_without_connection}
+use Rattle.dccp_endpoint.specs.Reporting.{is_acking}
 use Rattle.dccp_endpoint.specs.Effects.{gar_by}
 use Rattle.dccp_endpoint.specs.Receiving.{is_other_service}
 

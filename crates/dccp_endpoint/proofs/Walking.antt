@@ -2,9 +2,10 @@
 --
 -- A packet that leaves at one of the steps 2 to 6 is told where it leaves. One that entered, by step 3, 4 or 6, is an `Entry`: the end
 -- that those steps leave is written as an effect, and what follows is told of each entry alike.
-use Rattle.std.proofs.Common.{◌≡◌, ◌≢◌, ◌⊎◌, inl, inr, refl, ap, sym, ◌∙◌, subst, ℕ, Bool, true, false, not, ◌&&◌, ◌||◌, if◌then◌else◌, List, [], ◌∷◌, ◌++◌, Option, Some, None, Result, Ok, Err}
+use Rattle.std.proofs.Common.{◌≡◌, ◌≢◌, ◌⊎◌, inl, inr, refl, ap, sym, ◌∙◌, subst, ℕ, Bool, true, false, not, ◌&&◌, ◌||◌, if◌then◌else◌, List, [], ◌∷◌, ◌++◌, Option, Some, None, Result, Ok, Err, is_some}
 use Rattle.std.proofs.lemmas.Bool.{and_parts, false≢true}
 use Rattle.std.proofs.lemmas.List.{append-nil, append_assoc}
+use Rattle.congestion_trait.specs.Calls.{Call}
 use Rattle.seq_circle.specs.Circle.{is_before, later_of}
 use Rattle.dccp_packets.specs.Grammar.{Parts, decoded, packet_type}
 use Rattle.dccp_packets.specs.Kinds.{ack_of}
@@ -28,36 +29,40 @@ use Rattle.dccp_states.specs.declared.phase.Role.{Role}
 use Rattle.dccp_states.specs.declared.phase.Role.TheVariants as role
 use Rattle.dccp_states.specs.declared.reply.Reply.{Reply}
 use Rattle.dccp_states.specs.declared.reply.Reply.TheVariants as reply
+use Rattle.ack_vectors.specs.Kept as kept
+use Rattle.run_list.specs.MarkedSet.{answer_to}
 use Rattle.validity_windows.specs.declared.verdict.Verdict.{Verdict}
 use Rattle.validity_windows.specs.declared.verdict.Verdict.TheVariants as verdicts
 use Rattle.feature_machine.specs.Negotiating.{every_place}
 use Rattle.feature_machine.specs.Turns.{Turn, turned}
 use Rattle.feature_machine.specs.declared.row.Row.{Row}
 use Rattle.feature_machine.proofs.Turning.{turned-joined}
-use Rattle.dccp_endpoint.specs.Causes.{is_code_without_connection, is_waiting, Acknowledges, AreHeard, Arrived, BecomesOpen, ByVerdict, ByWindow, Came, FitsPassing, Greatest, Heeds, IsAcknowledging, IsHeeded, IsHearing, IsOpening, Keeps, LeavesIt, NotNow, Raises, Refuses, SaysApart, Starts, StaysSo, counts_in, entrance_of, turns_in, verdict_of}
+use Rattle.dccp_endpoint.specs.Causes.{is_code_without_connection, is_waiting, IsLooking, Looks, LooksNowhere, Acknowledges, AreHeard, Arrived, BecomesOpen, ByVerdict, ByWindow, CallsFor, Came, FitsPassing, Greatest, Heeds, IsAcknowledging, IsCaused, IsHeeded, IsHearing, IsOpening, Keeps, LeavesIt, NotNow, Raises, Refuses, SaysApart, Starts, StaysSo, counts_in, entrance_of, turns_in, verdict_of}
+use Rattle.dccp_endpoint.specs.Congesting.{calls_for}
 use Rattle.dccp_endpoint.specs.Drafts.{alone}
-use Rattle.dccp_endpoint.specs.Effects.{Hearing, Heard, Next, Passing, Refused, Sending, Shut, Silent, Taken, WithoutConnection, effect_of, end_after, greatest_or}
+use Rattle.dccp_endpoint.specs.Effects.{Effect, Hearing, Heard, Next, Passing, Refused, Sending, Shut, Silent, Taken, WithoutConnection, effect_of, end_after, frame_by, greatest_or, is_acking_sent}
 use Rattle.dccp_endpoint.specs.End.{EndState, IsProper, is_begun, is_connected, is_live, is_open, is_phase_of, phase_entered, with_rows}
-use Rattle.dccp_endpoint.specs.Faults.{counts, is_unbuilt}
+use Rattle.dccp_endpoint.specs.Faults.{counts}
 use Rattle.dccp_endpoint.specs.Heeding.{Due, Heeding, heeds, unheeded}
 use Rattle.dccp_endpoint.specs.Incoming.{Incoming, incoming, is_newest}
 use Rattle.dccp_endpoint.specs.Inputs.{Input, Arrives}
-use Rattle.dccp_endpoint.specs.Outcomes.{Answering, Closing, HasCause, IsNoAnswer, IsValidReset, replying, Correcting, IsAdmitted, IsReset, IsValid, IsValidPacket, Refusing, SyncsInvalid, SyncsUnexpected, OutOfWindow, Unexpected, NoConnection, OtherService, NoAnswer, OtherType, OtherRequest, WrongService, Faulted, AnswersClose, OpensConnection, ResponseToRequest, PacketInWindow, ResetToRequest, ResetInWindow, StrayWithoutConnection, StrayInRequest, is_for_another, IsTaken, IsTaking, kind_sent, reading_of}
-use Rattle.dccp_endpoint.specs.Receiving.{Goes, acknowledges, acknowledges_in_window, answers, becomes_open, by_ports, by_sum, checks_numbers, checks_type, ends_as, ends_by_reset, expects, heeded, heeding_or_exit, is_of_connection, is_own_service, is_unexpected, judged, long_number, moved_to, number_without_connection, opens_connection, packet_fault, raised, raises, reads, received, receives, replies, resets, resets_without_connection, responds, responds_asking, responds_offering, serves, started, takes_answer, the_steps, through, took, with_number, with_packet}
+use Rattle.dccp_endpoint.specs.Outcomes.{Answering, Closing, HasCause, HasForm, IsNoAnswer, IsValidReset, replying, Correcting, IsAdmitted, IsReset, IsValid, IsValidPacket, Refusing, SyncsInvalid, SyncsUnexpected, OutOfWindow, Unexpected, NoConnection, OtherService, NoAnswer, OtherType, OtherRequest, WrongService, Faulted, AnswersClose, OpensConnection, ResponseToRequest, PacketInWindow, ResetToRequest, ResetInWindow, StrayWithoutConnection, StrayInRequest, is_for_another, IsTaken, IsTaking, kind_sent, unacked_by}
+use Rattle.dccp_endpoint.specs.Receiving.{Goes, acknowledges, acknowledges_in_window, answers, becomes_open, by_ports, by_sum, checks_numbers, checks_type, ends_as, ends_by_reset, expects, heeded, is_of_connection, is_own_service, is_unexpected, judged, long_number, moved_to, needs_ack, number_without_connection, opens_connection, packet_fault, raised, raises, reads_options, received, receives, replies, resets, resets_without_connection, responds, responds_asking, responds_offering, serves, started, takes_answer, the_steps, through, with_number, with_packet}
+use Rattle.dccp_endpoint.specs.Reporting.{counts_data, delivered_if, delivers, is_acking, is_enough, looked_up, looks_up, marks, unacked_after}
 use Rattle.dccp_endpoint.specs.Speaking.{asking, confirm_items, confirming, has_confirms, is_confirmed, saying}
-use Rattle.dccp_endpoint.specs.Steps.{Step, in_phase, detail_of, idle, next_number, sends, without_detail}
+use Rattle.dccp_endpoint.specs.Steps.{Step, in_phase, detail_of, idle, next_number, sends, with_calls, without_detail}
 use Rattle.dccp_endpoint.specs.Turns.{Key, offerings, sendings}
 use Rattle.dccp_endpoint.specs.declared.outcome.Fault.{Fault}
 use Rattle.dccp_endpoint.specs.declared.outcome.Outcome.{Outcome}
-use Rattle.dccp_endpoint.specs.declared.outcome.Outcome.TheVariants.{Dropped, NotBuilt, Synced, WasReset}
+use Rattle.dccp_endpoint.specs.declared.outcome.Outcome.TheVariants.{Dropped, Synced, Took, WasReset}
 use Rattle.dccp_endpoint.specs.declared.outcome.Why.{Why}
 use Rattle.dccp_endpoint.specs.declared.outcome.Why.TheVariants as why
-use Rattle.dccp_endpoint.proofs.Deriving.{Ready, Told, ack-caused, caused, effect_with, hearing, left, next-caused, offered_keys, offered_turns, offering, plain-caused, quiet, rest, silent-caused, told-by, wide, wide-proper, widened}
+use Rattle.dccp_endpoint.proofs.Deriving.{Ready, Told, ack-caused, calling, calling-caused, front_of, caused, effect_with, hearing, left, next-caused, offered_keys, offered_turns, offering, plain-caused, quiet, rest, silent-caused, told-by, wide, wide-proper, widened}
 use Rattle.dccp_endpoint.proofs.Heard.{heeds-turns, uncounted}
 use Rattle.dccp_endpoint.proofs.Lawful.{offered-sound, rows-kept}
 use Rattle.dccp_endpoint.proofs.OwnFrames.{alone-sendable}
-use Rattle.dccp_endpoint.proofs.Phases.{MaySay, accept-so, after-heard, after_fits, answer-so, begun-not-closed, check-live, fits-reply, listens-server, live-begun, live-entered, live-heard, may-say, open-is, requests-client}
-use Rattle.dccp_endpoint.proofs.Room.{AreShort, IsBoundedReading, asking-few, confirming-sendable, confirms-short, reading-bounded, saying-sendable}
+use Rattle.dccp_endpoint.proofs.Phases.{MaySay, accept-so, after-heard, after_fits, answer-so, answers-close, begun-not-closed, check-live, fits-reply, listens-server, live-begun, live-entered, live-heard, may-say, open-is, requests-client}
+use Rattle.dccp_endpoint.proofs.Room.{AreShort, IsBoundedReading, asking-few, confirming-sendable, confirms-short, front-confirming-sendable, reading-bounded, saying-sendable, vector-front}
 use Rattle.dccp_endpoint.proofs.Tables.{gar-by, no-connection-code, numbered-code, other-service-asked, raising, sync-acknowledges, unexpected-no-ack}
 
 -- a Request acknowledges nothing
@@ -96,9 +101,17 @@ none-have : (confirms : List Due) → has_confirms confirms ≡ false → confir
 none-have [] is = refl
 none-have (due ∷ rest) is = cc is
 
+or-none : (one other : Bool) → (one || other) ≡ false → one ≡ false
+or-none true other is = cc is
+or-none false other is = refl
+
+some-if : (delivered : Bool) (place : ℕ × ℕ) → is_some (delivered_if delivered place) ≡ delivered
+some-if true place = refl
+some-if false place = refl
+
 -- the end as steps 3, 4 and 6 leave it
 abbrev pub entered_as : EndState → Bool → Phase → ℕ → Option ℕ → EndState
-entered_as e first ph number ack = end_after e (effect_of (Heard first number Taken) ack false ph false Silent)
+entered_as e first ph number ack = end_after e (effect_of e (Heard first number Shut) ack false ph false Silent)
 
 -- a packet that entered
 record Entry (e : EndState) (bytes : List ℕ) (a : Incoming) : Type 0 where
@@ -122,7 +135,7 @@ record Entry (e : EndState) (bytes : List ℕ) (a : Incoming) : Type 0 where
 
 -- steps 7 and 8, behind the test of Resets
 abbrev Behind : EndState → List ℕ → Incoming → PacketType → EndState → Type 0
-Behind e bytes a t x = Told e bytes (ends_as e a (through (ends_by_reset a t x) (checks_type a ∷ [])))
+Behind e bytes a t x = Told e bytes (ends_as a (through (ends_by_reset a t x) (checks_type a ∷ [])))
 
 module _ (o : EndState) (bytes : List ℕ) (proper : IsProper (wide o)) where
   abbrev e : EndState
@@ -131,7 +144,7 @@ module _ (o : EndState) (bytes : List ℕ) (proper : IsProper (wide o)) where
   -- a packet that leaves before it enters
 
   dropped-told : (w : Why) → HasCause e bytes (Dropped w) → Told e bytes (idle e (Dropped w))
-  dropped-told w cause = told-by (Dropped w) (silent-caused (rest proper) quiet refl refl (λ is. is)) cause refl
+  dropped-told w cause = told-by (Dropped w) (silent-caused (rest proper) e.owed e.unacked quiet refl refl (λ is. is)) cause refl
 
   module _ (a : Incoming) (came : Came e (Arrives bytes) a) where
     synced-told : (n : ℕ) → entrance_of e a ≡ entrance.Check → verdict_of e a ≡ verdicts.SyncFor n → Told e bytes (sends e (alone (kind.Sync n)) (Synced n))
@@ -149,7 +162,7 @@ module _ (o : EndState) (bytes : List ℕ) (proper : IsProper (wide o)) where
         let number : ℕ = number_without_connection a.ack in
         let packet : Kind = kind.Reset a.number code (detail_of (without_detail code)) in
         told-by _
-        (caused (rest proper) quiet (WithoutConnection number packet) (λ is. inl is) (SaysApart number packet refl refl) (alone-sendable packet refl refl)
+        (caused (rest proper) e.owed e.unacked quiet (WithoutConnection number packet) (λ is. inl is) (SaysApart number packet refl refl) (alone-sendable packet refl refl)
         (Refuses a code came is_code refl refl refl))
         (record { fault = without_detail code; why = why; has_code = refl; has_detail = refl }) (Refusing number a.number is_code)
 
@@ -164,7 +177,7 @@ module _ (o : EndState) (bytes : List ℕ) (proper : IsProper (wide o)) where
     ended-told reset valid begun =
         told-by (WasReset a.code)
         (silent-caused (left phase.TimeWait refl refl (λ is. absurd (false≢true is)) (λ closed. absurd (begun-not-closed e.phase begun closed))
-        (Keeps (λ is. absurd (false≢true is))) LeavesIt NotNow) quiet refl refl (λ is. begun))
+        (Keeps (λ is. absurd (false≢true is))) LeavesIt NotNow) e.owed e.unacked quiet refl refl (λ is. begun))
         (record { packet = a; came = came; is_reset = reset; is_valid = valid; has_code = refl }) refl
 
   module _ (a : Incoming) (entry : Entry e bytes a) where
@@ -191,8 +204,17 @@ module _ (o : EndState) (bytes : List ℕ) (proper : IsProper (wide o)) where
     abbrev heard_so : Hearing
     heard_so = Heard entry.first a.number Taken
 
-    taken-ready : (to : Phase) (r : Reply) → IsRow to r → Ready e (Arrives bytes) heard_so entry.ack (becomes_open entry.ph to) to false
-    taken-ready to r row =
+    -- what is looked up
+    looking : IsLooking e (Arrives bytes) heard_so (looked_up a.kind a.ack)
+    looking = by (is_acking a.kind) refl a.ack refl where
+      by : (acks : Bool) → is_acking a.kind ≡ acks → (n : Option ℕ) → a.ack ≡ n → IsLooking e (Arrives bytes) heard_so (if acks then n else None)
+      by false other n same = LooksNowhere
+      by true is None same = LooksNowhere
+      by true is (Some n) same = Looks n a (record { came = entry.came; first = entry.first; is_heard = refl }) is same
+
+    taken-ready : (looked : Option ℕ) → IsLooking e (Arrives bytes) heard_so looked → (to : Phase) (r : Reply) → IsRow to r
+        → Ready e (Arrives bytes) heard_so entry.ack (becomes_open entry.ph to) to false looked
+    taken-ready looked looks to r row =
         record {
           hears = entry.hears to Taken (λ is. cc is) tt;
           acks = entry.acks;
@@ -202,14 +224,33 @@ module _ (o : EndState) (bytes : List ℕ) (proper : IsProper (wide o)) where
           shut = λ closed. absurd (entry.not_closed closed);
           opening = opening-so e entry.ph to (is_open to) (is_open entry.ph) refl refl entry.same_open;
           opened = NotNow;
+          looks = looks;
         }
+
+    -- of which the vectors tell that go out
+    abbrev looked : Option ℕ
+    looked = looked_up a.kind a.ack
+
+    ready-so : (to : Phase) (r : Reply) → IsRow to r → Ready e (Arrives bytes) heard_so entry.ack (becomes_open entry.ph to) to false looked
+    ready-so to r row = taken-ready looked looking to r row
+
+    -- whether its data are delivered
+    abbrev IsDelivery : Phase → Bool → Type 0
+    IsDelivery to new = new ≡ delivers a.kind to (answer_to end.received.set a.number)
+
+    abbrev took : Bool → Outcome
+    took new = Took (delivered_if new a.data_place)
+
+    -- the data packets that are not acknowledged, with it
+    abbrev unacked_so : Bool → ℕ
+    unacked_so new = unacked_after e.unacked new
 
     -- where nothing goes out, the end had begun
     silent-begun : (to : Phase) (r : Reply) → IsRow to r → r ≢ reply.Response → is_begun e.phase ≡ true
     silent-begun to r row other = elim entry.begun [ inl is ↦ is | inr is ↦ absurd (other (ap (λ (p : Phase × Reply). p.1) (sym row ∙ is))) ]
 
     -- its options are read whole
-    module _ (admitted : IsAdmitted e bytes a end false) (h : Heeding) (read : reading_of end a ≡ Ok h) where
+    module _ (admitted : IsAdmitted e bytes a end) (h : Heeding) (read : reads_options end a ≡ Ok h) where
       heeded-so : IsHeeded e a h
       heeded-so = ap (λ (ph : Phase). heeds (a.newest && counts ph a.kind) a.ack (unheeded e.rows) a.options) (sym entry.entered) ∙ read
 
@@ -221,6 +262,19 @@ module _ (o : EndState) (bytes : List ℕ) (proper : IsProper (wide o)) where
 
       abbrev hears : AreHeard e (Arrives bytes) heard_so heard h.confirms
       hears = Heeds a h (record { came = entry.came; first = entry.first; is_heard = refl }) heeded-so
+
+      -- what is due to the congestion control
+      abbrev due : List Call
+      due = calls_for a e.rows h.rows
+
+      abbrev Takes : Step Outcome → Type 0
+      Takes step = Told e bytes (with_calls due step)
+
+      takes-by : {f : Effect} (outcome : Outcome) (because : IsCaused e (Arrives bytes) f) → f.hearing ≡ heard_so → HasCause e bytes outcome
+          → HasForm e (Arrives bytes) outcome (calling due f) because.turns.confirms
+          → Told e bytes (record { after = end_after e f; frame = frame_by e f.sending; calls = due; answer = outcome })
+      takes-by outcome because is_heard cause form =
+          told-by outcome (calling-caused (CallsFor a h (record { came = entry.came; first = entry.first; is_heard = is_heard }) heeded-so) because) cause form
 
       short : AreShort h.confirms
       short = confirms-short (counts_in e a) a.ack e.rows a.options h proper.rows.sound heeded-so
@@ -256,8 +310,8 @@ module _ (o : EndState) (bytes : List ℕ) (proper : IsProper (wide o)) where
       mute-none to r row never = ap (λ (x : Heeding). x.confirms) (mute to r row never)
 
       -- what it is told to be
-      was-taken : (to : Phase) (r : Reply) → IsRow to r → r ≢ reply.ResetClosed → IsTaken e bytes None
-      was-taken to r row no_reset =
+      was-taken : (to : Phase) (r : Reply) (new : Bool) → IsRow to r → IsDelivery to new → r ≢ reply.ResetClosed → IsTaken e bytes (delivered_if new a.data_place)
+      was-taken to r new row delivery no_reset =
           record {
             packet = a;
             entered = end;
@@ -268,13 +322,16 @@ module _ (o : EndState) (bytes : List ℕ) (proper : IsProper (wide o)) where
             answer = r;
             row = row;
             no_reset = no_reset;
-            no_data = refl;
+            delivery = ap (λ (so : Bool). delivered_if so a.data_place) delivery;
           }
 
-      taking : (to : Phase) (r : Reply) (turns : List Turn) (s : Sending) → IsRow to r
-          → kind_sent s ≡ replying e to h.confirms (greatest_or entry.first a.number e.marks.gsr) a.number r
-          → IsTaking e (Arrives bytes) (effect_with turns heard_so entry.ack (becomes_open entry.ph to) to false s) h.confirms
-      taking to r turns s row replied =
+      taking : (to : Phase) (r : Reply) (new : Bool) (turns : List Turn) (owed : Bool) (unacked : ℕ) (s : Sending) → IsRow to r → owed ≡ not (is_acking_sent s)
+          → unacked ≡ unacked_by e.unacked new s
+          → kind_sent s
+          ≡ replying e (needs_ack to h.confirms (turned e.rows turns) (unacked_so new)) (greatest_or entry.first a.number e.marks.gsr) a.number r
+          → IsTaking e (Arrives bytes) (delivered_if new a.data_place)
+          (calling due (effect_with turns heard_so entry.ack (becomes_open entry.ph to) to false looked owed unacked s)) h.confirms
+      taking to r new turns owed unacked s row owes counted replied =
           record {
             packet = a;
             came = entry.came;
@@ -285,33 +342,55 @@ module _ (o : EndState) (bytes : List ℕ) (proper : IsProper (wide o)) where
             heard = refl;
             moved = refl;
             opening = ap (λ (ph : Phase). becomes_open ph to) entry.entered;
-            replied = replied;
+            looked = refl;
+            owes = owes;
+            counted = counted ∙ ap (λ (so : Bool). unacked_by e.unacked so s) (sym (some-if new a.data_place));
+            heeding = h;
+            heeds = heeded-so;
+            calls = refl;
+            replied = replied
+                ∙ ap (λ (so : Bool). replying e (needs_ack to h.confirms (turned e.rows turns) (unacked_so so)) (greatest_or entry.first a.number e.marks.gsr) a.number r)
+                (sym (some-if new a.data_place));
           }
 
       -- the end before its reply, with these rows
-      abbrev moved : Phase → List Row → EndState
-      moved to rows = moved_to (with_rows end rows) to a.number
+      abbrev moved_with : Option ℕ → Phase → List Row → Bool → EndState
+      moved_with looked to rows new = counts_data (moved_to (looks_up (marks (with_rows end rows) a.number) looked) to a.number) new
 
-      acked-told : (to : Phase) (r : Reply) → IsRow to r → r ≢ reply.ResetClosed → is_connected to ≡ true
-          → Some (kind.Ack (Long end.marks.gsr)) ≡ replying e to h.confirms (greatest_or entry.first a.number e.marks.gsr) a.number r
-          → Told e bytes (acknowledges (moved to (turned e.rows heard)) h.confirms)
-      acked-told to r row no_reset connected replied =
-          told-by took
-          (ack-caused (taken-ready to r row) (hearing hears) (confirm_items h.confirms) (confirming-sendable (kind.Ack (Long end.marks.gsr)) h.confirms refl tt refl short)
+      abbrev moved : Phase → List Row → Bool → EndState
+      moved to rows new = moved_with looked to rows new
+
+      acked-told : (to : Phase) (r : Reply) (new : Bool) → IsRow to r → IsDelivery to new → r ≢ reply.ResetClosed → is_connected to ≡ true
+          → Some (kind.Ack (Long end.marks.gsr))
+          ≡ replying e (needs_ack to h.confirms (turned e.rows heard) (unacked_so new)) (greatest_or entry.first a.number e.marks.gsr) a.number r
+          → Takes (acknowledges (moved to (turned e.rows heard) new) h.confirms (took new))
+      acked-told to r new row delivery no_reset connected replied =
+          takes-by (took new)
+          (ack-caused (ready-so to r row) (hearing hears) (confirm_items h.confirms)
+          (front-confirming-sendable (kind.Ack (Long end.marks.gsr)) (front_of (ready-so to r row) heard) h.confirms refl tt refl
+          (vector-front _ _ _) short)
           (sym (append-nil (confirm_items h.confirms))) answers-so connected)
-          (was-taken to r row no_reset) (taking to r heard _ row replied)
+          refl (was-taken to r new row delivery no_reset) (taking to r new heard false 0 _ row refl refl replied)
 
-      nothing-told : (to : Phase) → IsRow to reply.Nothing → (due : Bool) → (is_connected to && has_confirms h.confirms) ≡ due
-          → Told e bytes (if due then acknowledges (moved to (turned e.rows heard)) h.confirms else idle (moved to (turned e.rows heard)) took)
-      nothing-told to row true is = acked-told to reply.Nothing row (λ same. cc same) (and_parts (is_connected to) (has_confirms h.confirms) is).0 (rw is refl)
-      nothing-told to row false is =
-          told-by took (silent-caused (taken-ready to reply.Nothing row) (hearing hears) none refl (λ _. silent-begun to reply.Nothing row (λ same. cc same)))
-          (was-taken to reply.Nothing row (λ same. cc same)) (taking to reply.Nothing heard Silent row (rw is refl)) where
+      nothing-told : (to : Phase) (new : Bool) → IsRow to reply.Nothing → IsDelivery to new → (needed : Bool)
+          → needs_ack to h.confirms (turned e.rows heard) (unacked_so new) ≡ needed
+          → Takes (if needed then acknowledges (moved to (turned e.rows heard) new) h.confirms (took new)
+          else idle (moved to (turned e.rows heard) new) (took new))
+      nothing-told to new row delivery true is =
+          acked-told to reply.Nothing new row delivery (λ same. cc same)
+          (and_parts (is_connected to) (has_confirms h.confirms || (is_open to && is_enough (turned e.rows heard) (unacked_so new))) is).0 (rw is refl)
+      nothing-told to new row delivery false is =
+          takes-by (took new)
+          (silent-caused (ready-so to reply.Nothing row) true (unacked_so new) (hearing hears) none refl
+          (λ _. silent-begun to reply.Nothing row (λ same. cc same)))
+          refl (was-taken to reply.Nothing new row delivery (λ same. cc same)) (taking to reply.Nothing new heard true (unacked_so new) Silent row refl refl (rw is refl)) where
             by : (on : Bool) → counts_in e a ≡ on → h.confirms ≡ []
             by false off = ap (λ (x : Heeding). x.confirms) (deaf off)
             by true on =
+                let enough : Bool = is_open to && is_enough (turned e.rows heard) (unacked_so new) in
                 let connected : is_connected to ≡ true = may-so to reply.Nothing row on in
-                none-have h.confirms (ap (λ (c : Bool). c && has_confirms h.confirms) (sym connected) ∙ is)
+                none-have h.confirms
+                (or-none (has_confirms h.confirms) enough (ap (λ (c : Bool). c && (has_confirms h.confirms || enough)) (sym connected) ∙ is))
 
             none : h.confirms ≡ []
             none = by (counts_in e a) refl
@@ -323,89 +402,101 @@ module _ (o : EndState) (bytes : List ℕ) (proper : IsProper (wide o)) where
       abbrev keys : List Key
       keys = offered_keys e heard h.confirms
 
-      responded-told : (to : Phase) → IsRow to reply.Response → Told e bytes (responds_asking (moved to (turned e.rows (offered_turns e heard h.confirms))) h.confirms keys)
-      responded-told to row =
+      responded-told : (to : Phase) (new : Bool) → IsRow to reply.Response → IsDelivery to new
+          → Takes (responds_asking (moved to (turned e.rows (offered_turns e heard h.confirms)) new) h.confirms keys (took new))
+      responded-told to new row delivery =
           let packet : Kind = kind.Response end.marks.gsr e.config.service in
-          told-by took
-          (next-caused (taken-ready to reply.Response row) (offering hears) (saying packet h.confirms (turned e.rows (offered_turns e heard h.confirms)) keys)
+          takes-by (took new)
+          (next-caused (ready-so to reply.Response row) true (unacked_so new) (offering hears)
+          (saying packet h.confirms (turned e.rows (offered_turns e heard h.confirms)) keys)
           (saying-sendable packet h.confirms (turned e.rows (offered_turns e heard h.confirms)) keys refl tt refl short
           (rows-kept proper (offering hears)).sound (asking-few middle h.confirms (offered-sound proper hears)))
           refl answers-so refl Greatest refl)
-          (was-taken to reply.Response row (λ same. cc same)) (taking to reply.Response (offered_turns e heard h.confirms) _ row refl)
+          refl (was-taken to reply.Response new row delivery (λ same. cc same))
+          (taking to reply.Response new (offered_turns e heard h.confirms) true (unacked_so new) _ row refl refl refl)
 
-      responds-told : (to : Phase) → IsRow to reply.Response → Told e bytes (responds (moved to (turned e.rows heard)) h.confirms)
-      responds-told to row =
-          subst (λ (rows : List Row). Told e bytes (responds_offering (moved to rows) h.confirms (asking rows h.confirms)))
+      responds-told : (to : Phase) (new : Bool) → IsRow to reply.Response → IsDelivery to new
+          → Takes (responds (moved to (turned e.rows heard) new) h.confirms (took new))
+      responds-told to new row delivery =
+          subst (λ (rows : List Row). Takes (responds_offering (moved to rows new) h.confirms (asking rows h.confirms) (took new)))
           (turned-joined e.rows heard (offerings (is_confirmed h.confirms) every_place))
-          (subst (λ (rows : List Row). Told e bytes (responds_asking (moved to rows) h.confirms keys)) last (responded-told to row)) where
+          (subst (λ (rows : List Row). Takes (responds_asking (moved to rows new) h.confirms keys (took new))) last (responded-told to new row delivery)) where
             last : turned e.rows (offered_turns e heard h.confirms) ≡ turned middle (sendings (next_number e) keys)
             last =
                 ap (turned e.rows) (sym (append_assoc heard (offerings (is_confirmed h.confirms) every_place) (sendings (next_number e) keys)))
                 ∙ turned-joined e.rows (heard ++ offerings (is_confirmed h.confirms) every_place) (sendings (next_number e) keys)
 
-      reply-told : (to : Phase) (r : Reply) → IsRow to r → r ≢ reply.ResetClosed → Told e bytes (replies (moved to (turned e.rows heard)) a h.confirms r)
-      reply-told to reply.Nothing row no_reset = nothing-told to row (is_connected to && has_confirms h.confirms) refl
-      reply-told to reply.Torn row no_reset =
-          told-by took
-          (silent-caused (taken-ready to reply.Torn row) (hearing hears) (mute-none to reply.Torn row (λ may. may)) refl
+      reply-told : (to : Phase) (r : Reply) (new : Bool) → IsRow to r → IsDelivery to new → r ≢ reply.ResetClosed
+          → Takes (replies (moved to (turned e.rows heard) new) a h.confirms (took new) r)
+      reply-told to reply.Nothing new row delivery no_reset =
+          nothing-told to new row delivery (needs_ack to h.confirms (turned e.rows heard) (unacked_so new)) refl
+      reply-told to reply.Torn new row delivery no_reset =
+          takes-by (took new)
+          (silent-caused (ready-so to reply.Torn row) true (unacked_so new) (hearing hears) (mute-none to reply.Torn row (λ may. may)) refl
           (λ _. silent-begun to reply.Torn row (λ same. cc same)))
-          (was-taken to reply.Torn row no_reset) (taking to reply.Torn heard Silent row refl)
-      reply-told to reply.Response row no_reset = responds-told to row
-      reply-told to reply.Close row no_reset =
+          refl (was-taken to reply.Torn new row delivery no_reset) (taking to reply.Torn new heard true (unacked_so new) Silent row refl refl refl)
+      reply-told to reply.Response new row delivery no_reset = responds-told to new row delivery
+      reply-told to reply.Close new row delivery no_reset =
           let none : h.confirms ≡ [] = mute-none to reply.Close row (λ may. may) in
           let packet : Kind = kind.Close end.marks.gsr in
-          told-by took
-          (next-caused (taken-ready to reply.Close row) (hearing hears) (alone packet) (alone-sendable packet refl tt) (rw none refl) (inl none) refl Greatest refl)
-          (was-taken to reply.Close row no_reset) (taking to reply.Close heard (Next (alone packet)) row refl)
-      reply-told to reply.SyncAck row no_reset =
+          takes-by (took new)
+          (next-caused (ready-so to reply.Close row) true (unacked_so new) (hearing hears) (alone packet) (alone-sendable packet refl tt) (rw none refl) (inl none)
+          refl Greatest refl)
+          refl (was-taken to reply.Close new row delivery no_reset)
+          (taking to reply.Close new heard true (unacked_so new) (Next (alone packet)) row refl refl refl)
+      reply-told to reply.SyncAck new row delivery no_reset =
           let packet : Kind = kind.SyncAck a.number in
-          told-by took
-          (next-caused (taken-ready to reply.SyncAck row) (hearing hears) (confirming packet h.confirms) (confirming-sendable packet h.confirms refl tt refl short)
+          takes-by (took new)
+          (next-caused (ready-so to reply.SyncAck row) true (unacked_so new) (hearing hears) (confirming packet h.confirms)
+          (confirming-sendable packet h.confirms refl tt refl short)
           (sym (append-nil (confirm_items h.confirms))) (inr refl) refl (Arrived a entry.came) refl)
-          (was-taken to reply.SyncAck row no_reset) (taking to reply.SyncAck heard (Next (confirming packet h.confirms)) row refl)
-      reply-told to reply.Ack row no_reset = acked-told to reply.Ack row no_reset (fits-reply entry.ph a.kind to reply.Ack row) refl
-      reply-told to reply.ResetClosed row no_reset = absurd (no_reset refl)
+          refl (was-taken to reply.SyncAck new row delivery no_reset)
+          (taking to reply.SyncAck new heard true (unacked_so new) (Next (confirming packet h.confirms)) row refl refl refl)
+      reply-told to reply.Ack new row delivery no_reset = acked-told to reply.Ack new row delivery no_reset (fits-reply entry.ph a.kind to reply.Ack row) refl
+      reply-told to reply.ResetClosed new row delivery no_reset = absurd (no_reset refl)
 
-      -- a Close is answered with a Reset; its options say nothing to rows
-      closed-told : IsRow phase.Closed reply.ResetClosed → Told e bytes (replies (moved phase.Closed e.rows) a h.confirms reply.ResetClosed)
+      -- A Close is answered with a Reset; its options say nothing to rows, it acknowledges nothing that is looked up, and it has no data.
+      closed-told : IsRow phase.Closed reply.ResetClosed
+          → Takes (replies (moved_with None phase.Closed e.rows false) a h.confirms (took false) reply.ResetClosed)
       closed-told row =
           let fault : Fault = without_detail (number_of_code codes.Closed) in
-          told-by _
-          (plain-caused (taken-ready phase.Closed reply.ResetClosed row) (kind.Reset end.marks.gsr fault.code (detail_of fault)) refl refl refl Greatest
-          (numbered-code e.config.role fault.code refl))
-          (record { fault = fault; why = AnswersClose a end h phase.Closed admitted read row; has_code = refl; has_detail = refl })
-          (Answering entry.first a.number entry.ack refl)
+          takes-by _
+          (plain-caused (taken-ready None LooksNowhere phase.Closed reply.ResetClosed row) (kind.Reset end.marks.gsr fault.code (detail_of fault)) refl refl refl
+          Greatest (numbered-code e.config.role fault.code refl))
+          refl (record { fault = fault; why = AnswersClose a end h phase.Closed admitted read row; has_code = refl; has_detail = refl })
+          (Answering a h entry.first entry.ack entry.came heeded-so refl)
 
-      replied-told : (to : Phase) (r : Reply) → IsRow to r → Told e bytes (replies (moved to h.rows) a h.confirms r)
-      replied-told to reply.ResetClosed row =
-          let closes : to ≡ phase.Closed = fits-reply entry.ph a.kind to reply.ResetClosed row in
-          let same : h.rows ≡ e.rows = ap (λ (x : Heeding). x.rows) (mute to reply.ResetClosed row (λ may. may)) in
-          rw (closes, same) (closed-told (row ∙ ap (λ (p : Phase). (p, reply.ResetClosed)) closes))
-      replied-told to r row =
-          subst (λ (rows : List Row). Told e bytes (replies (moved to rows) a h.confirms r)) (sym rows-so) (reply-told to r row (λ is. cc is))
+      closed-so : (to : Phase) (rows : List Row) (number : Option ℕ) (new : Bool) → to ≡ phase.Closed → rows ≡ e.rows → number ≡ None → new ≡ false
+          → IsRow to reply.ResetClosed → Takes (replies (moved_with number to rows new) a h.confirms (took new) reply.ResetClosed)
+      closed-so to rows number new closes same nothing undelivered row =
+          rw (closes, same, nothing, undelivered) (closed-told (row ∙ ap (λ (p : Phase). (p, reply.ResetClosed)) closes))
+
+      replied-told : (to : Phase) (r : Reply) (new : Bool) → IsRow to r → IsDelivery to new → Takes (replies (moved to h.rows new) a h.confirms (took new) r)
+      replied-told to reply.ResetClosed new row delivery =
+          let close : a.kind ≡ types.Close = answers-close entry.ph a.kind to row in
+          closed-so to h.rows looked new (fits-reply entry.ph a.kind to reply.ResetClosed row)
+          (ap (λ (x : Heeding). x.rows) (mute to reply.ResetClosed row (λ may. may))) (ap (λ (t : PacketType). looked_up t a.ack) close)
+          (delivery ∙ ap (λ (t : PacketType). delivers t to (answer_to end.received.set a.number)) close) row
+      replied-told to r new row delivery =
+          subst (λ (rows : List Row). Takes (replies (moved to rows new) a h.confirms (took new) r)) (sym rows-so)
+          (reply-told to r new row delivery (λ is. cc is))
 
     -- step 8
-    heeding-told : IsAdmitted e bytes a end false → (r : Result Heeding Fault) → reading_of end a ≡ r → IsBoundedReading r
-        → Told e bytes (heeded e end a (heeding_or_exit r))
+    heeding-told : IsAdmitted e bytes a end → (r : Result Heeding Fault) → reads_options end a ≡ r → IsBoundedReading r → Told e bytes (heeded end a r)
     heeding-told admitted (Err fault) is numbered = shut-told fault (numbered-code e.config.role fault.code numbered) (Faulted a end fault admitted is)
-    heeding-told admitted (Ok h) is bounded = replied-told admitted h is (after entry.ph a.kind).0 (after entry.ph a.kind).1 refl
-
-    read-told : (unbuilt : Bool) → IsAdmitted e bytes a end unbuilt → Told e bytes (heeded e end a (reads end a unbuilt))
-    read-told true admitted =
-        told-by NotBuilt (silent-caused (rest proper) quiet refl refl (λ is. is)) (record { packet = a; entered = end; admitted = admitted }) refl
-    read-told false admitted =
-        heeding-told admitted (reading_of end a) refl (reading-bounded (a.newest && counts end.phase a.kind) a.ack end.rows a.options proper.rows.sound)
+    heeding-told admitted (Ok h) is bounded = replied-told admitted h is (after entry.ph a.kind).0 (after entry.ph a.kind).1 _ refl refl
 
     -- step 7
-    served-told : is_unexpected end a ≡ false → (other : Bool) → is_for_another end a ≡ other → Told e bytes (ends_as e a (through (serves a end other) []))
+    served-told : is_unexpected end a ≡ false → (other : Bool) → is_for_another end a ≡ other → Told e bytes (ends_as a (through (serves a end other) []))
     served-told expected true other =
         let code : ℕ = number_of_code codes.BadServiceCode in
         let client : e.config.role ≡ role.Client = requests-client e.config.role entry.ph (other-service-asked end entry.ph a.kind a.service other) entry.its_role in
         shut-told (without_detail code) (ap (λ (r : Role). is_code_without_connection r code) client) (WrongService a end valid-packet expected other)
     served-told expected false other =
-        read-told (is_unbuilt a.kind) (record { valid = valid-packet; expected = expected; for_us = other; needs = refl })
+        heeding-told (record { valid = valid-packet; expected = expected; for_us = other }) (reads_options end a) refl
+        (reading-bounded (a.newest && counts end.phase a.kind) a.ack end.rows a.options proper.rows.sound)
 
-    expected-told : (out : Bool) → is_unexpected end a ≡ out → Told e bytes (ends_as e a (through (expects a end out) []))
+    expected-told : (out : Bool) → is_unexpected end a ≡ out → Told e bytes (ends_as a (through (expects a end out) []))
     expected-told true is = entry.refused is
     expected-told false is = served-told is (is_for_another end a) refl
 
@@ -417,7 +508,8 @@ module _ (o : EndState) (bytes : List ℕ) (proper : IsProper (wide o)) where
 
   started-is : (ph : Phase) (a : Incoming) → started e ph a ≡ entered_as e true ph a.number (raising a.kind a.ack)
   started-is ph a =
-      ap (λ (gar : ℕ). record e { phase = ph; marks = record e.marks { isr = a.number; gsr = a.number; osr = a.number; gar = gar } }) (gar-by e.marks.gar a.kind a.ack)
+      ap (λ (gar : ℕ).
+      record e { phase = ph; marks = record e.marks { isr = a.number; gsr = a.number; osr = a.number; gar = gar }; received = kept.fresh a.number }) (gar-by e.marks.gar a.kind a.ack)
 
   raised-is : (a : Incoming) → raised e a ≡ entered_as e false e.phase a.number (raising a.kind a.ack)
   raised-is a =
@@ -499,7 +591,7 @@ module _ (o : EndState) (bytes : List ℕ) (proper : IsProper (wide o)) where
           not_closed = not_closed;
           greatest = greatest-so e (Arrives bytes) a came live;
           refused = λ out.
-              let ready : Ready e (Arrives bytes) (Heard false a.number Refused) (raising a.kind a.ack) false e.phase false =
+              let ready : Ready e (Arrives bytes) (Heard false a.number Refused) (raising a.kind a.ack) false e.phase false None =
               record {
                 hears = Raises a Refused came no_reset is fits (unexpected-no-ack e.config.role e.phase a.kind _ out);
                 acks = acks;
@@ -509,6 +601,7 @@ module _ (o : EndState) (bytes : List ℕ) (proper : IsProper (wide o)) where
                 shut = λ closed. absurd (not_closed closed);
                 opening = StaysSo (λ so. so);
                 opened = NotNow;
+                looks = LooksNowhere;
               } in
               told-by (Synced a.number) (plain-caused ready (kind.Sync a.number) refl tt refl (Arrived a came) refl)
               (Unexpected a _ (record { came = came; is_valid = valid }) out refl) (SyncsUnexpected (raising a.kind a.ack));
@@ -516,7 +609,7 @@ module _ (o : EndState) (bytes : List ℕ) (proper : IsProper (wide o)) where
 
     -- steps 5 and 6
     raises-told : entrance_of e a ≡ entrance.Check → verdict_of e a ≡ verdicts.Valid → (t : PacketType) → a.kind ≡ t
-        → Told e bytes (ends_as e a (through (raises a e t) (ends_by_reset a a.kind ∷ checks_type a ∷ [])))
+        → Told e bytes (ends_as a (through (raises a e t) (ends_by_reset a a.kind ∷ checks_type a ∷ [])))
     unfolding raised-entry
     raises-told check valid types.Reset same =
         rw same (ended-told a came same (ResetInWindow check valid) (live-begun e.phase (check-live e.phase a.kind check)))
@@ -525,14 +618,14 @@ module _ (o : EndState) (bytes : List ℕ) (proper : IsProper (wide o)) where
         subst (Behind e bytes a a.kind) (sym (raised-is a)) (entry-told a (raised-entry check no_reset valid) a.kind no_reset)
 
     judged-told : entrance_of e a ≡ entrance.Check → (v : Verdict) → verdict_of e a ≡ v
-        → Told e bytes (ends_as e a (through (judged a e v) (ends_by_reset a a.kind ∷ checks_type a ∷ [])))
+        → Told e bytes (ends_as a (through (judged a e v) (ends_by_reset a a.kind ∷ checks_type a ∷ [])))
     judged-told check verdicts.Valid same = raises-told check same a.kind refl
     judged-told check (verdicts.SyncFor n) same = synced-told a came n check same
     judged-told check verdicts.Drop same = dropped-told why.BadSync (record { packet = a; came = came; is_checked = check; is_bad = same })
 
     -- step 4
     answered-told : entrance_of e a ≡ entrance.InRequest → (t : PacketType) → a.kind ≡ t → (fits : Bool) → acknowledges_in_window e a ≡ fits
-        → Told e bytes (ends_as e a (through (answers a e t fits) (checks_numbers a entrance.InRequest ∷ ends_by_reset a a.kind ∷ checks_type a ∷ [])))
+        → Told e bytes (ends_as a (through (answers a e t fits) (checks_numbers a entrance.InRequest ∷ ends_by_reset a a.kind ∷ checks_type a ∷ [])))
     unfolding answered-entry
     answered-told is types.Reset same true fits =
         rw same (ended-told a came same (ResetToRequest is fits) (ap is_begun (answer-so e.phase a.kind is).0))
@@ -544,7 +637,7 @@ module _ (o : EndState) (bytes : List ℕ) (proper : IsProper (wide o)) where
 
     -- step 3
     accepted-told : entrance_of e a ≡ entrance.Accept → (ours : Bool) → is_own_service e a.service ≡ ours
-        → Told e bytes (ends_as e a (through (opens_connection a e ours)
+        → Told e bytes (ends_as a (through (opens_connection a e ours)
         (takes_answer a entrance.Accept ∷ checks_numbers a entrance.Accept ∷ ends_by_reset a a.kind ∷ checks_type a ∷ [])))
     unfolding opened-entry
     accepted-told is true ours =
@@ -556,7 +649,7 @@ module _ (o : EndState) (bytes : List ℕ) (proper : IsProper (wide o)) where
         refused-told a came code (ap (λ (r : Role). is_code_without_connection r code) server) (OtherService a came is other)
 
     -- steps 2 to 16
-    entered-told : (how : Entrance) → entrance_of e a ≡ how → Told e bytes (ends_as e a (through (Goes e) (the_steps a how)))
+    entered-told : (how : Entrance) → entrance_of e a ≡ how → Told e bytes (ends_as a (through (Goes e) (the_steps a how)))
     entered-told entrance.NoConnection is =
         refused-told a came (number_of_code codes.NoConnection) (no-connection-code e.config.role) (NoConnection a came is)
     entered-told entrance.Stray is = dropped-told why.StrayReset (StrayWithoutConnection a came is)

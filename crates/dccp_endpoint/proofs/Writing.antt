@@ -1,5 +1,5 @@
 -- The bytes of options, one behind the other.
-use Rattle.std.proofs.Common.{◌≡◌, ℕ, List, [], ◌∷◌, ◌++◌, refl, sym, ap, ◌∙◌, append_assoc}
+use Rattle.std.proofs.Common.{◌≡◌, ℕ, List, [], ◌∷◌, ◌++◌, refl, sym, ap, ◌∙◌, append_assoc, append-nil}
 use Rattle.dccp_options.specs.Written.{Item, spelled, written}
 
 pub written-append : (one other : List Item) → written (one ++ other) ≡ written one ++ written other
@@ -8,6 +8,16 @@ written-append (item ∷ one) other =
     ap (λ (rest : List ℕ). spelled item.mandatory item.kind item.body ++ rest) (written-append one other)
     ∙ sym (append_assoc (spelled item.mandatory item.kind item.body) (written one) (written other))
 
+-- one list of options, and nothing behind it
+pub written_alone : (one : List Item) → [] ++ written one ≡ written (one ++ [])
+written_alone one = ap written (sym (append-nil one))
+
 -- two lists of options that were written one behind the other
 pub written_both : (one other : List Item) → [] ++ written one ++ written other ≡ written (one ++ other)
 written_both one other = sym (written-append one other)
+
+-- three lists
+pub written_all : (one other third : List Item) → ([] ++ written one ++ written other) ++ written third ≡ written (one ++ (other ++ third))
+written_all one other third =
+    append_assoc (written one) (written other) (written third)
+    ∙ ap (λ (rest : List ℕ). written one ++ rest) (sym (written-append other third)) ∙ sym (written-append one (other ++ third))

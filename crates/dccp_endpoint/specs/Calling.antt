@@ -1,5 +1,6 @@
 -- The calls and timers of an end (RFC 4340, sections 8.1 to 8.3; the refusals are own).
-use Rattle.std.specs.Prelude.{Bool, true, false, ◌&&◌, ℕ, List, [], ◌∷◌, Result, Ok, Err}
+use Rattle.std.specs.Prelude.{Bool, true, false, not, ◌&&◌, ◌==◌, nat_lt, if◌then◌else◌, ℕ, List, [], ◌∷◌, length, Option, Some, None, Result, Ok, Err}
+use Rattle.congestion_trait.specs.Calls.{Sends, TimesOut}
 use Rattle.dccp_packets.specs.ResetCodes.{number_of_code}
 use Rattle.dccp_packets.specs.declared.header.Kind.{Kind}
 use Rattle.dccp_packets.specs.declared.header.Kind.TheVariants as kind
@@ -17,17 +18,23 @@ use Rattle.feature_machine.specs.Answers.{is_opening}
 use Rattle.feature_machine.specs.Negotiating.{due_keys, row_at}
 use Rattle.feature_machine.specs.Rows.{Prefers, row_step}
 use Rattle.feature_machine.specs.Turns.{turned}
-use Rattle.dccp_endpoint.specs.Drafts.{alone}
-use Rattle.dccp_endpoint.specs.End.{EndState, is_connected, with_rows}
+use Rattle.feature_lists.specs.declared.features.Feature.TheVariants.{Ccid, SendAckVector}
+use Rattle.feature_lists.specs.declared.features.Place.TheVariants.{Here, There}
+use Rattle.feature_machine.specs.declared.row.Row.{Row}
+use Rattle.dccp_endpoint.specs.Drafts.{alone, carrying}
+use Rattle.dccp_endpoint.specs.End.{EndState, is_connected, is_open, value_in, with_rows}
+use Rattle.dccp_endpoint.specs.Reporting.{sends_ack}
 use Rattle.dccp_endpoint.specs.Speaking.{asking, asks, offers, saying}
 use Rattle.dccp_endpoint.specs.Turns.{Key, turn_of}
-use Rattle.dccp_endpoint.specs.Steps.{Step, idle, in_phase, sends, reset_of, without_detail}
+use Rattle.dccp_endpoint.specs.Steps.{Step, idle, in_phase, next_number, sends, reset_of, with_calls, without_detail}
 use Rattle.dccp_endpoint.specs.declared.calls.AbortFault.{AbortFault}
 use Rattle.dccp_endpoint.specs.declared.calls.AbortFault.TheVariants.{NotLive}
 use Rattle.dccp_endpoint.specs.declared.calls.CloseFault.{CloseFault}
 use Rattle.dccp_endpoint.specs.declared.calls.CloseFault.TheVariants.{NotOpen}
 use Rattle.dccp_endpoint.specs.declared.calls.OpenFault.{OpenFault}
 use Rattle.dccp_endpoint.specs.declared.calls.OpenFault.TheVariants.{NotFresh}
+use Rattle.dccp_endpoint.specs.declared.calls.SendFault.{SendFault}
+use Rattle.dccp_endpoint.specs.declared.calls.SendFault.TheVariants as send
 use Rattle.dccp_endpoint.specs.declared.calls.Timer.{Timer}
 use Rattle.dccp_endpoint.specs.declared.calls.Timer.TheVariants as timers
 
@@ -96,7 +103,7 @@ aborts e = aborts_in e e.phase
 
 -- An Ack with the Changes of these rows; once they have gone out:
 abbrev pub acks_asking : {Answer : Type 0} → EndState → List Key → Answer → Step Answer
-acks_asking e keys answer = sends e (saying (kind.Ack (Long e.marks.gsr)) [] e.rows keys) answer
+acks_asking e keys answer = sends_ack e (saying (kind.Ack (Long e.marks.gsr)) [] e.rows keys) answer
 
 abbrev pub asks_now : {Answer : Type 0} → EndState → List Key → Answer → Step Answer
 asks_now e keys answer = acks_asking (asks e keys) keys answer
@@ -126,13 +133,45 @@ prefers_in e false k values = idle e (Err prefer.NotOpen)
 unfoldable pub prefers : EndState → Key → List ℕ → Called PreferFault
 prefers e k values = prefers_in e (is_connected e.phase) k values
 
--- The phases in which a timer has something to do; the timer negotiate only if a row asks. No data is sent yet.
+-- send: data go out in OPEN. A packet with them may be so long (own).
+abbrev pub most_data : ℕ
+most_data = 1024
+
+-- CCID 2 needs the Ack Vectors of the peer (RFC 4341, section 4).
+abbrev pub lacks_vectors : List Row → Bool
+lacks_vectors rows = value_in rows Ccid Here == 2 && not (value_in rows SendAckVector There == 1)
+
+-- why data are not sent, if it is so; each reason before the next
+abbrev pub send_fault : EndState → List ℕ → Bool → Option SendFault
+send_fault e payload may_send =
+    if not (is_open e.phase) then Some send.NotOpen
+    else if nat_lt most_data (length payload) then Some send.TooLong
+    else if lacks_vectors e.rows then Some send.NotNegotiated
+    else if not may_send then Some send.WindowFull
+    else None
+
+-- A DataAck goes out where an acknowledgement is owed, else a Data; the congestion control hears of its number.
+abbrev pub sends_data : EndState → List ℕ → Bool → Called SendFault
+sends_data e payload true = sends_ack e (carrying (kind.DataAck (Long e.marks.gsr)) payload) (Ok tt)
+sends_data e payload false = sends e (carrying kind.Data payload) (Ok tt)
+
+abbrev pub sends_unless : EndState → List ℕ → Option SendFault → Called SendFault
+sends_unless e payload (Some fault) = idle e (Err fault)
+sends_unless e payload None = with_calls (Sends (next_number e) ∷ []) (sends_data e payload e.owed)
+
+-- Whether the congestion control lets a further packet be sent, comes with the call.
+unfoldable pub sends_payload : EndState → List ℕ → Bool → Called SendFault
+sends_payload e payload may_send = sends_unless e payload (send_fault e payload may_send)
+
+-- The phases in which a timer has something to do; the timer negotiate only if a row asks, and the timer rto only if something is in
+-- flight.
 abbrev pub applies_in : Timer → Phase → Bool
 applies_in timers.Request phases.Request = true
 applies_in timers.Ack phases.PartOpen = true
 applies_in timers.Ack phases.Open = true
 applies_in timers.Negotiate phases.PartOpen = true
 applies_in timers.Negotiate phases.Open = true
+applies_in timers.Rto phases.Open = true
 applies_in timers.Close phases.CloseReq = true
 applies_in timers.Close phases.Closing = true
 applies_in timers.TimeWait phases.TimeWait = true
@@ -143,30 +182,38 @@ has_keys [] = false
 has_keys (k ∷ keys) = true
 
 -- what else it needs
-abbrev pub has_cause : Timer → EndState → Bool
-has_cause timers.Negotiate e = has_keys (due_keys e.rows)
-has_cause _ e = true
+abbrev pub has_cause : Timer → EndState → Bool → Bool
+has_cause timers.Negotiate e in_flight = has_keys (due_keys e.rows)
+has_cause timers.Rto e in_flight = in_flight
+has_cause _ e in_flight = true
 
-abbrev pub applies : Timer → EndState → Bool
-applies timer e = applies_in timer e.phase && has_cause timer e
+abbrev pub applies : Timer → EndState → Bool → Bool
+applies timer e in_flight = applies_in timer e.phase && has_cause timer e in_flight
 
 -- the Changes of all rows that ask go out again
 abbrev pub asks_all : EndState → List Key → Step Bool
 asks_all e [] = idle e false
 asks_all e (k ∷ keys) = asks_now e (k ∷ keys) true
 
--- What a timer does: the Request, Close or CloseReq goes out again, an Ack goes out, alone or with the Changes, and TIMEWAIT ends.
-abbrev pub fires_in : EndState → Timer → Phase → Step Bool
-fires_in e timers.Request phases.Request = requests e true
-fires_in e timers.Ack phases.PartOpen = sends e (alone (kind.Ack (Long e.marks.gsr))) true
-fires_in e timers.Ack phases.Open = sends e (alone (kind.Ack (Long e.marks.gsr))) true
-fires_in e timers.Negotiate phases.PartOpen = asks_all e (due_keys e.rows)
-fires_in e timers.Negotiate phases.Open = asks_all e (due_keys e.rows)
-fires_in e timers.Close phases.CloseReq = sends e (alone (kind.CloseReq e.marks.gsr)) true
-fires_in e timers.Close phases.Closing = sends e (alone (kind.Close e.marks.gsr)) true
-fires_in e timers.TimeWait phases.TimeWait = idle (in_phase e phases.Closed) true
-fires_in e _ _ = idle e false
+-- the congestion control hears that its timer has run out (RFC 4341, section 5)
+abbrev pub times_out : EndState → Bool → Step Bool
+times_out e true = with_calls (TimesOut ∷ []) (idle e true)
+times_out e false = idle e false
 
--- Whether something is in flight comes with the timer; nothing depends on it yet.
+-- What a timer does: the Request, Close or CloseReq goes out again, an Ack goes out, alone or with the Changes, the congestion control
+-- hears of it, and TIMEWAIT ends.
+abbrev pub fires_in : EndState → Timer → Bool → Phase → Step Bool
+fires_in e timers.Request in_flight phases.Request = requests e true
+fires_in e timers.Ack in_flight phases.PartOpen = sends_ack e (alone (kind.Ack (Long e.marks.gsr))) true
+fires_in e timers.Ack in_flight phases.Open = sends_ack e (alone (kind.Ack (Long e.marks.gsr))) true
+fires_in e timers.Negotiate in_flight phases.PartOpen = asks_all e (due_keys e.rows)
+fires_in e timers.Negotiate in_flight phases.Open = asks_all e (due_keys e.rows)
+fires_in e timers.Rto in_flight phases.Open = times_out e in_flight
+fires_in e timers.Close in_flight phases.CloseReq = sends e (alone (kind.CloseReq e.marks.gsr)) true
+fires_in e timers.Close in_flight phases.Closing = sends e (alone (kind.Close e.marks.gsr)) true
+fires_in e timers.TimeWait in_flight phases.TimeWait = idle (in_phase e phases.Closed) true
+fires_in e _ in_flight _ = idle e false
+
+-- Whether something is in flight comes with the timer.
 unfoldable pub fires : EndState → Timer → Bool → Step Bool
-fires e timer in_flight = fires_in e timer e.phase
+fires e timer in_flight = fires_in e timer in_flight e.phase

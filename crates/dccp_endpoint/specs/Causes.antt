@@ -2,6 +2,8 @@
 use Rattle.std.specs.Prelude.{◌≡◌, ◌≢◌, ◌⊎◌, ◌==◌, ◌||◌, ◌&&◌, ℕ, Bool, true, false, List, [], ◌∷◌, ◌++◌, Option, Some, None, Ok}
 use Rattle.std.specs.List.{All}
 use Rattle.congestion_trait.specs.Calls.{Call}
+use Rattle.congestion_trait.specs.Calls as call
+use Rattle.dccp_options.specs.Written.{Item}
 use Rattle.dccp_packets.specs.Grammar.{Parts, decoded, packet_type}
 use Rattle.dccp_packets.specs.declared.header.Kind.{Kind}
 use Rattle.dccp_packets.specs.declared.header.Kind.TheVariants as kind
@@ -25,8 +27,9 @@ use Rattle.feature_machine.specs.Negotiating.{due_keys, every_place}
 use Rattle.feature_machine.specs.Rows.{Prefers}
 use Rattle.feature_machine.specs.Turns.{Turn, turned}
 use Rattle.dccp_endpoint.specs.Calling.{is_asking_now}
+use Rattle.dccp_endpoint.specs.Congesting.{calls_for}
 use Rattle.dccp_endpoint.specs.Drafts.{Draft, IsSendable, alone}
-use Rattle.dccp_endpoint.specs.Effects.{Effect, Passing, Refused, Shut, Taken, Hearing, Unheard, Heard, Sending, Silent, Next, WithoutConnection, greatest_by, end_after, frame_by, rows_by}
+use Rattle.dccp_endpoint.specs.Effects.{Effect, Passing, Refused, Shut, Taken, Hearing, Unheard, Heard, Sending, Silent, Next, WithoutConnection, greatest_by, end_after, frame_by, rows_by, told_by}
 use Rattle.dccp_endpoint.specs.End.{EndState, IsProper, is_phase_of, is_live, is_begun, is_connected, phase_entered}
 use Rattle.dccp_endpoint.specs.Faults.{counts}
 use Rattle.dccp_endpoint.specs.Heeding.{Due, Heeding, heard_turns, heeds, unheeded}
@@ -34,12 +37,14 @@ use Rattle.dccp_packets.specs.Kinds.{ack_of}
 use Rattle.dccp_endpoint.specs.Incoming.{Incoming, incoming}
 use Rattle.dccp_endpoint.specs.Inputs.{Input, Arrives, Opens, stepped}
 use Rattle.dccp_endpoint.specs.Inputs as input
+use Rattle.dccp_endpoint.specs.Reporting.{carries_data, is_acking, sends_vectors, vector_items}
 use Rattle.dccp_endpoint.specs.Speaking.{asking, change_items, confirm_items, is_confirmed}
 use Rattle.dccp_endpoint.specs.Turns.{Key, offerings, sendings, turn_of}
 use Rattle.dccp_endpoint.specs.Receiving.{acknowledges_in_window, is_of_connection, number_without_connection}
 use Rattle.dccp_packets.specs.ResetCodes.{number_of_code}
 use Rattle.dccp_packets.specs.declared.reset_code.ResetCode.TheVariants as codes
 use Rattle.dccp_endpoint.specs.Steps.{detail_of, next_number, without_detail}
+use Rattle.dccp_endpoint.specs.declared.calls.Timer.TheVariants as timers
 
 -- A packet of the connection with a long number arrived (step 1).
 pub record Came (e : EndState) (given : Input) (a : Incoming) : Type 0 where
@@ -60,19 +65,6 @@ entrance_of e a = gate e.phase a.kind
 -- what its numbers are in the windows (steps 5 and 6)
 abbrev pub verdict_of : EndState → Incoming → Verdict
 verdict_of e a = verdict e.marks a.kind a.number a.ack
-
--- Ack and DataAck
-abbrev pub is_acking : PacketType → Bool
-is_acking types.Request = false
-is_acking types.Response = false
-is_acking types.Data = false
-is_acking types.Ack = true
-is_acking types.DataAck = true
-is_acking types.CloseReq = false
-is_acking types.Close = false
-is_acking types.Reset = false
-is_acking types.Sync = false
-is_acking types.SyncAck = false
 
 -- Step 7 refuses no Ack and no DataAck. Who answered with a Reset that closes is CLOSED.
 abbrev pub FitsPassing : Phase → PacketType → Passing → Type 0
@@ -192,6 +184,11 @@ pub record WasTaken (e : EndState) (given : Input) (hearing : Hearing) (a : Inco
   pub first : Bool
   pub is_heard : hearing ≡ Heard first a.number Taken
 
+-- What is looked up was acknowledged by an Ack or a DataAck that was taken.
+pub data IsLooking (e : EndState) (given : Input) (hearing : Hearing) : Option ℕ → Type 0 where
+  LooksNowhere : IsLooking e given hearing None
+  Looks : (number : ℕ) (a : Incoming) → WasTaken e given hearing a → is_acking a.kind ≡ true → a.ack ≡ Some number → IsLooking e given hearing (Some number)
+
 -- What the rows heard of a packet that was taken, and the Confirms that are due for it.
 pub data AreHeard (e : EndState) (given : Input) (hearing : Hearing) : List Turn → List Due → Type 0 where
   Deaf : AreHeard e given hearing [] []
@@ -232,29 +229,47 @@ abbrev pub Answers : Hearing → Option ℕ → Type 0
 Answers Unheard ack = ⊥
 Answers (Heard first number how) ack = ack ≡ Some number
 
--- What goes out says all that is due: the Confirms, on a packet that acknowledges the one that they answer, then the Changes of the
--- rows as they are after the step.
+-- the Ack Vector of a packet that goes out, if it has one, of what was received with this step
+abbrev pub vector_of : EndState → Effect → Kind → List Item
+vector_of e f k =
+    vector_items (is_acking (packet_type k) && sends_vectors (rows_by e.rows f)) (told_by e.received f).set (greatest_by e.marks.gsr f.hearing)
+
+-- What goes out says all that is due: the Ack Vector, the Confirms, on a packet that acknowledges the one that they answer, then the
+-- Changes of the rows as they are after the step.
 pub data Says (e : EndState) (f : Effect) (confirms : List Due) (keys : List Key) : Sending → Type 0 where
   SaysNothing : confirms ≡ [] → keys ≡ [] → Says e f confirms keys Silent
-  SaysAll : (packet : Draft) → packet.options ≡ confirm_items confirms ++ change_items (rows_by e.rows f) keys
+  SaysAll : (packet : Draft) → packet.options ≡ vector_of e f packet.kind ++ (confirm_items confirms ++ change_items (rows_by e.rows f) keys)
       → (confirms ≡ []) ⊎ Answers f.hearing (ack_of packet.kind) → Says e f confirms keys (Next packet)
   SaysApart : (number : ℕ) (packet : Kind) → confirms ≡ [] → keys ≡ [] → Says e f confirms keys (WithoutConnection number packet)
 
--- Why each part is what it is. Nothing is looked up, nothing is due to a congestion control and nothing is owed yet.
+-- a packet with data goes out
+abbrev pub HasData : Sending → Type 0
+HasData Silent = ⊥
+HasData (Next packet) = carries_data (packet_type packet.kind) ≡ true
+HasData (WithoutConnection number packet) = ⊥
+
+-- Why the congestion control is called: for the report of a packet that was taken, and where the value of CCID changes; for data that
+-- go out; and for its timer, while something is in flight.
+pub data IsCalling (e : EndState) (given : Input) (hearing : Hearing) (sending : Sending) : List Call → Type 0 where
+  CallsNothing : IsCalling e given hearing sending []
+  CallsFor : (a : Incoming) (h : Heeding) → WasTaken e given hearing a → IsHeeded e a h → IsCalling e given hearing sending (calls_for a e.rows h.rows)
+  CallsSent : (payload : List ℕ) → given ≡ input.Sends payload true → e.phase ≡ phases.Open → HasData sending
+      → IsCalling e given hearing sending (call.Sends (next_number e) ∷ [])
+  CallsTimeout : given ≡ input.Fires timers.Rto true → e.phase ≡ phases.Open → IsCalling e given hearing sending (call.TimesOut ∷ [])
+
+-- Why each part is what it is. What is owed and how many data packets are not acknowledged decide only which packet goes out.
 pub record IsCaused (e : EndState) (given : Input) (f : Effect) : Type 0 where
   pub hears : IsHearing e given f.phase f.hearing
   pub acks : IsAcknowledging e given f.acknowledged
   pub moves : IsMoving e f.hearing f.opens f.sending f.phase
   pub opening : IsOpening e f.phase f.opening
   pub opened : IsOpened e given f.opens
-  pub looks : f.looked_up ≡ None
+  pub looks : IsLooking e given f.hearing f.looked_up
   pub turns : AreTurns e given f.hearing f.turns
   pub says : Says e f turns.confirms turns.keys f.sending
   pub framed : HasFrame f.sending
   pub sends : IsSending e given f f.sending
-  pub calls : f.calls ≡ []
-  pub owed : f.owed ≡ false
-  pub unacked : f.unacked ≡ 0
+  pub calls : IsCalling e given f.hearing f.sending f.calls
 
 -- The step is this effect's.
 pub record HasEffect (e : EndState) (given : Input) (after : EndState) (frame : Option (List ℕ)) (calls : List Call) : Type 0 where

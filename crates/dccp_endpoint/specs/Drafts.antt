@@ -24,6 +24,10 @@ pub record Draft : Type 0 where
 abbrev pub alone : Kind → Draft
 alone kind = record { kind = kind; options = []; payload = [] }
 
+-- a type with its fields, and data
+abbrev pub carrying : Kind → List ℕ → Draft
+carrying kind payload = record { kind = kind; options = []; payload = payload }
+
 -- the header of an end's own packets: all of the packet is covered, and the checksum follows
 abbrev pub header_of : Config → ℕ → Kind → Header
 header_of config number kind =

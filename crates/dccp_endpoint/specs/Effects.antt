@@ -1,17 +1,22 @@
 -- What one step of an end does, as plain data: a part for each part of the end (own). Why each part is what it is, stands in Causes.
-use Rattle.std.specs.Prelude.{ℕ, Bool, true, false, List, [], Option, Some, None}
+use Rattle.std.specs.Prelude.{◌&&◌, ℕ, Bool, true, false, List, [], Option, Some, None}
+use Rattle.ack_vectors.specs.Kept.{Kept, marked_by}
+use Rattle.ack_vectors.specs.Kept as kept
 use Rattle.seq_circle.specs.Circle.{later_of}
 use Rattle.congestion_trait.specs.Calls.{Call}
+use Rattle.dccp_packets.specs.Grammar.{packet_type}
 use Rattle.dccp_packets.specs.declared.header.Kind.{Kind}
 use Rattle.dccp_states.specs.declared.phase.Phase.{Phase}
 use Rattle.dccp_endpoint.specs.Drafts.{Draft, alone, frame_of}
 use Rattle.dccp_endpoint.specs.End.{EndState, value_in}
 use Rattle.dccp_endpoint.specs.Receiving.{osr_after}
+use Rattle.dccp_endpoint.specs.Reporting.{is_acking, is_new, looked_by, one_more, recorded_by, sends_vectors}
 use Rattle.dccp_endpoint.specs.Steps.{next_number}
 use Rattle.feature_lists.specs.declared.features.Feature.TheVariants.{SequenceWindow}
 use Rattle.feature_lists.specs.declared.features.Place.TheVariants.{Here, There}
 use Rattle.feature_machine.specs.Turns.{Turn, turned}
 use Rattle.feature_machine.specs.declared.row.Row.{Row}
+use Rattle.run_list.specs.MarkedSet.{answer_to}
 
 -- What became of a valid packet, other than a Reset: step 7 refused it, it was answered with a Reset 5, 6 or 8 that closed the end,
 -- or it was taken.
@@ -50,10 +55,20 @@ pub record Effect : Type 0 where
   pub owed : Bool
   pub unacked : ℕ
 
--- The effect of a step as far as steps are built, where no row has a turn: nothing is looked up, nothing is due to a congestion
--- control, and nothing is owed.
-abbrev pub effect_of : Hearing → Option ℕ → Bool → Phase → Bool → Sending → Effect
-effect_of hearing acknowledged opening phase opens sending =
+-- an acknowledgement is owed once a packet was taken
+abbrev pub owed_as : Passing → Bool → Bool
+owed_as Taken old = true
+owed_as Refused old = old
+owed_as Shut old = old
+
+abbrev pub owed_by : Bool → Hearing → Bool
+owed_by old Unheard = old
+owed_by old (Heard first number how) = owed_as how old
+
+-- The effect of a step in which no row has a turn, nothing is looked up, nothing is due to a congestion control, and neither data are
+-- delivered nor an Ack or a DataAck goes out.
+abbrev pub effect_of : EndState → Hearing → Option ℕ → Bool → Phase → Bool → Sending → Effect
+effect_of e hearing acknowledged opening phase opens sending =
     record {
       hearing = hearing;
       acknowledged = acknowledged;
@@ -64,13 +79,13 @@ effect_of hearing acknowledged opening phase opens sending =
       turns = [];
       calls = [];
       sending = sending;
-      owed = false;
-      unacked = 0;
+      owed = owed_by e.owed hearing;
+      unacked = e.unacked;
     }
 
 -- nothing is heard, and the phase stays: only this goes out
 abbrev pub effect_of_sending : EndState → Sending → Effect
-effect_of_sending e sending = effect_of Unheard None false e.phase false sending
+effect_of_sending e sending = effect_of e Unheard None false e.phase false sending
 
 -- What each part makes of the old value. A first number takes the place of the old one; any other leaves ISR and raises GSR.
 abbrev pub first_or : Bool → ℕ → ℕ → ℕ
@@ -114,7 +129,48 @@ opened_by old false = old
 abbrev pub rows_by : List Row → Effect → List Row
 rows_by rows f = turned rows f.turns
 
--- The end after a step. What is looked up and what is owed have nothing to change yet.
+-- the set and its records begin anew with a first number
+abbrev pub begun_or : Bool → ℕ → Kept → Kept
+begun_or true number old = kept.fresh number
+begun_or false number old = old
+
+-- the number of a packet that was taken is marked
+abbrev pub marked_as : Passing → Kept → ℕ → Kept
+marked_as Taken old number = marked_by old number
+marked_as Refused old number = old
+marked_as Shut old number = old
+
+abbrev pub heard_by : Kept → Hearing → Kept
+heard_by old Unheard = old
+heard_by old (Heard first number how) = marked_as how (begun_or first number old) number
+
+-- how many numbers were taken, by what the mark answers
+abbrev pub count_as : Passing → ℕ → Kept → ℕ → ℕ
+count_as Taken count old number = one_more count (is_new (answer_to old.set number))
+count_as Refused count old number = count
+count_as Shut count old number = count
+
+abbrev pub count_by : ℕ → Kept → Hearing → ℕ
+count_by count old Unheard = count
+count_by count old (Heard first number how) = count_as how count (begun_or first number old) number
+
+-- What was marked and looked up: the Ack Vector of a packet that goes out tells of this.
+abbrev pub told_by : Kept → Effect → Kept
+told_by old f = looked_by (heard_by old f.hearing) f.looked_up
+
+-- an Ack or a DataAck goes out
+abbrev pub is_acking_sent : Sending → Bool
+is_acking_sent Silent = false
+is_acking_sent (Next packet) = is_acking (packet_type packet.kind)
+is_acking_sent (WithoutConnection number packet) = false
+
+-- What is kept of received numbers: the set begins, a number is marked, one is looked up, and the packet's own Ack Vector is recorded.
+abbrev pub received_by : EndState → Effect → Kept
+received_by e f =
+    recorded_by (is_acking_sent f.sending && sends_vectors (rows_by e.rows f)) (told_by e.received f) (next_number e)
+    (greatest_by e.marks.gsr f.hearing)
+
+-- The end after a step.
 abbrev pub end_after : EndState → Effect → EndState
 end_after e f =
     record {
@@ -133,6 +189,10 @@ end_after e f =
             peer_w = value_in (rows_by e.rows f) SequenceWindow There;
           };
       rows = rows_by e.rows f;
+      received = received_by e f;
+      marked = count_by e.marked e.received f.hearing;
+      owed = f.owed;
+      unacked = f.unacked;
     }
 
 -- The frame of a step.

@@ -1,5 +1,7 @@
--- The state of one end of a connection (RFC 4340, sections 7.1 and 8).
+-- The state of one end of a connection (RFC 4340, sections 7.1, 8 and 11.4).
 use Rattle.std.specs.Prelude.{◌≡◌, ℕ, Bool, true, false, List, []}
+use Rattle.ack_vectors.specs.Kept.{Kept}
+use Rattle.ack_vectors.specs.Kept as kept
 use Rattle.feature_lists.specs.Features.{initial_of}
 use Rattle.feature_lists.specs.declared.features.Feature.{Feature}
 use Rattle.feature_lists.specs.declared.features.Feature.TheVariants.{SequenceWindow}
@@ -21,13 +23,19 @@ use Rattle.validity_windows.specs.Windows.{InRange}
 
 -- A configuration, the phase, whether it was opened, the marks and the rows of the negotiation. The marks are the first and greatest
 -- numbers sent and received and the widths of the windows (RFC 4340, section 7.1); until isr is set, isr, gsr and osr are 0. There is
--- a row for each feature at each place.
+-- a row for each feature at each place. Then the set of the numbers that were taken, with the records of the Ack Vectors that were
+-- sent (section 11.4); how many numbers were taken; whether a packet was taken since the last Ack or DataAck went out; and how many
+-- data packets were delivered since then (section 11.3).
 pub record EndState : Type 0 where
   pub config : Config
   pub phase : Phase
   pub opened : Bool
   pub marks : Marks
   pub rows : List Row
+  pub received : Kept
+  pub marked : ℕ
+  pub owed : Bool
+  pub unacked : ℕ
 
 -- whose end the rows are of: the server's list decides (section 6.3.1)
 abbrev pub end_of : Role → Role2
@@ -147,24 +155,20 @@ fresh config =
       opened = false;
       marks = new_marks config.iss (initial_of SequenceWindow);
       rows = first_rows (end_of config.role) config.lists;
+      received = kept.fresh 0;
+      marked = 0;
+      owed = false;
+      unacked = 0;
     }
 
 -- what a row shows: its value and stand
 abbrev pub held_of : EndState → Feature → Place → Held
 held_of e feature place = held_by (row_at e.rows feature place)
 
--- The least number that an Ack Vector may report. No number is marked yet, so it is the first received.
+-- the least number that an Ack Vector may report (section 11.4.2), or 0 before the first was received
 abbrev pub floor_of : EndState → ℕ
-floor_of e = e.marks.isr
+floor_of e = e.received.set.floor
 
--- How many data packets may be in flight, and how many are. No data is sent yet: it is the first window of CCID 2
--- (RFC 4341, section 5; the number is own), and nothing is.
-abbrev pub window_of : EndState → ℕ
-window_of e = 4
-
-abbrev pub in_flight_of : EndState → ℕ
-in_flight_of e = 0
-
--- the numbers of its own data packets that the end believes received
-abbrev pub reported_of : EndState → List ℕ
-reported_of e = []
+-- how many numbers were taken
+abbrev pub marked_of : EndState → ℕ
+marked_of e = e.marked

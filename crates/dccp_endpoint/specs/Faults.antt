@@ -40,16 +40,3 @@ may_negotiate types.SyncAck = true
 abbrev pub counts : Phase → PacketType → Bool
 counts phases.Request types.Response = true
 counts phase kind = negotiates phase && may_negotiate kind
-
--- the types whose taking is not built yet
-abbrev pub is_unbuilt : PacketType → Bool
-is_unbuilt types.Request = false
-is_unbuilt types.Response = false
-is_unbuilt types.Data = true
-is_unbuilt types.Ack = false
-is_unbuilt types.DataAck = true
-is_unbuilt types.CloseReq = false
-is_unbuilt types.Close = false
-is_unbuilt types.Reset = false
-is_unbuilt types.Sync = false
-is_unbuilt types.SyncAck = false

@@ -2,21 +2,24 @@
 use Rattle.std.specs.Prelude.{ℕ, Bool, List, Result}
 use Rattle.dccp_endpoint.specs.End.{EndState}
 use Rattle.dccp_endpoint.specs.Receiving.{receives}
-use Rattle.dccp_endpoint.specs.Calling.{aborts, closes, fires, opens, prefers}
+use Rattle.dccp_endpoint.specs.Calling.{aborts, closes, fires, opens, prefers, sends_payload}
 use Rattle.dccp_endpoint.specs.Steps.{Step}
 use Rattle.feature_lists.specs.declared.wishes.PreferFault.{PreferFault}
 use Rattle.dccp_endpoint.specs.Turns.{Key}
 use Rattle.dccp_endpoint.specs.declared.calls.AbortFault.{AbortFault}
 use Rattle.dccp_endpoint.specs.declared.calls.CloseFault.{CloseFault}
 use Rattle.dccp_endpoint.specs.declared.calls.OpenFault.{OpenFault}
+use Rattle.dccp_endpoint.specs.declared.calls.SendFault.{SendFault}
 use Rattle.dccp_endpoint.specs.declared.calls.Timer.{Timer}
 use Rattle.dccp_endpoint.specs.declared.outcome.Outcome.{Outcome}
 
--- Bytes arrive, the user calls, or a timer has run out; with a timer comes whether something is in flight.
+-- Bytes arrive, the user calls, or a timer has run out. What the congestion control says comes with the input: with data, whether a
+-- further packet may be sent; with a timer, whether something is in flight.
 pub data Input : Type 0 where
   Arrives : (bytes : List ℕ) → Input
   Opens Closes Aborts : Input
   Prefers : (key : Key) (values : List ℕ) → Input
+  Sends : (payload : List ℕ) (may_send : Bool) → Input
   Fires : (timer : Timer) (in_flight : Bool) → Input
 
 -- what the end answers
@@ -27,6 +30,7 @@ pub data Answer : Type 0 where
   Aborted : (result : Result (Unit {0}) AbortFault) → Answer
   Fired : (applies : Bool) → Answer
   Preferred : (result : Result (Unit {0}) PreferFault) → Answer
+  Sent : (result : Result (Unit {0}) SendFault) → Answer
 
 -- a step with its answer as one of these
 abbrev pub shown : {A : Type 0} → (A → Answer) → Step A → Step Answer
@@ -39,3 +43,4 @@ stepped e Closes = shown Closed (closes e)
 stepped e Aborts = shown Aborted (aborts e)
 stepped e (Fires timer in_flight) = shown Fired (fires e timer in_flight)
 stepped e (Prefers k values) = shown Preferred (prefers e k values)
+stepped e (Sends payload may_send) = shown Sent (sends_payload e payload may_send)

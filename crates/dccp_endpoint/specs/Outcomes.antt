@@ -1,5 +1,5 @@
 -- Why each outcome of `receive` comes, and what the step's effect then is (RFC 4340, section 8.5).
-use Rattle.std.specs.Prelude.{◌≡◌, ◌≢◌, ◌&&◌, if◌then◌else◌, ℕ, Bool, true, false, List, Option, Some, None, Result, Ok, Err}
+use Rattle.std.specs.Prelude.{◌≡◌, ◌≢◌, not, if◌then◌else◌, ℕ, Bool, true, false, List, Option, Some, None, Ok, Err, is_some}
 use Rattle.congestion_trait.specs.Calls.{Call}
 use Rattle.dccp_sum.specs.Checksum.{checked}
 use Rattle.dccp_sum.specs.declared.packet_sum.SumFault.{SumFault}
@@ -14,23 +14,24 @@ use Rattle.dccp_states.specs.declared.phase.Phase.{Phase}
 use Rattle.dccp_states.specs.declared.phase.Phase.TheVariants as phases
 use Rattle.dccp_states.specs.declared.reply.Reply.{Reply}
 use Rattle.dccp_states.specs.declared.reply.Reply.TheVariants as reply
+use Rattle.run_list.specs.MarkedSet.{answer_to}
 use Rattle.validity_windows.specs.declared.verdict.Verdict.TheVariants as verdicts
-use Rattle.dccp_endpoint.specs.Causes.{Came, IsCaused, entrance_of, is_code_without_connection, verdict_of}
+use Rattle.dccp_endpoint.specs.Causes.{Came, IsCaused, IsHeeded, entrance_of, is_code_without_connection, verdict_of}
+use Rattle.dccp_endpoint.specs.Congesting.{calls_for}
 use Rattle.dccp_endpoint.specs.Drafts.{alone}
-use Rattle.dccp_endpoint.specs.Effects.{Effect, Sending, Silent, Next, WithoutConnection, Heard, Refused, Shut, Taken, effect_of, effect_of_sending, end_after, frame_by, greatest_or}
-use Rattle.dccp_endpoint.specs.End.{EndState, is_connected, phase_entered}
-use Rattle.dccp_endpoint.specs.Faults.{counts, is_unbuilt}
-use Rattle.dccp_endpoint.specs.Heeding.{Due, Heeding, heeds, unheeded}
+use Rattle.dccp_endpoint.specs.Effects.{Effect, Sending, Silent, Next, WithoutConnection, Heard, Refused, Shut, Taken, effect_of, effect_of_sending, end_after, frame_by, greatest_or, is_acking_sent, rows_by}
+use Rattle.dccp_endpoint.specs.End.{EndState, phase_entered}
+use Rattle.dccp_endpoint.specs.Heeding.{Due, Heeding}
 use Rattle.dccp_endpoint.specs.Incoming.{Incoming}
 use Rattle.dccp_endpoint.specs.Inputs.{Input, Arrives}
-use Rattle.dccp_endpoint.specs.Receiving.{acknowledges_in_window, becomes_open, is_of_connection, is_other_service, is_own_service, is_unexpected, packet_fault, raised, started}
+use Rattle.dccp_endpoint.specs.Receiving.{acknowledges_in_window, becomes_open, is_of_connection, is_other_service, is_own_service, is_unexpected, needs_ack, packet_fault, raised, reads_options, started}
 use Rattle.dccp_packets.specs.ResetCodes.{number_of_code}
 use Rattle.dccp_packets.specs.declared.reset_code.ResetCode.TheVariants as codes
-use Rattle.dccp_endpoint.specs.Speaking.{has_confirms}
+use Rattle.dccp_endpoint.specs.Reporting.{delivered_if, delivers, looked_up, unacked_after}
 use Rattle.dccp_endpoint.specs.Steps.{detail_of, without_detail}
 use Rattle.dccp_endpoint.specs.declared.outcome.Fault.{Fault}
 use Rattle.dccp_endpoint.specs.declared.outcome.Outcome.{Outcome}
-use Rattle.dccp_endpoint.specs.declared.outcome.Outcome.TheVariants.{Took, Dropped, Synced, WasReset, SentReset, NotBuilt}
+use Rattle.dccp_endpoint.specs.declared.outcome.Outcome.TheVariants.{Took, Dropped, Synced, WasReset, SentReset}
 use Rattle.dccp_endpoint.specs.declared.outcome.Why.TheVariants as why
 
 -- the packet's checksum does not fit
@@ -99,16 +100,11 @@ pub record IsValidPacket (e : EndState) (bytes : List ℕ) (a : Incoming) (enter
 abbrev pub is_for_another : EndState → Incoming → Bool
 is_for_another entered a = is_other_service entered entered.phase a.kind a.service
 
--- A valid packet that step 7 lets pass, and what it needs: a part that is not built, or not.
-pub record IsAdmitted (e : EndState) (bytes : List ℕ) (a : Incoming) (entered : EndState) (unbuilt : Bool) : Type 0 where
+-- a valid packet that step 7 lets pass
+pub record IsAdmitted (e : EndState) (bytes : List ℕ) (a : Incoming) (entered : EndState) : Type 0 where
   pub valid : IsValidPacket e bytes a entered
   pub expected : is_unexpected entered a ≡ false
   pub for_us : is_for_another entered a ≡ false
-  pub needs : is_unbuilt a.kind ≡ unbuilt
-
--- what the options of a packet come to, in the end as steps 3, 4 and 6 leave it: what they say to the rows, or the first fault
-abbrev pub reading_of : EndState → Incoming → Result Heeding Fault
-reading_of entered a = heeds (a.newest && counts entered.phase a.kind) a.ack (unheeded entered.rows) a.options
 
 -- why a Sync answers: the numbers of a packet in a phase with windows are not valid (step 6), or its phase does not expect it (step 7)
 pub data IsSynced (e : EndState) (bytes : List ℕ) (number : ℕ) : Type 0 where
@@ -135,9 +131,9 @@ pub data IsReset (e : EndState) (bytes : List ℕ) : Fault → Type 0 where
   WrongService : (a : Incoming) (entered : EndState) → IsValidPacket e bytes a entered → is_unexpected entered a ≡ false → is_for_another entered a ≡ true
       → IsReset e bytes (without_detail (number_of_code codes.BadServiceCode))
   -- step 8: the first fault of the options
-  Faulted : (a : Incoming) (entered : EndState) (fault : Fault) → IsAdmitted e bytes a entered false → reading_of entered a ≡ Err fault → IsReset e bytes fault
+  Faulted : (a : Incoming) (entered : EndState) (fault : Fault) → IsAdmitted e bytes a entered → reads_options entered a ≡ Err fault → IsReset e bytes fault
   -- step 14: Closed, the answer to a Close
-  AnswersClose : (a : Incoming) (entered : EndState) (h : Heeding) (to : Phase) → IsAdmitted e bytes a entered false → reading_of entered a ≡ Ok h
+  AnswersClose : (a : Incoming) (entered : EndState) (h : Heeding) (to : Phase) → IsAdmitted e bytes a entered → reads_options entered a ≡ Ok h
       → after entered.phase a.kind ≡ (to, reply.ResetClosed) → IsReset e bytes (without_detail (number_of_code codes.Closed))
 
 -- it tells of this fault
@@ -147,24 +143,19 @@ pub record HasReset (e : EndState) (bytes : List ℕ) (code : ℕ) (detail : Lis
   pub has_code : code ≡ fault.code
   pub has_detail : detail ≡ detail_of fault
 
--- it needs a part that is not built
-pub record NeedsUnbuilt (e : EndState) (bytes : List ℕ) : Type 0 where
-  pub packet : Incoming
-  pub entered : EndState
-  pub admitted : IsAdmitted e bytes packet entered true
-
--- It was taken: the table of phases moves the end and answers with anything but a Reset. No data is delivered yet.
+-- It was taken: the table of phases moves the end and answers with anything but a Reset. The place of its data is delivered exactly where
+-- it is a Data or a DataAck, the end is OPEN then, and the number was not taken before.
 pub record IsTaken (e : EndState) (bytes : List ℕ) (delivered : Option (ℕ × ℕ)) : Type 0 where
   pub packet : Incoming
   pub entered : EndState
-  pub admitted : IsAdmitted e bytes packet entered false
+  pub admitted : IsAdmitted e bytes packet entered
   pub heeding : Heeding
-  pub no_fault : reading_of entered packet ≡ Ok heeding
+  pub no_fault : reads_options entered packet ≡ Ok heeding
   pub to : Phase
   pub answer : Reply
   pub row : after entered.phase packet.kind ≡ (to, answer)
   pub no_reset : answer ≢ reply.ResetClosed
-  pub no_data : delivered ≡ None
+  pub delivery : delivered ≡ delivered_if (delivers packet.kind to (answer_to entered.received.set packet.number)) packet.data_place
 
 -- Why an outcome comes.
 abbrev pub HasCause : EndState → List ℕ → Outcome → Type 0
@@ -177,7 +168,6 @@ HasCause e bytes (Dropped why.BadSync) = IsBadSync e bytes
 HasCause e bytes (Synced number) = IsSynced e bytes number
 HasCause e bytes (WasReset code) = IsEnding e bytes code
 HasCause e bytes (SentReset code detail) = HasReset e bytes code detail
-HasCause e bytes NotBuilt = NeedsUnbuilt e bytes
 HasCause e bytes (Took delivered) = IsTaken e bytes delivered
 
 -- No other outcome has its cause: whatever has one is the outcome.
@@ -187,29 +177,35 @@ HasNoOtherCause e bytes outcome = (other : Outcome) → HasCause e bytes other �
 -- The effect of a Sync. Where the packet's numbers are not valid, only the greatest number sent changes.
 pub data IsSyncing (e : EndState) (number : ℕ) : Effect → Type 0 where
   SyncsInvalid : IsSyncing e number (effect_of_sending e (Next (alone (kind.Sync number))))
-  SyncsUnexpected : (ack : Option ℕ) → IsSyncing e number (effect_of (Heard false number Refused) ack false e.phase false (Next (alone (kind.Sync number))))
+  SyncsUnexpected : (ack : Option ℕ) → IsSyncing e number (effect_of e (Heard false number Refused) ack false e.phase false (Next (alone (kind.Sync number))))
 
 -- The effect of a Reset. Without a connection (codes 3 and 8) nothing changes; with the code 4 only the greatest number sent does; any
--- other closes the end, and acknowledges the greatest number received, the packet's included. A Close alone was taken.
-pub data IsResetting (e : EndState) (code : ℕ) (detail : List ℕ) : Effect → Type 0 where
+-- other closes the end, and acknowledges the greatest number received, the packet's included. A Close alone was taken, and what it reports
+-- is due to the congestion control.
+pub data IsResetting (e : EndState) (given : Input) (code : ℕ) (detail : List ℕ) : Effect → Type 0 where
   Refusing : (number ack : ℕ) → is_code_without_connection e.config.role code ≡ true
-      → IsResetting e code detail (effect_of_sending e (WithoutConnection number (kind.Reset ack code detail)))
-  Correcting : (ack : ℕ) → code ≡ (number_of_code codes.PacketError) → IsResetting e code detail (effect_of_sending e (Next (alone (kind.Reset ack code detail))))
+      → IsResetting e given code detail (effect_of_sending e (WithoutConnection number (kind.Reset ack code detail)))
+  Correcting : (ack : ℕ) → code ≡ (number_of_code codes.PacketError)
+      → IsResetting e given code detail (effect_of_sending e (Next (alone (kind.Reset ack code detail))))
   Closing : (first : Bool) (number : ℕ) (ack : Option ℕ)
-      → IsResetting e code detail (effect_of (Heard first number Shut) ack false phases.Closed false (Next (alone (kind.Reset (greatest_or first number e.marks.gsr) code detail))))
-  Answering : (first : Bool) (number : ℕ) (ack : Option ℕ) → code ≡ (number_of_code codes.Closed)
-      → IsResetting e code detail (effect_of (Heard first number Taken) ack false phases.Closed false (Next (alone (kind.Reset (greatest_or first number e.marks.gsr) code detail))))
+      → IsResetting e given code detail (effect_of e (Heard first number Shut) ack false phases.Closed false (Next (alone (kind.Reset (greatest_or first number e.marks.gsr) code detail))))
+  Answering : (packet : Incoming) (heeding : Heeding) (first : Bool) (ack : Option ℕ) → Came e given packet → IsHeeded e packet heeding
+      → code ≡ (number_of_code codes.Closed)
+      → IsResetting e given code detail
+      (record (effect_of e (Heard first packet.number Taken) ack false phases.Closed false (Next (alone (kind.Reset (greatest_or first packet.number e.marks.gsr) code detail)))) {
+        calls = calls_for packet e.rows heeding.rows;
+      })
 
 -- The type with its fields of the packet that a row of the table answers with, if any. A SyncAck acknowledges the Sync, and all others
--- the greatest number received; where the row has none, an Ack tells the Confirms that are due.
-abbrev pub replying : EndState → Phase → List Due → ℕ → ℕ → Reply → Option Kind
-replying e to confirms greatest number reply.Nothing = if is_connected to && has_confirms confirms then Some (kind.Ack (Long greatest)) else None
-replying e to confirms greatest number reply.Response = Some (kind.Response greatest e.config.service)
-replying e to confirms greatest number reply.Ack = Some (kind.Ack (Long greatest))
-replying e to confirms greatest number reply.Close = Some (kind.Close greatest)
-replying e to confirms greatest number reply.ResetClosed = Some (kind.Reset greatest (number_of_code codes.Closed) (detail_of (without_detail (number_of_code codes.Closed))))
-replying e to confirms greatest number reply.SyncAck = Some (kind.SyncAck number)
-replying e to confirms greatest number reply.Torn = None
+-- the greatest number received; where the row has none, an Ack goes out if it is needed.
+abbrev pub replying : EndState → Bool → ℕ → ℕ → Reply → Option Kind
+replying e needed greatest number reply.Nothing = if needed then Some (kind.Ack (Long greatest)) else None
+replying e needed greatest number reply.Response = Some (kind.Response greatest e.config.service)
+replying e needed greatest number reply.Ack = Some (kind.Ack (Long greatest))
+replying e needed greatest number reply.Close = Some (kind.Close greatest)
+replying e needed greatest number reply.ResetClosed = Some (kind.Reset greatest (number_of_code codes.Closed) (detail_of (without_detail (number_of_code codes.Closed))))
+replying e needed greatest number reply.SyncAck = Some (kind.SyncAck number)
+replying e needed greatest number reply.Torn = None
 
 -- what goes out under the next number
 abbrev pub kind_sent : Sending → Option Kind
@@ -217,8 +213,13 @@ kind_sent Silent = None
 kind_sent (Next packet) = Some packet.kind
 kind_sent (WithoutConnection number packet) = None
 
--- The effect of a packet that was taken, with the Confirms that are due: the row of its phase and type.
-pub record IsTaking (e : EndState) (given : Input) (f : Effect) (confirms : List Due) : Type 0 where
+-- how many data packets are not acknowledged, with the one that was delivered, if any, and what goes out
+abbrev pub unacked_by : ℕ → Bool → Sending → ℕ
+unacked_by unacked delivered sending = if is_acking_sent sending then 0 else unacked_after unacked delivered
+
+-- The effect of a packet that was taken, with the data that are delivered and the Confirms that are due: the row of its phase and type,
+-- the packet as one that is to be acknowledged, unless that was done, and what it has for the congestion control.
+pub record IsTaking (e : EndState) (given : Input) (delivered : Option (ℕ × ℕ)) (f : Effect) (confirms : List Due) : Type 0 where
   pub packet : Incoming
   pub came : Came e given packet
   pub first : Bool
@@ -228,16 +229,23 @@ pub record IsTaking (e : EndState) (given : Input) (f : Effect) (confirms : List
   pub heard : f.hearing ≡ Heard first packet.number Taken
   pub moved : f.phase ≡ to
   pub opening : f.opening ≡ becomes_open (phase_entered e.phase) to
-  pub replied : kind_sent f.sending ≡ replying e to confirms (greatest_or first packet.number e.marks.gsr) packet.number answer
+  pub looked : f.looked_up ≡ looked_up packet.kind packet.ack
+  pub owes : f.owed ≡ not (is_acking_sent f.sending)
+  pub counted : f.unacked ≡ unacked_by e.unacked (is_some delivered) f.sending
+  pub heeding : Heeding
+  pub heeds : IsHeeded e packet heeding
+  pub calls : f.calls ≡ calls_for packet e.rows heeding.rows
+  pub replied : kind_sent f.sending
+      ≡ replying e (needs_ack to confirms (rows_by e.rows f) (unacked_after e.unacked (is_some delivered))) (greatest_or first packet.number e.marks.gsr)
+      packet.number answer
 
 -- What an outcome tells of the step's effect, with the Confirms that are due.
 abbrev pub HasForm : EndState → Input → Outcome → Effect → List Due → Type 0
 HasForm e given (Dropped why) f confirms = f ≡ effect_of_sending e Silent
 HasForm e given (Synced number) f confirms = IsSyncing e number f
 HasForm e given (WasReset code) f confirms = f ≡ record (effect_of_sending e Silent) { phase = phases.TimeWait }
-HasForm e given (SentReset code detail) f confirms = IsResetting e code detail f
-HasForm e given NotBuilt f confirms = f ≡ effect_of_sending e Silent
-HasForm e given (Took delivered) f confirms = IsTaking e given f confirms
+HasForm e given (SentReset code detail) f confirms = IsResetting e given code detail f
+HasForm e given (Took delivered) f confirms = IsTaking e given delivered f confirms
 
 -- The step is this effect's, and the effect has the outcome's form.
 pub record HasEffectOf (e : EndState) (given : Input) (outcome : Outcome) (after : EndState) (frame : Option (List ℕ)) (calls : List Call) : Type 0 where

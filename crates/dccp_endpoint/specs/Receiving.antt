@@ -1,8 +1,9 @@
--- What an end does with the bytes that arrive: the sixteen steps of RFC 4340, section 8.5, as far as they are built.
+-- What an end does with the bytes that arrive: the sixteen steps of RFC 4340, section 8.5.
 --
 -- `the_steps` lists steps 2 to 9 but for step 8, and `receives` at the foot joins step 1 before and steps 8 and 10 to 16 behind
 -- them. Each step has one definition, above these.
-use Rattle.std.specs.Prelude.{◌==◌, ◌&&◌, not, if◌then◌else◌, ℕ, ◌+◌, Bool, true, false, List, [], ◌∷◌, Option, Some, None, Result, Ok, Err}
+use Rattle.std.specs.Prelude.{◌==◌, ◌&&◌, ◌||◌, not, if◌then◌else◌, ℕ, ◌+◌, Bool, true, false, List, [], ◌∷◌, Option, Some, None, Result, Ok, Err}
+use Rattle.ack_vectors.specs.Kept as kept
 use Rattle.seq_circle.specs.Circle.{residue, is_before}
 use Rattle.dccp_sum.specs.Checksum.{checked}
 use Rattle.dccp_sum.specs.declared.packet_sum.SumFault.{SumFault}
@@ -23,7 +24,9 @@ use Rattle.dccp_states.specs.declared.phase.Phase.{Phase}
 use Rattle.dccp_states.specs.declared.phase.Phase.TheVariants as phases
 use Rattle.dccp_states.specs.declared.reply.Reply.{Reply}
 use Rattle.dccp_states.specs.declared.reply.Reply.TheVariants as reply
-use Rattle.validity_windows.specs.declared.marks.Marks.{Marks}
+use Rattle.feature_machine.specs.declared.row.Row.{Row}
+use Rattle.run_list.specs.MarkedSet.{answer_to}
+use Rattle.run_list.specs.declared.answers.Marked.{Marked}
 use Rattle.validity_windows.specs.Beginning.{begun}
 use Rattle.validity_windows.specs.Windows.{ack_low, ack_high}
 use Rattle.validity_windows.specs.Verdict.{verdict, is_ack_within, taken}
@@ -31,19 +34,21 @@ use Rattle.validity_windows.specs.declared.verdict.Verdict.{Verdict}
 use Rattle.validity_windows.specs.declared.verdict.Verdict.TheVariants as verdicts
 use Rattle.dccp_endpoint.specs.Drafts.{alone, frame_of}
 use Rattle.dccp_endpoint.specs.End.{EndState, is_connected, is_open, with_rows}
-use Rattle.dccp_endpoint.specs.Faults.{counts, is_unbuilt}
+use Rattle.dccp_endpoint.specs.Faults.{counts}
 use Rattle.dccp_endpoint.specs.Heeding.{Due, Heeding, heeds, unheeded}
 use Rattle.dccp_endpoint.specs.Incoming.{Incoming, incoming}
 use Rattle.dccp_packets.specs.ResetCodes.{number_of_code}
 use Rattle.dccp_packets.specs.declared.reset_code.ResetCode.TheVariants as codes
+use Rattle.dccp_endpoint.specs.Reporting.{counts_data, delivered_if, delivers, is_enough, looked_up, looks_up, marks, sends_ack}
 use Rattle.dccp_endpoint.specs.Speaking.{asking, asks, confirming, has_confirms, offers, saying}
-use Rattle.dccp_endpoint.specs.Steps.{Step, in_phase, idle, sends, detail_of, reset_of, without_detail}
+use Rattle.dccp_endpoint.specs.Congesting.{calls_for}
+use Rattle.dccp_endpoint.specs.Steps.{Step, in_phase, idle, sends, detail_of, reset_of, with_calls, without_detail}
 use Rattle.dccp_endpoint.specs.Turns.{Key}
 use Rattle.dccp_endpoint.specs.declared.exit.Exit.{Exit}
 use Rattle.dccp_endpoint.specs.declared.exit.Exit.TheVariants as exits
 use Rattle.dccp_endpoint.specs.declared.outcome.Fault.{Fault}
 use Rattle.dccp_endpoint.specs.declared.outcome.Outcome.{Outcome}
-use Rattle.dccp_endpoint.specs.declared.outcome.Outcome.TheVariants.{Took, Dropped, Synced, WasReset, SentReset, NotBuilt}
+use Rattle.dccp_endpoint.specs.declared.outcome.Outcome.TheVariants.{Took, Dropped, Synced, WasReset, SentReset}
 use Rattle.dccp_endpoint.specs.declared.outcome.Why.{Why}
 use Rattle.dccp_endpoint.specs.declared.outcome.Why.TheVariants as why
 
@@ -102,10 +107,11 @@ finds_connection entrance.NoConnection x = Leaves x (exits.ResetWithoutConnectio
 finds_connection entrance.Stray x = Leaves x (exits.Drop why.StrayReset)
 finds_connection _ x = Goes x
 
--- The first packet of the peer sets the first and the greatest number received. OSR is that number until the end is OPEN (own).
+-- The first packet of the peer sets the first and the greatest number received, and the set of the numbers that are taken begins with
+-- it. OSR is that number until the end is OPEN (own).
 abbrev pub started : EndState → Phase → Incoming → EndState
 started e phase a =
-    record e { phase = phase; marks = begun e.marks a.kind a.number a.ack }
+    record e { phase = phase; marks = begun e.marks a.kind a.number a.ack; received = kept.fresh a.number }
 
 -- Step 3: in LISTEN a Request for this service opens the connection. Whether the end's service is meant:
 abbrev pub is_own_service : EndState → Option ℕ → Bool
@@ -225,47 +231,56 @@ abbrev pub moved_to : EndState → Phase → ℕ → EndState
 moved_to e phase number =
     record e { phase = phase; marks = record e.marks { osr = osr_after e.marks.osr number (becomes_open e.phase phase) } }
 
--- Step 16: no data is delivered yet.
-abbrev pub took : Outcome
-took = Took None
-
 -- a Reset under the next number
 abbrev pub resets : EndState → ℕ → Fault → Step Outcome
 resets e ack fault = sends e (reset_of ack fault) (SentReset fault.code (detail_of fault))
 
 -- A Response opens the offered rows that have no Confirm in it, and carries the Changes of these and of all others that ask. Once
 -- their Changes have gone out:
-abbrev pub responds_asking : EndState → List Due → List Key → Step Outcome
-responds_asking e confirms keys = sends e (saying (kind.Response e.marks.gsr e.config.service) confirms e.rows keys) took
+abbrev pub responds_asking : EndState → List Due → List Key → Outcome → Step Outcome
+responds_asking e confirms keys took = sends e (saying (kind.Response e.marks.gsr e.config.service) confirms e.rows keys) took
 
 -- once the offers have come up
-abbrev pub responds_offering : EndState → List Due → List Key → Step Outcome
-responds_offering e confirms keys = responds_asking (asks e keys) confirms keys
+abbrev pub responds_offering : EndState → List Due → List Key → Outcome → Step Outcome
+responds_offering e confirms keys took = responds_asking (asks e keys) confirms keys took
 
-abbrev pub responds : EndState → List Due → Step Outcome
-responds e confirms = responds_offering (offers e confirms) confirms (asking (offers e confirms).rows confirms)
+abbrev pub responds : EndState → List Due → Outcome → Step Outcome
+responds e confirms took = responds_offering (offers e confirms) confirms (asking (offers e confirms).rows confirms) took
 
 -- an Ack with the Confirms that are due
-abbrev pub acknowledges : EndState → List Due → Step Outcome
-acknowledges e confirms = sends e (confirming (kind.Ack (Long e.marks.gsr)) confirms) took
+abbrev pub acknowledges : EndState → List Due → Outcome → Step Outcome
+acknowledges e confirms took = sends_ack e (confirming (kind.Ack (Long e.marks.gsr)) confirms) took
 
--- Where the table has no reply, an Ack goes out in PARTOPEN and OPEN if Confirms are due (own).
-abbrev pub needs_ack : EndState → List Due → Bool
-needs_ack e confirms = is_connected e.phase && has_confirms confirms
+-- Where the table has no reply, an Ack goes out in PARTOPEN and OPEN if Confirms are due (own), and in OPEN if enough data packets are
+-- not acknowledged (section 11.3).
+abbrev pub needs_ack : Phase → List Due → List Row → ℕ → Bool
+needs_ack phase confirms rows unacked = is_connected phase && (has_confirms confirms || (is_open phase && is_enough rows unacked))
 
--- what the table sends; a Reset has left at step 9
-abbrev pub replies : EndState → Incoming → List Due → Reply → Step Outcome
-replies e a confirms reply.Nothing = if needs_ack e confirms then acknowledges e confirms else idle e took
-replies e a confirms reply.Response = responds e confirms
-replies e a confirms reply.Ack = acknowledges e confirms
-replies e a confirms reply.Close = sends e (alone (kind.Close e.marks.gsr)) took
-replies e a confirms reply.ResetClosed = resets e e.marks.gsr (without_detail (number_of_code codes.Closed))
-replies e a confirms reply.SyncAck = sends e (confirming (kind.SyncAck a.number) confirms) took
-replies e a confirms reply.Torn = idle e took
+-- What the table sends, with the outcome of a packet that was taken; a Reset has left at step 9.
+abbrev pub replies : EndState → Incoming → List Due → Outcome → Reply → Step Outcome
+replies e a confirms took reply.Nothing = if needs_ack e.phase confirms e.rows e.unacked then acknowledges e confirms took else idle e took
+replies e a confirms took reply.Response = responds e confirms took
+replies e a confirms took reply.Ack = acknowledges e confirms took
+replies e a confirms took reply.Close = sends e (alone (kind.Close e.marks.gsr)) took
+replies e a confirms took reply.ResetClosed = resets e e.marks.gsr (without_detail (number_of_code codes.Closed))
+replies e a confirms took reply.SyncAck = sends e (confirming (kind.SyncAck a.number) confirms) took
+replies e a confirms took reply.Torn = idle e took
 
--- steps 10 to 16, whole, by the row of the table
-abbrev pub processes : EndState → Incoming → List Due → Phase × Reply → Step Outcome
-processes e a confirms to = replies (moved_to e to.0 a.number) a confirms to.1
+-- Step 16 comes before the reply, since data that are delivered count for it.
+abbrev pub delivering : EndState → Incoming → List Due → Bool → Reply → Step Outcome
+delivering e a confirms new reply = replies (counts_data e new) a confirms (Took (delivered_if new a.data_place)) reply
+
+-- steps 10 to 16, whole, by what the mark answered and the row of the table
+abbrev pub moves : EndState → Incoming → List Due → Marked → Phase × Reply → Step Outcome
+moves e a confirms mark to = delivering (moved_to e to.0 a.number) a confirms (delivers a.kind to.0 mark) to.1
+
+-- The rest of step 8: a packet whose options were read to their end is marked, and what it acknowledges is looked up.
+abbrev pub accounted : EndState → Incoming → EndState
+accounted e a = looks_up (marks e a.number) (looked_up a.kind a.ack)
+
+-- such a packet, once the rows are stored
+abbrev pub processes : EndState → Incoming → List Due → Step Outcome
+processes e a confirms = moves (accounted e a) a confirms (answer_to e.received.set a.number) (after e.phase a.kind)
 
 -- A Reset without a connection takes its numbers from the packet, and the end stays as it is (own). Its number is the next after the
 -- acknowledgement:
@@ -287,44 +302,33 @@ resets_without_connection e a fault =
 abbrev pub packet_fault : Incoming → Fault
 packet_fault a = record { code = (number_of_code codes.PacketError); first = code_of a.kind; second = 0; third = 0 }
 
--- What is done with a packet that leaves before step 10: the phase and the numbers before it, and the end as the steps left it.
-abbrev pub leaves : Phase → Marks → EndState → Incoming → Exit → Step Outcome
-leaves phase marks e a (exits.Drop why) = idle e (Dropped why)
-leaves phase marks e a (exits.Sync number) = sends e (alone (kind.Sync number)) (Synced number)
-leaves phase marks e a (exits.ResetWithoutConnection code) = resets_without_connection e a (without_detail (number_of_code code))
-leaves phase marks e a exits.PacketError = resets e a.number (packet_fault a)
-leaves phase marks e a (exits.Shut fault) = resets (in_phase e phases.Closed) e.marks.gsr fault
-leaves phase marks e a (exits.TimeWait code) = idle (in_phase e phases.TimeWait) (WasReset code)
-leaves phase marks e a exits.NotBuilt = idle (record e { phase = phase; marks = marks }) NotBuilt
+-- What is done with a packet that leaves before step 10, in the end as the steps left it.
+abbrev pub leaves : EndState → Incoming → Exit → Step Outcome
+leaves e a (exits.Drop why) = idle e (Dropped why)
+leaves e a (exits.Sync number) = sends e (alone (kind.Sync number)) (Synced number)
+leaves e a (exits.ResetWithoutConnection code) = resets_without_connection e a (without_detail (number_of_code code))
+leaves e a exits.PacketError = resets e a.number (packet_fault a)
+leaves e a (exits.Shut fault) = resets (in_phase e phases.Closed) e.marks.gsr fault
+leaves e a (exits.TimeWait code) = idle (in_phase e phases.TimeWait) (WasReset code)
 
--- Step 8: what needs a part that is not built goes no further. Options of the negotiation are heeded on the newest packets alone;
--- the first fault ends the connection.
-abbrev pub heeding_or_exit : Result Heeding Fault → Result Heeding Exit
-heeding_or_exit (Ok h) = Ok h
-heeding_or_exit (Err fault) = Err (exits.Shut fault)
+-- Step 8: what the options come to, or their first fault. Options of the negotiation are heeded on the newest packets alone.
+abbrev pub reads_options : EndState → Incoming → Result Heeding Fault
+reads_options x a = heeds (a.newest && counts x.phase a.kind) a.ack (unheeded x.rows) a.options
 
--- by whether the packet needs a part that is not built
-abbrev pub reads : EndState → Incoming → Bool → Result Heeding Exit
-reads x a true = Err exits.NotBuilt
-reads x a false = heeding_or_exit (heeds (a.newest && counts x.phase a.kind) a.ack (unheeded x.rows) a.options)
-
--- step 8, whole
-abbrev pub reads_options : EndState → Incoming → Result Heeding Exit
-reads_options x a = reads x a (is_unbuilt a.kind)
-
--- The rows are stored once the options are read to their end; a fault leaves them as they were. Then come steps 10 to 16.
-abbrev pub heeded : EndState → EndState → Incoming → Result Heeding Exit → Step Outcome
-heeded before x a (Ok h) = processes (with_rows x h.rows) a h.confirms (after x.phase a.kind)
-heeded before x a (Err exit) = leaves before.phase before.marks x a exit
+-- The rows are stored once the options are read to their end, and the congestion control hears of them. A fault ends the connection,
+-- leaves the rows as they were and the packet unmarked, and hands nothing over.
+abbrev pub heeded : EndState → Incoming → Result Heeding Fault → Step Outcome
+heeded x a (Ok h) = with_calls (calls_for a x.rows h.rows) (processes (with_rows x h.rows) a h.confirms)
+heeded x a (Err fault) = leaves x a (exits.Shut fault)
 
 -- what is done in the end, by the course of the steps
-abbrev pub ends_as : EndState → Incoming → Course → Step Outcome
-ends_as before a (Goes x) = heeded before x a (reads_options x a)
-ends_as before a (Leaves x exit) = leaves before.phase before.marks x a exit
+abbrev pub ends_as : Incoming → Course → Step Outcome
+ends_as a (Goes x) = heeded x a (reads_options x a)
+ends_as a (Leaves x exit) = leaves x a exit
 
 -- steps 2 to 16, whole
 abbrev pub takes : EndState → Incoming → Step Outcome
-takes e a = ends_as e a (through (Goes e) (the_steps a (gate e.phase a.kind)))
+takes e a = ends_as a (through (Goes e) (the_steps a (gate e.phase a.kind)))
 
 -- what step 1 lets pass is taken, and all else dropped
 abbrev pub received : EndState → Result Incoming Why → Step Outcome

@@ -1,10 +1,10 @@
 -- What an end says of features on its packets, and what saying it changes (RFC 4340, section 6; the order of options is own: the
 -- Confirms, then the Changes).
-use Rattle.std.specs.Prelude.{◌≡◌, ◌==◌, ◌&&◌, not, ℕ, Bool, true, false, List, [], ◌∷◌, ◌++◌, map, filter, Option, Some, None}
+use Rattle.std.specs.Prelude.{◌≡◌, ◌==◌, ◌≤◌, ◌&&◌, not, ℕ, Bool, true, false, List, [], ◌∷◌, ◌++◌, length, map, filter, Option, Some, None}
 use Rattle.std.specs.List.{list_any}
 use Rattle.byteorder.specs.Endian.{big_bytes}
 use Rattle.dccp_options.specs.Kinds as options
-use Rattle.dccp_options.specs.Written.{Item}
+use Rattle.dccp_options.specs.Written.{Item, written}
 use Rattle.dccp_packets.specs.declared.header.Kind.{Kind}
 use Rattle.feature_lists.specs.Features.{described, number_of}
 use Rattle.feature_lists.specs.declared.features.Feature.{Feature}
@@ -65,6 +65,11 @@ confirm_item due = record { mandatory = false; kind = confirm_type due.left; bod
 
 abbrev pub confirm_items : List Due → List Item
 confirm_items confirms = map confirm_item confirms
+
+-- Confirms that leave room for an Ack Vector or for all Changes: at most 64, of 3 bytes, and of 9 more where a row answers, of which
+-- there are eighteen (own).
+abbrev pub HaveRoom : List Due → Type 0
+HaveRoom confirms = length (written (confirm_items confirms)) ≤ 354
 
 -- Confirm L speaks of a feature here, Confirm R of one at the peer.
 abbrev pub is_of_place : Bool → Place → Bool

@@ -8,8 +8,7 @@ use Rattle.dccp_endpoint.specs.Drafts.{Draft, alone, frame_of}
 use Rattle.dccp_endpoint.specs.End.{EndState}
 use Rattle.dccp_endpoint.specs.declared.outcome.Fault.{Fault}
 
--- An end after a step, the frame that it sends, if any, what is due to its congestion control, in order, and its answer. Nothing is
--- due to a congestion control yet.
+-- An end after a step, the frame that it sends, if any, the calls that are due to its congestion control, in order, and its answer.
 pub record Step (Answer : Type 0) : Type 0 where
   pub after : EndState
   pub frame : Option (List ℕ)
@@ -32,6 +31,10 @@ with_next_number e = record e { marks = record e.marks { gss = next_number e } }
 abbrev pub sends : {Answer : Type 0} → EndState → Draft → Answer → Step Answer
 sends e draft answer =
     record { after = with_next_number e; frame = Some (frame_of e.config (next_number e) draft); calls = []; answer = answer }
+
+-- the step with these calls due to the congestion control
+abbrev pub with_calls : {Answer : Type 0} → List Call → Step Answer → Step Answer
+with_calls calls step = record step { calls = calls }
 
 -- the three bytes of a Reset's detail
 abbrev pub detail_of : Fault → List ℕ

@@ -7,6 +7,19 @@ pub enum OpenFault {
     NotFresh,
 }
 
+/// Why `send` was refused, each reason before the next. The end is unchanged.
+#[derive(Clone, Copy, Debug, PartialEq, Eq)]
+pub enum SendFault {
+    /// The phase is not OPEN (RFC 4340, section 8.1.5).
+    NotOpen,
+    /// The data are longer than 1,024 bytes (own).
+    TooLong,
+    /// CCID here is 2, and the peer sends no Ack Vectors (RFC 4341, section 4).
+    NotNegotiated,
+    /// As many data packets are in flight as may be (RFC 4341, section 5).
+    WindowFull,
+}
+
 /// Why `close` was refused. The end is unchanged.
 #[derive(Clone, Copy, Debug, PartialEq, Eq)]
 pub enum CloseFault {

@@ -1,143 +1,282 @@
-//! The end itself.
-ghost use Rattle.std.specs.Prelude.{◌≡◌};
-ghost use Rattle.dccp_endpoint.specs.End.{end_of, first_phase};
-
-use crate::{Config, Held};
-use dccp_states::{Phase, Role};
-use feature_lists::{Feature, Place, initial};
-use feature_machine::{Negotiation, Role2};
+//! The end with its congestion control.
+use crate::connection::{Connection, is_open};
+use crate::{
+    AbortFault, CloseFault, Config, Feature, Held, Marks, OpenFault, Outcome, Phase, Place,
+    PreferFault, Role, SendFault, Timer,
+};
+use congestion_trait::Congestion;
+use dccp_packets::Outbox;
 use seq_circle::{NoMemory, Seq48};
+use std::alloc::Global;
 use std::marker::Model;
-use validity_windows::Marks;
 
-mod calling;
-mod receiving;
-mod sending;
+// The CCID with which every end begins (RFC 4340, section 10).
+const FIRST_CCID: u8 = 2;
 
-// Whose end the rows of the negotiation are of.
-fn end_of(role: Role) -> Role2
-    ensures { result ≡ end_of role }
-{
-    match role {
-        Role::Client => Role2::Client,
-        Role::Server => Role2::Server,
-    }
-}
-
-// Where each role begins (RFC 4340, section 8.1).
-fn first_phase(role: Role) -> Phase
-    ensures { result ≡ first_phase role }
-{
-    match role {
-        Role::Client => Phase::Closed,
-        Role::Server => Phase::Listen,
-    }
-}
-
-/// One end of a connection. Its readers show the phase, the marks, the features' values and what is in flight; `open`
-/// begins a connection at a client, `prefer` asks for a feature's value, `close` and `abort` end a connection; `timer` says
-/// that a timer has run out, and `receive` takes any bytes that arrive. Each call that takes an Outbox empties it first and
-/// leaves at most one frame there. A refused call leaves the end unchanged and the box empty. Only `new` may take memory.
+/// One end of a connection, with the congestion control of the data that it sends. Its readers show the phase, the marks, the
+/// features' values and what is in flight; `open` begins a connection at a client, `send` sends data, `prefer` asks for a feature's
+/// value, `close` and `abort` end a connection; `timer` says that a timer has run out, and `receive` takes any bytes that arrive. Each
+/// call that takes an Outbox empties it first and leaves at most one frame there. A refused call leaves the end and its congestion
+/// control unchanged and the box empty. Only `new` may take memory.
 #[derive(Drop)]
-pub struct Endpoint {
-    config: Config,
-    phase: Phase,
-    opened: bool,
-    marks: Marks,
-    rows: Negotiation,
+pub struct Endpoint<C> {
+    connection: Connection,
+    congestion: C,
 }
 
-impl Model for Endpoint {
-    ghost use Rattle.dccp_endpoint.specs.End.{EndState, IsProper};
+impl<C> Model for Endpoint<C> {
+    ghost use Rattle.dccp_endpoint.specs.Controlled.{End};
 
-    ghost Value = { EndState };
+    ghost Value = { End C };
 
-    ghost view = { λ e. record { config = e.config; phase = e.phase; opened = e.opened; marks = e.marks; rows = e.rows } };
-
-    ghost invariant = { λ e. IsProper (record { config = e.config; phase = e.phase; opened = e.opened; marks = e.marks; rows = e.rows }) };
+    ghost view = { λ e. record { state = e.connection; congestion = e.congestion } };
 }
 
-impl Endpoint {
-    ghost use Rattle.std.specs.Prelude.{◌≡◌, Ok};
-    ghost use Rattle.dccp_endpoint.specs.End.{EndState, fresh, held_of, floor_of, window_of, in_flight_of, with_rows};
-    ghost use Rattle.feature_machine.specs.Negotiating.{AreRowsOf};
+impl<C: Congestion + Drop> Endpoint<C> {
+    ghost use Rattle.std.specs.Prelude.{◌≡◌, IsTrue, IfOk};
+    ghost use Rattle.dccp_endpoint.specs.Controlled.{begins};
 
-    /// An end of its configuration: CLOSED for a client, LISTEN for a server (RFC 4340, section 8.1).
-    pub fn new(config: Config) -> Result<Endpoint, NoMemory>
-        ensures { result ≡ Ok (fresh config) }
+    /// An end of its configuration: CLOSED for a client, LISTEN for a server (RFC 4340, section 8.1). The congestion control is
+    /// started with CCID 2, and has to know it.
+    pub fn new(alloc: Global, config: Config, congestion: C) -> Result<Endpoint<C>, NoMemory>
+        requires { IsTrue (C.control.is_known 2) }
+        ensures { IfOk result (λ e. e ≡ begins C.control config congestion) }
     {
-        config.shows_lists();
-        let phase = first_phase(config.role);
-        let marks = Marks::new(config.iss, initial(Feature::SequenceWindow));
-        let rows = Negotiation::new(end_of(config.role), &config.lists);
+        let connection = Connection::new(alloc, config)?;
+        let mut congestion = congestion;
+        congestion.start(FIRST_CCID);
         Ok(Endpoint {
-            config,
-            phase,
-            opened: false,
-            marks,
-            rows,
+            connection,
+            congestion,
         })
     }
+}
+
+impl<C: Congestion> Endpoint<C> {
+    ghost use Rattle.std.specs.Prelude.{◌≡◌, ◌≢◌, ◌↔◌, ◌⊎◌, ◌≤◌, ◌<◌, IsTrue, true, false, None, Err, OnErr, length};
+    ghost use Rattle.congestion_trait.specs.Control.{may_send};
+    ghost use Rattle.congestion_trait.specs.Flight.{Has};
+    ghost use Rattle.congestion_trait.specs.declared.flight.Standing.TheVariants.{Reported};
+    ghost use Rattle.feature_lists.specs.Wishes.{wish_of};
+    ghost use Rattle.feature_lists.specs.declared.features.Feature.TheVariants as feature;
+    ghost use Rattle.feature_lists.specs.declared.features.Place.TheVariants as place;
+    ghost use Rattle.feature_lists.specs.declared.wishes.PreferFault.TheVariants as prefer;
+    ghost use Rattle.run_list.specs.MarkedSet.{IsSound};
+    ghost use Rattle.dccp_endpoint.specs.Calling.{aborts, applies, closes, fires, opens, prefers, sends_payload};
+    ghost use Rattle.dccp_endpoint.specs.Controlled.{has_in_flight, in_flight_of, window_of, with_control};
+    ghost use Rattle.dccp_endpoint.specs.End.{floor_of, held_of, is_connected, marked_of, value_in};
+    ghost use Rattle.dccp_endpoint.specs.Inputs.{Arrives};
+    ghost use Rattle.dccp_endpoint.specs.Outcomes.{HasCause, HasEffectOf, HasNoOtherCause};
+    ghost use Rattle.dccp_endpoint.specs.Receiving.{receives};
+    ghost use Rattle.dccp_endpoint.specs.declared.calls.Timer.TheVariants as timers;
 
     /// The phase.
     pub fn phase(&self) -> Phase
-        ensures { result ≡ self.now.phase }
+        ensures { result ≡ self.now.state.phase }
     {
-        self.phase
+        self.connection.phase()
     }
 
     /// The first and greatest numbers sent and received, and the widths of the windows (RFC 4340, section 7.1).
     pub fn marks(&self) -> Marks
-        ensures { result ≡ self.now.marks }
+        ensures { result ≡ self.now.state.marks }
     {
-        self.marks
+        self.connection.marks()
     }
 
     /// What the end holds for a feature at a place, and where its negotiation stands (RFC 4340, section 6.6.2).
     pub fn held(&self, feature: Feature, place: Place) -> Held
-        ensures { result ≡ held_of self.now feature place }
+        ensures { result ≡ held_of self.now.state feature place }
     {
-        self.rows.held(feature, place)
+        self.connection.held(feature, place)
     }
 
-    /// How many data packets may be in flight. No data is sent yet: it is the first window of CCID 2 (RFC 4341, section
-    /// 5; the number is own).
+    /// How many data packets may be in flight: 1 to 1,024.
     pub fn window(&self) -> u32
-        ensures { result ≡ window_of self.now }
+        ensures value { result ≡ window_of C.control self.now.congestion }
+        ensures low { 1 ≤ result }
+        ensures high { result ≤ 1024 }
     {
-        4
+        self.congestion.window()
     }
 
-    /// How many data packets are in flight. No data is sent yet.
+    /// How many data packets are in flight: sent, and neither reported nor taken for lost.
     pub fn in_flight(&self) -> u32
-        ensures { result ≡ in_flight_of self.now }
+        ensures { result ≡ in_flight_of C.control self.now.congestion }
     {
-        0
+        self.congestion.in_flight()
     }
 
-    // The rows: they are of the end's role, and the windows are as wide as they say.
-    fn rows(&self) -> &Negotiation
-        ensures value { result.now ≡ self.now.rows }
-        ensures role { AreRowsOf (end_of self.now.config.role) self.now.rows }
-        ensures widths { with_rows self.now self.now.rows ≡ self.now }
+    /// Tells whether the end believes that its data packet of this number was received.
+    pub fn is_reported(&self, number: Seq48) -> bool
+        ensures { IsTrue result ↔ Has (C.control.flight self.now.congestion) number Reported }
     {
-        &self.rows
+        self.congestion.is_reported(number)
     }
 
-    // The rows are these from now on, and the windows as wide as they say.
-    fn store(&mut self, rows: &Negotiation)
-        requires { AreRowsOf (end_of self.old.config.role) rows.now }
-        ensures { self.new ≡ with_rows self.old rows.now }
-    {
-        self.marks.own_w = rows.held(Feature::SequenceWindow, Place::Here).value;
-        self.marks.peer_w = rows.held(Feature::SequenceWindow, Place::There).value;
-        self.rows = *rows;
-    }
-
-    /// The least number that an Ack Vector may report: the first number received, or 0 before that.
+    /// The least number that an Ack Vector may report (RFC 4340, section 11.4.2), or 0 before the first was received. All numbers that
+    /// are kept lie from it up to 2,047 above it.
     pub fn floor(&self) -> Seq48
-        ensures { result ≡ floor_of self.now }
+        ensures value { result ≡ floor_of self.now.state }
+        ensures sound { IsSound self.now.state.received.set }
     {
-        self.marks.isr
+        self.connection.floor()
+    }
+
+    /// How many numbers were taken: how many marks answered New. At 2^64 - 1 it stays.
+    pub fn marked(&self) -> u64
+        ensures { result ≡ marked_of self.now.state }
+    {
+        self.connection.marked()
+    }
+
+    /// The client sends its Request (RFC 4340, section 8.1.1). Refused with `NotFresh` exactly where the end is a server
+    /// or was opened before.
+    pub fn open(&mut self, out: &mut Outbox) -> Result<(), OpenFault>
+        ensures step { record { after = self.new; frame = out.new; answer = result } ≡ with_control C.control self.old.congestion (opens self.old.state) }
+        ensures not_fresh { (result ≡ Err OpenFault.NotFresh) ↔ ((self.old.state.config.role ≡ Role.Server) ⊎ (self.old.state.opened ≡ true)) }
+        ensures refused { OnErr result ((self.new ≡ self.old) × (out.new ≡ None)) }
+    {
+        self.connection.open(out)
+    }
+
+    /// Sends data, at most 1,024 bytes: a DataAck where an acknowledgement is owed, which has an Ack Vector where Send Ack Vector is 1,
+    /// else a Data (RFC 4340, section 8.1.5). The congestion control counts the packet as in flight. Refused with `NotOpen` exactly
+    /// outside OPEN; then with `TooLong` exactly where the data are longer; then with `NotNegotiated` exactly where CCID here is 2 and
+    /// the peer sends no Ack Vectors (RFC 4341, section 4); then with `WindowFull` exactly where as many packets are in flight as may be.
+    #[tactic(auto, unfolding(crate::specs::Calling::sends_payload))]
+    pub fn send(&mut self, payload: &[u8], out: &mut Outbox) -> Result<(), SendFault>
+        ensures step { record { after = self.new; frame = out.new; answer = result } ≡ with_control C.control self.old.congestion (sends_payload self.old.state payload.now (may_send C.control self.old.congestion)) }
+        ensures not_open { (result ≡ Err SendFault.NotOpen) ↔ (self.old.state.phase ≢ Phase.Open) }
+        ensures too_long { (result ≡ Err SendFault.TooLong) ↔ ((self.old.state.phase ≡ Phase.Open) × (1024 < length payload.now)) }
+        ensures not_negotiated { (result ≡ Err SendFault.NotNegotiated) ↔ ((self.old.state.phase ≡ Phase.Open) × (length payload.now ≤ 1024)
+            × (value_in self.old.state.rows feature.Ccid place.Here ≡ 2) × (value_in self.old.state.rows feature.SendAckVector place.There ≢ 1)) }
+        ensures window_full { (result ≡ Err SendFault.WindowFull) ↔ ((self.old.state.phase ≡ Phase.Open) × (length payload.now ≤ 1024)
+            × ((value_in self.old.state.rows feature.Ccid place.Here ≢ 2) ⊎ (value_in self.old.state.rows feature.SendAckVector place.There ≡ 1))
+            × (window_of C.control self.old.congestion ≤ in_flight_of C.control self.old.congestion)) }
+        ensures refused { OnErr result ((self.new ≡ self.old) × (out.new ≡ None)) }
+    {
+        out.clear();
+        let may_send = self.congestion.may_send();
+        if let Some(fault) = self.connection.send_fault(payload, may_send) {
+            return Err(fault);
+        }
+        let number = self.connection.send_data(payload, out);
+        self.congestion.on_sent(number);
+        Ok(())
+    }
+
+    /// Ends the connection in order: a client sends Close and is in CLOSING; a server asks for it by CloseReq and is in
+    /// CLOSEREQ (RFC 4340, section 8.3). Refused with `NotOpen` exactly outside PARTOPEN and OPEN.
+    pub fn close(&mut self, out: &mut Outbox) -> Result<(), CloseFault>
+        ensures step { record { after = self.new; frame = out.new; answer = result } ≡ with_control C.control self.old.congestion (closes self.old.state) }
+        ensures not_open { (result ≡ Err CloseFault.NotOpen) ↔ ((self.old.state.phase ≢ Phase.PartOpen) × (self.old.state.phase ≢ Phase.Open)) }
+        ensures refused { OnErr result ((self.new ≡ self.old) × (out.new ≡ None)) }
+    {
+        self.connection.close(out)
+    }
+
+    /// Ends the connection at once: the phase is CLOSED, and a Reset with the code Aborted goes out, but in REQUEST nothing,
+    /// since the other end was not heard (RFC 4340, section 8.3). Refused with `NotLive` exactly in CLOSED, LISTEN and TIMEWAIT.
+    pub fn abort(&mut self, out: &mut Outbox) -> Result<(), AbortFault>
+        ensures step { record { after = self.new; frame = out.new; answer = result } ≡ with_control C.control self.old.congestion (aborts self.old.state) }
+        ensures not_live { (result ≡ Err AbortFault.NotLive) ↔ ((self.old.state.phase ≡ Phase.Closed) ⊎ (self.old.state.phase ≡ Phase.Listen) ⊎ (self.old.state.phase ≡ Phase.TimeWait)) }
+        ensures refused { OnErr result ((self.new ≡ self.old) × (out.new ≡ None)) }
+    {
+        self.connection.abort(out)
+    }
+
+    /// The end wants these values, best first, for a feature at a place (RFC 4340, section 6.6.1). A row in STABLE asks at once, by
+    /// an Ack with its Change; any other asks on a later occasion, and nothing goes out. Refused with `NotOpen` exactly outside
+    /// PARTOPEN and OPEN; then as `feature_lists::wish` refuses, with `BadList` or `NotOurs`.
+    pub fn prefer(
+        &mut self,
+        feature: Feature,
+        place: Place,
+        values: &[u64],
+        out: &mut Outbox,
+    ) -> Result<(), PreferFault>
+        ensures step { record { after = self.new; frame = out.new; answer = result } ≡ with_control C.control self.old.congestion (prefers self.old.state (feature, place) values.now) }
+        ensures not_open { (result ≡ Err PreferFault.NotOpen) ↔ ((self.old.state.phase ≢ Phase.PartOpen) × (self.old.state.phase ≢ Phase.Open)) }
+        ensures bad_list { (result ≡ Err PreferFault.BadList) ↔ ((is_connected self.old.state.phase ≡ true) × (wish_of feature place values.now ≡ Err prefer.BadList)) }
+        ensures not_ours { (result ≡ Err PreferFault.NotOurs) ↔ ((is_connected self.old.state.phase ≡ true) × (wish_of feature place values.now ≡ Err prefer.NotOurs)) }
+        ensures refused { OnErr result ((self.new ≡ self.old) × (out.new ≡ None)) }
+    {
+        self.connection.prefer(feature, place, values, out)
+    }
+
+    /// A timer has run out. True exactly where it has something to do in this phase (`applies`):
+    ///
+    /// | Timer | Phases | Does |
+    /// |---|---|---|
+    /// | Request | REQUEST | another Request goes out, with all Changes that are due |
+    /// | Ack | PARTOPEN, OPEN | an Ack goes out, with its Ack Vector |
+    /// | Negotiate | PARTOPEN, OPEN, if a row asks | an Ack goes out with all Changes that are due |
+    /// | Rto | OPEN, with packets in flight | the congestion control hears that its timer has run out; no packet goes out |
+    /// | Close | CLOSEREQ; CLOSING | CloseReq; Close goes out again |
+    /// | TimeWait | TIMEWAIT | the phase is CLOSED |
+    ///
+    /// Where it is false, nothing changes and nothing is sent (RFC 4340, section 8; for Rto RFC 4341, section 5).
+    pub fn timer(&mut self, timer: Timer, out: &mut Outbox) -> bool
+        ensures step { record { after = self.new; frame = out.new; answer = result } ≡ with_control C.control self.old.congestion (fires self.old.state timer (has_in_flight C.control self.old.congestion)) }
+        ensures applies { result ≡ applies timer self.old.state (has_in_flight C.control self.old.congestion) }
+        ensures idle { result ≡ false → (self.new ≡ self.old) × (out.new ≡ None) }
+    {
+        match timer {
+            Timer::Rto => self.time_out(out),
+            _ => self.connection.timer(timer, out),
+        }
+    }
+
+    // The timer of the congestion control has run out: true where it hears of it.
+    #[tactic(auto, unfolding(crate::specs::Calling::fires))]
+    fn time_out(&mut self, out: &mut Outbox) -> bool
+        ensures step { record { after = self.new; frame = out.new; answer = result } ≡ with_control C.control self.old.congestion (fires self.old.state timers.Rto (has_in_flight C.control self.old.congestion)) }
+        ensures applies { result ≡ applies timers.Rto self.old.state (has_in_flight C.control self.old.congestion) }
+        ensures idle { result ≡ false → (self.new ≡ self.old) × (out.new ≡ None) }
+    {
+        out.clear();
+        if !is_open(self.connection.phase()) || self.congestion.in_flight() == 0 {
+            return false;
+        }
+        self.congestion.on_timeout();
+        true
+    }
+
+    /// Takes bytes that arrived, as RFC 4340, section 8.5 says under this profile, at most 2,044 of them. Bytes that are no
+    /// packet, whose checksum does not fit, whose ports are not those of the connection or whose numbers are short are
+    /// dropped, in this order. The phase decides whether the packet may enter, the windows whether its numbers are valid, its
+    /// type whether it is unexpected; then its options are read, its number is marked, what it acknowledges is looked up among
+    /// the Ack Vectors that were sent, and it moves the phase and is answered. Options of the negotiation count on newest
+    /// packets alone, in RESPOND, PARTOPEN and OPEN and on the Response in REQUEST.
+    ///
+    /// Once the options are read without a fault, the congestion control hears of them: first of the Ack Vectors, on every packet with
+    /// an acknowledgement number but a Sync, with the Ack Ratio here after the packet; and then it is started with the new CCID where
+    /// that of this end changed, if it knows it.
+    ///
+    /// Each outcome comes exactly for its causes (`cause`, `no_other_cause`), and tells what has changed (`effect`). A packet
+    /// that is dropped changes nothing and sends nothing. A valid Reset moves the phase to TIMEWAIT, and nothing
+    /// else. A Sync takes the next number and acknowledges the number that `Synced` has; nothing else changes where the
+    /// packet's numbers are not valid, and where it is unexpected it has raised the greatest numbers received. A Reset has the
+    /// code and the detail that `SentReset` has. Without a connection (codes 3 and 8) it changes nothing. In REQUEST, where the
+    /// packet is neither a Reset nor a Response that acknowledges within the window (code 4), it takes the next number, and
+    /// nothing else changes. Otherwise (codes 1, 5, 6 and 8) the packet's numbers were taken, the end closes, and the Reset takes
+    /// the next number and acknowledges the greatest number received. The first fault of the options (codes 5 and 6) leaves what
+    /// was negotiated as it was before the packet, and its number unmarked.
+    ///
+    /// A packet that is `Took` moves the phase and is answered by the table of phases; its data are delivered where it is a Data
+    /// or a DataAck, the end is OPEN then and its number is new. The rows have heard its options in their order, and the Confirms
+    /// that they answer go out on the packet that acknowledges it: the table's, or an Ack where the table has none in PARTOPEN and
+    /// OPEN. In OPEN an Ack goes out as well where as many data packets were delivered since the last one as the peer's Ack Ratio
+    /// says. Each Ack has an Ack Vector where Send Ack Vector is 1. A Response lets all offers come up, and carries the Changes of
+    /// all rows that ask and have no Confirm in it.
+    pub fn receive(&mut self, bytes: &[u8], out: &mut Outbox) -> Outcome
+        requires { length bytes.now ≤ 2044 }
+        ensures step { record { after = self.new; frame = out.new; answer = result } ≡ with_control C.control self.old.congestion (receives self.old.state bytes.now) }
+        ensures cause { HasCause self.old.state bytes.now result }
+        ensures no_other_cause { HasNoOtherCause self.old.state bytes.now result }
+        ensures effect { HasEffectOf self.old.state (Arrives bytes.now) result self.new.state out.new (receives self.old.state bytes.now).calls }
+    {
+        self.connection.receive(bytes, out, &mut self.congestion)
     }
 }

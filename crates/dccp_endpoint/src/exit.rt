@@ -18,6 +18,4 @@ pub enum Exit {
     Shut(Fault),
     /// It is a valid Reset of this code, and the end waits in TIMEWAIT.
     TimeWait(u8),
-    /// It needs a part that is not built yet: the end is as before.
-    NotBuilt,
 }

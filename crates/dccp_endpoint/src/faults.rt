@@ -1,7 +1,7 @@
 //! What the options of a packet may be faulted for, and where they count (RFC 4340, sections 5.8 and 8.5, step 8).
 ghost use Rattle.std.specs.Prelude.{◌≡◌, slice_index};
 ghost use Rattle.dccp_options.specs.Left.{entry_of};
-ghost use Rattle.dccp_endpoint.specs.Faults.{counts, is_unbuilt, mandatory_fault};
+ghost use Rattle.dccp_endpoint.specs.Faults.{counts, mandatory_fault};
 ghost use Rattle.dccp_endpoint.specs.Heeding.{fault_of};
 
 use crate::Fault;
@@ -58,11 +58,4 @@ pub(crate) fn counts(phase: Phase, kind: PacketType) -> bool
         ) => true,
         _ => false,
     }
-}
-
-/// Tells whether taking a packet of this type is not built yet.
-pub(crate) fn is_unbuilt(kind: PacketType) -> bool
-    ensures { result ≡ is_unbuilt kind }
-{
-    matches!(kind, PacketType::Data | PacketType::DataAck)
 }

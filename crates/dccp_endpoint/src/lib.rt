@@ -1,14 +1,15 @@
-//! One end of a DCCP connection: what it does with each packet that arrives and with each call, and how it negotiates
-//! features (RFC 4340, sections 6 and 8).
+//! One end of a DCCP connection: what it does with each packet that arrives and with each call, how it negotiates features
+//! (RFC 4340, sections 6 and 8), and what its congestion control hears (section 10).
 //!
-//! An [`Endpoint`] is made from a [`Config`], which has its wishes and offers, and serves one connection. Its calls put at
-//! most one frame into an `Outbox`, which they empty first; a refused call leaves the end unchanged and the box empty. It
-//! has no socket and no clock, and takes no memory once it is made. Frames that arrive are handed to `receive`, in whatever
-//! order.
+//! An [`Endpoint`] is made from a [`Config`], which has its wishes and offers, and a congestion control of any kind, and serves
+//! one connection. Its calls put at most one frame into an `Outbox`, which they empty first; a refused call leaves the end
+//! unchanged and the box empty. It has no socket and no clock, and takes no memory once it is made. Frames that arrive are
+//! handed to `receive`, in whatever order.
 #![tactic(auto)]
 
 mod calls;
 mod config;
+mod connection;
 mod endpoint;
 mod exit;
 mod faults;
@@ -20,7 +21,7 @@ mod speaking;
 #[cfg(test)]
 mod tests;
 
-pub use crate::calls::{AbortFault, CloseFault, OpenFault, Timer};
+pub use crate::calls::{AbortFault, CloseFault, OpenFault, SendFault, Timer};
 pub use crate::config::Config;
 pub use crate::endpoint::Endpoint;
 pub(crate) use crate::exit::Exit;

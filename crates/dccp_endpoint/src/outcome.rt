@@ -35,8 +35,6 @@ pub enum Outcome {
     WasReset(u8),
     /// It was answered with a Reset of this code and detail (RFC 4340, section 5.6).
     SentReset { code: u8, detail: [u8; 3] },
-    /// It is a Data or a DataAck, which are not built yet. The end is unchanged.
-    NotBuilt,
 }
 
 /// What a Reset tells of the packet that it answers: its code and the bytes Data 1 to 3 (RFC 4340, section 5.6).

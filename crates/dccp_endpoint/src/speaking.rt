@@ -253,9 +253,8 @@ pub(crate) fn put_changes(area: &mut OptWriter, rows: &Negotiation, keys: &[(Fea
 }
 
 fn put_confirm(area: &mut OptWriter, confirm: &ConfirmOut)
-    requires room { length area.old + 12 ≤ 1008 }
-    ensures bytes { area.new ≡ area.old ++ written (confirm_item (due_of confirm.now) ∷ []) }
-    ensures short { length area.new ≤ length area.old + 12 }
+    requires room { length area.old + length (written (confirm_item (due_of confirm.now) ∷ [])) ≤ 1008 }
+    ensures { area.new ≡ area.old ++ written (confirm_item (due_of confirm.now) ∷ []) }
 {
     let mut body = ArrayVec::<u8, 10>::new();
     body.push(confirm.feature);
@@ -265,9 +264,9 @@ fn put_confirm(area: &mut OptWriter, confirm: &ConfirmOut)
 
 /// Writes Confirms.
 pub(crate) fn put_confirms(area: &mut OptWriter, confirms: &[ConfirmOut])
-    requires room { length area.old + 12 * length confirms.now ≤ 1008 }
+    requires room { length area.old + length (written (confirm_items (map due_of confirms.now))) ≤ 1008 }
     ensures bytes { area.new ≡ area.old ++ written (confirm_items (map due_of confirms.now)) }
-    ensures short { length area.new ≤ length area.old + 12 * length confirms.now }
+    ensures long { length area.new ≡ length area.old + length (written (confirm_items (map due_of confirms.now))) }
 {
     for confirm in confirms {
         put_confirm(area, confirm);

@@ -11,5 +11,4 @@ pub mod Range
 pub mod Reading
 pub mod Rest
 pub mod Results
-pub mod Unbuilt
 pub mod Words

@@ -5,8 +5,8 @@ use Rattle.feature_lists.specs.declared.features.Place.{Place}
 use Rattle.feature_lists.specs.declared.features.Place.TheVariants as place
 use Rattle.two_ends.specs.declared.event.Side.{Side}
 use Rattle.two_ends.specs.declared.event.Side.TheVariants as side
-use Rattle.schedule_text.specs.declared.event.Timer.{Timer}
-use Rattle.schedule_text.specs.declared.event.Timer.TheVariants as timer
+use Rattle.dccp_endpoint.specs.declared.calls.Timer.{Timer}
+use Rattle.dccp_endpoint.specs.declared.calls.Timer.TheVariants as timer
 use Rattle.schedule_text.specs.declared.names.Form.{Form}
 use Rattle.schedule_text.specs.declared.names.Form.TheVariants as form
 

@@ -5,8 +5,8 @@ use Rattle.hex.specs.Hex.{encode_lower}
 use Rattle.feature_lists.specs.Features.{number_of}
 use Rattle.two_ends.specs.declared.event.Side.{Side}
 use Rattle.two_ends.specs.declared.event.Side.TheVariants.{Client, Server}
-use Rattle.schedule_text.specs.declared.event.Event.{Event}
-use Rattle.schedule_text.specs.declared.event.Event.TheVariants as event
+use Rattle.two_ends.specs.declared.event.Event.{Event}
+use Rattle.two_ends.specs.declared.event.Event.TheVariants as event
 use Rattle.schedule_text.specs.declared.line.Line.{Line}
 use Rattle.schedule_text.specs.declared.line.Line.TheVariants as line
 use Rattle.schedule_text.specs.declared.names.Form.TheVariants as form

@@ -7,12 +7,12 @@ use Rattle.dccp_sum.specs.declared.packet_sum.SumFault.TheVariants as sum
 use Rattle.dccp_endpoint.specs.declared.outcome.Why.{Why}
 use Rattle.dccp_endpoint.specs.declared.outcome.Why.TheVariants as why
 use Rattle.dccp_endpoint.specs.declared.outcome.Outcome.{Outcome}
-use Rattle.dccp_endpoint.specs.declared.outcome.Outcome.TheVariants.{Took, Dropped, Synced, WasReset, SentReset, NotBuilt}
-use Rattle.schedule_text.specs.declared.event.Event.{Event}
-use Rattle.schedule_text.specs.declared.event.Refusal.{Refusal}
-use Rattle.schedule_text.specs.declared.event.Refusal.TheVariants as refusal
-use Rattle.schedule_text.specs.declared.event.Seen.{Seen}
-use Rattle.schedule_text.specs.declared.event.Seen.TheVariants.{Called, Fired, Received}
+use Rattle.dccp_endpoint.specs.declared.outcome.Outcome.TheVariants.{Took, Dropped, Synced, WasReset, SentReset}
+use Rattle.two_ends.specs.declared.event.Event.{Event}
+use Rattle.two_ends.specs.declared.event.Refusal.{Refusal}
+use Rattle.two_ends.specs.declared.event.Refusal.TheVariants as refusal
+use Rattle.two_ends.specs.declared.event.Seen.{Seen}
+use Rattle.two_ends.specs.declared.event.Seen.TheVariants.{Called, Fired, Received}
 use Rattle.schedule_text.specs.Printing.{hex_text, event_text}
 
 -- Names
@@ -67,14 +67,13 @@ byte_text byte = codes " " ++ decimal byte
 abbrev pub reset_text : ℕ → List ℕ → List ℕ
 reset_text code detail = codes "sent reset " ++ decimal code ++ flat_map byte_text detail
 
--- an outcome of a frame with these bytes; a line whose outcome is not built is refused, and prints none
+-- an outcome of a frame with these bytes
 abbrev pub outcome_text : List ℕ → Outcome → List ℕ
 outcome_text bytes (Took delivered) = taken_text bytes delivered
 outcome_text bytes (Dropped why) = codes "dropped " ++ why_name why
 outcome_text bytes (Synced number) = codes "synced " ++ decimal number
 outcome_text bytes (WasReset code) = codes "was reset " ++ decimal code
 outcome_text bytes (SentReset code detail) = reset_text code detail
-outcome_text bytes NotBuilt = []
 
 abbrev pub seen_text : List ℕ → Seen → List ℕ
 seen_text bytes (Called (Ok _)) = codes "ok"
@@ -110,7 +109,6 @@ HasItsData bytes (Dropped why) = Unit {0}
 HasItsData bytes (Synced number) = Unit {0}
 HasItsData bytes (WasReset code) = Unit {0}
 HasItsData bytes (SentReset code detail) = Unit {0}
-HasItsData bytes NotBuilt = Unit {0}
 
 abbrev pub IsSeenOf : List ℕ → Seen → Type 0
 IsSeenOf bytes (Called result) = Unit {0}

@@ -1,12 +1,11 @@
 //! The lines of schedules and replays as text: what each says, where it is wrong, and how an event and what was seen of
 //! it are printed (own).
 //!
-//! Each line stands by itself: nothing here knows the lines before it, the limits of a whole input, or the ends. Reading
+//! Each line stands by itself: nothing here knows the lines before it, the limits of a whole input, or what the ends do. Reading
 //! takes no memory.
 #![tactic(auto)]
 
 mod digits;
-mod event;
 mod frames;
 mod laws;
 mod line;
@@ -17,10 +16,8 @@ mod reading;
 #[cfg(test)]
 mod tests;
 mod text;
-mod unbuilt;
 mod words;
 
-pub use crate::event::{Event, Payload, Refusal, Seen, Timer};
 pub use crate::frames::read_frame;
 pub use crate::laws::{
     lines_are_their_forms, printed_events_are_read, the_first_fault_is_answered,
@@ -29,5 +26,5 @@ pub use crate::laws::{
 pub use crate::line::{FrameLine, Line, LineFault, LineWhy};
 pub use crate::printing::{print_event, print_result, print_seen};
 pub use crate::reading::read_line;
-pub use crate::unbuilt::is_unbuilt;
-pub use two_ends::Values;
+pub use dccp_endpoint::Timer;
+pub use two_ends::{Event, Payload, Refusal, Seen, Values};

@@ -61,8 +61,6 @@ pub enum LineWhy {
     LineTooLong,
     /// A byte is none of 32 to 126: at the first such byte.
     NotText,
-    /// It needs a part that is not built yet. The program judges this, at column 1.
-    NotBuilt,
     /// A word is empty or absent: at its place, which for an absent one is the line's length plus 2.
     Missing,
     /// A word is none of those that may stand there: at that word.

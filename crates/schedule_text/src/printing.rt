@@ -290,7 +290,6 @@ fn put_outcome(text: &mut Vec<u8>, input: &[u8], outcome: &Outcome) -> Result<()
         Outcome::Synced(number) => put_counted(text, b"synced ", number.get()),
         Outcome::WasReset(code) => put_counted(text, b"was reset ", u64::from(code)),
         Outcome::SentReset { code, detail } => put_reset(text, code, &detail),
-        Outcome::NotBuilt => Ok(()),
     }
 }
 

@@ -4,8 +4,8 @@ ghost use Rattle.std.specs.Prelude.{◌≡◌, true};
 ghost use Rattle.schedule_text.specs.Results.{IsSeenOf};
 
 use crate::{
-    Event, Line, LineFault, LineWhy, Payload, Refusal, Seen, Timer, Values, is_unbuilt,
-    print_event, print_seen, read_frame, read_line,
+    Event, Line, LineFault, LineWhy, Payload, Refusal, Seen, Timer, Values, print_event,
+    print_seen, read_frame, read_line,
 };
 use dccp_endpoint::{Outcome, Why};
 use dccp_packets::Malformed;
@@ -683,29 +683,5 @@ fn the_longest_frame(rt: HostRuntime) -> Result<(), Fail> {
         why: LineWhy::LineTooLong,
     };
     assert!(rt; read_frame(&line).err() == Some(wanted));
-    Ok(())
-}
-
-#[test]
-fn lines_that_are_not_built(rt: HostRuntime) -> Result<(), Fail> {
-    let unbuilt: [&[u8]; 3] = [b"send", b"send client 00", b"send x y z"];
-    for line in &unbuilt {
-        assert!(rt; is_unbuilt(line), "{line:?}");
-    }
-    let others: [&[u8]; 10] = [
-        b"",
-        b"# send",
-        b" send",
-        b"sends",
-        b"open",
-        b"set",
-        b"offer client here 1",
-        b"prefer client here 1 2",
-        b"send \r",
-        b"\xffsend",
-    ];
-    for line in &others {
-        assert!(rt; !is_unbuilt(line), "{line:?}");
-    }
     Ok(())
 }

@@ -16,7 +16,7 @@ use Rattle.dccp_endpoint.specs.End.{floor_of, is_begun}
 use Rattle.dccp_endpoint.specs.Incoming.{Incoming}
 use Rattle.dccp_endpoint.proofs.Phases.{answer-so, begins, check-live, live-begun}
 use Rattle.two_ends.specs.Numbered.{IsNumberOf}
-use Rattle.two_ends.proofs.Acting.{Act, Keeps, Party, acted, config_of, drafted_by, end_of, logged_by, longer}
+use Rattle.two_ends.proofs.Acting.{Act, Keeps, Party, acted, config_of, drafted_by, end_of, logged_by, processed_by, longer}
 use Rattle.two_ends.proofs.Numbering.{IsOrdered, came-logged, few-logged, more-sent}
 use Rattle.two_ends.proofs.ReadBack.{FitsAck, from-log-fits}
 
@@ -108,8 +108,8 @@ module _ (act : Act) (own : IsOrdered act.side) (peer : IsOrdered act.peer) (k :
 
   acting : KnowsAcknowledged (acted act)
   acting =
-      let more = length-append act.side.log (drafted_by act.side.half act.effect) in
-      let sent = begun-by act.effect.sending (length act.side.half.processed) (floor_of (end_after (end_of act.side) act.effect)) in
+      let more = length-append act.side.log (drafted_by act.side.half act.given act.effect) in
+      let sent = begun-by act.effect.sending (length (processed_by act.side.half act.given act.effect)) (floor_of (end_after (end_of act.side) act.effect)) in
       record {
         gar = more-sent (config_of act.side).iss _ _ _ (omega (arith, longer act)) (raised-by act.effect.acknowledged act.because.acks);
         begun = λ begun. elim (act.because.moves.begun begun) [ inl before ↦ omega (arith, more, k.begun before) | inr next ↦ omega (arith, more, sent next) ];

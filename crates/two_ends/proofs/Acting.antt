@@ -2,7 +2,7 @@
 --
 -- A fact speaks of a side and its peer. It holds at the start, and a step of either side keeps it (`Keeps`), by facts that were proved
 -- before. `run-held` carries it through every schedule. Nothing here or there knows what an end does but its effect.
-use Rattle.std.proofs.Common.{◌≡◌, refl, ap, sym, ◌∙◌, subst, ◌-◌, ◌^◌, ◌<◌, ℕ, List, [], ◌∷◌, ◌++◌, Option, Some, None, true, false, Bool, if◌then◌else◌, Ok, Err, slice_get, length, length-append, ◌≤◌, arith}
+use Rattle.std.proofs.Common.{◌≡◌, refl, ap, sym, ◌∙◌, subst, ◌-◌, ◌^◌, ◌<◌, ℕ, List, [], ◌∷◌, ◌++◌, Option, Some, None, true, false, Bool, if◌then◌else◌, Result, Ok, Err, slice_get, length, length-append, ◌≤◌, arith}
 use Rattle.dccp_endpoint.specs.Causes.{EveryStepHasOneEffect, IsCaused}
 use Rattle.dccp_endpoint.specs.Effects.{Effect, Sending, Silent, Next, WithoutConnection, end_after, frame_by}
 use Rattle.dccp_endpoint.specs.End.{EndState, IsProper, floor_of}
@@ -13,10 +13,11 @@ use Rattle.two_ends.specs.declared.event.Event.{Event}
 use Rattle.two_ends.specs.declared.event.Event.TheVariants as event
 use Rattle.two_ends.specs.declared.event.Side.{Side}
 use Rattle.two_ends.specs.declared.event.Side.TheVariants.{Client, Server}
+use Rattle.two_ends.specs.declared.event.WorldFault.{WorldFault}
 use Rattle.two_ends.specs.declared.event.WorldFault.TheVariants as fault
 use Rattle.two_ends.specs.declared.frames.SentFrame.{SentFrame}
 use Rattle.dccp_endpoint.specs.Drafts.{Fits}
-use Rattle.two_ends.specs.World.{Half, WorldState, Happening, Calls, Delivers, happening_of, as_sent, moved, half_of, half_at_start, half_steps, other, with_half, happens, arrives, takes_place, unless_full, is_full, world_after, run, at_start}
+use Rattle.two_ends.specs.World.{Half, WorldState, WorldStep, Happening, Calls, Delivers, Said, Occurrence, happening_of, as_sent, acting_side, actor, half_with, moved, newly_processed, half_of, half_at_start, half_steps, other, with_half, happens, arrives, takes_place, unless_full, is_full, world_after, run, at_start}
 use Rattle.two_ends.proofs.Logged.{Logged}
 use Rattle.two_ends.proofs.ReadBack.{IsFromPeer}
 
@@ -37,15 +38,19 @@ logged_by processed floor Silent = []
 logged_by processed floor (Next draft) = record { draft = draft; processed = processed; floor = floor } ∷ []
 logged_by processed floor (WithoutConnection number kind) = []
 
+-- all that a side has processed after a step
+abbrev pub processed_by : Half → Input → Effect → List ℕ
+processed_by half given f = half.processed ++ newly_processed half.end given (end_after half.end f)
+
 -- what a step keeps of its frame, and what it adds to the log
-abbrev pub sent_by : Half → Effect → List SentFrame
-sent_by half f = as_sent (length half.processed) (floor_of (end_after half.end f)) (frame_by half.end f.sending)
+abbrev pub sent_by : Half → Input → Effect → List SentFrame
+sent_by half given f = as_sent (length (processed_by half given f)) (floor_of (end_after half.end f)) (frame_by half.end f.sending)
 
-abbrev pub drafted_by : Half → Effect → List Logged
-drafted_by half f = logged_by (length half.processed) (floor_of (end_after half.end f)) f.sending
+abbrev pub drafted_by : Half → Input → Effect → List Logged
+drafted_by half given f = logged_by (length (processed_by half given f)) (floor_of (end_after half.end f)) f.sending
 
-abbrev pub half_after : Half → Effect → Half
-half_after half f = record half { end = end_after half.end f; frames = half.frames ++ sent_by half f }
+abbrev pub half_after : Half → Input → Effect → Half
+half_after half given f = half_with half.frames (end_after half.end f) (processed_by half given f) (frame_by half.end f.sending)
 
 abbrev pub at_beginning : Config → Party
 at_beginning config = record { half = half_at_start config; log = [] }
@@ -61,10 +66,10 @@ pub record Act : Type 0 where
   pub because : IsCaused side.half.end given effect
 
 abbrev pub acted : Act → Party
-acted act = record { half = half_after act.side.half act.effect; log = act.side.log ++ drafted_by act.side.half act.effect }
+acted act = record { half = half_after act.side.half act.given act.effect; log = act.side.log ++ drafted_by act.side.half act.given act.effect }
 
 pub longer : (act : Act) → length act.side.log ≤ length (acted act).log
-longer act = omega (arith, length-append act.side.log (drafted_by act.side.half act.effect))
+longer act = omega (arith, length-append act.side.log (drafted_by act.side.half act.given act.effect))
 
 -- a fact of a side and its peer, and of the peer and the side
 abbrev pub Both : (Party → Party → Type 0) → Party → Party → Type 0
@@ -105,9 +110,11 @@ held-with : (This : Party → Party → Type 0) (w : WorldState) (logs : Side �
 held-with This w logs Client x both = record { logs = with_log logs Client x.log; holds = both }
 held-with This w logs Server x both = record { logs = with_log logs Server x.log; holds = (both.1, both.0) }
 
-moved-after : {Answer : Type 0} (half : Half) (step : Step Answer) (f : Effect) → step.after ≡ end_after half.end f → step.frame ≡ frame_by half.end f.sending
-    → moved half step ≡ half_after half f
-moved-after half step f after frame = rw (after, frame)
+moved-after : {Answer : Type 0} (half : Half) (given : Input) (step : Step Answer) (f : Effect) → step.after ≡ end_after half.end f
+    → step.frame ≡ frame_by half.end f.sending → moved half given step ≡ half_after half given f
+moved-after half given step f after frame =
+    ap (λ (e : EndState). half_with half.frames e (half.processed ++ newly_processed half.end given e) step.frame) after
+    ∙ ap (half_with half.frames (end_after half.end f) (processed_by half given f)) frame
 
 not-full : (half : Half) → is_full half ≡ false → length half.frames < 2 ^ 47 - 1
 not-full half room = grind arith
@@ -117,9 +124,9 @@ abbrev IsCall : Happening → Type 0
 IsCall (Calls side (Arrives bytes)) = ⊥
 IsCall _ = Unit {0}
 
-is-call : (e : Event) → IsCall (happening_of e)
-is-call (event.Deliver from index) = tt
-is-call _ = tt
+is-call : (e : Event) (said : Said) → IsCall (happening_of e said)
+is-call (event.Deliver from index) said = tt
+is-call _ said = tt
 
 call-given : (side : Side) (given : Input) (frames : List SentFrame) → IsCall (Calls side given) → IsFromPeer frames given
 call-given side (Arrives bytes) frames is = absurd is
@@ -130,6 +137,46 @@ frame-given : (w : WorldState) (from : Side) (index : ℕ) (frame : SentFrame) �
 frame-given w Client index frame there = record { index = index; frame = frame; is_there = there; same = refl }
 frame-given w Server index frame there = record { index = index; frame = frame; is_there = there; same = refl }
 
+-- What an event comes to: nothing, or a step of the side that acts, at which nothing arrives but a frame of the other side.
+pub data Takes (w : WorldState) (side : Side) : Result WorldStep WorldFault → Type 0 where
+  Refused : (why : WorldFault) → Takes w side (Err why)
+  Steps : (given : Input) → is_full (half_of w side) ≡ false → IsFromPeer (half_of w (other side)).frames given
+      → Takes w side (Ok (record {
+        world = with_half w side (half_steps (half_of w side) given).half;
+        calls = (half_steps (half_of w side) given).calls;
+        seen = (half_steps (half_of w side) given).seen;
+      }))
+
+full-taken : (w : WorldState) (side : Side) (given : Input) → IsFromPeer (half_of w (other side)).frames given
+    → Takes w side (unless_full w side (half_steps (half_of w side) given))
+full-taken w side given from = by (is_full (half_of w side)) refl where
+  by : (full : Bool) → is_full (half_of w side) ≡ full
+      → Takes w side (if full then Err fault.Full
+      else Ok (record {
+        world = with_half w side (half_steps (half_of w side) given).half;
+        calls = (half_steps (half_of w side) given).calls;
+        seen = (half_steps (half_of w side) given).seen;
+      }))
+  by true room = Refused fault.Full
+  by false room = Steps given room from
+
+arrives-taken : (w : WorldState) (from : Side) (index : ℕ) (frame : Option SentFrame) → slice_get (half_of w from).frames index ≡ frame
+    → Takes w (other from) (arrives w from frame)
+arrives-taken w from index None there = Refused fault.NoSuchFrame
+arrives-taken w from index (Some frame) there = full-taken w (other from) (Arrives frame.bytes) (frame-given w from index frame there)
+
+taken : (w : WorldState) (what : Happening) → IsCall what → Takes w (acting_side what) (takes_place w what)
+taken w (Calls side given) is = full-taken w side given (call-given side given (half_of w (other side)).frames is)
+taken w (Delivers from index) is = arrives-taken w from index (slice_get (half_of w from).frames index) refl
+
+acting-actor : (e : Event) (said : Said) → acting_side (happening_of e said) ≡ actor e
+acting-actor (event.Deliver from index) said = refl
+acting-actor _ said = refl
+
+pub event-taken : (w : WorldState) (e : Event) (said : Said) → Takes w (actor e) (happens w e said)
+event-taken w e said =
+    subst (λ (side : Side). Takes w side (happens w e said)) (acting-actor e said) (taken w (happening_of e said) (is-call e said))
+
 -- A side's new state has the old configuration, and the other side is as it was.
 config-with : (w : WorldState) (side : Side) (half : Half) → half.end.config ≡ (half_of w side).end.config
     → (each : Side) → (half_of (with_half w side half) each).end.config ≡ (half_of w each).end.config
@@ -139,9 +186,9 @@ config-with w Server half same Client = refl
 config-with w Server half same Server = same
 
 -- A fact is held in a world that has the configurations of another.
-record IsKept (This : Party → Party → Type 0) (old new : WorldState) : Type 0 where
-  held : IsHeld This new
-  configs : (side : Side) → (half_of new side).end.config ≡ (half_of old side).end.config
+pub record IsKept (This : Party → Party → Type 0) (old new : WorldState) : Type 0 where
+  pub held : IsHeld This new
+  pub configs : (side : Side) → (half_of new side).end.config ≡ (half_of old side).end.config
 
 module _ (This : Party → Party → Type 0) (keeps : Keeps NoFact This) (proper : (x y : Party) → This x y → IsProper x.half.end) (effects : EveryStepHasOneEffect) where
   side-held : (w : WorldState) (side : Side) (given : Input) → is_full (half_of w side) ≡ false → IsFromPeer (half_of w (other side)).frames given
@@ -156,47 +203,35 @@ module _ (This : Party → Party → Type 0) (keeps : Keeps NoFact This) (proper
       record { side = x; peer = y; given = given; effect = has.effect; room = not-full x.half room; from_peer = from; because = has.because } in
       record {
         held =
-            subst (λ (half : Half). IsHeld This (with_half w side half)) (sym (moved-after x.half (stepped x.half.end given) has.effect has.after_is has.frame_is))
+            subst (λ (half : Half). IsHeld This (with_half w side half)) (sym (moved-after x.half given (stepped x.half.end given) has.effect has.after_is has.frame_is))
             (held-with This w h.logs side (acted act) (keeps.acts act (tt, tt) now));
         configs = config-with w side (half_steps (half_of w side) given).half (ap (λ (e : EndState). e.config) has.after_is);
       }
 
-  full-held : (w : WorldState) (side : Side) (given : Input) → IsFromPeer (half_of w (other side)).frames given → IsHeld This w
-      → IsKept This w (world_after w (unless_full w side (half_steps (half_of w side) given)))
-  full-held w side given from h = by (is_full (half_of w side)) refl where
-    by : (full : Bool) → is_full (half_of w side) ≡ full
-        → IsKept This w (world_after w (if full then Err fault.Full
-        else Ok (record { world = with_half w side (half_steps (half_of w side) given).half; seen = (half_steps (half_of w side) given).seen })))
-    by true room = record { held = h; configs = λ each. refl }
-    by false room = side-held w side given room from h
+  pub taken-held : (w : WorldState) (side : Side) (r : Result WorldStep WorldFault) → Takes w side r → IsHeld This w
+      → IsKept This w (world_after w r)
+  taken-held w side _ (Refused why) h = record { held = h; configs = λ each. refl }
+  taken-held w side _ (Steps given room from) h = side-held w side given room from h
 
-  arrives-held : (w : WorldState) (from : Side) (index : ℕ) (frame : Option SentFrame) → slice_get (half_of w from).frames index ≡ frame → IsHeld This w
-      → IsKept This w (world_after w (arrives w from frame))
-  arrives-held w from index None there h = record { held = h; configs = λ each. refl }
-  arrives-held w from index (Some frame) there h = full-held w (other from) (Arrives frame.bytes) (frame-given w from index frame there) h
-
-  takes-held : (w : WorldState) (what : Happening) → IsCall what → IsHeld This w → IsKept This w (world_after w (takes_place w what))
-  takes-held w (Calls side given) is h = full-held w side given (call-given side given (half_of w (other side)).frames is) h
-  takes-held w (Delivers from index) is h = arrives-held w from index (slice_get (half_of w from).frames index) refl h
-
-  held-from : (w : WorldState) (events : List Event) → IsHeld This w → IsKept This w (run w events)
+  held-from : (w : WorldState) (events : List Occurrence) → IsHeld This w → IsKept This w (run w events)
   held-from w [] h = record { held = h; configs = λ each. refl }
-  held-from w (e ∷ events) h =
-      let one = takes-held w (happening_of e) (is-call e) h in
-      let rest = held-from (world_after w (happens w e)) events one.held in
+  held-from w (now ∷ later) h =
+      let next : WorldState = world_after w (happens w now.event now.said) in
+      let one = taken-held w (actor now.event) (happens w now.event now.said) (event-taken w now.event now.said) h in
+      let rest = held-from next later one.held in
       record { held = rest.held; configs = λ each. rest.configs each ∙ one.configs each }
 
-  kept-from : (client server : Config) (events : List Event) → Fits client → Fits server
+  kept-from : (client server : Config) (events : List Occurrence) → Fits client → Fits server
       → IsKept This (at_start client server) (run (at_start client server) events)
   kept-from client server events client_fits server_fits =
       let holds : Both This (at_beginning client) (at_beginning server) = (keeps.starts client server client_fits server_fits, keeps.starts server client server_fits client_fits) in
       held-from (at_start client server) events (record { logs = λ s. []; holds = holds })
 
   -- What the start has and each step keeps, holds after every schedule.
-  pub run-held : (client server : Config) (events : List Event) → Fits client → Fits server → IsHeld This (run (at_start client server) events)
+  pub run-held : (client server : Config) (events : List Occurrence) → Fits client → Fits server → IsHeld This (run (at_start client server) events)
   run-held client server events client_fits server_fits = (kept-from client server events client_fits server_fits).held
 
   -- The ends keep their configurations.
-  pub run-configs : (client server : Config) (events : List Event) → Fits client → Fits server → (side : Side)
+  pub run-configs : (client server : Config) (events : List Occurrence) → Fits client → Fits server → (side : Side)
       → (half_of (run (at_start client server) events) side).end.config ≡ (half_of (at_start client server) side).end.config
   run-configs client server events client_fits server_fits = (kept-from client server events client_fits server_fits).configs

@@ -11,6 +11,7 @@ use Rattle.dccp_options.specs.declared.option.OptFault.{OptFault}
 use Rattle.dccp_packets.specs.declared.reset_code.ResetCode.TheVariants as codes
 use Rattle.dccp_endpoint.proofs.Keys.{due-few, unconfirmed-few}
 use Rattle.dccp_endpoint.specs.Heeding.{Due, Heeding, by_answered, by_settling, counted, fault_of, heeds, heeds_body, heeds_change, heeds_entry, heeds_feature, heeds_first, heeds_then, is_change, is_left, is_of_negotiation, met, misunderstood, place_in_used}
+use Rattle.dccp_endpoint.specs.Reporting.{vector_items}
 use Rattle.dccp_endpoint.specs.Speaking.{asking, change_item, change_items, change_type, confirm_item, confirm_items, confirm_type}
 use Rattle.dccp_endpoint.specs.Turns.{Key}
 use Rattle.dccp_endpoint.specs.declared.outcome.Fault.{Fault}
@@ -21,6 +22,7 @@ use Rattle.feature_machine.specs.Negotiating.{IsNegotiation, changes, confirmed,
 use Rattle.feature_machine.specs.declared.answers.Settling.{Settling}
 use Rattle.feature_machine.specs.declared.answers.Settling.TheVariants as settling
 use Rattle.feature_machine.specs.declared.row.Row.{Row}
+use Rattle.run_list.specs.MarkedSet.{MarkedSet}
 
 abbrev pub one_for : Bool → ℕ
 one_for true = 1
@@ -130,7 +132,16 @@ written-changes [] rows (k ∷ keys) =
 written-changes (due ∷ confirms) rows keys =
     omega (arith, ap one_for (confirm-no-change due.left), written-changes confirms rows keys)
 
--- all that is written is of the negotiation
+-- an Ack Vector in front is none, and one option more
+pub vector-changes : (has_vector : Bool) (set : MarkedSet) (ack : ℕ) (rest : List Item) → changes_in (vector_items has_vector set ack ++ rest) ≡ changes_in rest
+vector-changes true set ack rest = omega arith
+vector-changes false set ack rest = refl
+
+pub vector-length : (has_vector : Bool) (set : MarkedSet) (ack : ℕ) (rest : List Item) → length (vector_items has_vector set ack ++ rest) ≤ 1 + length rest
+vector-length true set ack rest = omega arith
+vector-length false set ack rest = omega arith
+
+-- all else that is written is of the negotiation
 confirm-kind : (left : Bool) → is_of_negotiation (confirm_type left) ≡ true
 confirm-kind true = refl
 confirm-kind false = refl

@@ -52,7 +52,7 @@ not-opened : (old opens : Bool) → opened_by old opens ≡ false → (old ≡ f
 not-opened old true is = cc is
 not-opened old false is = (is, refl)
 
-newest-is : (e : EndState) (given : Input) (a : Incoming) → Came e given a → a.newest ≡ is_newest e a.number
+pub newest-is : (e : EndState) (given : Input) (a : Incoming) → Came e given a → a.newest ≡ is_newest e a.number
 newest-is e given a came =
     let number : a.number ≡ came.number = ap (λ (x : Incoming). x.number) came.same in
     ap (λ (x : Incoming). x.newest) came.same ∙ ap (is_newest e) (sym number)
@@ -80,7 +80,7 @@ module _ (act : Act) (peer : IsOrdered act.peer) (greatest : ℕ) (h : IsHeardTo
   iss = (config_of act.peer).iss
 
   -- a call opens a client that was not opened
-  opened-none : f.opens ≡ true → (act.given ≡ Opens) × (greatest ≡ 0)
+  pub opened-none : f.opens ≡ true → (act.given ≡ Opens) × (greatest ≡ 0)
   opened-none is = by f.opens act.because.opened is where
     by : (opens : Bool) → IsOpened e act.given opens → opens ≡ true → (act.given ≡ Opens) × (greatest ≡ 0)
     by _ NotNow now = cc now
@@ -104,7 +104,7 @@ module _ (act : Act) (peer : IsOrdered act.peer) (greatest : ℕ) (h : IsHeardTo
       cc (live, dead)
 
   -- a packet was heard, and the count is `later` then
-  heard-on : (a : Incoming) (first : Bool) (how : Passing) (later : ℕ) → Heard first a.number how ≡ f.hearing → Came e act.given a
+  pub heard-on : (a : Incoming) (first : Bool) (how : Passing) (later : ℕ) → Heard first a.number how ≡ f.hearing → Came e act.given a
       → (entrance_of e a ≡ entrance.Accept) ⊎ (entrance_of e a ≡ entrance.InRequest) ⊎ (entrance_of e a ≡ entrance.Check)
       → later ≤ length act.peer.log → 1 ≤ later → greatest_or first a.number e.marks.gsr ≡ number_of iss later
       → IsHeardTo iss (length act.peer.log) later (end_after e f)
@@ -123,7 +123,7 @@ module _ (act : Act) (peer : IsOrdered act.peer) (greatest : ℕ) (h : IsHeardTo
         tied = λ one. ap (greatest_by e.marks.gsr) (sym is) ∙ tied;
       }
 
-  unheard-on : f.hearing ≡ Unheard → (is_live f.phase ≡ true → is_live e.phase ≡ true) → IsHeardTo iss (length act.peer.log) greatest (end_after e f)
+  pub unheard-on : f.hearing ≡ Unheard → (is_live f.phase ≡ true → is_live e.phase ≡ true) → IsHeardTo iss (length act.peer.log) greatest (end_after e f)
   unheard-on is live =
       record {
         within = h.within;

@@ -1,36 +1,41 @@
--- What every schedule keeps, and that the world is safe.
-use Rattle.std.proofs.Common.{◌≡◌, ap, sym, ◌∙◌, subst, ℕ, ◌+◌, ◌-◌, ◌^◌, ◌≤◌, List, [], Some, None, slice_get, length, arith}
+-- What every schedule keeps, and what makes the world safe.
+use Rattle.std.proofs.Common.{◌≡◌, ap, sym, ◌∙◌, subst, ℕ, ◌+◌, ◌-◌, ◌^◌, ◌<◌, ◌≤◌, true, List, Result, Some, slice_get, length, arith}
+use Rattle.std.specs.List.{Contains}
 use Rattle.seq_circle.specs.Circle.{residue}
-use Rattle.dccp_options.specs.Vectors.{joined_report, report_of}
 use Rattle.dccp_states.specs.declared.phase.Role.TheVariants as role
+use Rattle.congestion_trait.specs.Control.{Control}
+use Rattle.dccp_options.specs.Vectors.{is_received, state_at}
 use Rattle.dccp_endpoint.specs.Causes.{EveryStepHasOneEffect}
 use Rattle.dccp_endpoint.specs.Drafts.{Fits}
+use Rattle.dccp_endpoint.specs.End.{IsProper}
 use Rattle.dccp_endpoint.specs.declared.config.Config.{Config}
 use Rattle.feature_agreement.specs.Moves as moves
 use Rattle.feature_agreement.specs.Rows.{location_of, opposite, pair_of}
 use Rattle.feature_machine.specs.declared.stands.Role2.TheVariants as end
-use Rattle.two_ends.specs.declared.event.Event.{Event}
 use Rattle.two_ends.specs.declared.event.Side.{Side}
 use Rattle.two_ends.specs.declared.event.Side.TheVariants.{Client, Server}
+use Rattle.two_ends.specs.declared.event.WorldFault.{WorldFault}
 use Rattle.two_ends.specs.declared.frames.SentFrame.{SentFrame}
-use Rattle.two_ends.specs.Frames.{options_in}
+use Rattle.two_ends.specs.Controlled.{Controlled}
 use Rattle.two_ends.specs.Numbered.{AreNumbered, Facts, Hears, IsNumberOf, IsNumbered}
 use Rattle.two_ends.specs.Pairs.{Pair, place_at}
-use Rattle.two_ends.specs.Reached.{Reached}
-use Rattle.two_ends.specs.Reported.{Once, Truthful}
+use Rattle.two_ends.specs.Negotiated.{Agree, Given}
+use Rattle.two_ends.specs.Reported.{CarriesVector, Heard, Once, Told, Truthful}
 use Rattle.two_ends.specs.Safe.{Safe}
-use Rattle.two_ends.specs.World.{WorldState, half_of, other, run, at_start}
+use Rattle.two_ends.specs.World.{WorldState, WorldStep, Occurrence, half_of, other, run, world_after, at_start}
 use Rattle.two_ends.proofs.Acknowledging.{KnowsAcknowledged, acknowledging}
-use Rattle.two_ends.proofs.Acting.{IsHeld, Keeps, NoFact, Party, config_of, end_of, held_by, party_of, run-configs, run-held}
+use Rattle.two_ends.proofs.Acting.{IsHeld, Keeps, NoFact, Party, Takes, config_of, end_of, held_by, party_of, run-configs, run-held, taken-held}
 use Rattle.two_ends.proofs.Agreeing.{AreReached, IsSpoken, agree, end_at, given, key_of}
 use Rattle.two_ends.proofs.Hearing.{IsHearingPeer, hearing}
 use Rattle.two_ends.proofs.KeyHearing.{IsWell}
 use Rattle.two_ends.proofs.Logged.{at-place}
+use Rattle.two_ends.proofs.Marking.{IsMarking, marking}
 use Rattle.two_ends.proofs.Negotiating.{IsNegotiated, negotiating}
 use Rattle.two_ends.proofs.Numbering.{IsOrdered, few-logged, more-sent, numbering}
 use Rattle.two_ends.proofs.ReadBack.{logged-numbered}
 use Rattle.two_ends.proofs.Resets.{resets-move-nothing}
-use Rattle.two_ends.proofs.Speaking.{IsSaidOnce, IsUnprocessed, frame-once, speaks-once, unprocessed}
+use Rattle.two_ends.proofs.Reporting.{once, received-processed, told, truthful, unacknowledged}
+use Rattle.two_ends.proofs.Speaking.{IsSaidOnce, frame-once, speaks-once}
 use Rattle.two_ends.proofs.Viewing.{view_of}
 
 -- A further fact is one file, a field here, and its line at the start and in a step.
@@ -38,7 +43,7 @@ pub record SideInvariant (x y : Party) : Type 0 where
   pub ordered : IsOrdered x
   pub hears : IsHearingPeer x y
   pub acknowledged : KnowsAcknowledged x
-  pub unprocessed : IsUnprocessed x
+  pub marks : IsMarking x y
   pub negotiated : IsNegotiated x y
 
 keeping : Keeps NoFact SideInvariant
@@ -50,7 +55,7 @@ keeping =
             ordered = numbering.starts x y x_fits y_fits;
             hears = hearing.starts x y x_fits y_fits;
             acknowledged = acknowledging.starts x y x_fits y_fits;
-            unprocessed = unprocessed.starts x y x_fits y_fits;
+            marks = marking.starts x y x_fits y_fits;
             negotiated = negotiating.starts x y x_fits y_fits;
           };
       acts =
@@ -58,10 +63,10 @@ keeping =
           let ordered = numbering.acts act (tt, tt) (here.ordered, there.ordered) in
           let hears = hearing.acts act (here.ordered, there.ordered) (here.hears, there.hears) in
           let acknowledged = acknowledging.acts act (here.ordered, there.ordered) (here.acknowledged, there.acknowledged) in
-          let none = unprocessed.acts act (tt, tt) (here.unprocessed, there.unprocessed) in
+          let marks = marking.acts act (here.ordered, there.ordered) (here.marks, there.marks) in
           let negotiated = negotiating.acts act (here.ordered, there.ordered) (here.negotiated, there.negotiated) in (
-            record { ordered = ordered.0; hears = hears.0; acknowledged = acknowledged.0; unprocessed = none.0; negotiated = negotiated.0 },
-            record { ordered = ordered.1; hears = hears.1; acknowledged = acknowledged.1; unprocessed = none.1; negotiated = negotiated.1 },
+            record { ordered = ordered.0; hears = hears.0; acknowledged = acknowledged.0; marks = marks.0; negotiated = negotiated.0 },
+            record { ordered = ordered.1; hears = hears.1; acknowledged = acknowledged.1; marks = marks.1; negotiated = negotiated.1 },
           );
     }
 
@@ -81,21 +86,6 @@ own-acknowledged : (x : Party) → IsOrdered x → KnowsAcknowledged x → 1 ≤
 own-acknowledged x o k some =
     subst (λ (n : ℕ). IsNumberOf n (length x.log) (end_of x).marks.gar) (sym o.first) (more-sent (config_of x).iss _ _ _ (omega (arith, some)) k.gar)
 
--- No number was processed.
-quiet-once : (w : WorldState) → ((side : Side) → (half_of w side).processed ≡ []) → Once w
-quiet-once w none side =
-    let empty : length (half_of w side).processed ≡ 0 = ap length (none side) in
-    record { distinct = λ i j here there same. absurd (omega arith); sent = λ i here. absurd (omega arith) }
-
--- No frame of the world has an Ack Vector.
-quiet-truthful : (w : WorldState)
-    → ((side : Side) (index : ℕ) (frame : SentFrame) → slice_get (half_of w side).frames index ≡ Some frame → IsSaidOnce frame.bytes)
-    → Truthful w
-quiet-truthful w said side index frame ack bytes there carries =
-    let none : report_of ack (options_in frame.bytes) ≡ None = ap (joined_report ack) (said side index frame there).no_vectors in
-    let some = carries.carries in
-    cc (none, some)
-
 -- The client's end is a client, and the server's a server.
 pub record HasRoles (w : WorldState) : Type 0 where
   pub is_client : (half_of w Client).end.config.role ≡ role.Client
@@ -105,6 +95,12 @@ pub record HasRoles (w : WorldState) : Type 0 where
 module _ (w : WorldState) (h : IsHeld SideInvariant w) where
   holds : (side : Side) → SideInvariant (party_of w h.logs side) (party_of w h.logs (other side))
   holds side = (held_by SideInvariant w h side).0
+
+  ordered-there : (side : Side) → IsOrdered (party_of w h.logs (other side))
+  ordered-there side = (holds (other side)).ordered
+
+  marks-of : (side : Side) → IsMarking (party_of w h.logs side) (party_of w h.logs (other side))
+  marks-of side = (holds side).marks
 
   said-once : (side : Side) (index : ℕ) (frame : SentFrame) → slice_get (half_of w side).frames index ≡ Some frame → IsSaidOnce frame.bytes
   said-once side index frame there = frame-once (party_of w h.logs side) _ index frame (holds side).ordered (holds side).negotiated.well there
@@ -116,7 +112,8 @@ module _ (w : WorldState) (h : IsHeld SideInvariant w) where
         heard = λ side. subst (λ (n : ℕ). Hears n (length (h.logs (other side))) (half_of w side).end) (sym (holds (other side)).ordered.first) (holds side).hears;
         unmoved = λ side. resets-move-nothing effects (half_of w side).end (holds side).ordered.proper;
         acknowledged = λ side. own-acknowledged (party_of w h.logs side) (holds side).ordered (holds side).acknowledged;
-        spoken = λ side index frame there. speaks-once side frame.bytes (said-once side index frame there);
+        spoken = λ side index frame there. speaks-once side frame.bytes (said-once side index frame there)
+            (unacknowledged w h.logs side (holds side).ordered (ordered-there side) (marks-of side) index frame there);
       }
 
   spoken : (side : Side) → IsSpoken (party_of w h.logs side) (config_of (party_of w h.logs (other side))).iss
@@ -152,23 +149,56 @@ module _ (w : WorldState) (h : IsHeld SideInvariant w) where
       by Client reached = reached
       by Server reached = reached
 
-  pub kept-safe : HasRoles w → Safe w
-  kept-safe roles =
+  pub kept-proper : (side : Side) → IsProper (half_of w side).end
+  kept-proper side = (holds side).ordered.proper
+
+  -- What a side's Ack Vector tells received, it had processed.
+  pub kept-received : (side : Side) (index : ℕ) (frame : SentFrame) (ack : ℕ) (bytes : List ℕ) (n : ℕ) → slice_get (half_of w side).frames index ≡ Some frame
+      → CarriesVector frame ack bytes → n < 2 ^ 48 → is_received (state_at ack bytes n) ≡ true → Contains (half_of w side).processed n
+  kept-received side = received-processed w h.logs side (holds side).ordered (ordered-there side) (marks-of side)
+
+  -- The parts that say nothing of congestion control.
+  record AreKept : Type 0 where
+    agree : Agree w
+    given : Given w
+    truthful : Truthful w
+    told : Told w
+    once : Once w
+
+  kept-parts : HasRoles w → AreKept
+  kept-parts roles =
       record {
         agree = agree w h.logs spoken (reached-pair roles);
         given = given w h.logs spoken (reached-pair roles);
-        truthful = quiet-truthful w said-once;
-        told = λ side n fits below. absurd (omega arith);
-        once = quiet-once w (λ side. (holds side).unprocessed);
-        heard = λ side n reported. absurd (omega (arith, reported.1));
+        truthful = λ side. truthful w h.logs side (holds side).ordered (ordered-there side) (marks-of side);
+        told = λ side. told w h.logs side (holds side).ordered (ordered-there side) (marks-of side);
+        once = λ side. once w h.logs side (holds side).ordered (ordered-there side) (marks-of side);
       }
 
+-- With what the ends believe received, the world is safe.
+pub kept-safe : {C : Type 0} (control : Control C) (w : Controlled C) → IsHeld SideInvariant w.world → HasRoles w.world → Heard control w → Safe control w
+kept-safe control w h roles heard =
+    let parts = kept-parts w.world h roles in
+    record {
+      agree = parts.agree;
+      given = parts.given;
+      truthful = parts.truthful;
+      told = parts.told;
+      once = parts.once;
+      heard = heard;
+    }
+
 module _ (effects : EveryStepHasOneEffect) where
-  pub run-kept : (client server : Config) (events : List Event) → Fits client → Fits server → IsHeld SideInvariant (run (at_start client server) events)
+  pub run-kept : (client server : Config) (events : List Occurrence) → Fits client → Fits server → IsHeld SideInvariant (run (at_start client server) events)
   run-kept client server events client_fits server_fits =
       run-held SideInvariant keeping (λ x y k. k.ordered.proper) effects client server events client_fits server_fits
 
-  pub run-roles : (client server : Config) (events : List Event) → client.role ≡ role.Client → server.role ≡ role.Server → Fits client → Fits server
+  -- one step
+  pub step-kept : (w : WorldState) (side : Side) (r : Result WorldStep WorldFault) → Takes w side r → IsHeld SideInvariant w
+      → IsHeld SideInvariant (world_after w r)
+  step-kept w side r takes h = (taken-held SideInvariant keeping (λ x y k. k.ordered.proper) effects w side r takes h).held
+
+  pub run-roles : (client server : Config) (events : List Occurrence) → client.role ≡ role.Client → server.role ≡ role.Server → Fits client → Fits server
       → HasRoles (run (at_start client server) events)
   run-roles client server events is_client is_server client_fits server_fits =
       let same = run-configs SideInvariant keeping (λ x y k. k.ordered.proper) effects client server events client_fits server_fits in
@@ -176,11 +206,3 @@ module _ (effects : EveryStepHasOneEffect) where
         is_client = ap (λ (config : Config). config.role) (same Client) ∙ is_client;
         is_server = ap (λ (config : Config). config.role) (same Server) ∙ is_server;
       }
-
-  pub reached-kept : (w : WorldState) → Reached w → IsHeld SideInvariant w
-  reached-kept w r = subst (IsHeld SideInvariant) (sym r.same) (run-kept r.client r.server r.events r.client_fits r.server_fits)
-
-  pub reached-safe : (w : WorldState) → Reached w → Safe w
-  reached-safe w r =
-      kept-safe w (reached-kept w r)
-      (subst HasRoles (sym r.same) (run-roles r.client r.server r.events r.is_client r.is_server r.client_fits r.server_fits))

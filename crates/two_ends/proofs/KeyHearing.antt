@@ -35,7 +35,7 @@ use Rattle.feature_machine.specs.Rows.{RowEvent, Change, Confirm, Prefers, Offer
 use Rattle.feature_machine.specs.Turns.{Turn, events_of}
 use Rattle.feature_machine.specs.declared.row.Row.{Row}
 use Rattle.two_ends.proofs.Acting.{Act, config_of, end_of}
-use Rattle.two_ends.proofs.FewOptions.{IsNegotiating, changes-as-read, changes_in, changes_read}
+use Rattle.two_ends.proofs.FewOptions.{changes-as-read, changes_in, changes_read}
 use Rattle.two_ends.proofs.HeardTo.{HeardSo, NothingNew, Old, Newest}
 use Rattle.two_ends.proofs.Logged.{Logged, at-place}
 use Rattle.two_ends.proofs.Moving.{Hears, HearsNothing, HearsNewest}
@@ -138,14 +138,13 @@ opposite-twice There = refl
 abbrev pub across : Key → Key
 across k = (k.0, opposite k.1)
 
--- A packet says of each row of its sender nothing, a valid Change or a whole Confirm, and this once. It has few options, all of the
--- negotiation; its numbers have the long form.
+-- A packet says of each row of its sender nothing, a valid Change or a whole Confirm, and this once. It has few options;
+-- its numbers have the long form.
 pub record IsWell (peer_iss : ℕ) (l : Logged) : Type 0 where
   pub each : (k : Key) → IsWellSaid peer_iss k (said_by k l)
   pub once : (k : Key) → times_said_to (across k) (map Ok (entries_at 0 l.draft.options)) ≤ 1
-  pub kinds : All IsNegotiating l.draft.options
   pub changes : changes_in l.draft.options ≤ 18
-  pub few : length l.draft.options ≤ 36
+  pub few : length l.draft.options ≤ 37
   pub long : has_forms true l.draft.kind ≡ true
 
 carried-next : (frames : List Carried) (place : ℕ) → carried_at frames (place + 1) ≡ slice_index_or frames place Nothing

@@ -1,19 +1,22 @@
 -- What goes out in a step says of each row what is due: the Confirm of what it heard, or its Change, or nothing.
-use Rattle.std.proofs.Common.{◌≡◌, ◌≢◌, ◌⊎◌, inl, inr, refl, ap, sym, ◌∙◌, subst, ℕ, ◌+◌, ◌<◌, ◌≤◌, not, Bool, true, false, List, [], ◌∷◌, ◌++◌, Option, Some, None, Ok, length, map, arith}
+use Rattle.std.proofs.Common.{◌≡◌, ◌≢◌, ◌⊎◌, inl, inr, refl, ap, sym, ◌∙◌, subst, ℕ, ◌+◌, ◌<◌, ◌≤◌, ◌&&◌, not, Bool, true, false, List, [], ◌∷◌, ◌++◌, Option, Some, None, Ok, length, map, arith}
 use Rattle.std.proofs.lemmas.List.Elements.{All-append, All-cons, All-nil}
 use Rattle.std.specs.List.{All}
 use Rattle.std.proofs.lemmas.Option.{slice_get_within}
 use Rattle.dccp_options.specs.Written.{Item, entries_at}
+use Rattle.dccp_packets.specs.Grammar.{packet_type}
 use Rattle.dccp_packets.specs.Kinds.{ack_of}
+use Rattle.dccp_packets.specs.declared.header.Kind.{Kind}
 use Rattle.dccp_endpoint.proofs.Keys.{apart-so, due-few}
 use Rattle.dccp_endpoint.proofs.OneConfirm.{confirms_are_single}
 use Rattle.dccp_endpoint.proofs.OwnPackets.{own_packets_say, own_packets_speak}
-use Rattle.dccp_endpoint.specs.Causes.{Answers, AreHeard, Deaf, Heeds, HasFrame, Occasion, Plain, Offering, Repeating, PrefersNow as OccasionNow, PrefersLater as OccasionLater, Says, SaysNothing, SaysAll, SaysApart, counts_in}
+use Rattle.dccp_endpoint.specs.Causes.{Answers, AreHeard, Deaf, Heeds, HasFrame, Occasion, Plain, Offering, Repeating, PrefersNow as OccasionNow, PrefersLater as OccasionLater, Says, SaysNothing, SaysAll, SaysApart, counts_in, vector_of}
 use Rattle.dccp_endpoint.specs.Drafts.{Draft}
-use Rattle.dccp_endpoint.specs.Effects.{Effect, Hearing, Heard, Taken, Sending, end_after, rows_by}
+use Rattle.dccp_endpoint.specs.Effects.{Effect, Hearing, Heard, Taken, Sending, end_after, greatest_by, rows_by, told_by}
 use Rattle.dccp_endpoint.specs.End.{EndState, IsProper, floor_of}
 use Rattle.dccp_endpoint.specs.Heeding.{Due, unheeded}
 use Rattle.dccp_endpoint.specs.Incoming.{Incoming}
+use Rattle.dccp_endpoint.specs.Reporting.{is_acking, sends_vectors}
 use Rattle.dccp_endpoint.specs.Saying.{times_confirmed, times_said_to, confirm_for, has_key, said_of, said_to}
 use Rattle.dccp_endpoint.specs.Speaking.{change_items, confirm_items, wish_bytes}
 use Rattle.dccp_endpoint.specs.Steps.{next_number}
@@ -40,8 +43,9 @@ use Rattle.feature_machine.specs.declared.offers.Offer.{Offer}
 use Rattle.feature_machine.specs.declared.row.Row.{Row}
 use Rattle.feature_machine.specs.declared.stands.Stand.{Stand}
 use Rattle.feature_machine.specs.declared.stands.Stand.TheVariants.{Stable}
-use Rattle.two_ends.proofs.Acting.{Act, acted, config_of, drafted_by, end_of, logged_by}
-use Rattle.two_ends.proofs.FewOptions.{IsNegotiating, asking-few, changes_in, heeded-few, written-changes, written-kinds, written-length}
+use Rattle.run_list.specs.MarkedSet.{MarkedSet}
+use Rattle.two_ends.proofs.Acting.{Act, acted, config_of, drafted_by, end_of, logged_by, processed_by}
+use Rattle.two_ends.proofs.FewOptions.{asking-few, changes_in, heeded-few, vector-changes, vector-length, written-changes, written-length}
 use Rattle.two_ends.proofs.HeardTo.{HeardSo, NothingNew, Old, Newest, is-number}
 use Rattle.two_ends.proofs.KeyHearing.{IsWell, KeyHears, across, came-one, few-changes, few-options, key-hears}
 use Rattle.two_ends.proofs.KeyStep.{RowsHeard, key-does, keys-distinct, offered-rows, step-events}
@@ -285,12 +289,28 @@ module _ (s : KnownStep) where
         let n = is-number peer_iss from.place a.number s.peer.fits.iss (omega (arith, inside, few-logged act.peer s.peer)) from.read.number in
         record { number = a.number; same = is; is_number = n.0; counts = n.1 ∙ sym same }
 
+  -- what a packet of this type is to carry
+  abbrev has-vector : Kind → Bool
+  has-vector kind = is_acking (packet_type kind) && sends_vectors (rows_by e.rows f)
+
+  abbrev told : MarkedSet
+  told = (told_by e.received f).set
+
+  abbrev acked : ℕ
+  acked = greatest_by e.marks.gsr f.hearing
+
+  abbrev negotiated : List Item
+  negotiated = confirm_items due ++ change_items (rows_by e.rows f) keys
+
+  abbrev written-by : Kind → List Item
+  written-by kind = vector_of e f kind ++ negotiated
+
   -- What goes out says of a row:
-  pub this-says : (k : Key) (packet : Draft) (processed floor : ℕ) → packet.options ≡ confirm_items due ++ change_items (rows_by e.rows f) keys
+  pub this-says : (k : Key) (packet : Draft) (processed floor : ℕ) → packet.options ≡ written-by packet.kind
       → said_by k (record { draft = packet; processed = processed; floor = floor }) ≡ said_of (confirm_for k due) (has_key k keys) (ack_of packet.kind) k (row-after k)
   this-says k packet processed floor is =
       ap (λ (items : List Item). said_to true (ack_of packet.kind) (k.0, opposite k.1) (map Ok (entries_at 0 items))) is
-      ∙ own_packets_say (ack_of packet.kind) due (rows_by e.rows f) keys k
+      ∙ own_packets_say (ack_of packet.kind) (has-vector packet.kind) told acked due (rows_by e.rows f) keys k
 
   well-said : (k : Key) (ack : Option ℕ) → (due ≡ []) ⊎ Answers f.hearing ack
       → IsWellSaid peer_iss k (said_of (confirm_for k due) (has_key k keys) ack k (row-after k))
@@ -334,9 +354,9 @@ module _ (s : KnownStep) where
         told (subst (λ (x : Incoming). IsFromLog peer_iss act.peer.log x) (came-one e act.given b a came was.came) from)
 
   -- What goes out speaks once of each row.
-  said-once : (k : Key) → times_said_to (across k) (map Ok (entries_at 0 (confirm_items due ++ change_items (rows_by e.rows f) keys))) ≤ 1
-  said-once k =
-      own_packets_speak due (rows_by e.rows f) keys k ((confirms-few heard due act.because.turns.hears).single k)
+  said-once : (kind : Kind) (k : Key) → times_said_to (across k) (map Ok (entries_at 0 (written-by kind))) ≤ 1
+  said-once kind k =
+      own_packets_speak (has-vector kind) told acked due (rows_by e.rows f) keys k ((confirms-few heard due act.because.turns.hears).single k)
       (keys-distinct e act.given rows heard due rows-heard act.because.turns.offered act.because.turns.preferred keys act.because.turns.occasion)
       (λ asks. apart-so due keys k act.because.turns.apart asks)
 
@@ -347,16 +367,18 @@ module _ (s : KnownStep) where
       let l : Logged = record { draft = packet; processed = processed; floor = floor } in
       let keyed = keys-few _ _ keys act.because.turns.occasion in
       let confirmed = confirms-few heard due act.because.turns.hears in
-      let changes : changes_in packet.options ≡ length keys = ap changes_in is ∙ written-changes due (rows_by e.rows f) keys in
-      let size : length packet.options ≡ length due + length keys = ap length is ∙ written-length due (rows_by e.rows f) keys in
+      let changes : changes_in packet.options ≡ length keys =
+      ap changes_in is ∙ vector-changes (has-vector packet.kind) told acked negotiated ∙ written-changes due (rows_by e.rows f) keys in
+      let size : length packet.options ≡ length (written-by packet.kind) = ap length is in
+      let one_more = vector-length (has-vector packet.kind) told acked negotiated in
+      let both : length negotiated ≡ length due + length keys = written-length due (rows_by e.rows f) keys in
       All-cons (IsWell peer_iss) l []
       (record {
         each =
             λ k. subst (IsWellSaid peer_iss k) (sym (this-says k packet processed floor is)) (well-said k (ack_of packet.kind) answers);
-        once = λ k. subst (λ (items : List Item). times_said_to (across k) (map Ok (entries_at 0 items)) ≤ 1) (sym is) (said-once k);
-        kinds = subst (All IsNegotiating) (sym is) (written-kinds due (rows_by e.rows f) keys);
+        once = λ k. subst (λ (items : List Item). times_said_to (across k) (map Ok (entries_at 0 items)) ≤ 1) (sym is) (said-once packet.kind k);
         changes = omega (arith, changes, keyed);
-        few = omega (arith, size, keyed, confirmed.few);
+        few = omega (arith, size, one_more, both, keyed, confirmed.few);
         long = framed.is_long;
       })
       (All-nil (IsWell peer_iss))
@@ -364,5 +386,5 @@ module _ (s : KnownStep) where
   -- So the log stays well.
   pub stays-well : All (IsWell peer_iss) act.side.log → All (IsWell peer_iss) (acted act).log
   stays-well before =
-      All-append (IsWell peer_iss) act.side.log (drafted_by act.side.half f) before
-      (sent-well f.sending (length act.side.half.processed) (floor_of (end_after e f)) act.because.says act.because.framed)
+      All-append (IsWell peer_iss) act.side.log (drafted_by act.side.half act.given f) before
+      (sent-well f.sending (length (processed_by act.side.half act.given act.effect)) (floor_of (end_after e f)) act.because.says act.because.framed)

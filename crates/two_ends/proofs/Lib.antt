@@ -1,3 +1,4 @@
+pub mod Processing
 pub mod Logged
 pub mod ReadBack
 pub mod Acting
@@ -18,6 +19,16 @@ pub mod KeySaying
 pub mod KeyMoving
 pub mod Negotiating
 pub mod Speaking
+pub mod Vectors
+pub mod Shown
+pub mod MarkHearing
+pub mod MarkSending
+pub mod Marking
+pub mod SentAt
+pub mod Processed
+pub mod Reporting
 pub mod Resets
 pub mod Keeping
 pub mod Reaching
+pub mod Calling
+pub mod Believing

@@ -6,7 +6,8 @@ use Rattle.dccp_packets.specs.declared.header.Kind.{Kind}
 use Rattle.dccp_packets.specs.declared.header.Kind.TheVariants as kind
 use Rattle.dccp_packets.specs.declared.header.PacketType.TheVariants as types
 use Rattle.dccp_states.specs.declared.phase.Role.{Role}
-use Rattle.dccp_endpoint.specs.Causes.{Came, HasFrame, IsSending, Rests, Acks, Others, Refuses, is_acking, is_without_connection}
+use Rattle.dccp_endpoint.specs.Causes.{Came, HasFrame, IsSending, Rests, Acks, Others, Refuses, is_without_connection}
+use Rattle.dccp_endpoint.specs.Reporting.{is_acking}
 use Rattle.dccp_endpoint.specs.Drafts.{Fits}
 use Rattle.dccp_endpoint.specs.Effects.{Effect, Sending, Silent, Next, WithoutConnection, end_after, frame_by, gss_by}
 use Rattle.dccp_endpoint.specs.End.{EndState, IsProper, floor_of}
@@ -16,7 +17,7 @@ use Rattle.dccp_endpoint.specs.Steps.{next_number}
 use Rattle.dccp_endpoint.proofs.Staying.{first-proper, proper-after}
 use Rattle.two_ends.specs.Numbered.{IsNumberOf}
 use Rattle.two_ends.specs.World.{as_sent}
-use Rattle.two_ends.proofs.Acting.{Act, Keeps, NoFact, Party, acted, config_of, drafted_by, end_of, logged_by, sent_by}
+use Rattle.two_ends.proofs.Acting.{Act, Keeps, NoFact, Party, acted, config_of, drafted_by, end_of, logged_by, processed_by, sent_by}
 use Rattle.two_ends.proofs.Logged.{AreLogged, NoFrames, Numbered, Unnumbered, logged-append, logged-few}
 use Rattle.two_ends.proofs.ReadBack.{IsFromLog, from-log}
 
@@ -71,7 +72,7 @@ sent-few processed floor (Some bytes) = omega arith
 acting : (act : Act) → IsOrdered act.side → IsOrdered (acted act)
 acting act o =
     let e : EndState = end_of act.side in
-    let processed : ℕ = length act.side.half.processed in
+    let processed : ℕ = length (processed_by act.side.half act.given act.effect) in
     let floor : ℕ = floor_of (end_after e act.effect) in
     let next : next_number e ≡ residue (e.config.iss + length act.side.log) = omega (arith, o.greatest) in
     record {
@@ -79,12 +80,12 @@ acting act o =
       fits = o.fits;
       first = o.first;
       logged =
-          logged-append e.config _ (sent_by act.side.half act.effect) (drafted_by act.side.half act.effect) refl o.logged
+          logged-append e.config _ (sent_by act.side.half act.given act.effect) (drafted_by act.side.half act.given act.effect) refl o.logged
           (sent-logged e act.given act.effect act.effect.sending processed floor _ next act.because.sends act.because.framed);
       greatest =
           sent-greatest e act.effect.sending processed floor (length act.side.log) o.greatest
-          ∙ ap (λ (n : ℕ). residue (e.config.iss + n + (2 ^ 48 - 1))) (sym (length-append act.side.log (drafted_by act.side.half act.effect)));
-      few = omega (arith, act.room, sent-few processed floor (frame_by e act.effect.sending), length-append act.side.half.frames (sent_by act.side.half act.effect));
+          ∙ ap (λ (n : ℕ). residue (e.config.iss + n + (2 ^ 48 - 1))) (sym (length-append act.side.log (drafted_by act.side.half act.given act.effect)));
+      few = omega (arith, act.room, sent-few processed floor (frame_by e act.effect.sending), length-append act.side.half.frames (sent_by act.side.half act.given act.effect));
     }
 
 pub numbering : Keeps NoFact (λ x y. IsOrdered x)

@@ -1,55 +1,88 @@
 -- One more event leads from a world that a schedule reached to another.
 use Rattle.std.proofs.Common.{◌≡◌, refl, ap, sym, ◌∙◌, subst, List, [], ◌∷◌, ◌++◌, Result, Ok, Err, IfOk, OnErr}
+use Rattle.congestion_trait.specs.Control.{Control}
 use Rattle.dccp_endpoint.specs.declared.config.Config.{Config}
 use Rattle.dccp_states.specs.declared.phase.Role.TheVariants.{Client, Server}
 use Rattle.two_ends.specs.declared.event.Event.{Event}
 use Rattle.two_ends.specs.declared.event.Seen.{Seen}
+use Rattle.two_ends.specs.declared.event.Side.{Side}
+use Rattle.two_ends.specs.declared.event.Side.TheVariants as side
 use Rattle.two_ends.specs.declared.event.WorldFault.{WorldFault}
 use Rattle.dccp_endpoint.specs.Drafts.{Fits}
-use Rattle.two_ends.specs.World.{WorldState, happens, world_after, run, at_start}
+use Rattle.two_ends.specs.Controlled.{Controlled, begins_with, congestion_of, controlled_after, controls, happens_to, plays, said_by}
+use Rattle.two_ends.specs.World.{Occurrence, WorldStep, actor, happens, world_after, run}
 use Rattle.two_ends.specs.Reached.{Reached}
 
-pub run-snoc : (w : WorldState) (events : List Event) (event : Event) → run w (events ++ event ∷ []) ≡ world_after (run w events) (happens (run w events) event)
-run-snoc w [] event = refl
-run-snoc w (e ∷ events) event = run-snoc (world_after w (happens w e)) events event
+module _ {C : Type 0} (control : Control C) where
+  -- What a step makes of a world is what it makes of its two ends alone, with what the congestion control says.
+  pub world-after : (w : Controlled C) (acting : Side) (r : Result WorldStep WorldFault)
+      → (controlled_after w (controls control w acting r)).world ≡ world_after w.world r
+  world-after w side.Client (Ok step) = refl
+  world-after w side.Server (Ok step) = refl
+  world-after w acting (Err fault) = refl
 
-pub start-reached : (client server : Config) → client.role ≡ Client → server.role ≡ Server → Fits client → Fits server
-    → (w : WorldState) → w ≡ at_start client server → Reached w
-start-reached client server is_client is_server client_fits server_fits w same =
-    record {
-      client = client;
-      server = server;
-      is_client = is_client;
-      is_server = is_server;
-      client_fits = client_fits;
-      server_fits = server_fits;
-      events = [];
-      same = same;
-    }
+  -- the events of a schedule with what the congestion controls say in it
+  abbrev pub occurring : Controlled C → List Event → List Occurrence
+  occurring w [] = []
+  occurring w (event ∷ events) =
+      record { event = event; said = said_by control (congestion_of w (actor event)) }
+      ∷ occurring (controlled_after w (happens_to control w event)) events
 
--- what `step` answers, and the world that it leaves
-abbrev pub Leaves : WorldState → Event → WorldState → Result Seen WorldFault → Type 0
-Leaves old event new (Ok seen) = happens old event ≡ Ok (record { world = new; seen = seen })
-Leaves old event new (Err fault) = new ≡ old
+  pub plays-run : (w : Controlled C) (events : List Event) → (plays control w events).world ≡ run w.world (occurring w events)
+  plays-run w [] = refl
+  plays-run w (event ∷ events) =
+      let next : Controlled C = controlled_after w (happens_to control w event) in
+      plays-run next events
+      ∙ ap (λ world. run world (occurring next events))
+      (world-after w (actor event) (happens w.world event (said_by control (congestion_of w (actor event)))))
 
-pub leaves : (old : WorldState) (event : Event) (new : WorldState) (result : Result Seen WorldFault)
-    → IfOk result (λ seen. happens old event ≡ Ok (record { world = new; seen = seen })) → OnErr result (new ≡ old) → Leaves old event new result
-leaves old event new (Ok seen) took same = took
-leaves old event new (Err fault) took same = same
+  plays-snoc : (w : Controlled C) (events : List Event) (event : Event)
+      → plays control w (events ++ event ∷ []) ≡ controlled_after (plays control w events) (happens_to control (plays control w events) event)
+  plays-snoc w [] event = refl
+  plays-snoc w (e ∷ events) event = plays-snoc (controlled_after w (happens_to control w e)) events event
 
-pub step-reached : (old : WorldState) (event : Event) (new : WorldState) (result : Result Seen WorldFault) → Leaves old event new result → Reached old → Reached new
-step-reached old event new (Err fault) same r = subst Reached (sym same) r
-step-reached old event new (Ok seen) took r =
-    record {
-      client = r.client;
-      server = r.server;
-      is_client = r.is_client;
-      is_server = r.is_server;
-      client_fits = r.client_fits;
-      server_fits = r.server_fits;
-      events = r.events ++ event ∷ [];
-      same =
-          sym (ap (world_after old) took)
-          ∙ ap (λ (w : WorldState). world_after w (happens w event)) r.same
-          ∙ sym (run-snoc (at_start r.client r.server) r.events event);
-    }
+  pub start-reached : (client server : Config) (for_client for_server : C) → client.role ≡ Client → server.role ≡ Server → Fits client → Fits server
+      → (w : Controlled C) → w ≡ begins_with control client server for_client for_server → Reached control w
+  start-reached client server for_client for_server is_client is_server client_fits server_fits w same =
+      record {
+        client = client;
+        server = server;
+        for_client = for_client;
+        for_server = for_server;
+        is_client = is_client;
+        is_server = is_server;
+        client_fits = client_fits;
+        server_fits = server_fits;
+        events = [];
+        same = same;
+      }
+
+  -- what `step` answers, and the world that it leaves
+  abbrev pub Leaves : Controlled C → Event → Controlled C → Result Seen WorldFault → Type 0
+  Leaves old event new (Ok seen) = happens_to control old event ≡ Ok (record { after = new; seen = seen })
+  Leaves old event new (Err fault) = new ≡ old
+
+  pub leaves : (old : Controlled C) (event : Event) (new : Controlled C) (result : Result Seen WorldFault)
+      → IfOk result (λ seen. happens_to control old event ≡ Ok (record { after = new; seen = seen })) → OnErr result (new ≡ old) → Leaves old event new result
+  leaves old event new (Ok seen) took same = took
+  leaves old event new (Err fault) took same = same
+
+  pub step-reached : (old : Controlled C) (event : Event) (new : Controlled C) (result : Result Seen WorldFault) → Leaves old event new result
+      → Reached control old → Reached control new
+  step-reached old event new (Err fault) same r = subst (Reached control) (sym same) r
+  step-reached old event new (Ok seen) took r =
+      record {
+        client = r.client;
+        server = r.server;
+        for_client = r.for_client;
+        for_server = r.for_server;
+        is_client = r.is_client;
+        is_server = r.is_server;
+        client_fits = r.client_fits;
+        server_fits = r.server_fits;
+        events = r.events ++ event ∷ [];
+        same =
+            sym (ap (controlled_after old) took)
+            ∙ ap (λ (w : Controlled C). controlled_after w (happens_to control w event)) r.same
+            ∙ sym (plays-snoc (begins_with control r.client r.server r.for_client r.for_server) r.events event);
+      }

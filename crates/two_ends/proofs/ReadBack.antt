@@ -21,8 +21,8 @@ use Rattle.dccp_endpoint.specs.Inputs.{Input, Arrives}
 use Rattle.dccp_endpoint.specs.declared.config.Config.{Config}
 use Rattle.dccp_endpoint.proofs.OwnFrames.{own_frames_read_in_widths, type-kept}
 use Rattle.two_ends.specs.declared.frames.SentFrame.{SentFrame}
-use Rattle.two_ends.specs.Frames.{options_in, packet_of, packet_options}
-use Rattle.two_ends.specs.Numbered.{AreNumbered, IsNumberedFrame, IsResetWithoutConnection, is_packet_without_connection, packet_number}
+use Rattle.two_ends.specs.Frames.{packet_number, options_in, packet_of, packet_options}
+use Rattle.two_ends.specs.Numbered.{AreNumbered, IsNumberedFrame, IsResetWithoutConnection, is_packet_without_connection}
 use Rattle.two_ends.proofs.Logged.{Logged, IsLogged, IsUnlogged, AreLogged, NoFrames, Numbered, Unnumbered, Found, AtPlace, Nowhere, found}
 
 -- what the frame of a draft is read as
@@ -39,7 +39,7 @@ pub record IsDrafted (config : Config) (number : ℕ) (draft : Draft) (bytes : L
   pub is_packet : packet_of bytes ≡ Some (parts_of config number draft sum)
   pub are_options : options_in bytes ≡ map Ok (entries_at 0 draft.options)
 
-is-drafted : (config : Config) (number : ℕ) (draft : Draft) → IsSendable draft → IsDrafted config number draft (frame_of config number draft)
+pub is-drafted : (config : Config) (number : ℕ) (draft : Draft) → IsSendable draft → IsDrafted config number draft (frame_of config number draft)
 is-drafted config number draft sendable =
     let read = own_frames_read_in_widths config number draft sendable in
     let packet = ap result_ok read.is_packet in
@@ -59,7 +59,7 @@ FitsAck None = Unit {0}
 FitsAck (Some n) = n < 2 ^ 48
 
 -- what a packet acknowledges is a number
-ack-fits : (k : Kind) → FitsAck (ack_of (kind_in_widths k))
+pub ack-fits : (k : Kind) → FitsAck (ack_of (kind_in_widths k))
 ack-fits (kind.Request service) = tt
 ack-fits kind.Data = tt
 ack-fits (kind.Ack (Long ack)) = omega arith

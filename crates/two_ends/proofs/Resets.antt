@@ -10,11 +10,9 @@ use Rattle.dccp_packets.specs.declared.reading.Malformed.{Malformed}
 use Rattle.dccp_states.specs.Entrance.{gate}
 use Rattle.dccp_states.specs.declared.entrance.Entrance.{Entrance}
 use Rattle.dccp_states.specs.declared.entrance.Entrance.TheVariants as entrance
-use Rattle.dccp_states.specs.declared.phase.Phase.{Phase}
 use Rattle.feature_machine.specs.Negotiating.{held_by, row_at}
 use Rattle.feature_machine.specs.declared.row.Row.{Row}
 use Rattle.validity_windows.specs.Verdict.{verdict}
-use Rattle.validity_windows.specs.declared.marks.Marks.{Marks}
 use Rattle.validity_windows.specs.declared.verdict.Verdict.{Verdict}
 use Rattle.validity_windows.specs.declared.verdict.Verdict.TheVariants as verdicts
 use Rattle.dccp_endpoint.specs.Causes.{Came, EveryStepHasOneEffect, IsAcknowledging, IsCaused, IsHearing, Keeps, Starts, Raises, LeavesIt, ByWindow, ByVerdict}
@@ -134,18 +132,17 @@ module _ (e : EndState) (a : Incoming) where
       (λ x same. then-left (takes_answer a n x) (checks_numbers a n ∷ ends) (takes-kept n x same)
       (λ x same. then-left (checks_numbers a n x) ends (checks-kept n x same) ending)))
 
-leaves-rows : (ph : Phase) (m : Marks) (x : EndState) (a : Incoming) (exit : Exit) → (leaves ph m x a exit).after.rows ≡ x.rows
-leaves-rows ph m x a (exits.Drop why) = refl
-leaves-rows ph m x a (exits.Sync number) = refl
-leaves-rows ph m x a (exits.ResetWithoutConnection code) = refl
-leaves-rows ph m x a exits.PacketError = refl
-leaves-rows ph m x a (exits.Shut fault) = refl
-leaves-rows ph m x a (exits.TimeWait code) = refl
-leaves-rows ph m x a exits.NotBuilt = refl
+leaves-rows : (x : EndState) (a : Incoming) (exit : Exit) → (leaves x a exit).after.rows ≡ x.rows
+leaves-rows x a (exits.Drop why) = refl
+leaves-rows x a (exits.Sync number) = refl
+leaves-rows x a (exits.ResetWithoutConnection code) = refl
+leaves-rows x a exits.PacketError = refl
+leaves-rows x a (exits.Shut fault) = refl
+leaves-rows x a (exits.TimeWait code) = refl
 
-left-rows : (e : EndState) (a : Incoming) (c : Course) → Left e c → (ends_as e a c).after.rows ≡ e.rows
+left-rows : (e : EndState) (a : Incoming) (c : Course) → Left e c → (ends_as a c).after.rows ≡ e.rows
 left-rows e a (Goes x) left = absurd left
-left-rows e a (Leaves x exit) left = leaves-rows e.phase e.marks x a exit ∙ left
+left-rows e a (Leaves x exit) left = leaves-rows x a exit ∙ left
 
 received-rows : (e : EndState) (r : Result Incoming Why) → ((a : Incoming) → r ≡ Ok a → a.kind ≡ types.Reset) → (received e r).after.rows ≡ e.rows
 received-rows e (Ok a) reset = left-rows e a _ (steps-left e a (reset a refl) (gate e.phase a.kind))

@@ -1,10 +1,11 @@
--- No frame says two things of one feature, and none has an Ack Vector yet; and no side processed a number.
-use Rattle.std.proofs.Common.{◌≡◌, refl, ap, sym, ◌∙◌, ℕ, ◌+◌, ◌≤◌, ◌&&◌, Bool, true, false, if◌then◌else◌, List, [], ◌∷◌, ◌++◌, drop, Option, Some, None, Result, Ok, Err, slice_get, length, map, arith}
-use Rattle.std.proofs.lemmas.List.Elements.{All-head, All-tail}
+-- No frame says two things of one feature, and none has an Ack Vector without an acknowledgement number.
+use Rattle.std.proofs.Common.{◌≡◌, refl, ap, sym, ◌∙◌, ℕ, ◌+◌, ◌≤◌, ◌&&◌, Bool, true, false, if◌then◌else◌, List, [], ◌∷◌, drop, Option, Some, None, Result, Ok, Err, slice_get, map, arith}
 use Rattle.std.specs.List.{All}
 use Rattle.dccp_options.specs.Grammar.{Entry}
-use Rattle.dccp_options.specs.Vectors.{ack_vectors, is_ack_vector}
-use Rattle.dccp_options.specs.Written.{Item, entries_at, spelled}
+use Rattle.dccp_options.specs.Vectors.{ack_vectors}
+use Rattle.dccp_options.specs.Written.{entries_at}
+use Rattle.dccp_packets.specs.Grammar.{Parts}
+use Rattle.dccp_packets.specs.Kinds.{ack_of}
 use Rattle.dccp_options.specs.declared.option.OptFault.{OptFault}
 use Rattle.dccp_endpoint.specs.Heeding.{is_left, is_of_negotiation}
 use Rattle.dccp_endpoint.specs.Saying.{begins_with, once_if, times_said_to}
@@ -15,22 +16,15 @@ use Rattle.feature_lists.specs.declared.features.Feature.{Feature}
 use Rattle.feature_lists.specs.declared.features.Place.{Place}
 use Rattle.two_ends.specs.declared.event.Side.{Side}
 use Rattle.two_ends.specs.declared.frames.SentFrame.{SentFrame}
-use Rattle.two_ends.specs.Frames.{options_in}
+use Rattle.two_ends.specs.Frames.{options_in, packet_of}
 use Rattle.two_ends.specs.Numbered.{SpeaksOnce}
 use Rattle.two_ends.specs.Pairs.{Pair, one_if, place_at, said_times, times_said, values_for}
-use Rattle.two_ends.proofs.Acting.{Keeps, NoFact, Party, config_of}
+use Rattle.two_ends.proofs.Acting.{Party, config_of}
 use Rattle.two_ends.proofs.Carrying.{types-placed, values-named}
-use Rattle.two_ends.proofs.FewOptions.{IsNegotiating}
 use Rattle.two_ends.proofs.KeyHearing.{IsWell}
 use Rattle.two_ends.proofs.Logged.{Found, AtPlace, Nowhere, at-place, found}
 use Rattle.two_ends.proofs.Numbering.{IsOrdered}
 use Rattle.two_ends.proofs.ReadBack.{logged-options, unlogged-options}
-
-abbrev pub IsUnprocessed : Party → Type 0
-IsUnprocessed x = x.half.processed ≡ []
-
-pub unprocessed : Keeps NoFact (λ x y. IsUnprocessed x)
-unprocessed = record { starts = λ own peer own_fits peer_fits. refl; acts = λ act none both. both }
 
 -- one option counts the same for a reader of frames and for the peer's row
 counted : (typed named placed : Bool) (values : List ℕ) (rest more : ℕ) → rest ≡ more
@@ -56,27 +50,9 @@ times-as feature place (Ok entry ∷ rest) =
     ∙ counted (is_of_negotiation entry.kind) (begins_with (number_of feature) entry.body) (is_of_place (is_left entry.kind) (opposite (opposite place)))
     (drop 1 entry.body) later (times_said_to (feature, opposite place) rest) (times-as feature place rest)
 
--- an option of the negotiation is no Ack Vector
-no-vector : (kind : ℕ) → is_of_negotiation kind ≡ true → is_ack_vector kind ≡ false
-no-vector kind is = grind arith
-
-no-vectors : (place : ℕ) (items : List Item) → All IsNegotiating items → ack_vectors (map Ok (entries_at place items)) ≡ []
-no-vectors place [] all = refl
-no-vectors place (item ∷ items) all =
-    by (is_ack_vector item.kind) (no-vector item.kind (All-head IsNegotiating item items all))
-    (no-vectors (place + length (spelled item.mandatory item.kind item.body)) items (All-tail IsNegotiating item items all))
-  where
-    later : List (List ℕ)
-    later = ack_vectors (map Ok (entries_at (place + length (spelled item.mandatory item.kind item.body)) items))
-
-    by : (is : Bool) → is ≡ false → later ≡ [] → (if is then item.body ∷ [] else []) ++ later ≡ []
-    by true vector none = cc vector
-    by false vector none = none
-
 -- What holds of each frame of a side.
 pub record IsSaidOnce (bytes : List ℕ) : Type 0 where
   pub once : (side : Side) (pair : Pair) → times_said pair side bytes ≤ 1
-  pub no_vectors : ack_vectors (options_in bytes) ≡ []
 
 found-once : (x : Party) (peer_iss : ℕ) (frame : SentFrame) → All (IsWell peer_iss) x.log → Found (config_of x) (config_of x).iss x.log frame
     → IsSaidOnce frame.bytes
@@ -90,7 +66,6 @@ found-once x peer_iss frame well (AtPlace place number l there same is) =
           let times : times_said pair side frame.bytes ≡ times_said_to (pair.feature, opposite at) (map Ok (entries_at 0 l.draft.options)) =
           ap (said_times (number_of pair.feature) at) options ∙ times-as pair.feature at (map Ok (entries_at 0 l.draft.options)) in
           omega (arith, times, said.once (pair.feature, at));
-      no_vectors = ap ack_vectors options ∙ no-vectors 0 l.draft.options said.kinds;
     }
 found-once x peer_iss frame well (Nowhere is) =
     let options : options_in frame.bytes ≡ [] = unlogged-options (config_of x) frame is in
@@ -99,13 +74,12 @@ found-once x peer_iss frame well (Nowhere is) =
           λ side pair.
           let times : times_said pair side frame.bytes ≡ 0 = ap (said_times (number_of pair.feature) (place_at side pair.location)) options in
           omega (arith, times);
-      no_vectors = ap ack_vectors options;
     }
 
 pub frame-once : (x : Party) (peer_iss index : ℕ) (frame : SentFrame) → IsOrdered x → All (IsWell peer_iss) x.log → slice_get x.half.frames index ≡ Some frame
     → IsSaidOnce frame.bytes
 frame-once x peer_iss index frame o well there = found-once x peer_iss frame well (found (config_of x) index frame o.logged there)
 
-pub speaks-once : (side : Side) (bytes : List ℕ) → IsSaidOnce bytes → SpeaksOnce side bytes
-speaks-once side bytes said =
-    record { of_each_pair = λ pair. said.once side pair; vectors_acknowledge = λ packet read unacknowledged. said.no_vectors }
+pub speaks-once : (side : Side) (bytes : List ℕ) → IsSaidOnce bytes
+    → ((packet : Parts) → packet_of bytes ≡ Some packet → ack_of packet.header.kind ≡ None → ack_vectors (options_in bytes) ≡ []) → SpeaksOnce side bytes
+speaks-once side bytes said vectors = record { of_each_pair = λ pair. said.once side pair; vectors_acknowledge = vectors }

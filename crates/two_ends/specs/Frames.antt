@@ -6,10 +6,18 @@ use Rattle.dccp_packets.specs.declared.header.Kind.{Kind}
 use Rattle.dccp_packets.specs.declared.header.Kind.TheVariants as kind
 use Rattle.dccp_options.specs.Grammar.{Entry, options_of}
 use Rattle.dccp_options.specs.declared.option.OptFault.{OptFault}
-use Rattle.dccp_packets.specs.Kinds.{is_data}
+use Rattle.dccp_packets.specs.Kinds.{is_data, value_of}
 
 abbrev pub packet_of : List ℕ → Option Parts
 packet_of bytes = result_ok (decoded bytes)
+
+-- the sequence number of a packet, and of bytes that are one
+abbrev pub packet_number : Option Parts → Option ℕ
+packet_number None = None
+packet_number (Some p) = Some (value_of p.header.number)
+
+abbrev pub number_in : List ℕ → Option ℕ
+number_in bytes = packet_number (packet_of bytes)
 
 abbrev pub is_reset : Kind → Bool
 is_reset (kind.Reset ack code detail) = true

@@ -1,5 +1,6 @@
 pub mod Lists
 pub mod World
+pub mod Controlled
 pub mod Frames
 pub mod Pairs
 pub mod Negotiated

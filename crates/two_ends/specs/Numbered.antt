@@ -6,23 +6,15 @@ use Rattle.dccp_packets.specs.Grammar.{Parts}
 use Rattle.dccp_states.specs.declared.phase.Role.{Role}
 use Rattle.dccp_endpoint.specs.Causes.{is_without_connection}
 use Rattle.dccp_endpoint.specs.End.{EndState, held_of, is_live}
-use Rattle.dccp_packets.specs.Kinds.{ack_of, value_of}
+use Rattle.dccp_packets.specs.Kinds.{ack_of}
 use Rattle.dccp_endpoint.specs.Receiving.{receives}
 use Rattle.feature_lists.specs.declared.features.Feature.{Feature}
 use Rattle.feature_lists.specs.declared.features.Place.{Place}
 use Rattle.two_ends.specs.declared.frames.SentFrame.{SentFrame}
 use Rattle.two_ends.specs.declared.event.Side.{Side}
 use Rattle.two_ends.specs.World.{Half, WorldState, half_of, other}
-use Rattle.two_ends.specs.Frames.{packet_of, options_in, is_reset}
+use Rattle.two_ends.specs.Frames.{packet_of, options_in, is_reset, number_in}
 use Rattle.two_ends.specs.Pairs.{Pair, times_said}
-
--- the sequence number of a packet, and of bytes that are one
-abbrev pub packet_number : Option Parts → Option ℕ
-packet_number None = None
-packet_number (Some p) = Some (value_of p.header.number)
-
-abbrev pub number_in : List ℕ → Option ℕ
-number_in bytes = packet_number (packet_of bytes)
 
 abbrev pub is_packet_without_connection : Role → Option Parts → Bool
 is_packet_without_connection role None = false

@@ -6,10 +6,13 @@ use Rattle.ack_vectors.specs.Vector.{vector, is_whole}
 use Rattle.dccp_options.specs.Vectors.{report_of}
 use Rattle.dccp_packets.specs.Grammar.{Parts}
 use Rattle.dccp_packets.specs.Kinds.{ack_of, value_of}
-use Rattle.dccp_endpoint.specs.End.{floor_of, reported_of}
+use Rattle.congestion_trait.specs.Control.{Control}
+use Rattle.dccp_endpoint.specs.Controlled.{reported_of}
+use Rattle.dccp_endpoint.specs.End.{floor_of}
 use Rattle.two_ends.specs.declared.frames.SentFrame.{SentFrame}
 use Rattle.two_ends.specs.declared.event.Side.{Side}
 use Rattle.two_ends.specs.World.{Half, WorldState, half_of, other}
+use Rattle.two_ends.specs.Controlled.{Controlled, congestion_of}
 use Rattle.two_ends.specs.Frames.{packet_of, options_in, is_reset}
 
 -- A side sent a packet with this number that is no Reset. The number of a Reset without a connection comes from the packet that it
@@ -32,9 +35,9 @@ pub record IsOnce (w : WorldState) (side : Side) : Type 0 where
 abbrev pub Once : WorldState → Type 0
 Once w = (side : Side) → IsOnce w side
 
--- What an end believes received, the other side processed.
-abbrev pub Heard : WorldState → Type 0
-Heard w = (side : Side) (n : ℕ) → Contains (reported_of (half_of w side).end) n → Contains (half_of w (other side)).processed n
+-- What an end believes received, by its congestion control, the other side processed.
+abbrev pub Heard : {C : Type 0} → Control C → Controlled C → Type 0
+Heard control w = (side : Side) (n : ℕ) → Contains (reported_of control (congestion_of w side)) n → Contains (half_of w.world (other side)).processed n
 
 -- what a side had processed when it sent a frame
 abbrev pub processed_by : Half → SentFrame → List ℕ

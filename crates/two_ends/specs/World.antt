@@ -1,16 +1,20 @@
 -- Two ends, all frames that they ever sent, and what happens to them (own). Losing, repeating and reordering frames is the
 -- choice of deliveries.
-use Rattle.std.specs.Prelude.{ℕ, ◌-◌, ◌^◌, ◌≤◌, Bool, false, nat_le, if◌then◌else◌, List, [], ◌∷◌, ◌++◌, length, Option, Some, None, Result, Ok, Err, slice_get}
-use Rattle.dccp_endpoint.specs.End.{EndState, fresh, floor_of}
+use Rattle.std.specs.Prelude.{ℕ, ◌-◌, ◌^◌, ◌≤◌, Bool, true, false, nat_le, nat_lt, if◌then◌else◌, List, [], ◌∷◌, ◌++◌, length, Option, Some, None, Result, Ok, Err, slice_get}
+use Rattle.dccp_endpoint.specs.End.{EndState, fresh, floor_of, marked_of}
 use Rattle.dccp_endpoint.specs.Inputs.{Input, Answer, stepped}
 use Rattle.dccp_endpoint.specs.Inputs as input
 use Rattle.dccp_endpoint.specs.Steps.{Step}
+use Rattle.congestion_trait.specs.Calls.{Call}
+use Rattle.dccp_endpoint.specs.declared.calls.SendFault.{SendFault}
+use Rattle.dccp_endpoint.specs.declared.calls.SendFault.TheVariants as send
 use Rattle.dccp_endpoint.specs.declared.config.Config.{Config}
 use Rattle.feature_lists.specs.declared.wishes.PreferFault.{PreferFault}
 use Rattle.feature_lists.specs.declared.wishes.PreferFault.TheVariants as prefer
+use Rattle.two_ends.specs.Frames.{number_in}
 use Rattle.two_ends.specs.declared.frames.SentFrame.{SentFrame}
-use Rattle.two_ends.specs.declared.half.Call.{Call}
-use Rattle.two_ends.specs.declared.half.Call.TheVariants as call
+use Rattle.two_ends.specs.declared.half.Asked.{Asked}
+use Rattle.two_ends.specs.declared.half.Asked.TheVariants as asked
 use Rattle.two_ends.specs.declared.event.Side.{Side}
 use Rattle.two_ends.specs.declared.event.Side.TheVariants.{Client, Server}
 use Rattle.two_ends.specs.declared.event.Event.{Event}
@@ -32,14 +36,16 @@ pub record WorldState : Type 0 where
   pub client : Half
   pub server : Half
 
--- a side's next state with what was seen of its step
+-- a side's next state with what is due to its congestion control, in order, and what was seen of its step
 pub record HalfStep : Type 0 where
   pub half : Half
+  pub calls : List Call
   pub seen : Seen
 
 -- the world's
 pub record WorldStep : Type 0 where
   pub world : WorldState
+  pub calls : List Call
   pub seen : Seen
 
 -- a frame as it is kept: how many numbers its sender had processed, that step's included, and its floor
@@ -47,14 +53,39 @@ abbrev pub as_sent : ℕ → ℕ → Option (List ℕ) → List SentFrame
 as_sent processed floor None = []
 as_sent processed floor (Some bytes) = record { bytes = bytes; processed = processed; floor = floor } ∷ []
 
--- a step of the end, with its frame at the list's end
-abbrev pub moved : {Answer : Type 0} → Half → Step Answer → Half
-moved half step = record half { end = step.after; frames = half.frames ++ as_sent (length half.processed) (floor_of step.after) step.frame }
+-- the number of the packet that arrives, if one does
+abbrev pub number_given : Input → Option ℕ
+number_given (input.Arrives bytes) = number_in bytes
+number_given _ = None
+
+-- A step processes the number of the packet that arrives where the end's count of numbers that were taken rises.
+abbrev pub number_if : Bool → Option ℕ → List ℕ
+number_if true (Some number) = number ∷ []
+number_if true None = []
+number_if false number = []
+
+abbrev pub newly_processed : EndState → Input → EndState → List ℕ
+newly_processed before given after = number_if (nat_lt (marked_of before) (marked_of after)) (number_given given)
+
+-- a side after a step of its end, with its frame at the list's end
+abbrev pub half_with : List SentFrame → EndState → List ℕ → Option (List ℕ) → Half
+half_with frames after processed frame =
+    record { end = after; frames = frames ++ as_sent (length processed) (floor_of after) frame; processed = processed }
+
+abbrev pub moved : {Answer : Type 0} → Half → Input → Step Answer → Half
+moved half given step = half_with half.frames step.after (half.processed ++ newly_processed half.end given step.after) step.frame
 
 -- what is seen of a call, where a refusal has this name
 abbrev pub seen_of_call : {Fault : Type 0} → (Fault → Refusal) → Result (Unit {0}) Fault → Seen
 seen_of_call named (Ok _) = seen.Called (Ok tt)
 seen_of_call named (Err fault) = seen.Called (Err (named fault))
+
+-- why data are not sent
+abbrev pub send_refusal_of : SendFault → Refusal
+send_refusal_of send.NotOpen = refusal.NotOpen
+send_refusal_of send.TooLong = refusal.TooLong
+send_refusal_of send.NotNegotiated = refusal.NotNegotiated
+send_refusal_of send.WindowFull = refusal.WindowFull
 
 -- why a wish is refused
 abbrev pub refusal_of : PreferFault → Refusal
@@ -66,13 +97,15 @@ abbrev pub seen_of : Answer → Seen
 seen_of (input.Received outcome) = seen.Received outcome
 seen_of (input.Opened result) = seen_of_call (λ fault. refusal.NotFresh) result
 seen_of (input.Preferred result) = seen_of_call refusal_of result
+seen_of (input.Sent result) = seen_of_call send_refusal_of result
 seen_of (input.Closed result) = seen_of_call (λ fault. refusal.NotOpen) result
 seen_of (input.Aborted result) = seen_of_call (λ fault. refusal.NotLive) result
 seen_of (input.Fired applies) = seen.Fired applies
 
 -- one step of a side's end
 abbrev pub half_steps : Half → Input → HalfStep
-half_steps half given = record { half = moved half (stepped half.end given); seen = seen_of (stepped half.end given).answer }
+half_steps half given =
+    record { half = moved half given (stepped half.end given); calls = (stepped half.end given).calls; seen = seen_of (stepped half.end given).answer }
 
 abbrev pub half_of : WorldState → Side → Half
 half_of w Client = w.client
@@ -93,7 +126,7 @@ is_full half = nat_le (2 ^ 47 - 1) (length half.frames)
 abbrev pub unless_full : WorldState → Side → HalfStep → Result WorldStep WorldFault
 unless_full w side step =
     if is_full (half_of w side) then Err fault.Full
-    else Ok (record { world = with_half w side step.half; seen = step.seen })
+    else Ok (record { world = with_half w side step.half; calls = step.calls; seen = step.seen })
 
 -- a frame of one side arrives at the other
 abbrev pub arrives : WorldState → Side → Option SentFrame → Result WorldStep WorldFault
@@ -105,29 +138,36 @@ pub data Happening : Type 0 where
   Calls : (side : Side) (given : Input) → Happening
   Delivers : (from : Side) (index : ℕ) → Happening
 
--- a call as the end takes it; nothing is in flight yet when a timer runs out
-abbrev pub input_of : Call → Input
-input_of call.Open = input.Opens
-input_of (call.Prefer feature place values) = input.Prefers (feature, place) values.now
-input_of call.Close = input.Closes
-input_of call.Abort = input.Aborts
-input_of (call.Fire timer) = input.Fires timer false
+-- What a side's congestion control says when it is asked: whether a further data packet may be sent, and whether some are in flight.
+pub record Said : Type 0 where
+  pub may_send : Bool
+  pub in_flight : Bool
 
-abbrev pub happening_of : Event → Happening
-happening_of event.Open = Calls Client (input_of call.Open)
-happening_of (event.Deliver from index) = Delivers from index
-happening_of (event.Prefer side feature place values) = Calls side (input.Prefers (feature, place) values)
-happening_of (event.Timer side timer) = Calls side (input_of (call.Fire timer))
-happening_of (event.Close side) = Calls side (input_of call.Close)
-happening_of (event.Abort side) = Calls side (input_of call.Abort)
+-- a call as the end takes it, with what its congestion control says
+abbrev pub input_of : Asked → Said → Input
+input_of asked.Open said = input.Opens
+input_of (asked.Send payload) said = input.Sends payload.now said.may_send
+input_of (asked.Prefer feature place values) said = input.Prefers (feature, place) values.now
+input_of asked.Close said = input.Closes
+input_of asked.Abort said = input.Aborts
+input_of (asked.Fire timer) said = input.Fires timer said.in_flight
+
+abbrev pub happening_of : Event → Said → Happening
+happening_of event.Open said = Calls Client input.Opens
+happening_of (event.Deliver from index) said = Delivers from index
+happening_of (event.Send side payload) said = Calls side (input.Sends payload said.may_send)
+happening_of (event.Prefer side feature place values) said = Calls side (input.Prefers (feature, place) values)
+happening_of (event.Timer side timer) said = Calls side (input.Fires timer said.in_flight)
+happening_of (event.Close side) said = Calls side input.Closes
+happening_of (event.Abort side) said = Calls side input.Aborts
 
 abbrev pub takes_place : WorldState → Happening → Result WorldStep WorldFault
 takes_place w (Calls side given) = unless_full w side (half_steps (half_of w side) given)
 takes_place w (Delivers from index) = arrives w from (slice_get (half_of w from).frames index)
 
--- one event
-abbrev pub happens : WorldState → Event → Result WorldStep WorldFault
-happens w event = takes_place w (happening_of event)
+-- one event, with what the congestion control of the side that acts says
+abbrev pub happens : WorldState → Event → Said → Result WorldStep WorldFault
+happens w event said = takes_place w (happening_of event said)
 
 -- the side that acts: the one that is called, or to which a frame is delivered
 abbrev pub acting_side : Happening → Side
@@ -135,15 +175,23 @@ acting_side (Calls side given) = side
 acting_side (Delivers from index) = other from
 
 abbrev pub actor : Event → Side
-actor event = acting_side (happening_of event)
+actor event.Open = Client
+actor (event.Deliver from index) = other from
+actor (event.Send side payload) = side
+actor (event.Prefer side feature place values) = side
+actor (event.Timer side timer) = side
+actor (event.Close side) = side
+actor (event.Abort side) = side
 
 -- a delivery whose index is not below the number of frames of its sender
-abbrev pub IsUnsent : WorldState → Happening → Type 0
-IsUnsent w (Calls side given) = ⊥
-IsUnsent w (Delivers from index) = length (half_of w from).frames ≤ index
-
 abbrev pub LacksFrame : WorldState → Event → Type 0
-LacksFrame w event = IsUnsent w (happening_of event)
+LacksFrame w event.Open = ⊥
+LacksFrame w (event.Deliver from index) = length (half_of w from).frames ≤ index
+LacksFrame w (event.Send side payload) = ⊥
+LacksFrame w (event.Prefer side feature place values) = ⊥
+LacksFrame w (event.Timer side timer) = ⊥
+LacksFrame w (event.Close side) = ⊥
+LacksFrame w (event.Abort side) = ⊥
 
 -- The side that would act has sent 2^47 - 1 frames.
 abbrev pub ActorIsFull : WorldState → Event → Type 0
@@ -154,10 +202,15 @@ abbrev pub world_after : WorldState → Result WorldStep WorldFault → WorldSta
 world_after w (Ok step) = step.world
 world_after w (Err _) = w
 
--- a whole schedule
-abbrev pub run : WorldState → List Event → WorldState
+-- an event with what the congestion control of the side that acts says
+pub record Occurrence : Type 0 where
+  pub event : Event
+  pub said : Said
+
+-- a whole schedule, whatever is said in it
+abbrev pub run : WorldState → List Occurrence → WorldState
 run w [] = w
-run w (event ∷ events) = run (world_after w (happens w event)) events
+run w (now ∷ later) = run (world_after w (happens w now.event now.said)) later
 
 -- two ends that have sent and received nothing
 abbrev pub half_at_start : Config → Half

@@ -1,5 +1,5 @@
 //! What may happen to two ends, and what is seen of it.
-ghost use Rattle.std.specs.Prelude.{◌≡◌, ◌<◌, ◌≤◌, [], ◌∷◌, ◌++◌, true, false, length};
+ghost use Rattle.std.specs.Prelude.{◌≡◌, ◌<◌, ◌≤◌, ◌↔◌, [], ◌∷◌, ◌++◌, true, false, length, IsSome, IfSome};
 ghost use Rattle.two_ends.specs.World.{actor, other};
 
 use arrayvec::ArrayVec;
@@ -9,6 +9,9 @@ use std::marker::Model;
 
 // The most numbers of a list: one more than an end takes.
 const MOST_VALUES: usize = 9;
+
+// The most bytes of data: twice as many as an end takes.
+const MOST_BYTES: usize = 2048;
 
 /// One of the two ends.
 #[derive(Clone, Copy, Debug, PartialEq, Eq)]
@@ -57,14 +60,52 @@ impl Values {
     {
         self.numbers.as_slice()
     }
+}
 
-    /// The same numbers.
-    pub fn copied(&self) -> Values
-        ensures { result ≡ self.now }
+/// The data that an end is asked to send: at most 2,048 bytes, in the value itself. Contracts see the list of bytes.
+#[derive(Debug, Drop)]
+pub struct Payload {
+    bytes: ArrayVec<u8, MOST_BYTES>,
+}
+
+impl Model for Payload {
+    ghost use Rattle.std.specs.Prelude.{List, ℕ};
+
+    ghost Value = { List ℕ };
+
+    ghost view = { λ p. p.bytes.items };
+}
+
+impl Payload {
+    /// These bytes, or None exactly where there are more than 2,048.
+    pub fn of(bytes: &[u8]) -> Option<Payload>
+        ensures made { IsSome result ↔ (length bytes.now ≤ 2048) }
+        ensures value { IfSome result (λ p. p ≡ bytes.now) }
     {
-        let mut copy = Values::new();
-        let _ = copy.numbers.try_extend_from_slice(self.numbers());
-        copy
+        if MOST_BYTES < bytes.len() {
+            return None;
+        }
+        Some(Payload::within(bytes))
+    }
+
+    // These bytes, which are not too many.
+    fn within(bytes: &[u8]) -> Payload
+        requires { length bytes.now ≤ 2048 }
+        ensures { result ≡ bytes.now }
+    {
+        let mut payload = Payload {
+            bytes: ArrayVec::new(),
+        };
+        let _ = payload.bytes.try_extend_from_slice(bytes);
+        payload
+    }
+
+    /// The bytes, at most 2,048.
+    pub fn bytes(&self) -> &[u8]
+        ensures value { result.now ≡ self.now }
+        ensures fits { length result.now ≤ 2048 }
+    {
+        self.bytes.as_slice()
     }
 }
 
@@ -77,6 +118,11 @@ pub enum Event {
     Deliver {
         from: Side,
         index: u64,
+    },
+    /// The side sends these data (RFC 4340, section 5.4).
+    Send {
+        side: Side,
+        payload: Payload,
     },
     /// The side asks for these values of a feature, best first (RFC 4340, section 6).
     Prefer {
@@ -105,8 +151,14 @@ pub enum Event {
 pub enum Refusal {
     /// `open`: the end is a server, or was opened before.
     NotFresh,
-    /// `prefer` and `close`: the phase is neither PARTOPEN nor OPEN.
+    /// `prefer` and `close`: the phase is neither PARTOPEN nor OPEN. `send`: it is not OPEN.
     NotOpen,
+    /// `send`: the data are longer than 1,024 bytes.
+    TooLong,
+    /// `send`: CCID here is 2, and the peer sends no Ack Vectors.
+    NotNegotiated,
+    /// `send`: as many data packets are in flight as may be.
+    WindowFull,
     /// `prefer`: the values are none, too many or not distinct, or not such as the feature may have.
     BadList,
     /// `prefer`: the feature is non-negotiable and located at the peer.
@@ -157,7 +209,7 @@ impl Event {
         match self {
             Event::Open => Side::Client,
             Event::Deliver { from, .. } => from.other(),
-            Event::Prefer { side, .. } => *side,
+            Event::Send { side, .. } | Event::Prefer { side, .. } => *side,
             Event::Timer { side, .. } | Event::Close { side } | Event::Abort { side } => *side,
         }
     }

@@ -1,13 +1,19 @@
 //! One side of the world: an end, the frames that it ever sent, and the numbers that it processed.
-ghost use Rattle.std.specs.Prelude.{◌≡◌, ◌≤◌, [], length};
+ghost use Rattle.std.specs.Prelude.{◌≡◌, ◌<◌, ◌≤◌, ◌++◌, length, vec_len, vec_capacity};
+ghost use Rattle.dccp_endpoint.specs.Controlled.{after_calls, with_control};
 ghost use Rattle.dccp_endpoint.specs.Inputs.{stepped};
 ghost use Rattle.dccp_endpoint.specs.Receiving.{receives};
-ghost use Rattle.two_ends.specs.World.{input_of, refusal_of, seen_of};
+ghost use Rattle.two_ends.specs.Controlled.{said_by};
+ghost use Rattle.two_ends.specs.Frames.{number_in};
+ghost use Rattle.two_ends.specs.World.{input_of, number_if, refusal_of, seen_of, send_refusal_of};
 
 use crate::frames::{keep_frame, take_memory};
-use crate::{Refusal, Seen, SentFrame, Values};
-use dccp_endpoint::{AbortFault, CloseFault, Config, Endpoint, OpenFault, Outcome, Timer};
-use dccp_packets::Outbox;
+use crate::{Payload, Refusal, Seen, SentFrame, Values};
+use congestion_trait::Congestion;
+use dccp_endpoint::{
+    AbortFault, CloseFault, Config, Endpoint, OpenFault, Outcome, SendFault, Timer,
+};
+use dccp_packets::{Outbox, decode};
 use feature_lists::{Feature, Place, PreferFault};
 use seq_circle::NoMemory;
 use std::alloc::Global;
@@ -15,8 +21,9 @@ use std::marker::Model;
 
 /// A call of an end.
 #[derive(Clone, Copy, Debug)]
-pub(crate) enum Call<'a> {
+pub(crate) enum Asked<'a> {
     Open,
+    Send(&'a Payload),
     Prefer {
         feature: Feature,
         place: Place,
@@ -28,35 +35,39 @@ pub(crate) enum Call<'a> {
 }
 
 #[derive(Drop)]
-pub(crate) struct HalfWorld {
+pub(crate) struct HalfWorld<C> {
     alloc: Global,
-    end: Endpoint,
+    end: Endpoint<C>,
     frames: Vec<SentFrame>,
     processed: Vec<u64>,
     // Empty, with room for a frame of any length during a step.
     spare: Vec<u8>,
 }
 
-impl Model for HalfWorld {
+impl<C> Model for HalfWorld<C> {
     ghost use Rattle.std.specs.Prelude.{◌≡◌, []};
-    ghost use Rattle.two_ends.specs.World.{Half};
+    ghost use Rattle.two_ends.specs.Controlled.{ControlledHalf};
 
-    ghost Value = { Half };
+    ghost Value = { ControlledHalf C };
 
-    ghost view = { λ h. record { end = h.end; frames = h.frames.items; processed = h.processed.items } };
+    ghost view = { λ h. record { half = record { end = h.end.state; frames = h.frames.items; processed = h.processed.items }; congestion = h.end.congestion } };
 
     ghost invariant = { λ h. h.spare.items ≡ [] };
 }
 
-impl HalfWorld {
-    ghost use Rattle.std.specs.Prelude.{◌≡◌, ◌≤◌, ◌<◌, length, IfOk, OnErr, Ok};
-    ghost use Rattle.dccp_endpoint.specs.Inputs.{Arrives};
-    ghost use Rattle.two_ends.specs.World.{half_at_start, half_steps, input_of};
+impl<C: Congestion + Drop> HalfWorld<C> {
+    ghost use Rattle.std.specs.Prelude.{◌≡◌, IfOk, IsTrue};
+    ghost use Rattle.two_ends.specs.Controlled.{half_begins};
 
-    pub(crate) fn new(alloc: Global, config: Config) -> Result<HalfWorld, NoMemory>
-        ensures { IfOk result (λ half. half ≡ half_at_start config) }
+    pub(crate) fn new(
+        alloc: Global,
+        config: Config,
+        congestion: C,
+    ) -> Result<HalfWorld<C>, NoMemory>
+        requires { IsTrue (C.control.is_known 2) }
+        ensures { IfOk result (λ half. half ≡ half_begins C.control config congestion) }
     {
-        let end = Endpoint::new(config)?;
+        let end = Endpoint::new(alloc, config, congestion)?;
         Ok(HalfWorld {
             alloc,
             end,
@@ -65,33 +76,42 @@ impl HalfWorld {
             spare: Vec::new(alloc),
         })
     }
+}
 
-    pub(crate) fn end(&self) -> &Endpoint
-        ensures { result.now ≡ self.now.end }
+impl<C: Congestion> HalfWorld<C> {
+    ghost use Rattle.std.specs.Prelude.{◌≡◌, ◌≤◌, ◌<◌, length, IfOk, OnErr, Ok};
+    ghost use Rattle.dccp_endpoint.specs.Inputs.{Arrives};
+    ghost use Rattle.two_ends.specs.Controlled.{controlled_half_steps, said_by};
+    ghost use Rattle.two_ends.specs.World.{input_of};
+
+    pub(crate) fn end(&self) -> &Endpoint<C>
+        ensures state { result.now.state ≡ self.now.half.end }
+        ensures congestion { result.now.congestion ≡ self.now.congestion }
     {
         &self.end
     }
 
     pub(crate) fn frames(&self) -> &[SentFrame]
-        ensures { result.now ≡ self.now.frames }
+        ensures { result.now ≡ self.now.half.frames }
     {
         &self.frames
     }
 
     pub(crate) fn processed(&self) -> &[u64]
-        ensures { result.now ≡ self.now.processed }
+        ensures { result.now ≡ self.now.half.processed }
     {
         &self.processed
     }
 
-    // One call of the end. All memory that the step may need is taken before the end is touched.
-    pub(crate) fn call(&mut self, call: Call<'_>) -> Result<Seen, NoMemory>
-        ensures ok { IfOk result (λ seen. record { half = self.new; seen = seen } ≡ half_steps self.old (input_of call.entry)) }
+    // One call of the end, which processes no number. All memory that the step may need is taken before the end is touched.
+    #[tactic(auto, using(crate::proofs::Processing::calls_process_nothing))]
+    pub(crate) fn call(&mut self, asked: Asked<'_>) -> Result<Seen, NoMemory>
+        ensures ok { IfOk result (λ seen. record { after = self.new; seen = seen } ≡ controlled_half_steps C.control self.old (input_of asked.entry (said_by C.control self.old.congestion))) }
         ensures err { OnErr result (self.new ≡ self.old) }
     {
         take_memory(&mut self.frames, &mut self.spare)?;
         let mut out = Outbox::new();
-        let seen = answer(&mut self.end, call, &mut out);
+        let seen = answer(&mut self.end, asked, &mut out);
         let processed = self.processed.len() as u64;
         let floor = self.end.floor();
         keep_frame(
@@ -108,12 +128,16 @@ impl HalfWorld {
     // A frame of the other side arrives.
     pub(crate) fn receive(&mut self, bytes: &[u8]) -> Result<Seen, NoMemory>
         requires { length bytes.now ≤ 2044 }
-        ensures ok { IfOk result (λ seen. record { half = self.new; seen = seen } ≡ half_steps self.old (Arrives bytes.now)) }
+        ensures ok { IfOk result (λ seen. record { after = self.new; seen = seen } ≡ controlled_half_steps C.control self.old (Arrives bytes.now)) }
         ensures err { OnErr result (self.new ≡ self.old) }
     {
         take_memory(&mut self.frames, &mut self.spare)?;
+        self.processed.reserve(1)?;
         let mut out = Outbox::new();
+        let before = self.end.marked();
         let outcome = arrive(&mut self.end, bytes, &mut out);
+        let taken = before < self.end.marked();
+        keep_number(&mut self.processed, taken, bytes);
         let processed = self.processed.len() as u64;
         let floor = self.end.floor();
         keep_frame(
@@ -138,18 +162,34 @@ fn refusal_of(fault: PreferFault) -> Refusal
     }
 }
 
-// What is seen of a call of the end alone.
-fn answer(end: &mut Endpoint, call: Call<'_>, out: &mut Outbox) -> Seen
-    ensures after { end.new ≡ (stepped end.old (input_of call.entry)).after }
-    ensures sent { out.new ≡ (stepped end.old (input_of call.entry)).frame }
-    ensures seen { result ≡ seen_of (stepped end.old (input_of call.entry)).answer }
+fn send_refusal_of(fault: SendFault) -> Refusal
+    ensures { result ≡ send_refusal_of fault }
 {
-    match call {
-        Call::Open => match end.open(out) {
+    match fault {
+        SendFault::NotOpen => Refusal::NotOpen,
+        SendFault::TooLong => Refusal::TooLong,
+        SendFault::NotNegotiated => Refusal::NotNegotiated,
+        SendFault::WindowFull => Refusal::WindowFull,
+    }
+}
+
+// What is seen of a call of the end alone.
+fn answer<C: Congestion>(end: &mut Endpoint<C>, asked: Asked<'_>, out: &mut Outbox) -> Seen
+    ensures after { end.new.state ≡ (stepped end.old.state (input_of asked.entry (said_by C.control end.old.congestion))).after }
+    ensures called { end.new.congestion ≡ after_calls C.control end.old.congestion (stepped end.old.state (input_of asked.entry (said_by C.control end.old.congestion))).calls }
+    ensures sent { out.new ≡ (stepped end.old.state (input_of asked.entry (said_by C.control end.old.congestion))).frame }
+    ensures seen { result ≡ seen_of (stepped end.old.state (input_of asked.entry (said_by C.control end.old.congestion))).answer }
+{
+    match asked {
+        Asked::Open => match end.open(out) {
             Ok(()) => Seen::Called(Ok(())),
             Err(OpenFault::NotFresh) => Seen::Called(Err(Refusal::NotFresh)),
         },
-        Call::Prefer {
+        Asked::Send(payload) => match end.send(payload.bytes(), out) {
+            Ok(()) => Seen::Called(Ok(())),
+            Err(fault) => Seen::Called(Err(send_refusal_of(fault))),
+        },
+        Asked::Prefer {
             feature,
             place,
             values,
@@ -157,22 +197,50 @@ fn answer(end: &mut Endpoint, call: Call<'_>, out: &mut Outbox) -> Seen
             Ok(()) => Seen::Called(Ok(())),
             Err(fault) => Seen::Called(Err(refusal_of(fault))),
         },
-        Call::Close => match end.close(out) {
+        Asked::Close => match end.close(out) {
             Ok(()) => Seen::Called(Ok(())),
             Err(CloseFault::NotOpen) => Seen::Called(Err(Refusal::NotOpen)),
         },
-        Call::Abort => match end.abort(out) {
+        Asked::Abort => match end.abort(out) {
             Ok(()) => Seen::Called(Ok(())),
             Err(AbortFault::NotLive) => Seen::Called(Err(Refusal::NotLive)),
         },
-        Call::Fire(timer) => Seen::Fired(end.timer(timer, out)),
+        Asked::Fire(timer) => Seen::Fired(end.timer(timer, out)),
+    }
+}
+
+// The sequence number of bytes that are a packet.
+fn number_in(bytes: &[u8]) -> Option<u64>
+    ensures { result ≡ number_in bytes.now }
+{
+    match decode(bytes) {
+        Ok(packet) => Some(packet.header.number.value().get()),
+        Err(_) => None,
+    }
+}
+
+// Keeps the number of a packet that was taken, in memory that was taken before.
+#[tactic(auto, using(crate::proofs::Processing::nothing_more))]
+fn keep_number(processed: &mut Vec<u64>, taken: bool, bytes: &[u8])
+    requires { vec_len processed.old < vec_capacity processed.old }
+    ensures { processed.new.items ≡ processed.old.items ++ number_if taken (number_in bytes.now) }
+{
+    if !taken {
+        return;
+    }
+    let Some(number) = number_in(bytes) else {
+        return;
+    };
+    match processed.push(number) {
+        Ok(()) => {}
+        Err(_) => unreachable!(),
     }
 }
 
 // The step of the end alone.
-fn arrive(end: &mut Endpoint, bytes: &[u8], out: &mut Outbox) -> Outcome
+fn arrive<C: Congestion>(end: &mut Endpoint<C>, bytes: &[u8], out: &mut Outbox) -> Outcome
     requires { length bytes.now ≤ 2044 }
-    ensures { record { after = end.new; frame = out.new; calls = []; answer = result } ≡ receives end.old bytes.now }
+    ensures { record { after = end.new; frame = out.new; answer = result } ≡ with_control C.control end.old.congestion (receives end.old.state bytes.now) }
 {
     end.receive(bytes, out)
 }

@@ -1,10 +1,12 @@
 //! The two sides together, and exactly what an event makes of them.
 ghost use Rattle.std.specs.Prelude.{◌≡◌, ◌≢◌, ◌↔◌, Ok, Err, None, IfOk, IfSome, IsSome, OnErr, true, false, slice_get};
 ghost use Rattle.dccp_endpoint.specs.Inputs.{Arrives};
-ghost use Rattle.two_ends.specs.World.{is_full, half_steps, input_of};
+ghost use Rattle.two_ends.specs.Controlled.{controlled_half_steps, said_by};
+ghost use Rattle.two_ends.specs.World.{is_full, input_of};
 
-use crate::half::{Call, HalfWorld};
+use crate::half::{Asked, HalfWorld};
 use crate::{Event, Seen, SentFrame, Side, WorldFault};
+use congestion_trait::Congestion;
 use dccp_endpoint::{Config, Endpoint};
 use seq_circle::NoMemory;
 use std::alloc::Global;
@@ -14,33 +16,47 @@ use std::marker::Model;
 const MOST_FRAMES: usize = (1 << 47) - 1;
 
 #[derive(Drop)]
-pub(crate) struct Sides {
-    client: HalfWorld,
-    server: HalfWorld,
+pub(crate) struct Sides<C> {
+    client: HalfWorld<C>,
+    server: HalfWorld<C>,
 }
 
-impl Model for Sides {
-    ghost use Rattle.two_ends.specs.World.{WorldState};
+impl<C> Model for Sides<C> {
+    ghost use Rattle.two_ends.specs.Controlled.{Controlled};
 
-    ghost Value = { WorldState };
+    ghost Value = { Controlled C };
 
-    ghost view = { λ s. record { client = s.client; server = s.server } };
+    ghost view = { λ s. record { world = record { client = s.client.half; server = s.server.half }; for_client = s.client.congestion; for_server = s.server.congestion } };
 }
 
-impl Sides {
-    ghost use Rattle.std.specs.Prelude.{◌≡◌, ◌≢◌, ◌↔◌, ◌⊎◌, true, IfOk, IfErr, OnErr, Ok, Err, slice_get, Option, Some, None};
-    ghost use Rattle.two_ends.specs.World.{at_start, happens, half_of, unless_full, half_steps, arrives, input_of, is_full, takes_place, Calls, LacksFrame, ActorIsFull};
+impl<C: Congestion + Drop> Sides<C> {
+    ghost use Rattle.std.specs.Prelude.{◌≡◌, IfOk, IsTrue};
+    ghost use Rattle.two_ends.specs.Controlled.{begins_with};
 
-    pub(crate) fn new(alloc: Global, client: Config, server: Config) -> Result<Sides, NoMemory>
-        ensures { IfOk result (λ sides. sides ≡ at_start client server) }
+    pub(crate) fn new(
+        alloc: Global,
+        client: Config,
+        server: Config,
+        for_client: C,
+        for_server: C,
+    ) -> Result<Sides<C>, NoMemory>
+        requires { IsTrue (C.control.is_known 2) }
+        ensures { IfOk result (λ sides. sides ≡ begins_with C.control client server for_client for_server) }
     {
-        let client = HalfWorld::new(alloc, client)?;
-        let server = HalfWorld::new(alloc, server)?;
+        let client = HalfWorld::new(alloc, client, for_client)?;
+        let server = HalfWorld::new(alloc, server, for_server)?;
         Ok(Sides { client, server })
     }
+}
 
-    pub(crate) fn half(&self, side: Side) -> &HalfWorld
-        ensures { result.now ≡ half_of self.now side }
+impl<C: Congestion> Sides<C> {
+    ghost use Rattle.std.specs.Prelude.{◌≡◌, ◌≢◌, ◌↔◌, ◌⊎◌, true, IfOk, IfErr, OnErr, Ok, Err, slice_get, Option, Some, None};
+    ghost use Rattle.two_ends.specs.Controlled.{congestion_of, controls, happens_to, said_by};
+    ghost use Rattle.two_ends.specs.World.{half_of, input_of, is_full, takes_place, Calls, LacksFrame, ActorIsFull};
+
+    pub(crate) fn half(&self, side: Side) -> &HalfWorld<C>
+        ensures half { result.now.half ≡ half_of self.now.world side }
+        ensures congestion { result.now.congestion ≡ congestion_of self.now side }
     {
         match side {
             Side::Client => &self.client,
@@ -48,33 +64,34 @@ impl Sides {
         }
     }
 
-    // One event: exactly what `happens` says, unless memory runs out.
+    // One event: exactly what `happens_to` says, unless memory runs out.
     pub(crate) fn step(&mut self, event: &Event) -> Result<Seen, WorldFault>
-        ensures ok { IfOk result (λ seen. happens self.old event.now ≡ Ok (record { world = self.new; seen = seen })) }
-        ensures no_such_frame { (result ≡ Err WorldFault.NoSuchFrame) ↔ (happens self.old event.now ≡ Err WorldFault.NoSuchFrame) }
-        ensures full { (result ≡ Err WorldFault.Full) ↔ (happens self.old event.now ≡ Err WorldFault.Full) }
-        ensures lacks { (result ≡ Err WorldFault.NoSuchFrame) ↔ LacksFrame self.old event.now }
-        ensures filled { (result ≡ Err WorldFault.Full) ↔ ((LacksFrame self.old event.now → ⊥) × ActorIsFull self.old event.now) }
+        ensures ok { IfOk result (λ seen. happens_to C.control self.old event.now ≡ Ok (record { after = self.new; seen = seen })) }
+        ensures no_such_frame { (result ≡ Err WorldFault.NoSuchFrame) ↔ (happens_to C.control self.old event.now ≡ Err WorldFault.NoSuchFrame) }
+        ensures full { (result ≡ Err WorldFault.Full) ↔ (happens_to C.control self.old event.now ≡ Err WorldFault.Full) }
+        ensures lacks { (result ≡ Err WorldFault.NoSuchFrame) ↔ LacksFrame self.old.world event.now }
+        ensures filled { (result ≡ Err WorldFault.Full) ↔ ((LacksFrame self.old.world event.now → ⊥) × ActorIsFull self.old.world event.now) }
         ensures err { OnErr result (self.new ≡ self.old) }
     {
         match event {
-            Event::Open => self.call(Side::Client, Call::Open),
+            Event::Open => self.call(Side::Client, Asked::Open),
+            Event::Send { side, payload } => self.call(*side, Asked::Send(payload)),
             Event::Prefer {
                 side,
                 feature,
                 place,
                 values,
             } => {
-                let call = Call::Prefer {
+                let asked = Asked::Prefer {
                     feature: *feature,
                     place: *place,
                     values,
                 };
-                self.call(*side, call)
+                self.call(*side, asked)
             }
-            Event::Timer { side, timer } => self.call(*side, Call::Fire(*timer)),
-            Event::Close { side } => self.call(*side, Call::Close),
-            Event::Abort { side } => self.call(*side, Call::Abort),
+            Event::Timer { side, timer } => self.call(*side, Asked::Fire(*timer)),
+            Event::Close { side } => self.call(*side, Asked::Close),
+            Event::Abort { side } => self.call(*side, Asked::Abort),
             Event::Deliver {
                 from: Side::Client,
                 index,
@@ -86,45 +103,49 @@ impl Sides {
         }
     }
 
-    fn call(&mut self, side: Side, call: Call<'_>) -> Result<Seen, WorldFault>
-        ensures ok { IfOk result (λ seen. takes_place self.old (Calls side (input_of call.entry)) ≡ Ok (record { world = self.new; seen = seen })) }
+    fn call(&mut self, side: Side, asked: Asked<'_>) -> Result<Seen, WorldFault>
+        ensures ok { IfOk result (λ seen. controls C.control self.old side (takes_place self.old.world (Calls side (input_of asked.entry (said_by C.control (congestion_of self.old side))))) ≡ Ok (record { after = self.new; seen = seen })) }
         ensures there { result ≢ Err WorldFault.NoSuchFrame }
-        ensures full { (result ≡ Err WorldFault.Full) ↔ (is_full (half_of self.old side) ≡ true) }
+        ensures full { (result ≡ Err WorldFault.Full) ↔ (is_full (half_of self.old.world side) ≡ true) }
         ensures err { OnErr result (self.new ≡ self.old) }
     {
         match side {
-            Side::Client => call_half(&mut self.client, call),
-            Side::Server => call_half(&mut self.server, call),
+            Side::Client => call_half(&mut self.client, asked),
+            Side::Server => call_half(&mut self.server, asked),
         }
     }
 }
 
 // The side has sent all the frames that the order of its numbers allows.
-fn is_full(half: &HalfWorld) -> bool
-    ensures { result ≡ is_full half.now }
+fn is_full<C: Congestion>(half: &HalfWorld<C>) -> bool
+    ensures { result ≡ is_full half.now.half }
 {
     MOST_FRAMES <= half.frames().len()
 }
 
-fn call_half(half: &mut HalfWorld, call: Call<'_>) -> Result<Seen, WorldFault>
-    ensures ok { IfOk result (λ seen. (is_full half.old ≡ false) × (record { half = half.new; seen = seen } ≡ half_steps half.old (input_of call.entry))) }
-    ensures full { (result ≡ Err WorldFault.Full) ↔ (is_full half.old ≡ true) }
+fn call_half<C: Congestion>(half: &mut HalfWorld<C>, asked: Asked<'_>) -> Result<Seen, WorldFault>
+    ensures ok { IfOk result (λ seen. (is_full half.old.half ≡ false) × (record { after = half.new; seen = seen } ≡ controlled_half_steps C.control half.old (input_of asked.entry (said_by C.control half.old.congestion)))) }
+    ensures full { (result ≡ Err WorldFault.Full) ↔ (is_full half.old.half ≡ true) }
     ensures there { result ≢ Err WorldFault.NoSuchFrame }
     ensures err { OnErr result (half.new ≡ half.old) }
 {
     if is_full(half) {
         return Err(WorldFault::Full);
     }
-    match half.call(call) {
+    match half.call(asked) {
         Ok(seen) => Ok(seen),
         Err(NoMemory) => Err(WorldFault::NoMemory),
     }
 }
 
-fn deliver(frames: &[SentFrame], index: u64, half: &mut HalfWorld) -> Result<Seen, WorldFault>
-    ensures ok { IfOk result (λ seen. IfSome (slice_get frames.now index) (λ frame. (is_full half.old ≡ false) × (record { half = half.new; seen = seen } ≡ half_steps half.old (Arrives frame.bytes)))) }
+fn deliver<C: Congestion>(
+    frames: &[SentFrame],
+    index: u64,
+    half: &mut HalfWorld<C>,
+) -> Result<Seen, WorldFault>
+    ensures ok { IfOk result (λ seen. IfSome (slice_get frames.now index) (λ frame. (is_full half.old.half ≡ false) × (record { after = half.new; seen = seen } ≡ controlled_half_steps C.control half.old (Arrives frame.bytes)))) }
     ensures no_such_frame { (result ≡ Err WorldFault.NoSuchFrame) ↔ (slice_get frames.now index ≡ None) }
-    ensures full { (result ≡ Err WorldFault.Full) ↔ (IsSome (slice_get frames.now index) × (is_full half.old ≡ true)) }
+    ensures full { (result ≡ Err WorldFault.Full) ↔ (IsSome (slice_get frames.now index) × (is_full half.old.half ≡ true)) }
     ensures err { OnErr result (half.new ≡ half.old) }
 {
     let Some(frame) = frames.get(index as usize) else {

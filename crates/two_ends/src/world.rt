@@ -1,7 +1,7 @@
 //! The world: two ends and every frame that either ever sent, with what holds after every schedule.
 ghost use Rattle.std.specs.Prelude.{◌≡◌, ◌<◌, ◌^◌, List};
 ghost use Rattle.dccp_endpoint.specs.Drafts.{Fits};
-ghost use Rattle.two_ends.specs.World.{at_start, run};
+ghost use Rattle.two_ends.specs.Controlled.{begins_with, plays};
 ghost use Rattle.two_ends.specs.Numbered.{Facts};
 ghost use Rattle.two_ends.specs.Safe.{Safe};
 ghost use Rattle.two_ends.specs.declared.event.Event.{Event};
@@ -10,6 +10,7 @@ ghost use Rattle.dccp_states.specs.declared.phase.Role.TheVariants as role;
 
 use crate::sides::Sides;
 use crate::{Event, Seen, SentFrame, Side, WorldFault};
+use congestion_trait::Congestion;
 use dccp_endpoint::{Config, Endpoint, every_step_has_one_effect};
 use feature_lists::{Feature, Place};
 use seq_circle::NoMemory;
@@ -17,9 +18,12 @@ use std::alloc::Global;
 use std::marker::Model;
 
 /// A client, a server, and every frame that either ever sent. [`World::step`] lets one thing happen: a side is asked to open,
-/// to prefer other values of a feature, or to close; a timer of it has run out; or a frame arrives. After each step the world
-/// is safe and its facts hold, whatever was preferred, delivered, lost, repeated or reordered before: so both ends agree on
-/// each feature that they call settled, and each value was given to them.
+/// to send data, to prefer other values of a feature, or to close; a timer of it has run out; or a frame arrives. After each step
+/// the world is safe and its facts hold, whatever was sent, preferred, delivered, lost, repeated or reordered before, and whatever
+/// the congestion controls do: so both ends agree on each feature that they call settled, and each value was given to them; each
+/// number is processed once, each Ack Vector that was ever sent tells just what its sender had processed, and a floor passes a
+/// number only where the other side was told of it or it lies more than 2,047 below one that was processed; and what an end
+/// believes received, by its congestion control, the other one processed.
 ///
 /// The facts: a side's frames, but for Resets without a connection, carry its first number, the next, and so on up to
 /// its greatest number sent, in this order (RFC 4340, section 7.1); there are fewer than 2^47. A Reset without a
@@ -30,46 +34,62 @@ use std::marker::Model;
 /// received, nothing acknowledged and no feature. No frame says two things of one feature and side, and none has an Ack Vector
 /// without an acknowledgement number.
 #[derive(Drop)]
-pub struct World {
-    sides: Sides,
+pub struct World<C: Congestion> {
+    sides: Sides<C>,
 }
 
-impl Model for World {
-    ghost use Rattle.two_ends.specs.World.{WorldState};
+impl<C: Congestion> Model for World<C> {
+    ghost use Rattle.two_ends.specs.Controlled.{Controlled};
     ghost use Rattle.two_ends.specs.Reached.{Reached};
 
-    ghost Value = { WorldState };
+    ghost Value = { Controlled C };
 
     ghost view = { λ w. w.sides };
 
-    ghost invariant = { λ w. Reached w.sides };
+    ghost invariant = { λ w. Reached C.control w.sides };
 }
 
-impl World {
-    ghost use Rattle.std.specs.Prelude.{◌≡◌, ◌↔◌, IfOk, OnErr, Ok, Err};
-    ghost use Rattle.two_ends.specs.World.{at_start, happens, half_of, LacksFrame, ActorIsFull};
+impl<C: Congestion + Drop> World<C> {
+    ghost use Rattle.std.specs.Prelude.{◌≡◌, IfOk, IsTrue};
     ghost use Rattle.dccp_states.specs.declared.phase.Role.TheVariants as role;
+    ghost use Rattle.two_ends.specs.Controlled.{begins_with};
     ghost use Rattle.two_ends.specs.Safe.{Safe};
     ghost use Rattle.two_ends.specs.Numbered.{Facts};
 
-    /// Two ends of these configurations, with what they wish and offer of features, that have sent and received nothing. The world
-    /// is safe and its facts hold: no frame has a number yet, nothing was heard, every feature has its initial value, and a
-    /// Reset would move nothing received.
-    pub fn new(alloc: Global, client: Config, server: Config) -> Result<World, NoMemory>
+    /// Two ends of these configurations, with what they wish and offer of features and with a congestion control for the data of
+    /// each, that have sent and received nothing. Both congestion controls are started with CCID 2, the first value of the feature,
+    /// which they have to know. The world is safe and its facts hold: no frame has a number yet, nothing was heard, every feature
+    /// has its initial value, and a Reset would move nothing received.
+    pub fn new(
+        alloc: Global,
+        client: Config,
+        server: Config,
+        for_client: C,
+        for_server: C,
+    ) -> Result<World<C>, NoMemory>
         requires client { client.role ≡ role.Client }
         requires server { server.role ≡ role.Server }
-        ensures start { IfOk result (λ w. w ≡ at_start client server) }
-        ensures safe { IfOk result (λ w. Safe w) }
-        ensures facts { IfOk result (λ w. Facts w) }
+        requires known { IsTrue (C.control.is_known 2) }
+        ensures start { IfOk result (λ w. w ≡ begins_with C.control client server for_client for_server) }
+        ensures safe { IfOk result (λ w. Safe C.control w) }
+        ensures facts { IfOk result (λ w. Facts w.world) }
     {
         every_step_has_one_effect();
         config_fits(&client);
         config_fits(&server);
-        let sides = Sides::new(alloc, client, server)?;
+        let sides = Sides::new(alloc, client, server, for_client, for_server)?;
         Ok(World { sides })
     }
+}
 
-    /// Lets one event happen: exactly what `happens` says of it. Refusals, in this order: `NoSuchFrame` exactly where a
+impl<C: Congestion> World<C> {
+    ghost use Rattle.std.specs.Prelude.{◌≡◌, ◌↔◌, IfOk, OnErr, Ok, Err};
+    ghost use Rattle.two_ends.specs.World.{half_of, LacksFrame, ActorIsFull};
+    ghost use Rattle.two_ends.specs.Controlled.{end_of, happens_to};
+    ghost use Rattle.two_ends.specs.Safe.{Safe};
+    ghost use Rattle.two_ends.specs.Numbered.{Facts};
+
+    /// Lets one event happen: exactly what `happens_to` says of it. Refusals, in this order: `NoSuchFrame` exactly where a
     /// delivery's index is not below the number of frames of its sender, `Full` exactly where otherwise the side that
     /// would act has sent 2^47 - 1 frames, `NoMemory`. Each leaves the world unchanged: all memory that the step may
     /// need is taken before it.
@@ -79,14 +99,14 @@ impl World {
     /// the other side's frames; once it has sent a numbered frame, GAR is the number of one; a Reset moves nothing received;
     /// and no frame says two things of one feature and side.
     pub fn step(&mut self, event: &Event) -> Result<Seen, WorldFault>
-        ensures ok { IfOk result (λ seen. happens self.old event.now ≡ Ok (record { world = self.new; seen = seen })) }
-        ensures no_such_frame { (result ≡ Err WorldFault.NoSuchFrame) ↔ (happens self.old event.now ≡ Err WorldFault.NoSuchFrame) }
-        ensures full { (result ≡ Err WorldFault.Full) ↔ (happens self.old event.now ≡ Err WorldFault.Full) }
-        ensures lacks { (result ≡ Err WorldFault.NoSuchFrame) ↔ LacksFrame self.old event.now }
-        ensures filled { (result ≡ Err WorldFault.Full) ↔ ((LacksFrame self.old event.now → ⊥) × ActorIsFull self.old event.now) }
+        ensures ok { IfOk result (λ seen. happens_to C.control self.old event.now ≡ Ok (record { after = self.new; seen = seen })) }
+        ensures no_such_frame { (result ≡ Err WorldFault.NoSuchFrame) ↔ (happens_to C.control self.old event.now ≡ Err WorldFault.NoSuchFrame) }
+        ensures full { (result ≡ Err WorldFault.Full) ↔ (happens_to C.control self.old event.now ≡ Err WorldFault.Full) }
+        ensures lacks { (result ≡ Err WorldFault.NoSuchFrame) ↔ LacksFrame self.old.world event.now }
+        ensures filled { (result ≡ Err WorldFault.Full) ↔ ((LacksFrame self.old.world event.now → ⊥) × ActorIsFull self.old.world event.now) }
         ensures err { OnErr result (self.new ≡ self.old) }
-        ensures safe { Safe self.new }
-        ensures facts { Facts self.new }
+        ensures safe { Safe C.control self.new }
+        ensures facts { Facts self.new.world }
     {
         every_step_has_one_effect();
         self.sides.step(event)
@@ -94,21 +114,21 @@ impl World {
 
     /// All frames that a side ever sent, oldest first.
     pub fn frames(&self, side: Side) -> &[SentFrame]
-        ensures { result.now ≡ (half_of self.now side).frames }
+        ensures { result.now ≡ (half_of self.now.world side).frames }
     {
         self.sides.half(side).frames()
     }
 
     /// The numbers that a side processed, in order.
     pub fn processed(&self, side: Side) -> &[u64]
-        ensures { result.now ≡ (half_of self.now side).processed }
+        ensures { result.now ≡ (half_of self.now.world side).processed }
     {
         self.sides.half(side).processed()
     }
 
-    /// The end of a side.
-    pub fn end(&self, side: Side) -> &Endpoint
-        ensures { result.now ≡ (half_of self.now side).end }
+    /// The end of a side, with its congestion control.
+    pub fn end(&self, side: Side) -> &Endpoint<C>
+        ensures { result.now ≡ end_of self.now side }
     {
         self.sides.half(side).end()
     }
@@ -133,24 +153,26 @@ fn service_fits(service: u32)
     ensures { service < 2 ^ 32 }
 {}
 
-/// The world is safe after every list of events, from any configurations of a client and a server whose fields fit
-/// their widths.
-pub fn every_run_is_safe()
-    ensures { (client server : Config) (events : List Event) → client.role ≡ role.Client → server.role ≡ role.Server → Fits client → Fits server → Safe (run (at_start client server) events) }
+/// The world is safe after every list of events, with any congestion control, from any configurations of a client and a server
+/// whose fields fit their widths.
+pub fn every_run_is_safe<C: Congestion>()
+    ensures { (client server : Config) (for_client for_server : C) (events : List Event) → client.role ≡ role.Client → server.role ≡ role.Server
+        → Fits client → Fits server → Safe C.control (plays C.control (begins_with C.control client server for_client for_server) events) }
 {
     every_step_has_one_effect();
 }
 
-/// The world's facts after every list of events, from any two configurations, whatever their roles, whose fields fit their
-/// widths. A side's frames, but for Resets without a connection, carry its first number, the next, and so on up
+/// The world's facts after every list of events, with any congestion control, from any two configurations, whatever their roles,
+/// whose fields fit their widths. A side's frames, but for Resets without a connection, carry its first number, the next, and so on up
 /// to its greatest number sent, in this order (RFC 4340, section 7.1); there are fewer than 2^47. A Reset without a
 /// connection, whose code is 3 or a server's 8, carries no option. Once an end has received a first number, that and
 /// its greatest number received are numbers of numbered frames of the other side, and the first is not the later one;
 /// once it has sent a numbered frame, GAR is the number of one of its own. A Reset that arrives moves neither the
 /// received numbers, nor GAR, nor a feature. No frame says two things of one feature and side, and none has an Ack Vector
 /// without an acknowledgement number.
-pub fn every_run_numbers_its_frames()
-    ensures { (client server : Config) (events : List Event) → Fits client → Fits server → Facts (run (at_start client server) events) }
+pub fn every_run_numbers_its_frames<C: Congestion>()
+    ensures { (client server : Config) (for_client for_server : C) (events : List Event) → Fits client → Fits server
+        → Facts (plays C.control (begins_with C.control client server for_client for_server) events).world }
 {
     every_step_has_one_effect();
 }

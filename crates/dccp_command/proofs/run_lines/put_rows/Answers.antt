@@ -4,5 +4,5 @@ use Rattle.dccp_command.proofs.run_lines.put_rows.Goals as goal
 
 pub loop-feature-preserved : goal.loop-feature-preserved
 loop-feature-preserved c =
-    item_put (row_text c.args.end.now) all_features c.loop-feature.feature-index _ c.loop-feature.text.items _ _ c.loop-feature-test.true
+    item_put (row_text c.args.end.now.state) all_features c.loop-feature.feature-index _ c.loop-feature.text.items _ _ c.loop-feature-test.true
     c.in_ok-put_row.ensures c.loop-feature.invariant

@@ -5,4 +5,4 @@ use Rattle.dccp_command.proofs.run_lines.put_rows.Given as goal
 
 abbrev pub invariant-loop-feature : goal.invariant-loop-feature
 invariant-loop-feature l =
-    l.text.items ++ flat_map (row_text l.end) (drop l.feature-index all_features) ≡ l.initial.text.items ++ flat_map (row_text l.end) all_features
+    l.text.items ++ flat_map (row_text l.end.state) (drop l.feature-index all_features) ≡ l.initial.text.items ++ flat_map (row_text l.end.state) all_features

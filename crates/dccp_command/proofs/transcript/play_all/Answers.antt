@@ -1,6 +1,7 @@
 -- The loop keeps LoopInvariant; each end of it gives IsOver, whose configurations are a client and a server.
 use Rattle.std.proofs.Common.{◌≡◌, ◌∙◌, ◌++◌, true, subst, take, length, Result, arith}
 use Rattle.std.proofs.lemmas.Bool.Decides.{nat_tests}
+use Rattle.ccid_two.specs.Kinds.{at_first}
 use Rattle.schedule_text.specs.declared.line.LineFault.{LineFault}
 use Rattle.dccp_command.specs.Transcript.{Judges, judged, performed}
 use Rattle.dccp_command.specs.RunLines.{refusal_line}
@@ -28,10 +29,16 @@ returns-in-Err-clause-refused c = (refused c).refused_is
 pub returns-in-Err-clause-safe : goal.returns-in-Err-clause-safe
 returns-in-Err-clause-safe c = λ n.
     let peers = (refused c).peers in
-    c.every_run_is_safe.ensures (performed c.args.input.now).client (performed c.args.input.now).server (take n (performed c.args.input.now).events) peers.is_client peers.is_server peers.client_fits peers.server_fits
+    c.every_run_is_safe.ensures (performed c.args.input.now).client (performed c.args.input.now).server at_first at_first (take n (performed c.args.input.now).events) peers.is_client peers.is_server peers.client_fits peers.server_fits
 
 pub returns-clause-safe : goal.returns-clause-safe
 returns-clause-safe c = λ n.
     let none : length c.loop-rest.rest.now ≡ 0 = grind (arith, nat_tests) in
     let over = at-end c.loop-rest.play c.loop-rest.rest.now c.loop-rest.text.items c.args.input.now c.loop-rest.invariant none in
-    c.every_run_is_safe.ensures (performed c.args.input.now).client (performed c.args.input.now).server (take n (performed c.args.input.now).events) over.peers.is_client over.peers.is_server over.peers.client_fits over.peers.server_fits
+    c.every_run_is_safe.ensures (performed c.args.input.now).client (performed c.args.input.now).server at_first at_first (take n (performed c.args.input.now).events) over.peers.is_client over.peers.is_server over.peers.client_fits over.peers.server_fits
+
+pub returns-clause-text : goal.returns-clause-text
+returns-clause-text c =
+    let none : length c.loop-rest.rest.now ≡ 0 = grind (arith, nat_tests) in
+    let over = at-end c.loop-rest.play c.loop-rest.rest.now c.loop-rest.text.items c.args.input.now c.loop-rest.invariant none in
+    c.in_ok-finish.ensures ∙ over.text_is

@@ -1,13 +1,17 @@
 -- One more event, or none.
-use Rattle.two_ends.proofs.Keeping.{kept-facts, reached-kept, reached-safe}
+use Rattle.two_ends.proofs.Believing.{reached-facts, reached-safe}
 use Rattle.two_ends.proofs.Reaching.{step-reached, leaves}
 use Rattle.two_ends.proofs.world.World.step.Goals as goal
 
 pub invariant_of-self : goal.invariant_of-self
-invariant_of-self c = step-reached _ c.args.event.now _ c.step.result (leaves _ c.args.event.now _ c.step.result c.step.ensures.ok c.step.ensures.err) c.self.invariant
+invariant_of-self g c =
+    step-reached g.C.Congestion.control _ c.args.event.now _ c.step.result
+    (leaves g.C.Congestion.control _ c.args.event.now _ c.step.result c.step.ensures.ok c.step.ensures.err) c.self.invariant
 
 pub returns-clause-safe : goal.returns-clause-safe
-returns-clause-safe c = reached-safe c.every_step_has_one_effect.ensures _ (invariant_of-self c)
+returns-clause-safe g c =
+    reached-safe g.C.Congestion.control g.met.C.Congestion.lawful c.every_step_has_one_effect.ensures _ (invariant_of-self g c)
 
 pub returns-clause-facts : goal.returns-clause-facts
-returns-clause-facts c = kept-facts _ (reached-kept c.every_step_has_one_effect.ensures _ (invariant_of-self c)) c.every_step_has_one_effect.ensures
+returns-clause-facts g c =
+    reached-facts g.C.Congestion.control g.met.C.Congestion.lawful c.every_step_has_one_effect.ensures _ (invariant_of-self g c)

@@ -1,0 +1,48 @@
+-- What is handed to the congestion control, in order; and the values that go with it fit.
+use Rattle.std.proofs.Common.{◌≡◌, ℕ, ◌<◌, ◌^◌, true, List, sym, ap, ◌∙◌, subst}
+use Rattle.congestion_trait.specs.Calls.{Call}
+use Rattle.congestion_trait.specs.Control.{Control}
+use Rattle.feature_lists.specs.Features.{described}
+use Rattle.feature_lists.specs.declared.features.Feature.{Feature}
+use Rattle.feature_lists.specs.declared.features.Feature.TheVariants.{AckRatio, Ccid}
+use Rattle.feature_lists.specs.declared.features.Place.{Place}
+use Rattle.feature_lists.specs.declared.features.Place.TheVariants.{Here}
+use Rattle.feature_machine.proofs.Soundness.{lawful_fits}
+use Rattle.feature_machine.specs.Negotiating.{held_by}
+use Rattle.feature_machine.specs.Sound.{IsRowOf, is_lawful}
+use Rattle.feature_machine.specs.declared.row.Row.{Row}
+use Rattle.feature_machine.specs.declared.stands.Held.{Held}
+use Rattle.dccp_endpoint.specs.Controlled.{EndStep, after_calls, with_control}
+use Rattle.dccp_endpoint.specs.Steps.{Step, with_calls}
+
+-- the value of a row fits the bytes of its feature
+held_fits : (feature : Feature) (place : Place) (held : Held) (row : Row) → held ≡ held_by row → IsRowOf feature place row
+    → held.value < 256 ^ (described feature).width
+held_fits feature place held row is its =
+    subst (λ (h : Held). h.value < 256 ^ (described feature).width) (sym is)
+    (lawful_fits feature place row.value
+    (subst (λ (there : Place). is_lawful feature there row.value ≡ true) its.place_is
+    (subst (λ (its_own : Feature). is_lawful its_own row.place row.value ≡ true) its.feature_is its.sound.value)))
+
+pub ccid_fits : (held : Held) (row : Row) → held ≡ held_by row → IsRowOf Ccid Here row → held.value < 256
+ccid_fits held row is its = held_fits Ccid Here held row is its
+
+pub ratio_fits : (held : Held) (row : Row) → held ≡ held_by row → IsRowOf AckRatio Here row → held.value < 65536
+ratio_fits held row is its = held_fits AckRatio Here held row is its
+
+module _ {C Answer : Type 0} (control : Control C) (old : C) where
+  -- a step beside a congestion control
+  abbrev beside : C → Step Answer → EndStep C Answer
+  beside congestion step = record { after = record { state = step.after; congestion = congestion }; frame = step.frame; answer = step.answer }
+
+  -- what was due was handed over
+  pub handed : (step made : Step Answer) (calls : List Call) (new : C) → made ≡ step → new ≡ after_calls control old calls
+      → beside new made ≡ with_control control old (with_calls calls step)
+  handed step made calls new same due =
+      ap (beside new) same ∙ ap (λ (congestion : C). beside congestion step) due
+
+  -- what is told of the end alone
+  pub of_the_end : (step : Step Answer) (made : EndStep C Answer) → made ≡ with_control control old step
+      → record { after = made.after.state; frame = made.frame; calls = step.calls; answer = made.answer } ≡ step
+  of_the_end step made same =
+      ap (λ (m : EndStep C Answer). record { after = m.after.state; frame = m.frame; calls = step.calls; answer = m.answer }) same

@@ -1,0 +1,149 @@
+//! The end without its congestion control.
+ghost use Rattle.std.specs.Prelude.{◌≡◌};
+ghost use Rattle.dccp_endpoint.specs.End.{end_of, first_phase};
+
+use crate::{Config, Held};
+use ack_vectors::Received;
+use dccp_states::{Phase, Role};
+use feature_lists::{Feature, Place, initial};
+use feature_machine::{Negotiation, Role2};
+use seq_circle::{NoMemory, Seq48};
+use std::alloc::Global;
+use std::marker::Model;
+use validity_windows::Marks;
+
+mod calling;
+mod handing;
+mod receiving;
+mod sending;
+
+pub(crate) use receiving::is_open;
+
+// Whose end the rows of the negotiation are of.
+fn end_of(role: Role) -> Role2
+    ensures { result ≡ end_of role }
+{
+    match role {
+        Role::Client => Role2::Client,
+        Role::Server => Role2::Server,
+    }
+}
+
+// Where each role begins (RFC 4340, section 8.1).
+fn first_phase(role: Role) -> Phase
+    ensures { result ≡ first_phase role }
+{
+    match role {
+        Role::Client => Phase::Closed,
+        Role::Server => Phase::Listen,
+    }
+}
+
+/// One end of a connection but for its congestion control, which is lent to it where something is due to it. Its calls are those of
+/// `Endpoint`.
+#[derive(Drop)]
+pub(crate) struct Connection {
+    config: Config,
+    phase: Phase,
+    opened: bool,
+    marks: Marks,
+    rows: Negotiation,
+    received: Received,
+    marked: u64,
+    owed: bool,
+    unacked: u16,
+}
+
+impl Model for Connection {
+    ghost use Rattle.dccp_endpoint.specs.End.{EndState, IsProper};
+
+    ghost Value = { EndState };
+
+    ghost view = { λ e. record { config = e.config; phase = e.phase; opened = e.opened; marks = e.marks; rows = e.rows; received = e.received; marked = e.marked; owed = e.owed; unacked = e.unacked } };
+
+    ghost invariant = { λ e. IsProper (record { config = e.config; phase = e.phase; opened = e.opened; marks = e.marks; rows = e.rows; received = e.received; marked = e.marked; owed = e.owed; unacked = e.unacked }) };
+}
+
+impl Connection {
+    ghost use Rattle.std.specs.Prelude.{◌≡◌, IfOk};
+    ghost use Rattle.dccp_endpoint.specs.End.{EndState, fresh, held_of, floor_of, marked_of, with_rows};
+    ghost use Rattle.feature_machine.specs.Negotiating.{AreRowsOf};
+    ghost use Rattle.run_list.specs.MarkedSet.{IsSound};
+
+    /// An end of its configuration: CLOSED for a client, LISTEN for a server (RFC 4340, section 8.1).
+    pub(crate) fn new(alloc: Global, config: Config) -> Result<Connection, NoMemory>
+        ensures { IfOk result (λ e. e ≡ fresh config) }
+    {
+        config.shows_lists();
+        let phase = first_phase(config.role);
+        let marks = Marks::new(config.iss, initial(Feature::SequenceWindow));
+        let rows = Negotiation::new(end_of(config.role), &config.lists);
+        let received = Received::new(alloc)?;
+        Ok(Connection {
+            config,
+            phase,
+            opened: false,
+            marks,
+            rows,
+            received,
+            marked: 0,
+            owed: false,
+            unacked: 0,
+        })
+    }
+
+    /// The phase.
+    pub(crate) fn phase(&self) -> Phase
+        ensures { result ≡ self.now.phase }
+    {
+        self.phase
+    }
+
+    /// The first and greatest numbers sent and received, and the widths of the windows (RFC 4340, section 7.1).
+    pub(crate) fn marks(&self) -> Marks
+        ensures { result ≡ self.now.marks }
+    {
+        self.marks
+    }
+
+    /// What the end holds for a feature at a place, and where its negotiation stands (RFC 4340, section 6.6.2).
+    pub(crate) fn held(&self, feature: Feature, place: Place) -> Held
+        ensures { result ≡ held_of self.now feature place }
+    {
+        self.rows.held(feature, place)
+    }
+
+    // The rows: they are of the end's role, and the windows are as wide as they say.
+    fn rows(&self) -> &Negotiation
+        ensures value { result.now ≡ self.now.rows }
+        ensures role { AreRowsOf (end_of self.now.config.role) self.now.rows }
+        ensures widths { with_rows self.now self.now.rows ≡ self.now }
+    {
+        &self.rows
+    }
+
+    // The rows are these from now on, and the windows as wide as they say.
+    fn store(&mut self, rows: &Negotiation)
+        requires { AreRowsOf (end_of self.old.config.role) rows.now }
+        ensures { self.new ≡ with_rows self.old rows.now }
+    {
+        self.marks.own_w = rows.held(Feature::SequenceWindow, Place::Here).value;
+        self.marks.peer_w = rows.held(Feature::SequenceWindow, Place::There).value;
+        self.rows = *rows;
+    }
+
+    /// The least number that an Ack Vector may report (RFC 4340, section 11.4.2), or 0 before the first was received.
+    pub(crate) fn floor(&self) -> Seq48
+        ensures value { result ≡ floor_of self.now }
+        ensures sound { IsSound self.now.received.set }
+    {
+        self.received.floor()
+    }
+
+    /// How many numbers were taken.
+    pub(crate) fn marked(&self) -> u64
+        ensures { result ≡ marked_of self.now }
+    {
+        self.marked
+    }
+}

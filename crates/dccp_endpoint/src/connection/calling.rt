@@ -1,0 +1,265 @@
+//! The calls and timers of an end (RFC 4340, sections 8.1 to 8.3). Each call empties the Outbox first.
+use super::Connection;
+use super::receiving::{is_connected, is_open};
+use crate::speaking::asking;
+use crate::{AbortFault, CloseFault, OpenFault, SendFault, Timer};
+use dccp_packets::{Kind, Number, Outbox, ResetCode};
+use dccp_states::{Phase, Role};
+use feature_lists::{Feature, Place, PreferFault, Wanted, wish};
+use feature_machine::Opening;
+
+// A packet may have so many bytes of data.
+const MOST_DATA: usize = 1024;
+
+impl Connection {
+    ghost use Rattle.std.specs.Prelude.{◌≡◌, ◌≢◌, ◌↔◌, ◌⊎◌, ◌≤◌, ◌<◌, Bool, [], None, Ok, Err, OnErr, true, false, length};
+    ghost use Rattle.dccp_states.specs.declared.phase.Role.TheVariants as role;
+    ghost use Rattle.dccp_endpoint.specs.Calling.{aborts, aborts_now, applies, asks_all, asks_now, closes, closes_now, fires, has_keys, lacks_vectors, opens, opens_as, prefers, prefers_wish, requests, send_fault};
+    ghost use Rattle.dccp_endpoint.specs.End.{is_connected};
+    ghost use Rattle.dccp_endpoint.specs.Speaking.{AreDue};
+    ghost use Rattle.feature_lists.specs.Wishes.{is_wish, wish_of};
+    ghost use Rattle.feature_lists.specs.declared.wishes.PreferFault.TheVariants as prefer;
+    ghost use Rattle.feature_machine.specs.Negotiating.{due_keys};
+    ghost use Rattle.dccp_endpoint.specs.Drafts.{alone};
+    ghost use Rattle.dccp_packets.specs.declared.header.Kind.TheVariants as kind;
+    ghost use Rattle.dccp_packets.specs.declared.header.Number.TheVariants.{Long};
+    ghost use Rattle.dccp_endpoint.specs.Reporting.{sends_ack};
+    ghost use Rattle.dccp_endpoint.specs.Steps.{sends};
+    ghost use Rattle.dccp_packets.specs.Grammar.{has_forms};
+
+    /// The client sends its Request.
+    #[tactic(auto, unfolding(crate::specs::Calling::opens))]
+    pub(crate) fn open(&mut self, out: &mut Outbox) -> Result<(), OpenFault>
+        ensures step { record { after = self.new; frame = out.new; calls = []; answer = result } ≡ opens self.old }
+        ensures not_fresh { (result ≡ Err OpenFault.NotFresh) ↔ ((self.old.config.role ≡ Role.Server) ⊎ (self.old.opened ≡ true)) }
+        ensures refused { OnErr result ((self.new ≡ self.old) × (out.new ≡ None)) }
+    {
+        out.clear();
+        match (self.config.role, self.opened) {
+            (Role::Client, false) => {
+                self.request(out);
+                Ok(())
+            }
+            (Role::Client, true) | (Role::Server, _) => Err(OpenFault::NotFresh),
+        }
+    }
+
+    fn request(&mut self, out: &mut Outbox)
+        requires { self.old.config.role ≡ Role.Client }
+        ensures { record { after = self.new; frame = out.new; calls = []; answer = Ok (tt {0}) } ≡ opens_as self.old role.Client false }
+    {
+        self.opened = true;
+        self.phase = Phase::Request;
+        self.send_request(out);
+    }
+
+    // A Request opens the offered rows, and carries the Changes of these and of all others that ask.
+    fn send_request(&mut self, out: &mut Outbox)
+        ensures after { self.new ≡ (requests self.old (tt {0})).after }
+        ensures frame { out.new ≡ (requests self.old (tt {0})).frame }
+    {
+        let service = self.config.service;
+        self.send_offering(Kind::Request { service }, &[], out);
+    }
+
+    /// Ends the connection in order.
+    #[tactic(auto, unfolding(crate::specs::Calling::closes))]
+    pub(crate) fn close(&mut self, out: &mut Outbox) -> Result<(), CloseFault>
+        ensures step { record { after = self.new; frame = out.new; calls = []; answer = result } ≡ closes self.old }
+        ensures not_open { (result ≡ Err CloseFault.NotOpen) ↔ ((self.old.phase ≢ Phase.PartOpen) × (self.old.phase ≢ Phase.Open)) }
+        ensures refused { OnErr result ((self.new ≡ self.old) × (out.new ≡ None)) }
+    {
+        out.clear();
+        match self.phase {
+            Phase::PartOpen | Phase::Open => {
+                self.begin_closing(out);
+                Ok(())
+            }
+            _ => Err(CloseFault::NotOpen),
+        }
+    }
+
+    fn begin_closing(&mut self, out: &mut Outbox)
+        ensures { record { after = self.new; frame = out.new; calls = []; answer = Ok (tt {0}) } ≡ closes_now self.old self.old.config.role }
+    {
+        let ack = self.marks.gsr;
+        match self.config.role {
+            Role::Client => {
+                self.phase = Phase::Closing;
+                self.send(Kind::Close { ack }, out);
+            }
+            Role::Server => {
+                self.phase = Phase::CloseReq;
+                self.send(Kind::CloseReq { ack }, out);
+            }
+        }
+    }
+
+    /// Ends the connection at once.
+    #[tactic(auto, unfolding(crate::specs::Calling::aborts))]
+    pub(crate) fn abort(&mut self, out: &mut Outbox) -> Result<(), AbortFault>
+        ensures step { record { after = self.new; frame = out.new; calls = []; answer = result } ≡ aborts self.old }
+        ensures not_live { (result ≡ Err AbortFault.NotLive) ↔ ((self.old.phase ≡ Phase.Closed) ⊎ (self.old.phase ≡ Phase.Listen) ⊎ (self.old.phase ≡ Phase.TimeWait)) }
+        ensures refused { OnErr result ((self.new ≡ self.old) × (out.new ≡ None)) }
+    {
+        out.clear();
+        match self.phase {
+            Phase::Closed | Phase::Listen | Phase::TimeWait => Err(AbortFault::NotLive),
+            Phase::Request => {
+                self.phase = Phase::Closed;
+                Ok(())
+            }
+            Phase::Respond | Phase::PartOpen | Phase::Open | Phase::CloseReq | Phase::Closing => {
+                self.send_abort(out);
+                Ok(())
+            }
+        }
+    }
+
+    fn send_abort(&mut self, out: &mut Outbox)
+        ensures { record { after = self.new; frame = out.new; calls = []; answer = Ok (tt {0}) } ≡ aborts_now self.old }
+    {
+        self.phase = Phase::Closed;
+        let ack = self.marks.gsr;
+        let code = ResetCode::Aborted.number();
+        let detail = [0, 0, 0];
+        self.send(Kind::Reset { ack, code, detail }, out);
+    }
+
+    /// The end wants these values for a feature at a place.
+    #[tactic(auto, unfolding(crate::specs::Calling::prefers))]
+    pub(crate) fn prefer(
+        &mut self,
+        feature: Feature,
+        place: Place,
+        values: &[u64],
+        out: &mut Outbox,
+    ) -> Result<(), PreferFault>
+        ensures step { record { after = self.new; frame = out.new; calls = []; answer = result } ≡ prefers self.old (feature, place) values.now }
+        ensures not_open { (result ≡ Err PreferFault.NotOpen) ↔ ((self.old.phase ≢ Phase.PartOpen) × (self.old.phase ≢ Phase.Open)) }
+        ensures bad_list { (result ≡ Err PreferFault.BadList) ↔ ((is_connected self.old.phase ≡ true) × (wish_of feature place values.now ≡ Err prefer.BadList)) }
+        ensures not_ours { (result ≡ Err PreferFault.NotOurs) ↔ ((is_connected self.old.phase ≡ true) × (wish_of feature place values.now ≡ Err prefer.NotOurs)) }
+        ensures refused { OnErr result ((self.new ≡ self.old) × (out.new ≡ None)) }
+    {
+        out.clear();
+        if !is_connected(self.phase) {
+            return Err(PreferFault::NotOpen);
+        }
+        let wish = wish(feature, place, values)?;
+        self.prefer_wish(feature, place, wish, out);
+        Ok(())
+    }
+
+    #[tactic(auto, using(crate::proofs::Keeping::preferred_rows, crate::proofs::Asking::preferred_asks))]
+    fn prefer_wish(&mut self, feature: Feature, place: Place, wish: Wanted, out: &mut Outbox)
+        requires empty { out.old ≡ None }
+        requires wish { is_wish feature place wish ≡ true }
+        ensures { record { after = self.new; frame = out.new; calls = []; answer = Ok (tt {0}) } ≡ prefers_wish self.old (feature, place) (Ok wish) }
+    {
+        let mut rows = *self.rows();
+        let opening = rows.prefer(feature, place, wish);
+        self.store(&rows);
+        if opening == Opening::Now {
+            self.ask_now(&[(feature, place)], out);
+        }
+    }
+
+    // An Ack with the Changes of these rows, which ask.
+    fn ask_now(&mut self, keys: &[(Feature, Place)], out: &mut Outbox)
+        requires rows { length keys.now ≤ 18 }
+        requires due { AreDue self.old.rows keys.now }
+        ensures after { self.new ≡ (asks_now self.old keys.now (tt {0})).after }
+        ensures frame { out.new ≡ (asks_now self.old keys.now (tt {0})).frame }
+    {
+        self.ask(keys);
+        let ack = Number::Long(self.marks.gsr);
+        self.send_ack(Kind::Ack { ack }, &[], keys, out);
+    }
+
+    /// A timer has run out, other than that of the congestion control. True exactly where it has something to do in this phase.
+    #[tactic(auto, unfolding(crate::specs::Calling::fires))]
+    pub(crate) fn timer(&mut self, timer: Timer, out: &mut Outbox) -> bool
+        requires { timer ≢ Timer.Rto }
+        ensures step { (in_flight : Bool) → record { after = self.new; frame = out.new; calls = []; answer = result } ≡ fires self.old timer in_flight }
+        ensures applies { (in_flight : Bool) → result ≡ applies timer self.old in_flight }
+        ensures idle { result ≡ false → (self.new ≡ self.old) × (out.new ≡ None) }
+    {
+        out.clear();
+        let ack = self.marks.gsr;
+        match (timer, self.phase) {
+            (Timer::Request, Phase::Request) => {
+                self.send_request(out);
+                true
+            }
+            (Timer::Ack, Phase::PartOpen | Phase::Open) => {
+                self.acknowledge_now(out);
+                true
+            }
+            (Timer::Negotiate, Phase::PartOpen | Phase::Open) => self.ask_all(out),
+            (Timer::Close, Phase::CloseReq) => self.fire(Kind::CloseReq { ack }, out),
+            (Timer::Close, Phase::Closing) => self.fire(Kind::Close { ack }, out),
+            (Timer::TimeWait, Phase::TimeWait) => {
+                self.phase = Phase::Closed;
+                true
+            }
+            _ => false,
+        }
+    }
+
+    /// Why data are not sent, if it is so.
+    pub(crate) fn send_fault(&self, payload: &[u8], may_send: bool) -> Option<SendFault>
+        ensures { result ≡ send_fault self.now payload.now may_send }
+    {
+        if !is_open(self.phase) {
+            Some(SendFault::NotOpen)
+        } else if MOST_DATA < payload.len() {
+            Some(SendFault::TooLong)
+        } else if self.lacks_vectors() {
+            Some(SendFault::NotNegotiated)
+        } else if !may_send {
+            Some(SendFault::WindowFull)
+        } else {
+            None
+        }
+    }
+
+    // CCID 2 needs the Ack Vectors of the peer.
+    fn lacks_vectors(&self) -> bool
+        ensures { result ≡ lacks_vectors self.now.rows }
+    {
+        self.rows.held(Feature::Ccid, Place::Here).value == 2
+            && self.rows.held(Feature::SendAckVector, Place::There).value != 1
+    }
+
+    // An Ack, which nothing asks for.
+    fn acknowledge_now(&mut self, out: &mut Outbox)
+        ensures { record { after = self.new; frame = out.new; calls = []; answer = true } ≡ sends_ack self.old (alone (kind.Ack (Long self.old.marks.gsr))) true }
+    {
+        let ack = Number::Long(self.marks.gsr);
+        self.send_ack(Kind::Ack { ack }, &[], &[], out);
+    }
+
+    // The Changes of all rows that ask go out again.
+    #[tactic(auto, using(crate::proofs::Asking::unconfirmed_all))]
+    fn ask_all(&mut self, out: &mut Outbox) -> bool
+        requires { out.old ≡ None }
+        ensures step { record { after = self.new; frame = out.new; calls = []; answer = result } ≡ asks_all self.old (due_keys self.old.rows) }
+        ensures applies { result ≡ has_keys (due_keys self.old.rows) }
+    {
+        let keys = asking(self.rows(), &[]);
+        let keys = keys.as_slice();
+        if keys.is_empty() {
+            return false;
+        }
+        self.ask_now(keys, out);
+        true
+    }
+
+    fn fire(&mut self, kind: Kind, out: &mut Outbox) -> bool
+        requires { has_forms true kind ≡ true }
+        ensures { record { after = self.new; frame = out.new; calls = []; answer = result } ≡ sends self.old (alone kind) true }
+    {
+        self.send(kind, out);
+        true
+    }
+}

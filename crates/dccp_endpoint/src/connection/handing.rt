@@ -1,0 +1,78 @@
+//! What an end hands to its congestion control (RFC 4340, sections 10 and 11.4).
+ghost use Rattle.std.specs.Prelude.{◌≡◌};
+ghost use Rattle.feature_lists.specs.declared.features.Feature.TheVariants as feature;
+ghost use Rattle.feature_lists.specs.declared.features.Place.TheVariants as place;
+ghost use Rattle.dccp_endpoint.specs.Congesting.{calls_for, report_calls, reported_from, start_calls};
+ghost use Rattle.dccp_endpoint.specs.Controlled.{after_calls};
+ghost use Rattle.dccp_endpoint.specs.End.{value_in};
+
+use crate::incoming::IncomingPacket;
+use congestion_trait::Congestion;
+use dccp_options::{AckReport, options};
+use dccp_packets::PacketType;
+use feature_lists::{Feature, Place};
+use feature_machine::Negotiation;
+use seq_circle::Seq48;
+
+// The CCID here: 2 or 248.
+#[tactic(auto, using(crate::proofs::Handing::ccid_fits))]
+fn ccid(rows: &Negotiation) -> u8
+    ensures { result ≡ value_in rows.now feature.Ccid place.Here }
+{
+    let held = rows.held(Feature::Ccid, Place::Here);
+    held.value as u8
+}
+
+// The Ack Ratio here, at most 65,535.
+#[tactic(auto, using(crate::proofs::Handing::ratio_fits))]
+fn ratio(rows: &Negotiation) -> u16
+    ensures { result ≡ value_in rows.now feature.AckRatio place.Here }
+{
+    let held = rows.held(Feature::AckRatio, Place::Here);
+    held.value as u16
+}
+
+// The number from which the Ack Vectors of a packet report; the number that a Sync acknowledges may be any.
+fn reported_from(packet: &IncomingPacket<'_>) -> Option<Seq48>
+    ensures { result ≡ reported_from packet.now.kind packet.now.ack }
+{
+    match packet.kind {
+        PacketType::Sync => None,
+        _ => packet.ack,
+    }
+}
+
+// A packet's report, if it has one.
+fn report<C: Congestion>(packet: &IncomingPacket<'_>, ratio: u16, congestion: &mut C)
+    ensures { congestion.new ≡ after_calls C.control congestion.old (report_calls (reported_from packet.now.kind packet.now.ack) packet.now.options ratio) }
+{
+    let Some(ack) = reported_from(packet) else {
+        return;
+    };
+    let list = options(packet.options, packet.kind.is_data());
+    if let Some(report) = AckReport::of(ack, list) {
+        congestion.on_report(&report, ratio);
+    }
+}
+
+// Where the CCID changes, the congestion control is started, unless it does not know the new one.
+fn start<C: Congestion>(old: u8, new: u8, congestion: &mut C)
+    ensures { congestion.new ≡ after_calls C.control congestion.old (start_calls old new) }
+{
+    if old != new && congestion.knows(new) {
+        congestion.start(new);
+    }
+}
+
+// What is due for a packet, by the rows before and after it.
+pub(crate) fn hand_over<C: Congestion>(
+    packet: &IncomingPacket<'_>,
+    old: &Negotiation,
+    new: &Negotiation,
+    congestion: &mut C,
+)
+    ensures { congestion.new ≡ after_calls C.control congestion.old (calls_for packet.now old.now new.now) }
+{
+    report(packet, ratio(new), congestion);
+    start(ccid(old), ccid(new), congestion);
+}

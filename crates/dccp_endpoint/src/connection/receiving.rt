@@ -1,0 +1,647 @@
+//! What an end does with a packet that arrives: the sixteen steps of RFC 4340, section 8.5.
+//! `take_bytes`, `take`, `take_options` and `take_steps` list them, and each has a function of its own below.
+ghost use Rattle.std.specs.Prelude.{◌≡◌, length, map};
+ghost use Rattle.dccp_endpoint.specs.End.{is_connected, is_open, is_live};
+ghost use Rattle.dccp_endpoint.specs.Receiving.{packet_fault};
+ghost use Rattle.dccp_endpoint.specs.Reporting.{carries_data, is_acking};
+ghost use Rattle.dccp_endpoint.specs.Steps.{without_detail};
+ghost use Rattle.dccp_packets.specs.ResetCodes.{number_of_code};
+
+use super::Connection;
+use super::handing::hand_over;
+use crate::config::number as seq48;
+use crate::faults::counts;
+use crate::heeding::{Reading, heed};
+use crate::incoming::IncomingPacket;
+use crate::{Exit, Fault, Outcome, Why};
+use congestion_trait::Congestion;
+use dccp_packets::{Header, Kind, Number, Outbox, PacketType, ResetCode, decode};
+use dccp_states::{Entrance, Phase, Reply, after, gate, unexpected};
+use dccp_sum::check;
+use feature_lists::{Feature, Place};
+use feature_machine::ConfirmOut;
+use run_list::Marked;
+use seq_circle::Seq48;
+use validity_windows::Verdict;
+
+// The phase is OPEN.
+pub(crate) fn is_open(phase: Phase) -> bool
+    ensures { result ≡ is_open phase }
+{
+    matches!(phase, Phase::Open)
+}
+
+// The phases in which a first number was received.
+fn is_live(phase: Phase) -> bool
+    ensures { result ≡ is_live phase }
+{
+    matches!(
+        phase,
+        Phase::Respond | Phase::PartOpen | Phase::Open | Phase::CloseReq | Phase::Closing
+    )
+}
+
+// The phases in which the handshake has got through to this end.
+pub(crate) fn is_connected(phase: Phase) -> bool
+    ensures { result ≡ is_connected phase }
+{
+    matches!(phase, Phase::PartOpen | Phase::Open)
+}
+
+// A Reset code without details.
+fn without_detail(code: ResetCode) -> Fault
+    ensures { result ≡ without_detail (number_of_code code) }
+{
+    Fault {
+        code: code.number(),
+        first: 0,
+        second: 0,
+        third: 0,
+    }
+}
+
+// Ack and DataAck.
+fn is_acking(kind: PacketType) -> bool
+    ensures { result ≡ is_acking kind }
+{
+    matches!(kind, PacketType::Ack | PacketType::DataAck)
+}
+
+// Data and DataAck.
+fn carries_data(kind: PacketType) -> bool
+    ensures { result ≡ carries_data kind }
+{
+    matches!(kind, PacketType::Data | PacketType::DataAck)
+}
+
+// Packet Error tells of the packet's type.
+fn packet_fault(packet: &IncomingPacket<'_>) -> Fault
+    ensures { result ≡ packet_fault packet.now }
+{
+    Fault {
+        code: ResetCode::PacketError.number(),
+        first: packet.kind.code(),
+        second: 0,
+        third: 0,
+    }
+}
+
+impl Connection {
+    ghost use Rattle.std.specs.Prelude.{◌≡◌, ◌≤◌, ◌&&◌, if◌then◌else◌, [], Option, Some, None, Ok, Err, true, false, length, map};
+    ghost use Rattle.dccp_packets.specs.Grammar.{has_forms};
+    ghost use Rattle.dccp_packets.specs.declared.header.Kind.TheVariants as kind;
+    ghost use Rattle.dccp_packets.specs.declared.header.Number.TheVariants.{Long};
+    ghost use Rattle.dccp_states.specs.Entrance.{gate};
+    ghost use Rattle.dccp_states.specs.Phases.{after};
+    ghost use Rattle.dccp_states.specs.declared.phase.Phase.TheVariants as phase;
+    ghost use Rattle.validity_windows.specs.Verdict.{verdict};
+    ghost use Rattle.dccp_endpoint.specs.Controlled.{with_control};
+    ghost use Rattle.dccp_endpoint.specs.Drafts.{alone};
+    ghost use Rattle.dccp_endpoint.specs.End.{EndState, IsProper, is_phase_of};
+    ghost use Rattle.dccp_endpoint.specs.Faults.{counts};
+    ghost use Rattle.dccp_endpoint.specs.Heeding.{due_of, heeds, unheeded};
+    ghost use Rattle.dccp_endpoint.specs.Speaking.{HaveRoom, confirming};
+    ghost use Rattle.dccp_endpoint.specs.Incoming.{Incoming, is_newest};
+    ghost use Rattle.dccp_endpoint.specs.Receiving.{receives, takes, checks_header, is_of_connection, course, Goes, the_steps, through, finds_connection, is_own_service, accepts_request, started, acknowledges_in_window, answers, takes_answer, raises, judged, checks_numbers, ends_by_reset, is_unexpected, is_other_service, checks_type, heeded, reads_options, moved_to, needs_ack, acknowledges, responds, replies, processes, resets, resets_without_connection, leaves};
+    ghost use Rattle.dccp_endpoint.specs.Reporting.{counts_data, delivered_if, delivers, is_enough, looked_up, looks_up, marks};
+    ghost use Rattle.dccp_endpoint.specs.declared.outcome.Outcome.TheVariants.{Took};
+    ghost use Rattle.run_list.specs.MarkedSet.{answer_to};
+    ghost use Rattle.dccp_endpoint.specs.Inputs.{Arrives};
+    ghost use Rattle.dccp_endpoint.specs.Outcomes.{HasCause, HasEffectOf, HasNoOtherCause};
+    ghost use Rattle.dccp_endpoint.specs.Steps.{idle, sends, without_detail};
+
+    /// Takes bytes that arrived, and hands to the congestion control what is due to it.
+    pub(crate) fn receive<C: Congestion>(
+        &mut self,
+        bytes: &[u8],
+        out: &mut Outbox,
+        congestion: &mut C,
+    ) -> Outcome
+        requires { length bytes.now ≤ 2044 }
+        ensures step { record { after = record { state = self.new; congestion = congestion.new }; frame = out.new; answer = result } ≡ with_control C.control congestion.old (receives self.old bytes.now) }
+        ensures cause { HasCause self.old bytes.now result }
+        ensures no_other_cause { HasNoOtherCause self.old bytes.now result }
+        ensures effect { HasEffectOf self.old (Arrives bytes.now) result self.new out.new (receives self.old bytes.now).calls }
+    {
+        self.shows_proper();
+        out.clear();
+        self.take_bytes(bytes, out, congestion)
+    }
+
+    // Reading a field gives the prover the type's invariant.
+    fn shows_proper(&self)
+        ensures { IsProper self.now }
+    {
+        let _phase = self.phase;
+    }
+
+    // Step 1, and with what it lets pass the others.
+    #[tactic(auto, unfolding(crate::specs::Receiving::receives))]
+    fn take_bytes<C: Congestion>(
+        &mut self,
+        bytes: &[u8],
+        out: &mut Outbox,
+        congestion: &mut C,
+    ) -> Outcome
+        requires empty { out.old ≡ None }
+        requires short { length bytes.now ≤ 2044 }
+        ensures { record { after = record { state = self.new; congestion = congestion.new }; frame = out.new; answer = result } ≡ with_control C.control congestion.old (receives self.old bytes.now) }
+    {
+        let packet = match decode(bytes) {
+            Ok(packet) => packet,
+            Err(fault) => return Outcome::Dropped(Why::Malformed(fault)),
+        };
+        match self.check_header(bytes, &packet.header) {
+            Ok(number) => {
+                let newest = self.is_newest(number);
+                let packet = IncomingPacket::of(&packet, number, bytes.len(), newest);
+                self.take(&packet, out, congestion)
+            }
+            Err(why) => Outcome::Dropped(why),
+        }
+    }
+
+    // Steps 2 to 16.
+    fn take<C: Congestion>(
+        &mut self,
+        packet: &IncomingPacket<'_>,
+        out: &mut Outbox,
+        congestion: &mut C,
+    ) -> Outcome
+        requires { out.old ≡ None }
+        ensures { record { after = record { state = self.new; congestion = congestion.new }; frame = out.new; answer = result } ≡ with_control C.control congestion.old (takes self.old packet.now) }
+    {
+        match self.take_steps(packet) {
+            Ok(()) => self.take_options(packet, out, congestion), // 8, and 10 to 16
+            Err(exit) => self.leave(packet, exit, out),
+        }
+    }
+
+    // Step 8: the first fault of the options ends the connection, and else the rows are stored, once the congestion control has what is
+    // due to it. With the Confirms that are due come steps 10 to 16.
+    fn take_options<C: Congestion>(
+        &mut self,
+        packet: &IncomingPacket<'_>,
+        out: &mut Outbox,
+        congestion: &mut C,
+    ) -> Outcome
+        requires { out.old ≡ None }
+        ensures { record { after = record { state = self.new; congestion = congestion.new }; frame = out.new; answer = result } ≡ with_control C.control congestion.old (heeded self.old packet.now (reads_options self.old packet.now)) }
+    {
+        // Without options the rows stay, and so do the windows, which are as wide as the rows say; and nothing is due.
+        let _rows = self.rows();
+        if packet.options.is_empty() {
+            return self.process(packet, &[], out);
+        }
+        match self.read_options(packet) {
+            Ok(reading) => {
+                hand_over(packet, self.rows(), reading.rows(), congestion);
+                self.store(reading.rows());
+                self.process(packet, reading.confirms(), out)
+            }
+            Err(fault) => self.leave(packet, Exit::Shut(fault), out),
+        }
+    }
+
+    // Steps 2 to 7 and 9, in their order; an error where the packet leaves at one.
+    #[tactic(auto, using(crate::proofs::Phases::accept_fits))]
+    fn take_steps(&mut self, packet: &IncomingPacket<'_>) -> Result<(), Exit>
+        ensures course { course self.new result ≡ through (Goes self.old) (the_steps packet.now (gate self.old.phase packet.now.kind)) }
+        ensures config { self.new.config ≡ self.old.config }
+        ensures rows { self.new.rows ≡ self.old.rows }
+    {
+        let entrance = gate(self.phase, packet.kind);
+        self.find_connection(entrance)?; // 2
+        self.accept_request(packet, entrance)?; // 3
+        self.take_answer(packet, entrance)?; // 4
+        self.check_numbers(packet, entrance)?; // 5 and 6
+        self.end_by_reset(packet)?; // 9
+        self.check_type(packet) // 7
+    }
+
+    // Step 1 drops what has a wrong checksum, comes over other ports or has short numbers, in this order.
+    fn check_header(&self, bytes: &[u8], header: &Header) -> Result<Seq48, Why>
+        requires low { 8 ≤ length bytes.now }
+        requires high { length bytes.now ≤ 65535 }
+        ensures { result ≡ checks_header self.now bytes.now header.now }
+    {
+        if let Err(fault) = check(&self.config.pseudo_in, bytes) {
+            return Err(Why::Sum(fault));
+        }
+        if !self.is_of_connection(header) {
+            return Err(Why::OtherFlow);
+        }
+        match header.number {
+            Number::Long(number) => Ok(number),
+            Number::Short(_) => Err(Why::ShortOff),
+        }
+    }
+
+    fn is_of_connection(&self, header: &Header) -> bool
+        ensures { result ≡ is_of_connection self.now header.now }
+    {
+        header.from == self.config.peer_port && header.to == self.config.own_port
+    }
+
+    // The first packet of the connection is newest, and so is one after GSR.
+    fn is_newest(&self, number: Seq48) -> bool
+        ensures { result ≡ is_newest self.now number }
+    {
+        !is_live(self.phase) || self.marks.gsr.before(number)
+    }
+
+    // Step 2: without a connection a packet gets a Reset, and a Reset nothing.
+    fn find_connection(&self, entrance: Entrance) -> Result<(), Exit>
+        ensures { course self.now result ≡ finds_connection entrance self.now }
+    {
+        match entrance {
+            Entrance::NoConnection => Err(Exit::ResetWithoutConnection(ResetCode::NoConnection)),
+            Entrance::Stray => Err(Exit::Drop(Why::StrayReset)),
+            _ => Ok(()),
+        }
+    }
+
+    // Step 3: in LISTEN a Request for this service opens the connection.
+    fn accept_request(
+        &mut self,
+        packet: &IncomingPacket<'_>,
+        entrance: Entrance,
+    ) -> Result<(), Exit>
+        requires { entrance ≡ Entrance.Accept → is_phase_of phase.Respond self.old.config.role ≡ true }
+        ensures course { course self.new result ≡ accepts_request packet.now entrance self.old }
+        ensures config { self.new.config ≡ self.old.config }
+        ensures rows { self.new.rows ≡ self.old.rows }
+    {
+        if entrance != Entrance::Accept {
+            return Ok(());
+        }
+        if !self.is_own_service(&packet.service) {
+            return Err(Exit::ResetWithoutConnection(ResetCode::BadServiceCode));
+        }
+        self.start(Phase::Respond, packet);
+        Ok(())
+    }
+
+    fn is_own_service(&self, service: &Option<u32>) -> bool
+        ensures { result ≡ is_own_service self.now service.now }
+    {
+        match *service {
+            Some(service) => service == self.config.service,
+            None => false,
+        }
+    }
+
+    // The first packet of the peer sets the first and the greatest number received.
+    fn start(&mut self, phase: Phase, packet: &IncomingPacket<'_>)
+        requires { is_phase_of phase self.old.config.role ≡ true }
+        ensures { self.new ≡ started self.old phase packet.now }
+    {
+        self.phase = phase;
+        self.marks.begin(packet.kind, packet.number, packet.ack);
+        self.received.start(packet.number);
+    }
+
+    // Step 4: in REQUEST a Response starts what is received, and a Reset goes on, where they acknowledge the Request.
+    fn take_answer(&mut self, packet: &IncomingPacket<'_>, entrance: Entrance) -> Result<(), Exit>
+        ensures course { course self.new result ≡ takes_answer packet.now entrance self.old }
+        ensures config { self.new.config ≡ self.old.config }
+        ensures rows { self.new.rows ≡ self.old.rows }
+    {
+        match entrance {
+            Entrance::InRequest => self.take_response(packet),
+            Entrance::PacketError => Err(Exit::PacketError),
+            _ => Ok(()),
+        }
+    }
+
+    fn take_response(&mut self, packet: &IncomingPacket<'_>) -> Result<(), Exit>
+        ensures course { course self.new result ≡ answers packet.now self.old packet.now.kind (acknowledges_in_window self.old packet.now) }
+        ensures config { self.new.config ≡ self.old.config }
+        ensures rows { self.new.rows ≡ self.old.rows }
+    {
+        match (packet.kind, self.acknowledges_in_window(packet)) {
+            (PacketType::Reset, true) => Ok(()),
+            (PacketType::Reset, false) => Err(Exit::Drop(Why::StrayReset)),
+            (_, true) => {
+                self.start(self.phase, packet);
+                Ok(())
+            }
+            (_, false) => Err(Exit::PacketError),
+        }
+    }
+
+    // Whether the acknowledgement number, where there is one, lies in the window of what was sent.
+    fn acknowledges_in_window(&self, packet: &IncomingPacket<'_>) -> bool
+        ensures { result ≡ acknowledges_in_window self.now packet.now }
+    {
+        self.marks.acknowledges(packet.ack)
+    }
+
+    // Steps 5 and 6: a packet with valid numbers raises the greatest numbers received, unless it is a Reset.
+    fn check_numbers(&mut self, packet: &IncomingPacket<'_>, entrance: Entrance) -> Result<(), Exit>
+        ensures course { course self.new result ≡ checks_numbers packet.now entrance self.old }
+        ensures config { self.new.config ≡ self.old.config }
+        ensures rows { self.new.rows ≡ self.old.rows }
+    {
+        if entrance != Entrance::Check {
+            return Ok(());
+        }
+        match self.marks.check(packet.kind, packet.number, packet.ack) {
+            Verdict::Valid => {
+                self.raise(packet);
+                Ok(())
+            }
+            Verdict::SyncFor(number) => Err(Exit::Sync(number)),
+            Verdict::Drop => Err(Exit::Drop(Why::BadSync)),
+        }
+    }
+
+    fn raise(&mut self, packet: &IncomingPacket<'_>)
+        requires { verdict self.old.marks packet.now.kind packet.now.number packet.now.ack ≡ Verdict.Valid }
+        ensures { Goes self.new ≡ raises packet.now self.old packet.now.kind }
+    {
+        if packet.kind != PacketType::Reset {
+            self.marks.take(packet.kind, packet.number, packet.ack);
+        }
+    }
+
+    // Step 9 comes before 7 and 8 (own): a valid Reset ends the connection, whatever its options.
+    fn end_by_reset(&self, packet: &IncomingPacket<'_>) -> Result<(), Exit>
+        ensures { course self.now result ≡ ends_by_reset packet.now packet.now.kind self.now }
+    {
+        match packet.kind {
+            PacketType::Reset => Err(Exit::TimeWait(packet.code)),
+            _ => Ok(()),
+        }
+    }
+
+    // Step 7: a packet that its phase does not expect is answered with a Sync; a Response for another service than was asked for
+    // ends the connection.
+    fn check_type(&self, packet: &IncomingPacket<'_>) -> Result<(), Exit>
+        ensures { course self.now result ≡ checks_type packet.now self.now }
+    {
+        if self.is_unexpected(packet) {
+            return Err(Exit::Sync(packet.number));
+        }
+        if self.is_other_service(packet) {
+            return Err(Exit::Shut(without_detail(ResetCode::BadServiceCode)));
+        }
+        Ok(())
+    }
+
+    fn is_unexpected(&self, packet: &IncomingPacket<'_>) -> bool
+        ensures { result ≡ is_unexpected self.now packet.now }
+    {
+        let from_osr = !packet.number.before(self.marks.osr);
+        unexpected(self.config.role, self.phase, packet.kind, from_osr)
+    }
+
+    fn is_other_service(&self, packet: &IncomingPacket<'_>) -> bool
+        ensures { result ≡ is_other_service self.now self.now.phase packet.now.kind packet.now.service }
+    {
+        match (self.phase, packet.kind) {
+            (Phase::Request, PacketType::Response) => !self.is_own_service(&packet.service),
+            _ => false,
+        }
+    }
+
+    // Options of the negotiation are heeded on the newest packets alone.
+    fn read_options(&self, packet: &IncomingPacket<'_>) -> Result<Reading, Fault>
+        ensures { result ≡ heeds (packet.now.newest && counts self.now.phase packet.now.kind) packet.now.ack (unheeded self.now.rows) packet.now.options }
+    {
+        let count = packet.newest && counts(self.phase, packet.kind);
+        let on_data = packet.kind.is_data();
+        heed(&self.rows, packet.options, on_data, count, &packet.ack)
+    }
+
+    // The packet is marked, and an acknowledgement is owed.
+    fn mark(&mut self, number: Seq48) -> Marked
+        ensures marks { self.new ≡ marks self.old number }
+        ensures answer { result ≡ answer_to self.old.received.set number }
+    {
+        let mark = self.received.took(number);
+        if mark == Marked::New {
+            self.marked = self.marked.saturating_add(1);
+        }
+        self.owed = true;
+        mark
+    }
+
+    // What an Ack or a DataAck acknowledges is looked up among the records.
+    fn look_up(&mut self, packet: &IncomingPacket<'_>)
+        ensures { self.new ≡ looks_up self.old (looked_up packet.now.kind packet.now.ack) }
+    {
+        if !is_acking(packet.kind) {
+            return;
+        }
+        if let Some(ack) = packet.ack {
+            self.received.peer_acked(ack);
+        }
+    }
+
+    // The packet is marked, what it acknowledges is looked up, and then come steps 10 to 16.
+    #[tactic(auto, using(crate::proofs::Phases::after_fits))]
+    fn process(
+        &mut self,
+        packet: &IncomingPacket<'_>,
+        confirms: &[ConfirmOut],
+        out: &mut Outbox,
+    ) -> Outcome
+        requires empty { out.old ≡ None }
+        requires room { HaveRoom (map due_of confirms.now) }
+        ensures { record { after = self.new; frame = out.new; calls = []; answer = result } ≡ processes self.old packet.now (map due_of confirms.now) }
+    {
+        let mark = self.mark(packet.number);
+        self.look_up(packet);
+        let (phase, reply) = after(self.phase, packet.kind);
+        self.move_to(phase, packet.number);
+        let delivered = self.deliver(packet, mark);
+        self.reply(packet, confirms, delivered, reply, out)
+    }
+
+    // Step 16: the place of data that are new in OPEN, which count against the Ack Ratio.
+    fn deliver(&mut self, packet: &IncomingPacket<'_>, mark: Marked) -> Option<(usize, usize)>
+        ensures counts { self.new ≡ counts_data self.old (delivers packet.now.kind self.old.phase mark) }
+        ensures place { result ≡ delivered_if (delivers packet.now.kind self.old.phase mark) packet.now.data_place }
+    {
+        if !(carries_data(packet.kind) && is_open(self.phase) && mark == Marked::New) {
+            return None;
+        }
+        self.unacked = self.unacked.saturating_add(1);
+        Some(packet.data_place)
+    }
+
+    // Steps 10 to 15: the phase moves by the table, and the number with which it becomes OPEN is OSR.
+    fn move_to(&mut self, phase: Phase, number: Seq48)
+        requires { is_phase_of phase self.old.config.role ≡ true }
+        ensures { self.new ≡ moved_to self.old phase number }
+    {
+        if is_open(phase) && !is_open(self.phase) {
+            self.marks.osr = number;
+        }
+        self.phase = phase;
+    }
+
+    // What the table of phases sends; a Reset has left at step 9.
+    fn reply(
+        &mut self,
+        packet: &IncomingPacket<'_>,
+        confirms: &[ConfirmOut],
+        delivered: Option<(usize, usize)>,
+        reply: Reply,
+        out: &mut Outbox,
+    ) -> Outcome
+        requires empty { out.old ≡ None }
+        requires room { HaveRoom (map due_of confirms.now) }
+        ensures { record { after = self.new; frame = out.new; calls = []; answer = result } ≡ replies self.old packet.now (map due_of confirms.now) (Took delivered) reply }
+    {
+        let ack = self.marks.gsr;
+        match reply {
+            Reply::Nothing => self.acknowledge_if_due(confirms, delivered, out),
+            Reply::Response => self.respond(confirms, delivered, out),
+            Reply::Ack => self.acknowledge(confirms, delivered, out),
+            Reply::Close => self.send_and_take(Kind::Close { ack }, &[], delivered, out),
+            Reply::ResetClosed => self.reset(ack, without_detail(ResetCode::Closed), out),
+            Reply::SyncAck => {
+                let ack = packet.number;
+                self.send_and_take(Kind::SyncAck { ack }, confirms, delivered, out)
+            }
+            Reply::Torn => Outcome::Took { delivered },
+        }
+    }
+
+    // As many data packets are not acknowledged as the peer asks for by its Ack Ratio.
+    fn is_enough(&self) -> bool
+        ensures { result ≡ is_enough self.now.rows self.now.unacked }
+    {
+        let ratio = self.rows().held(Feature::AckRatio, Place::There).value;
+        ratio != 0 && ratio <= u64::from(self.unacked)
+    }
+
+    // Where the table has no reply: an Ack is needed in PARTOPEN and OPEN if Confirms are due, and in OPEN for enough data packets.
+    fn needs_ack(&self, confirms: &[ConfirmOut]) -> bool
+        ensures { result ≡ needs_ack self.now.phase (map due_of confirms.now) self.now.rows self.now.unacked }
+    {
+        is_connected(self.phase)
+            && (!confirms.is_empty() || (is_open(self.phase) && self.is_enough()))
+    }
+
+    // Where the table has no reply, an Ack goes out if it is needed.
+    fn acknowledge_if_due(
+        &mut self,
+        confirms: &[ConfirmOut],
+        delivered: Option<(usize, usize)>,
+        out: &mut Outbox,
+    ) -> Outcome
+        requires empty { out.old ≡ None }
+        requires room { HaveRoom (map due_of confirms.now) }
+        ensures { record { after = self.new; frame = out.new; calls = []; answer = result } ≡ (if needs_ack self.old.phase (map due_of confirms.now) self.old.rows self.old.unacked then acknowledges self.old (map due_of confirms.now) (Took delivered) else idle self.old (Took delivered)) }
+    {
+        if self.needs_ack(confirms) {
+            return self.acknowledge(confirms, delivered, out);
+        }
+        Outcome::Took { delivered }
+    }
+
+    // An Ack with the Confirms that are due.
+    fn acknowledge(
+        &mut self,
+        confirms: &[ConfirmOut],
+        delivered: Option<(usize, usize)>,
+        out: &mut Outbox,
+    ) -> Outcome
+        requires { HaveRoom (map due_of confirms.now) }
+        ensures { record { after = self.new; frame = out.new; calls = []; answer = result } ≡ acknowledges self.old (map due_of confirms.now) (Took delivered) }
+    {
+        let ack = Number::Long(self.marks.gsr);
+        self.send_ack(Kind::Ack { ack }, confirms, &[], out);
+        Outcome::Took { delivered }
+    }
+
+    // A Response opens the offered rows that have no Confirm in it, and carries the Changes of these and of all others that ask.
+    fn respond(
+        &mut self,
+        confirms: &[ConfirmOut],
+        delivered: Option<(usize, usize)>,
+        out: &mut Outbox,
+    ) -> Outcome
+        requires { HaveRoom (map due_of confirms.now) }
+        ensures { record { after = self.new; frame = out.new; calls = []; answer = result } ≡ responds self.old (map due_of confirms.now) (Took delivered) }
+    {
+        let ack = self.marks.gsr;
+        let service = self.config.service;
+        self.send_offering(Kind::Response { ack, service }, confirms, out);
+        Outcome::Took { delivered }
+    }
+
+    fn send_and_take(
+        &mut self,
+        kind: Kind,
+        confirms: &[ConfirmOut],
+        delivered: Option<(usize, usize)>,
+        out: &mut Outbox,
+    ) -> Outcome
+        requires form { has_forms true kind ≡ true }
+        requires room { HaveRoom (map due_of confirms.now) }
+        ensures { record { after = self.new; frame = out.new; calls = []; answer = result } ≡ sends self.old (confirming kind (map due_of confirms.now)) (Took delivered) }
+    {
+        self.send_confirming(kind, confirms, out);
+        Outcome::Took { delivered }
+    }
+
+    // What is done with a packet that leaves before step 10.
+    fn leave(&mut self, packet: &IncomingPacket<'_>, exit: Exit, out: &mut Outbox) -> Outcome
+        requires { out.old ≡ None }
+        ensures { record { after = self.new; frame = out.new; calls = []; answer = result } ≡ leaves self.old packet.now exit }
+    {
+        match exit {
+            Exit::Drop(why) => Outcome::Dropped(why),
+            Exit::Sync(number) => {
+                self.send(Kind::Sync { ack: number }, out);
+                Outcome::Synced(number)
+            }
+            Exit::ResetWithoutConnection(code) => {
+                self.reset_without_connection(packet, without_detail(code), out)
+            }
+            Exit::PacketError => self.reset(packet.number, packet_fault(packet), out),
+            Exit::Shut(fault) => {
+                self.phase = Phase::Closed;
+                self.reset(self.marks.gsr, fault, out)
+            }
+            Exit::TimeWait(code) => {
+                self.phase = Phase::TimeWait;
+                Outcome::WasReset(code)
+            }
+        }
+    }
+
+    // A Reset under the next number.
+    fn reset(&mut self, ack: Seq48, fault: Fault, out: &mut Outbox) -> Outcome
+        ensures { record { after = self.new; frame = out.new; calls = []; answer = result } ≡ resets self.old ack fault }
+    {
+        let code = fault.code;
+        let detail = [fault.first, fault.second, fault.third];
+        self.send(Kind::Reset { ack, code, detail }, out);
+        Outcome::SentReset { code, detail }
+    }
+
+    // A Reset without a connection takes its numbers from the packet, and the end stays as it is (own).
+    fn reset_without_connection(
+        &mut self,
+        packet: &IncomingPacket<'_>,
+        fault: Fault,
+        out: &mut Outbox,
+    ) -> Outcome
+        ensures { record { after = self.new; frame = out.new; calls = []; answer = result } ≡ resets_without_connection self.old packet.now fault }
+    {
+        let code = fault.code;
+        let detail = [fault.first, fault.second, fault.third];
+        let own = match packet.ack {
+            Some(ack) => ack.next(),
+            None => seq48(0),
+        };
+        let ack = packet.number;
+        out.put(self.frame(own, Kind::Reset { ack, code, detail }));
+        Outcome::SentReset { code, detail }
+    }
+}

@@ -1,0 +1,310 @@
+//! The frames that an end sends, and what they say of features.
+ghost use Rattle.std.specs.Prelude.{◌≡◌, ◌≤◌, ◌^◌, Some, None, true, false, if◌then◌else◌, length, map};
+ghost use Rattle.dccp_sum.specs.Checksum.{sealed};
+
+use super::Connection;
+use crate::speaking::{asking, open_offers, put_changes, put_confirms, send_all};
+use ack_vectors::VectorBytes;
+use dccp_options::OptWriter;
+use dccp_options::kinds::ACK_VECTOR_0;
+use dccp_packets::{Frame, Header, Kind, Number, Outbox, encode};
+use dccp_sum::{Pseudo, seal};
+use feature_lists::{Feature, Place};
+use feature_machine::ConfirmOut;
+use seq_circle::Seq48;
+
+impl Connection {
+    ghost use Rattle.std.specs.Prelude.{◌+◌, ◌++◌, [], Ok, true, false, None, Some, if◌then◌else◌};
+    ghost use Rattle.ack_vectors.specs.Vector.{is_whole};
+    ghost use Rattle.dccp_options.specs.Written.{written};
+    ghost use Rattle.run_list.specs.MarkedSet.{has};
+    ghost use Rattle.dccp_endpoint.specs.Reporting.{acknowledged, recorded_by, reporting, sends_vectors, vector_items};
+    ghost use Rattle.dccp_packets.specs.Grammar.{fixed_length, has_forms, packet_type, padded};
+    ghost use Rattle.dccp_endpoint.specs.Drafts.{alone, carrying, frame_of, framed};
+    ghost use Rattle.dccp_endpoint.specs.Calling.{sends_data};
+    ghost use Rattle.dccp_packets.specs.declared.header.Kind.TheVariants as kind;
+    ghost use Rattle.dccp_packets.specs.declared.header.Number.TheVariants.{Long};
+    ghost use Rattle.dccp_endpoint.specs.Heeding.{due_of};
+    ghost use Rattle.dccp_endpoint.specs.Speaking.{HaveRoom, AreChanging, AreDue, asking, asks, confirming, offers, saying};
+    ghost use Rattle.dccp_endpoint.specs.Steps.{next_number, with_next_number};
+
+    // Sends a packet without options and data under the next number.
+    pub(crate) fn send(&mut self, kind: Kind, out: &mut Outbox)
+        requires { has_forms true kind ≡ true }
+        ensures counted { self.new ≡ with_next_number self.old }
+        ensures sent { out.new ≡ Some (frame_of self.old.config (next_number self.old) (alone kind)) }
+    {
+        let number = self.take_number();
+        out.put(self.frame(number, kind));
+    }
+
+    // Sends a packet under the next number.
+    pub(crate) fn send_with(
+        &mut self,
+        kind: Kind,
+        options: &OptWriter,
+        payload: &[u8],
+        out: &mut Outbox,
+    )
+        requires form { has_forms true kind ≡ true }
+        requires area { fixed_length true (packet_type kind) + length (padded options.now) ≤ 1020 }
+        requires short { length payload.now ≤ 1024 }
+        ensures counted { self.new ≡ with_next_number self.old }
+        ensures sent { out.new ≡ Some (framed self.old.config (next_number self.old) kind options.now payload.now) }
+    {
+        let number = self.take_number();
+        out.put(self.frame_with(number, kind, options.bytes(), payload));
+    }
+
+    // Sends a packet with Confirms alone under the next number.
+    #[tactic(auto, using(crate::proofs::Frames::fixed_part_is_short))]
+    pub(crate) fn send_confirming(&mut self, kind: Kind, confirms: &[ConfirmOut], out: &mut Outbox)
+        requires form { has_forms true kind ≡ true }
+        requires room { HaveRoom (map due_of confirms.now) }
+        ensures counted { self.new ≡ with_next_number self.old }
+        ensures sent { out.new ≡ Some (frame_of self.old.config (next_number self.old) (confirming kind (map due_of confirms.now))) }
+    {
+        if confirms.is_empty() {
+            return self.send(kind, out);
+        }
+        let mut area = OptWriter::new();
+        put_confirms(&mut area, confirms);
+        self.send_with(kind, &area, &[], out);
+    }
+
+    // Sends a packet that says all that is due: the Confirms, and the Changes of these rows, which are in CHANGING.
+    #[tactic(auto, using(crate::proofs::Frames::fixed_part_is_short, crate::proofs::Writing::written_both))]
+    fn send_saying(
+        &mut self,
+        kind: Kind,
+        confirms: &[ConfirmOut],
+        keys: &[(Feature, Place)],
+        out: &mut Outbox,
+    )
+        requires form { has_forms true kind ≡ true }
+        requires room { HaveRoom (map due_of confirms.now) }
+        requires rows { length keys.now ≤ 18 }
+        requires changing { AreChanging self.old.rows keys.now }
+        ensures counted { self.new ≡ with_next_number self.old }
+        ensures sent { out.new ≡ Some (frame_of self.old.config (next_number self.old) (saying kind (map due_of confirms.now) self.old.rows keys.now)) }
+    {
+        let mut area = OptWriter::new();
+        put_confirms(&mut area, confirms);
+        put_changes(&mut area, &self.rows, keys);
+        self.send_with(kind, &area, &[], out);
+    }
+
+    // Whether Ack Vectors go out.
+    fn sends_vectors(&self) -> bool
+        ensures { result ≡ sends_vectors self.now.rows }
+    {
+        self.rows.held(Feature::SendAckVector, Place::Here).value == 1
+    }
+
+    // Writes the Ack Vector of the greatest number received; true where it is whole.
+    fn put_vector(&self, area: &mut OptWriter) -> bool
+        requires room { length area.old + 255 ≤ 1008 }
+        ensures bytes { area.new ≡ area.old ++ written (vector_items true self.now.received.set self.now.marks.gsr) }
+        ensures short { length area.new ≤ length area.old + 255 }
+        ensures whole { result ≡ is_whole (has self.now.received.set.numbers) self.now.received.set.floor self.now.marks.gsr }
+    {
+        let mut bytes = VectorBytes::new();
+        let whole = self.received.write(&mut bytes, self.marks.gsr);
+        let _ = area.put(false, ACK_VECTOR_0, bytes.as_slice());
+        whole
+    }
+
+    // Writes the Ack Vector if it goes out, and tells then whether it is whole.
+    fn report(&self, area: &mut OptWriter) -> Option<bool>
+        requires room { length area.old + 255 ≤ 1008 }
+        ensures bytes { area.new ≡ area.old ++ written (vector_items (sends_vectors self.now.rows) self.now.received.set self.now.marks.gsr) }
+        ensures short { length area.new ≤ length area.old + 255 }
+        ensures whole { result ≡ (if sends_vectors self.now.rows then Some (is_whole (has self.now.received.set.numbers) self.now.received.set.floor self.now.marks.gsr) else None) }
+    {
+        if !self.sends_vectors() {
+            return None;
+        }
+        Some(self.put_vector(area))
+    }
+
+    // An Ack or a DataAck went out: its Ack Vector, if it had one, is recorded, and nothing is owed.
+    fn record(&mut self, whole: Option<bool>)
+        requires { whole ≡ (if sends_vectors self.old.rows then Some (is_whole (has self.old.received.set.numbers) self.old.received.set.floor self.old.marks.gsr) else None) }
+        ensures { self.new ≡ record self.old { received = recorded_by (sends_vectors self.old.rows) self.old.received self.old.marks.gss self.old.marks.gsr; owed = false; unacked = 0 } }
+    {
+        if let Some(whole) = whole {
+            self.received.sent(self.marks.gss, self.marks.gsr, whole);
+        }
+        self.owed = false;
+        self.unacked = 0;
+    }
+
+    // Sends an Ack or a DataAck: behind its Ack Vector the Confirms, and the Changes of these rows, which are in CHANGING.
+    #[tactic(auto, using(crate::proofs::Frames::fixed_part_is_short, crate::proofs::Writing::written_all))]
+    pub(crate) fn send_ack(
+        &mut self,
+        kind: Kind,
+        confirms: &[ConfirmOut],
+        keys: &[(Feature, Place)],
+        out: &mut Outbox,
+    )
+        requires form { has_forms true kind ≡ true }
+        requires room { HaveRoom (map due_of confirms.now) }
+        requires rows { length keys.now ≤ 18 }
+        requires changing { AreChanging self.old.rows keys.now }
+        ensures counted { self.new ≡ acknowledged self.old }
+        ensures sent { out.new ≡ Some (frame_of self.old.config (next_number self.old) (reporting self.old (saying kind (map due_of confirms.now) self.old.rows keys.now))) }
+    {
+        let mut area = OptWriter::new();
+        let whole = self.report(&mut area);
+        put_confirms(&mut area, confirms);
+        put_changes(&mut area, &self.rows, keys);
+        self.send_with(kind, &area, &[], out);
+        self.record(whole);
+    }
+
+    // Sends a DataAck, which has its Ack Vector alone beside the data.
+    #[tactic(auto, using(crate::proofs::Frames::fixed_part_is_short, crate::proofs::Writing::written_alone))]
+    fn send_data_ack(&mut self, payload: &[u8], out: &mut Outbox)
+        requires { length payload.now ≤ 1024 }
+        ensures counted { self.new ≡ acknowledged self.old }
+        ensures sent { out.new ≡ Some (frame_of self.old.config (next_number self.old) (reporting self.old (carrying (kind.DataAck (Long self.old.marks.gsr)) payload.now))) }
+    {
+        let ack = Number::Long(self.marks.gsr);
+        let mut area = OptWriter::new();
+        let whole = self.report(&mut area);
+        self.send_with(Kind::DataAck { ack }, &area, payload, out);
+        self.record(whole);
+    }
+
+    // Sends a Data, which has no options.
+    #[tactic(auto, using(crate::proofs::Frames::fixed_part_is_short))]
+    fn send_plain_data(&mut self, payload: &[u8], out: &mut Outbox)
+        requires { length payload.now ≤ 1024 }
+        ensures counted { self.new ≡ with_next_number self.old }
+        ensures sent { out.new ≡ Some (frame_of self.old.config (next_number self.old) (carrying kind.Data payload.now)) }
+    {
+        self.send_with(Kind::Data, &OptWriter::new(), payload, out);
+    }
+
+    /// Sends data, and tells under which number: on a DataAck where an acknowledgement is owed, else on a Data.
+    pub(crate) fn send_data(&mut self, payload: &[u8], out: &mut Outbox) -> Seq48
+        requires { length payload.now ≤ 1024 }
+        ensures step { record { after = self.new; frame = out.new; calls = []; answer = Ok (tt {0}) } ≡ sends_data self.old payload.now self.old.owed }
+        ensures number { result ≡ next_number self.old }
+    {
+        if self.owed {
+            self.send_data_ack(payload, out);
+        } else {
+            self.send_plain_data(payload, out);
+        }
+        self.marks.gss
+    }
+
+    // These rows' Changes go out on the next packet.
+    pub(crate) fn ask(&mut self, keys: &[(Feature, Place)])
+        requires { AreDue self.old.rows keys.now }
+        ensures asks { self.new ≡ asks self.old keys.now }
+        ensures changing { AreChanging self.new.rows keys.now }
+    {
+        let mut rows = *self.rows();
+        send_all(&mut rows, keys, self.marks.gss.next());
+        self.store(&rows);
+    }
+
+    // Sends a packet with the Changes of these rows, which ask, and with these Confirms.
+    pub(crate) fn send_asking(
+        &mut self,
+        kind: Kind,
+        confirms: &[ConfirmOut],
+        keys: &[(Feature, Place)],
+        out: &mut Outbox,
+    )
+        requires form { has_forms true kind ≡ true }
+        requires room { HaveRoom (map due_of confirms.now) }
+        requires rows { length keys.now ≤ 18 }
+        requires due { AreDue self.old.rows keys.now }
+        ensures counted { self.new ≡ with_next_number (asks self.old keys.now) }
+        ensures sent { out.new ≡ Some (frame_of self.old.config (next_number self.old) (saying kind (map due_of confirms.now) (asks self.old keys.now).rows keys.now)) }
+    {
+        self.ask(keys);
+        self.send_saying(kind, confirms, keys, out);
+    }
+
+    // All offers that were not made yet come up; of the rows that meet a Confirm they are dropped.
+    fn offer(&mut self, confirms: &[ConfirmOut])
+        ensures { self.new ≡ offers self.old (map due_of confirms.now) }
+    {
+        let mut rows = *self.rows();
+        open_offers(&mut rows, confirms);
+        self.store(&rows);
+    }
+
+    // Sends a packet with these Confirms, once all offers have come up: it carries the Changes of all rows that ask and have no
+    // Confirm in it.
+    pub(crate) fn send_offering(&mut self, kind: Kind, confirms: &[ConfirmOut], out: &mut Outbox)
+        requires form { has_forms true kind ≡ true }
+        requires room { HaveRoom (map due_of confirms.now) }
+        ensures counted { self.new ≡ with_next_number (asks (offers self.old (map due_of confirms.now)) (asking (offers self.old (map due_of confirms.now)).rows (map due_of confirms.now))) }
+        ensures sent { out.new ≡ Some (frame_of self.old.config (next_number self.old) (saying kind (map due_of confirms.now)
+            (asks (offers self.old (map due_of confirms.now)) (asking (offers self.old (map due_of confirms.now)).rows (map due_of confirms.now))).rows
+            (asking (offers self.old (map due_of confirms.now)).rows (map due_of confirms.now)))) }
+    {
+        self.offer(confirms);
+        let keys = asking(self.rows(), confirms);
+        self.send_asking(kind, confirms, keys.as_slice(), out);
+    }
+
+    // The next number, which is then the greatest sent.
+    fn take_number(&mut self) -> Seq48
+        ensures counted { self.new ≡ with_next_number self.old }
+        ensures number { result ≡ next_number self.old }
+    {
+        let number = self.marks.gss.next();
+        self.marks.gss = number;
+        number
+    }
+
+    // A packet without options and data.
+    #[tactic(auto, using(crate::proofs::Frames::fixed_part_is_short))]
+    pub(crate) fn frame(&self, number: Seq48, kind: Kind) -> Frame
+        requires { has_forms true kind ≡ true }
+        ensures { result ≡ frame_of self.now.config number (alone kind) }
+    {
+        self.frame_with(number, kind, &[], &[])
+    }
+
+    #[tactic(auto, unfolding(crate::specs::Drafts::framed))]
+    fn frame_with(&self, number: Seq48, kind: Kind, options: &[u8], payload: &[u8]) -> Frame
+        requires form { has_forms true kind ≡ true }
+        requires area { fixed_length true (packet_type kind) + length (padded options.now) ≤ 1020 }
+        requires short { length payload.now ≤ 1024 }
+        ensures { result ≡ framed self.now.config number kind options.now payload.now }
+    {
+        let header = Header {
+            from: self.config.own_port,
+            to: self.config.peer_port,
+            ccval: 0,
+            cscov: 0,
+            checksum: 0,
+            number: Number::Long(number),
+            kind,
+        };
+        let mut frame = Frame::new();
+        match encode(&header, options, payload, &mut frame) {
+            Ok(()) => {}
+            Err(_) => unreachable!(),
+        }
+        seal_frame(&self.config.pseudo_out, &mut frame);
+        frame
+    }
+}
+
+// Writes the frame's checksum.
+fn seal_frame(pseudo: &Pseudo, frame: &mut Frame)
+    requires { 8 ≤ length frame.old }
+    ensures { frame.new ≡ sealed pseudo.now frame.old }
+{
+    let bytes = frame.bytes_mut();
+    let _ = seal(pseudo, bytes);
+}

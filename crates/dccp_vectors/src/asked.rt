@@ -1,0 +1,293 @@
+//! Changes and Confirms that meet a wish, at both roles (RFC 4340, section 6, and the table of this profile). A replay has no line
+//! for a wish, and two ends of this project never send each other most of these; so they stand here and not in examples/.
+use ccid_two::Kinds;
+use dccp_endpoint::{Config, Held, Outcome, Role, Stand, Timer};
+use dccp_packets::Outbox;
+use feature_lists::{Feature, Place};
+use std::alloc::Global;
+use std::test::Fail;
+
+type Endpoint = dccp_endpoint::Endpoint<Kinds>;
+
+// A row is what an end in OPEN has asked for, each wish as `here/8/1,2`, and `again` where its Change goes out again; then a packet that
+// arrives. Behind the colon stands the answer, what the end then holds for what it asked last (`*` in CHANGING, `!` in UNSTABLE), and
+// the frame that it sends. Behind `#` stands what the rows below are.
+const AT_A_SERVER: &str = "\
+    # A Change that is not valid, at a row in CHANGING and at one in UNSTABLE\n\
+    here/8/1,2 9c4013890700f83607000000000003ea00000000000007d222030800: took, 0*, 13899c400700f93507000000000007d300000000000003ea21030800\n\
+    here/8/1,2 9c40138907001e1007000000000003ea00000000000007d201220308: sent reset 6 34 8 0, 0*, 13899c4007000c170f000000000007d300000000000003ea06220800\n\
+    here/8/1,2 here/8/2 9c4013890700f83607000000000003ea00000000000007d222030800: took, 0!, 13899c400700f93507000000000007d300000000000003ea21030800\n\
+    here/8/1,2 here/8/2 9c40138907001e1007000000000003ea00000000000007d201220308: sent reset 6 34 8 0, 0!, 13899c4007000c170f000000000007d300000000000003ea06220800\n\
+    # A valid Change at a row in UNSTABLE is ignored, with its Mandatory\n\
+    here/8/1,2 here/8/2 9c4013890700f83307000000000003ea00000000000007d222040802: took, 0!, -\n\
+    here/8/1,2 here/8/2 9c4013890800170c07000000000003ea00000000000007d20122040805000000: took, 0!, -\n\
+    # A row in CHANGING answers with the list that it has sent, takes the value and stays\n\
+    here/8/1,2 9c4013890800f62e07000000000003ea00000000000007d22205080201000000: took, 1*, 13899c400800f72b07000000000007d300000000000003ea2106080101020000\n\
+    here/8/1,2 9c40138908001a0c07000000000003ea00000000000007d20122040802000000: took, 2*, 13899c400800f72a07000000000007d300000000000003ea2106080201020000\n\
+    there/8/1,2 9c4013890700fa3007000000000003ea00000000000007d220040805: took, 0*, 13899c400800f52c07000000000007d300000000000003ea2306080001020000\n\
+    there/8/1,2 9c4013890800170e07000000000003ea00000000000007d20120040805000000: sent reset 6 32 8 5, 0*, 13899c4007000c140f000000000007d300000000000003ea06200805\n\
+    # Confirms at a row in UNSTABLE are ignored\n\
+    here/8/1,2 here/8/2 9c4013890800f52f07000000000003ea00000000000007d22305080101000000: took, 0!, -\n\
+    here/8/1,2 here/8/2 9c4013890700f72c07000000000003ea00000000000007d223040809: took, 0!, -\n\
+    # A Confirm that acknowledges a number before the Change's is ignored, also where the Change has gone out again\n\
+    here/8/1,2 9c4013890800f52d07000000000003ea00000000000007d12306080101020000: took, 0*, -\n\
+    here/8/1,2 9c4013890800f52c07000000000003ea00000000000007d22306080101020000: took, 1, -\n\
+    here/8/1,2 again 9c4013890800f52d07000000000003ea00000000000007d12306080101020000: took, 0*, -\n\
+    here/8/1,2 again 9c4013890800f52c07000000000003ea00000000000007d22306080101020000: took, 1, -\n\
+    here/8/1,2 again 9c4013890800f52b07000000000003ea00000000000007d32306080101020000: took, 1, -\n\
+    # An empty Confirm is an Option Error for the features 1 to 3, which are required, and settles the others\n\
+    here/1/2 9c4013890700fe3607000000000003ea00000000000007d223030100: sent reset 5 35 1 0, 2*, 13899c40070014160f000000000007d300000000000003ea05230100\n\
+    here/2/0 9c4013890700fd3607000000000003ea00000000000007d223030200: sent reset 5 35 2 0, 0*, 13899c40070013160f000000000007d300000000000003ea05230200\n\
+    here/3/100 9c4013890700fc3607000000000003ea00000000000007d223030300: sent reset 5 35 3 0, 100*, 13899c40070012160f000000000007d300000000000003ea05230300\n\
+    here/4/1 9c4013890700fb3607000000000003ea00000000000007d223030400: took, 0, -\n\
+    here/5/2 9c4013890700fa3607000000000003ea00000000000007d223030500: took, 2, -\n\
+    here/6/1,0 9c4013890700f93607000000000003ea00000000000007d223030600: took, 0, -\n\
+    here/7/0 9c4013890700f83607000000000003ea00000000000007d223030700: took, 0, -\n\
+    here/8/0 9c4013890700f73607000000000003ea00000000000007d223030800: took, 0, -\n\
+    here/9/0 9c4013890700f63607000000000003ea00000000000007d223030900: took, 0, -\n\
+    # A Confirm with a list: of what the two lists settle on, of what is held where they share nothing, and of any other value\n\
+    here/8/1,2 9c4013890800f52c07000000000003ea00000000000007d22306080101020000: took, 1, -\n\
+    here/8/1,2 9c4013890800f42c07000000000003ea00000000000007d22306080202010000: sent reset 5 35 8 2, 0*, 13899c4007000d140f000000000007d300000000000003ea05230802\n\
+    here/8/1,2 9c4013890800f42d07000000000003ea00000000000007d22306080102010000: took, 1, -\n\
+    here/8/1,2 9c4013890800f42e07000000000003ea00000000000007d22305080202000000: took, 2, -\n\
+    here/8/1,2 9c4013890800f12907000000000003ea00000000000007d22306080005060000: took, 0, -\n\
+    here/8/1,2 9c4013890800f12407000000000003ea00000000000007d22306080505060000: sent reset 5 35 8 5, 0*, 13899c4007000d110f000000000007d300000000000003ea05230805\n\
+    here/8/1,2 9c4013890800f52d07000000000003ea00000000000007d22306080001020000: sent reset 5 35 8 0, 0*, 13899c4007000d160f000000000007d300000000000003ea05230800\n\
+    # The same at the peer, by Confirm L; Confirm R speaks of the other row\n\
+    there/8/1,2 9c4013890800f72c07000000000003ea00000000000007d22106080101020000: took, 1, -\n\
+    there/8/1,2 9c4013890800f33007000000000003ea00000000000007d22105080005000000: took, 0, -\n\
+    there/8/1,2 9c4013890800f52d07000000000003ea00000000000007d22105080303000000: sent reset 5 33 8 3, 0*, 13899c4007000d150f000000000007d300000000000003ea05210803\n\
+    there/8/1,2 9c4013890800f52c07000000000003ea00000000000007d22306080101020000: took, 0*, -\n\
+    # A Confirm of a value alone: one of the list, the one that is held, and another\n\
+    here/8/1,2 9c4013890700f73307000000000003ea00000000000007d223040802: took, 2, -\n\
+    here/8/1,2 9c4013890700f73507000000000003ea00000000000007d223040800: took, 0, -\n\
+    here/8/1,2 9c4013890700f73207000000000003ea00000000000007d223040803: sent reset 5 35 8 3, 0*, 13899c4007000d130f000000000007d300000000000003ea05230803\n\
+    # A Confirm of a non-negotiable feature: of the value, of another, and of another length\n\
+    here/3/200 9c4013890900322807000000000003ea00000000000007d22309030000000000c8000000: took, 200, -\n\
+    here/3/200 9c4013890900312807000000000003ea00000000000007d22309030000000000c9000000: sent reset 5 35 3 0, 100*, 13899c40070012160f000000000007d300000000000003ea05230300\n\
+    here/3/200 9c4013890800fa6507000000000003ea00000000000007d223080300000000c8: sent reset 5 35 3 0, 100*, 13899c40070012160f000000000007d300000000000003ea05230300\n\
+    here/3/200 9c4013890900f95f07000000000003ea00000000000007d2230a03000000000000c80000: sent reset 5 35 3 0, 100*, 13899c40070012160f000000000007d300000000000003ea05230300\n";
+
+const AT_A_CLIENT: &str = "\
+    # A Change that is not valid, at a row in CHANGING and at one in UNSTABLE\n\
+    here/8/1,2 13899c400700f83607000000000007d200000000000003ea22030800: took, 0*, 9c4013890700f93507000000000003eb00000000000007d221030800\n\
+    here/8/1,2 13899c4007001e1007000000000007d200000000000003ea01220308: sent reset 6 34 8 0, 0*, 9c40138907000c170f000000000003eb00000000000007d206220800\n\
+    here/8/1,2 here/8/2 13899c400700f83607000000000007d200000000000003ea22030800: took, 0!, 9c4013890700f93507000000000003eb00000000000007d221030800\n\
+    here/8/1,2 here/8/2 13899c4007001e1007000000000007d200000000000003ea01220308: sent reset 6 34 8 0, 0!, 9c40138907000c170f000000000003eb00000000000007d206220800\n\
+    # A valid Change at a row in UNSTABLE is ignored, with its Mandatory\n\
+    here/8/1,2 here/8/2 13899c400700f83307000000000007d200000000000003ea22040802: took, 0!, -\n\
+    here/8/1,2 here/8/2 13899c400800170c07000000000007d200000000000003ea0122040805000000: took, 0!, -\n\
+    # A row in CHANGING answers with the list that it has sent, takes the value and stays\n\
+    here/8/1,2 13899c400800f62e07000000000007d200000000000003ea2205080201000000: took, 2*, 9c4013890800f72a07000000000003eb00000000000007d22106080201020000\n\
+    here/8/1,2 13899c4008001a0c07000000000007d200000000000003ea0122040802000000: took, 2*, 9c4013890800f72a07000000000003eb00000000000007d22106080201020000\n\
+    there/8/1,2 13899c400700fa3007000000000007d200000000000003ea20040805: took, 0*, 9c4013890800f52c07000000000003eb00000000000007d22306080001020000\n\
+    there/8/1,2 13899c400800170e07000000000007d200000000000003ea0120040805000000: sent reset 6 32 8 5, 0*, 9c40138907000c140f000000000003eb00000000000007d206200805\n\
+    # Confirms at a row in UNSTABLE are ignored\n\
+    here/8/1,2 here/8/2 13899c400800f52f07000000000007d200000000000003ea2305080101000000: took, 0!, -\n\
+    here/8/1,2 here/8/2 13899c400700f72c07000000000007d200000000000003ea23040809: took, 0!, -\n\
+    # A Confirm that acknowledges a number before the Change's is ignored, also where the Change has gone out again\n\
+    here/8/1,2 13899c400800f52d07000000000007d200000000000003e92306080101020000: took, 0*, -\n\
+    here/8/1,2 13899c400800f52c07000000000007d200000000000003ea2306080101020000: took, 1, -\n\
+    here/8/1,2 again 13899c400800f52d07000000000007d200000000000003e92306080101020000: took, 0*, -\n\
+    here/8/1,2 again 13899c400800f52c07000000000007d200000000000003ea2306080101020000: took, 1, -\n\
+    here/8/1,2 again 13899c400800f52b07000000000007d200000000000003eb2306080101020000: took, 1, -\n\
+    # An empty Confirm is an Option Error for the features 1 to 3, which are required, and settles the others\n\
+    here/1/2 13899c400700fe3607000000000007d200000000000003ea23030100: sent reset 5 35 1 0, 2*, 9c401389070014160f000000000003eb00000000000007d205230100\n\
+    here/2/0 13899c400700fd3607000000000007d200000000000003ea23030200: sent reset 5 35 2 0, 0*, 9c401389070013160f000000000003eb00000000000007d205230200\n\
+    here/3/100 13899c400700fc3607000000000007d200000000000003ea23030300: sent reset 5 35 3 0, 100*, 9c401389070012160f000000000003eb00000000000007d205230300\n\
+    here/4/1 13899c400700fb3607000000000007d200000000000003ea23030400: took, 0, -\n\
+    here/5/2 13899c400700fa3607000000000007d200000000000003ea23030500: took, 2, -\n\
+    here/6/1,0 13899c400700f93607000000000007d200000000000003ea23030600: took, 0, -\n\
+    here/7/0 13899c400700f83607000000000007d200000000000003ea23030700: took, 0, -\n\
+    here/8/0 13899c400700f73607000000000007d200000000000003ea23030800: took, 0, -\n\
+    here/9/0 13899c400700f63607000000000007d200000000000003ea23030900: took, 0, -\n\
+    # A Confirm with a list: of what the two lists settle on, of what is held where they share nothing, and of any other value\n\
+    here/8/1,2 13899c400800f52c07000000000007d200000000000003ea2306080101020000: took, 1, -\n\
+    here/8/1,2 13899c400800f42c07000000000007d200000000000003ea2306080202010000: took, 2, -\n\
+    here/8/1,2 13899c400800f42d07000000000007d200000000000003ea2306080102010000: sent reset 5 35 8 1, 0*, 9c40138907000d150f000000000003eb00000000000007d205230801\n\
+    here/8/1,2 13899c400800f42e07000000000007d200000000000003ea2305080202000000: took, 2, -\n\
+    here/8/1,2 13899c400800f12907000000000007d200000000000003ea2306080005060000: took, 0, -\n\
+    here/8/1,2 13899c400800f12407000000000007d200000000000003ea2306080505060000: sent reset 5 35 8 5, 0*, 9c40138907000d110f000000000003eb00000000000007d205230805\n\
+    here/8/1,2 13899c400800f52d07000000000007d200000000000003ea2306080001020000: sent reset 5 35 8 0, 0*, 9c40138907000d160f000000000003eb00000000000007d205230800\n\
+    # The same at the peer, by Confirm L; Confirm R speaks of the other row\n\
+    there/8/1,2 13899c400800f72c07000000000007d200000000000003ea2106080101020000: took, 1, -\n\
+    there/8/1,2 13899c400800f33007000000000007d200000000000003ea2105080005000000: took, 0, -\n\
+    there/8/1,2 13899c400800f52d07000000000007d200000000000003ea2105080303000000: sent reset 5 33 8 3, 0*, 9c40138907000d150f000000000003eb00000000000007d205210803\n\
+    there/8/1,2 13899c400800f52c07000000000007d200000000000003ea2306080101020000: took, 0*, -\n\
+    # A Confirm of a value alone: one of the list, the one that is held, and another\n\
+    here/8/1,2 13899c400700f73307000000000007d200000000000003ea23040802: took, 2, -\n\
+    here/8/1,2 13899c400700f73507000000000007d200000000000003ea23040800: took, 0, -\n\
+    here/8/1,2 13899c400700f73207000000000007d200000000000003ea23040803: sent reset 5 35 8 3, 0*, 9c40138907000d130f000000000003eb00000000000007d205230803\n\
+    # A Confirm of a non-negotiable feature: of the value, of another, and of another length\n\
+    here/3/200 13899c400900322807000000000007d200000000000003ea2309030000000000c8000000: took, 200, -\n\
+    here/3/200 13899c400900312807000000000007d200000000000003ea2309030000000000c9000000: sent reset 5 35 3 0, 100*, 9c401389070012160f000000000003eb00000000000007d205230300\n\
+    here/3/200 13899c400800fa6507000000000007d200000000000003ea23080300000000c8: sent reset 5 35 3 0, 100*, 9c401389070012160f000000000003eb00000000000007d205230300\n\
+    here/3/200 13899c400900f95f07000000000007d200000000000003ea230a03000000000000c80000: sent reset 5 35 3 0, 100*, 9c401389070012160f000000000003eb00000000000007d205230300\n";
+
+fn place(text: &str) -> Option<Place> {
+    match text {
+        "here" => Some(Place::Here),
+        "there" => Some(Place::There),
+        _ => None,
+    }
+}
+
+// A feature at a place, and the values that are wished for it.
+fn pieces(word: &str) -> Option<(Feature, Place, &str)> {
+    let (there, rest) = word.split_once("/")?;
+    let (number, list) = rest.split_once("/")?;
+    Some((Feature::of(number.parse().ok()?)?, place(there)?, list))
+}
+
+fn values(alloc: Global, list: &str) -> Result<Vec<u64>, Fail> {
+    let mut values = Vec::new(alloc);
+    for number in list.split(",") {
+        values.push(number.parse().ok().ok_or("a number")?)?;
+    }
+    Ok(values)
+}
+
+// Each of these makes one call of an end, whose clauses then stand in one proof.
+fn asks(end: &mut Endpoint, feature: Feature, place: Place, values: &[u64], out: &mut Outbox) {
+    let _result = end.prefer(feature, place, values, out);
+}
+
+fn asks_again(end: &mut Endpoint, out: &mut Outbox) {
+    let _fired = end.timer(Timer::Negotiate, out);
+}
+
+fn opens(end: &mut Endpoint, out: &mut Outbox) {
+    let _result = end.open(out);
+}
+
+fn received(end: &mut Endpoint, bytes: &[u8], out: &mut Outbox) -> Option<Outcome> {
+    if 2044 < bytes.len() {
+        return None;
+    }
+    Some(end.receive(bytes, out))
+}
+
+// The packets of the plain handshake that arrive at an end.
+fn opening(role: Role) -> [&'static str; 2] {
+    match role {
+        Role::Server => [
+            "9c401389050031ec01000000000003e80000002a",
+            "9c4013890600234107000000000003e900000000000007d0",
+        ],
+        Role::Client => [
+            "13899c400700261403000000000007d000000000000003e80000002a",
+            "13899c400600234107000000000007d100000000000003e8",
+        ],
+    }
+}
+
+// An end that offers nothing.
+fn new_end(alloc: Global, role: Role) -> Result<Endpoint, Fail> {
+    let mut config = Config::usual(role);
+    config.plain();
+    let congestion = Kinds::new(alloc)?;
+    Ok(Endpoint::new(alloc, config, congestion)?)
+}
+
+// The handshake leads it to OPEN.
+fn meets(alloc: Global, end: &mut Endpoint, role: Role) -> Result<(), Fail> {
+    let mut out = Outbox::new();
+    opens(end, &mut out);
+    for packet in opening(role) {
+        let bytes = hex::decode(alloc, packet)?;
+        received(end, &bytes, &mut out);
+    }
+    Ok(())
+}
+
+fn outcome_text(alloc: Global, outcome: &Outcome) -> Result<String, Fail> {
+    match *outcome {
+        Outcome::Took { delivered: None } => Ok(format!(in alloc; "took")?),
+        Outcome::SentReset { code, detail } => {
+            let [first, second, third] = detail;
+            Ok(format!(in alloc; "sent reset {code} {first} {second} {third}")?)
+        }
+        _ => Err(Fail::from("another outcome")),
+    }
+}
+
+fn held_text(alloc: Global, held: Held) -> Result<String, Fail> {
+    let value = held.value;
+    let mark = match held.stand {
+        Stand::Stable => "",
+        Stand::Changing => "*",
+        Stand::Unstable => "!",
+    };
+    Ok(format!(in alloc; "{value}{mark}")?)
+}
+
+// The frame that was sent, or `-`.
+fn frame_text(alloc: Global, out: &Outbox) -> Result<String, Fail> {
+    match out.frame() {
+        Some(frame) => Ok(hex::encode(alloc, frame.bytes())?),
+        None => Ok(format!(in alloc; "-")?),
+    }
+}
+
+// What the end answers to a packet, holds for a feature at a place then, and sends.
+fn answer(
+    alloc: Global,
+    end: &mut Endpoint,
+    packet: &str,
+    asked: (Feature, Place),
+) -> Result<String, Fail> {
+    let bytes = hex::decode(alloc, packet)?;
+    let mut out = Outbox::new();
+    let outcome = received(end, &bytes, &mut out).ok_or("no packet is longer")?;
+    let text = outcome_text(alloc, &outcome)?;
+    let held = held_text(alloc, end.held(asked.0, asked.1))?;
+    let sent = frame_text(alloc, &out)?;
+    Ok(format!(in alloc; "{text}, {held}, {sent}")?)
+}
+
+// What comes of a row's words. The end stands with the caller, so that no early return has it to drop.
+fn told(alloc: Global, end: &mut Endpoint, role: Role, words: &str) -> Result<String, Fail> {
+    let mut out = Outbox::new();
+    let mut asked = (Feature::Ccid, Place::Here);
+    meets(alloc, end, role)?;
+    for word in words.split_whitespace() {
+        if word == "again" {
+            asks_again(end, &mut out);
+        } else if let Some((feature, place, list)) = pieces(word) {
+            asks(end, feature, place, &values(alloc, list)?, &mut out);
+            asked = (feature, place);
+        } else {
+            return answer(alloc, end, word, asked);
+        }
+    }
+    Err(Fail::from("a row has a packet"))
+}
+
+fn row(alloc: Global, role: Role, words: &str) -> Result<String, Fail> {
+    let mut end = new_end(alloc, role)?;
+    told(alloc, &mut end, role, words)
+}
+
+// The first row of which something else comes, with that.
+fn first_wrong(alloc: Global, role: Role, rows: &str) -> Result<Option<String>, Fail> {
+    for line in rows.lines() {
+        if line.starts_with("#") {
+            continue;
+        }
+        let (words, wanted) = line.split_once(": ").ok_or("a row has a colon")?;
+        let got = row(alloc, role, words)?;
+        if got.as_str() != wanted {
+            return Ok(Some(format!(in alloc; "{words}: {got}")?));
+        }
+    }
+    Ok(None)
+}
+
+#[test]
+fn what_meets_a_wish(rt: HostRuntime) -> Result<(), Fail> {
+    let wrong = first_wrong(rt.alloc(), Role::Server, AT_A_SERVER)?;
+    assert!(rt; wrong.is_none(), "{wrong:?}");
+    let wrong = first_wrong(rt.alloc(), Role::Client, AT_A_CLIENT)?;
+    assert!(rt; wrong.is_none(), "{wrong:?}");
+    Ok(())
+}

@@ -1,0 +1,130 @@
+-- The Ack Vector of a packet that was logged, and the frame of its sender's view that tells the same.
+use Rattle.std.proofs.Common.{◌≡◌, refl, ap, sym, subst, ℕ, zero, suc, ◌+◌, ◌^◌, ◌<◌, ◌≤◌, Bool, true, false, if◌then◌else◌, List, [], ◌∷◌, ◌++◌, Some, Ok, slice_get, length, map, arith}
+use Rattle.std.proofs.lemmas.List.Elements.{All-head, All-tail}
+use Rattle.std.proofs.lemmas.Option.{same_Some}
+use Rattle.std.specs.List.{All}
+use Rattle.ack_vectors.specs.Vector.{is_whole, vector}
+use Rattle.ack_vectors.specs.declared.received.Record.{Record}
+use Rattle.dccp_endpoint.specs.Heeding.{is_of_negotiation}
+use Rattle.dccp_endpoint.specs.Reporting.{is_acking, vector_items}
+use Rattle.dccp_options.specs.Vectors.{ack_vectors, is_ack_vector}
+use Rattle.dccp_options.specs.Written.{Item, entries_at, spelled}
+use Rattle.dccp_packets.specs.Grammar.{has_forms, packet_type}
+use Rattle.dccp_packets.specs.Kinds.{ack_of}
+use Rattle.mark_agreement.specs.Sets.{AreMarks}
+use Rattle.mark_agreement.specs.View.{Frame, frame_at, with_frame}
+use Rattle.run_list.specs.MarkedSet.{MarkedSet, has}
+use Rattle.seq_circle.specs.Counts.{number_of}
+use Rattle.two_ends.proofs.FewOptions.{IsNegotiating}
+use Rattle.two_ends.proofs.Logged.{Logged}
+
+-- the Ack Vectors of a logged packet
+abbrev pub vectors_of : Logged → List (List ℕ)
+vectors_of l = ack_vectors (map Ok (entries_at 0 l.draft.options))
+
+-- the vector of a set, if there is one
+abbrev pub one_vector : Bool → MarkedSet → ℕ → List (List ℕ)
+one_vector true set ack = vector (has set.numbers) set.floor ack ∷ []
+one_vector false set ack = []
+
+-- an option of the negotiation is no Ack Vector
+no-vector : (kind : ℕ) → is_of_negotiation kind ≡ true → is_ack_vector kind ≡ false
+no-vector kind is = grind arith
+
+no-vectors : (place : ℕ) (items : List Item) → All IsNegotiating items → ack_vectors (map Ok (entries_at place items)) ≡ []
+no-vectors place [] all = refl
+no-vectors place (item ∷ items) all =
+    by (is_ack_vector item.kind) (no-vector item.kind (All-head IsNegotiating item items all))
+    (no-vectors (place + length (spelled item.mandatory item.kind item.body)) items (All-tail IsNegotiating item items all))
+  where
+    later : List (List ℕ)
+    later = ack_vectors (map Ok (entries_at (place + length (spelled item.mandatory item.kind item.body)) items))
+
+    by : (is : Bool) → is ≡ false → later ≡ [] → (if is then item.body ∷ [] else []) ++ later ≡ []
+    by true vector none = cc vector
+    by false vector none = none
+
+-- The only Ack Vector is the one that stands in front.
+pub vectors-written : (has_vector : Bool) (set : MarkedSet) (ack : ℕ) (rest : List Item) → All IsNegotiating rest
+    → ack_vectors (map Ok (entries_at 0 (vector_items has_vector set ack ++ rest))) ≡ one_vector has_vector set ack
+vectors-written true set ack rest all =
+    ap (λ (more : List (List ℕ)). vector (has set.numbers) set.floor ack ∷ more) (no-vectors _ rest all)
+vectors-written false set ack rest all = no-vectors 0 rest all
+
+-- A frame of the view tells what the logged packet does; the peer's packets are numbered from here.
+pub record IsFrame (iss : ℕ) (l : Logged) (frame : Frame) : Type 0 where
+  pub long : has_forms true l.draft.kind ≡ true
+  pub acks : frame.is_ack ≡ is_acking (packet_type l.draft.kind)
+  pub acknowledges : frame.is_ack ≡ true → ack_of l.draft.kind ≡ Some (number_of iss frame.acknowledged)
+  pub some : frame.is_ack ≡ true → 1 ≤ frame.acknowledged
+  pub early : frame.is_ack ≡ true → frame.acknowledged < 2 ^ 47
+  pub vector_acks : frame.has_vector ≡ true → frame.is_ack ≡ true
+  pub processed : frame.processed ≡ l.processed
+  -- the set that the vector tells of, as it is at the step's end
+  pub set : MarkedSet
+  pub vectors : vectors_of l ≡ one_vector frame.has_vector set (number_of iss frame.acknowledged)
+  pub floor : frame.has_vector ≡ true → set.floor ≡ l.floor
+  pub marks : frame.has_vector ≡ true → AreMarks iss set frame.floor frame.says
+  pub whole : frame.has_vector ≡ true → frame.is_whole ≡ is_whole (has set.numbers) set.floor (number_of iss frame.acknowledged)
+
+-- frame by frame
+pub data AreFrames (iss : ℕ) : List Logged → List Frame → Type 0 where
+  NoneSent : AreFrames iss [] []
+  OneSent : {l : Logged} {log : List Logged} {frame : Frame} {frames : List Frame} → IsFrame iss l frame → AreFrames iss log frames
+      → AreFrames iss (l ∷ log) (frame ∷ frames)
+
+pub frames-append : {iss : ℕ} {log : List Logged} {frames : List Frame} {l : Logged} {frame : Frame} → AreFrames iss log frames → IsFrame iss l frame
+    → AreFrames iss (log ++ l ∷ []) (with_frame frames frame)
+frames-append NoneSent is = OneSent is NoneSent
+frames-append (OneSent first rest) is = OneSent first (frames-append rest is)
+
+pub frames-length : {iss : ℕ} {log : List Logged} {frames : List Frame} → AreFrames iss log frames → length frames ≡ length log
+frames-length NoneSent = refl
+frames-length (OneSent first rest) = ap suc (frames-length rest)
+
+pub frame-of : {iss : ℕ} {log : List Logged} {frames : List Frame} (place : ℕ) (l : Logged) → AreFrames iss log frames → slice_get log place ≡ Some l
+    → IsFrame iss l (frame_at frames (suc place))
+frame-of place l NoneSent there = cc there
+frame-of {iss} zero l (OneSent {frame = frame} first rest) there = subst (λ (own : Logged). IsFrame iss own frame) (same_Some _ l there) first
+frame-of (suc place) l (OneSent first rest) there = frame-of place l rest there
+
+-- a frame more leaves the others, and is the last
+pub frame-before : (frames : List Frame) (frame : Frame) (place : ℕ) → place < length frames
+    → frame_at (with_frame frames frame) (suc place) ≡ frame_at frames (suc place)
+frame-before [] frame place below = absurd (omega (arith, below))
+frame-before (first ∷ rest) frame zero below = refl
+frame-before (first ∷ rest) frame (suc place) below = frame-before rest frame place (omega (arith, below))
+
+pub frame-last : (frames : List Frame) (frame : Frame) → frame_at (with_frame frames frame) (suc (length frames)) ≡ frame
+frame-last [] frame = refl
+frame-last (first ∷ rest) frame = frame-last rest frame
+
+-- A record is of a frame that carries its vector.
+pub record IsRecorded (own peer : ℕ) (frames : List Frame) (r : Record) : Type 0 where
+  pub place : ℕ
+  pub there : place < length frames
+  pub number : r.number ≡ number_of own (suc place)
+  pub has_vector : (frame_at frames (suc place)).has_vector ≡ true
+  pub is_whole : (frame_at frames (suc place)).is_whole ≡ r.whole
+  pub ack : r.ack ≡ number_of peer (frame_at frames (suc place)).acknowledged
+  pub some : 1 ≤ (frame_at frames (suc place)).acknowledged
+  pub early : (frame_at frames (suc place)).acknowledged < 2 ^ 47
+
+pub recorded-before : (own peer : ℕ) (frames : List Frame) (frame : Frame) (r : Record) → IsRecorded own peer frames r
+    → IsRecorded own peer (with_frame frames frame) r
+recorded-before own peer frames frame r is =
+    let same : frame_at frames (suc is.place) ≡ frame_at (with_frame frames frame) (suc is.place) = sym (frame-before frames frame is.place is.there) in
+    record {
+      place = is.place;
+      there = omega (arith, is.there, length-with frames frame);
+      number = is.number;
+      has_vector = subst (λ (f : Frame). f.has_vector ≡ true) same is.has_vector;
+      is_whole = subst (λ (f : Frame). f.is_whole ≡ r.whole) same is.is_whole;
+      ack = subst (λ (f : Frame). r.ack ≡ number_of peer f.acknowledged) same is.ack;
+      some = subst (λ (f : Frame). 1 ≤ f.acknowledged) same is.some;
+      early = subst (λ (f : Frame). f.acknowledged < 2 ^ 47) same is.early;
+    }
+  where
+    length-with : (fs : List Frame) (f : Frame) → length (with_frame fs f) ≡ suc (length fs)
+    length-with [] f = refl
+    length-with (first ∷ rest) f = ap suc (length-with rest f)

@@ -1,0 +1,90 @@
+-- Two ends with their congestion controls (own): each event asks that of the side that acts, and its step calls it.
+use Rattle.std.specs.Prelude.{List, [], ◌∷◌, Result, Ok, Err}
+use Rattle.congestion_trait.specs.Control.{Control, may_send}
+use Rattle.dccp_endpoint.specs.Controlled.{End, after_calls, begins, has_in_flight}
+use Rattle.dccp_endpoint.specs.Inputs.{Input}
+use Rattle.dccp_endpoint.specs.declared.config.Config.{Config}
+use Rattle.two_ends.specs.World.{Half, WorldState, WorldStep, Said, actor, at_start, half_at_start, half_of, half_steps, happens}
+use Rattle.two_ends.specs.declared.event.Event.{Event}
+use Rattle.two_ends.specs.declared.event.Seen.{Seen}
+use Rattle.two_ends.specs.declared.event.Side.{Side}
+use Rattle.two_ends.specs.declared.event.Side.TheVariants.{Client, Server}
+use Rattle.two_ends.specs.declared.event.WorldFault.{WorldFault}
+
+-- the two ends with all that they sent and processed, and the congestion control of each
+pub record Controlled (C : Type 0) : Type 0 where
+  pub world : WorldState
+  pub for_client : C
+  pub for_server : C
+
+pub record ControlledStep (C : Type 0) : Type 0 where
+  pub after : Controlled C
+  pub seen : Seen
+
+-- one side of it
+pub record ControlledHalf (C : Type 0) : Type 0 where
+  pub half : Half
+  pub congestion : C
+
+pub record ControlledHalfStep (C : Type 0) : Type 0 where
+  pub after : ControlledHalf C
+  pub seen : Seen
+
+abbrev pub congestion_of : {C : Type 0} → Controlled C → Side → C
+congestion_of w Client = w.for_client
+congestion_of w Server = w.for_server
+
+-- the end of a side, with its congestion control
+abbrev pub end_of : {C : Type 0} → Controlled C → Side → End C
+end_of w side = record { state = (half_of w.world side).end; congestion = congestion_of w side }
+
+-- what a congestion control says when it is asked
+abbrev pub said_by : {C : Type 0} → Control C → C → Said
+said_by control congestion = record { may_send = may_send control congestion; in_flight = has_in_flight control congestion }
+
+-- one step of a side's end, whose congestion control hears of it
+abbrev pub controlled_half_steps : {C : Type 0} → Control C → ControlledHalf C → Input → ControlledHalfStep C
+controlled_half_steps control side given =
+    record {
+      after =
+          record {
+            half = (half_steps side.half given).half;
+            congestion = after_calls control side.congestion (half_steps side.half given).calls;
+          };
+      seen = (half_steps side.half given).seen;
+    }
+
+-- the world after a step of a side, whose congestion control has heard of it
+abbrev pub controlled : {C : Type 0} → Control C → Controlled C → Side → WorldStep → Controlled C
+controlled control w Client step = record w { world = step.world; for_client = after_calls control w.for_client step.calls }
+controlled control w Server step = record w { world = step.world; for_server = after_calls control w.for_server step.calls }
+
+abbrev pub controls : {C : Type 0} → Control C → Controlled C → Side → Result WorldStep WorldFault → Result (ControlledStep C) WorldFault
+controls control w side (Ok step) = Ok (record { after = controlled control w side step; seen = step.seen })
+controls control w side (Err fault) = Err fault
+
+-- one event
+abbrev pub happens_to : {C : Type 0} → Control C → Controlled C → Event → Result (ControlledStep C) WorldFault
+happens_to control w event = controls control w (actor event) (happens w.world event (said_by control (congestion_of w (actor event))))
+
+-- the world after an event; one that cannot happen changes nothing
+abbrev pub controlled_after : {C : Type 0} → Controlled C → Result (ControlledStep C) WorldFault → Controlled C
+controlled_after w (Ok step) = step.after
+controlled_after w (Err _) = w
+
+-- a whole schedule
+abbrev pub plays : {C : Type 0} → Control C → Controlled C → List Event → Controlled C
+plays control w [] = w
+plays control w (event ∷ events) = plays control (controlled_after w (happens_to control w event)) events
+
+-- a side that has sent and received nothing, and two
+abbrev pub half_begins : {C : Type 0} → Control C → Config → C → ControlledHalf C
+half_begins control config congestion = record { half = half_at_start config; congestion = (begins control config congestion).congestion }
+
+abbrev pub begins_with : {C : Type 0} → Control C → Config → Config → C → C → Controlled C
+begins_with control client server for_client for_server =
+    record {
+      world = at_start client server;
+      for_client = (begins control client for_client).congestion;
+      for_server = (begins control server for_server).congestion;
+    }
