@@ -1,2 +1,5 @@
 pub mod Ahead
+pub mod Finding
 pub mod Known
+pub mod LineList
+pub mod NextLine

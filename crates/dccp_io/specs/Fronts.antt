@@ -1,5 +1,5 @@
 -- What was taken or given of bytes that are known, where a call ended early (own).
-use Rattle.std.specs.Prelude.{◌≡◌, ℕ, ◌<◌, List, length, take, Option}
+use Rattle.std.specs.Prelude.{◌≡◌, ℕ, ◌<◌, ◌≤◌, List, length, take, drop, Option, option_map}
 use Rattle.std.specs.Io.KnownBytes.{prepend_known, append_known}
 
 -- a sink took a front of the piece, and not all of it
@@ -9,3 +9,7 @@ TakesFront old new piece = (n : ℕ) × (n < length piece) × (new ≡ append_kn
 -- a source gave the next bytes, however many
 abbrev pub GivesFront : Option (List ℕ) → Option (List ℕ) → Type 0
 GivesFront old new = (bytes : List ℕ) × (old ≡ prepend_known bytes new)
+
+-- at most so many of the bytes that are known were given
+abbrev pub GivesAtMost : ℕ → Option (List ℕ) → Option (List ℕ) → Type 0
+GivesAtMost most old new = (n : ℕ) × (n ≤ most) × (new ≡ option_map (drop n) old)

@@ -1,4 +1,5 @@
 pub mod Ahead
 pub mod Counts
 pub mod Fronts
+pub mod Lines
 pub mod Memory

@@ -1,10 +1,14 @@
 //! Where bytes come from and where they go: sources and sinks that may fail, and count how often they did (own).
 //!
-//! Nothing here knows packets or lines. A source that tells its bytes and a sink that tells what it took are what
+//! Nothing here knows packets, or what a line says. A source that tells its bytes and a sink that tells what it took are what
 //! contracts above speak of; the adapters over standard input and output tell nothing but their counts.
 #![tactic(auto)]
 
 mod calls;
+mod laws;
+#[cfg(test)]
+mod line_tests;
+mod lines;
 mod memory;
 mod read_ahead;
 mod standard;
@@ -14,6 +18,8 @@ mod sure;
 mod tests;
 mod whole;
 
+pub use crate::laws::{lines_follow_one_another, the_first_line_stands_next};
+pub use crate::lines::{LineRead, Lines, LinesFault, Stop};
 pub use crate::memory::{MemorySink, MemorySource};
 pub use crate::read_ahead::ReadAhead;
 pub use crate::standard::{StdSink, StdSource};

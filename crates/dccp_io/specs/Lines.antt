@@ -1,0 +1,166 @@
+-- The lines of an input, and where they are too long or too much (own).
+use Rattle.std.specs.Prelude.{◌≡◌, ℕ, suc, ◌+◌, ◌≤◌, ◌<◌, ◌⊎◌, ◌==◌, nat_le, min, Bool, true, false, if◌then◌else◌, List, [], ◌∷◌, length, take, drop, Option, Some, None, IfSome, Result, Ok, Err, ⊤}
+use Rattle.std.specs.Io.KnownBytes.{prepend_known}
+use Rattle.dccp_io.specs.Ahead.{BytesAhead, ahead_of}
+use Rattle.dccp_io.specs.Counts.{Rose}
+use Rattle.dccp_io.specs.Fronts.{GivesAtMost}
+use Rattle.dccp_io.specs.declared.lines.LineRead.{LineRead}
+use Rattle.dccp_io.specs.declared.lines.LineRead.TheVariants as read
+use Rattle.dccp_io.specs.declared.lines.LinesFault.{LinesFault}
+use Rattle.dccp_io.specs.declared.lines.Stands.{Stands}
+use Rattle.dccp_io.specs.declared.lines.Stands.TheVariants as stands
+use Rattle.dccp_io.specs.declared.lines.Stop.{Stop}
+use Rattle.dccp_io.specs.declared.lines.Stop.TheVariants as stop
+
+-- The byte that ends a line.
+abbrev pub newline : ℕ
+newline = 10
+
+-- The byte at which a line is too long, counted from 1.
+abbrev pub one_too_many : ℕ
+one_too_many = 4097
+
+-- The most bytes of an input.
+abbrev pub most_bytes : ℕ
+most_bytes = 16777216
+
+-- How many bytes stand before the first newline, or before the end where there is none.
+abbrev pub text_length : List ℕ → ℕ
+text_length [] = 0
+text_length (byte ∷ rest) = if byte == newline then 0 else suc (text_length rest)
+
+-- The first line, with its newline; the last line of an input may lack it.
+abbrev pub first_line : List ℕ → List ℕ
+first_line bytes = take (suc (text_length bytes)) bytes
+
+-- A line without its newline.
+abbrev pub text_of : List ℕ → List ℕ
+text_of line = take (text_length line) line
+
+-- Behind so many bytes, those of a line up to its newline, to the end of the input or to the byte at which it is too long lie within
+-- those that an input may have.
+abbrev pub ends_within : ℕ → List ℕ → Bool
+ends_within given line = nat_le (given + min (length line) one_too_many) most_bytes
+
+-- What stands next in an input: its end, a line with its newline, the front of a line that is too long, or a line that is too much.
+pub data Next : Type 0 where
+  End : Next
+  Line : (line : List ℕ) → Next
+  Long : (front : List ℕ) → Next
+  Much : Next
+
+abbrev pub by_length : List ℕ → ℕ → Next
+by_length bytes n = if nat_le one_too_many n then Long (take one_too_many bytes) else Line (first_line bytes)
+
+-- Of the bytes that are left of an input behind so many that were given: a line is judged for too much input before its length.
+abbrev pub next_of : ℕ → List ℕ → Next
+next_of given [] = End
+next_of given (byte ∷ bytes) =
+    if ends_within given (first_line (byte ∷ bytes)) then by_length (byte ∷ bytes) (text_length (byte ∷ bytes)) else Much
+
+-- The lines of an input, each with its newline; the last may lack it. A byte goes onto the first line behind it.
+abbrev pub before_line : ℕ → List (List ℕ) → List (List ℕ)
+before_line byte [] = (byte ∷ []) ∷ []
+before_line byte (line ∷ lines) = (byte ∷ line) ∷ lines
+
+abbrev pub lines_of : List ℕ → List (List ℕ)
+lines_of [] = []
+lines_of (byte ∷ rest) = if byte == newline then (newline ∷ []) ∷ lines_of rest else before_line byte (lines_of rest)
+
+-- The same of the lines that are left: the end, or the first of them.
+abbrev pub first_of : ℕ → List (List ℕ) → Next
+first_of given [] = End
+first_of given (line ∷ lines) = if ends_within given line then by_length line (text_length line) else Much
+
+-- What was made out from the bytes that are pending.
+abbrev pub told : List ℕ → Stands → Next
+told bytes stands.End = End
+told bytes (stands.Line count) = Line (take count bytes)
+told bytes stands.TooLong = Long (take one_too_many bytes)
+told bytes stands.TooMuch = Much
+
+-- A line that was made out has some of the pending bytes, is not too long, and lies within the bytes that an input may have.
+abbrev pub IsLineOf : ℕ → List ℕ → Stands → Type 0
+IsLineOf given bytes (stands.Line count) = (0 < count) × (count ≤ length bytes) × (count ≤ one_too_many) × (given + count ≤ most_bytes)
+IsLineOf given bytes _ = ⊤
+
+-- The first line is pending to its newline, or so many bytes are, or all that is left.
+abbrev pub IsSought : ℕ → List ℕ → Option (List ℕ) → Type 0
+IsSought asked pending left = (asked ≤ text_length pending) ⊎ ((text_length pending < length pending) ⊎ IfSome left (λ more. more ≡ []))
+
+-- What seeking keeps: what is still to come, the block, and whose source it is.
+pub record Seeks {S : Type 0} (left : S → Option (List ℕ)) (faults lender : S → ℕ) (old new : BytesAhead) (before after : S) : Type 0 where
+  pub same_ahead : ahead_of new (left after) ≡ ahead_of old (left before)
+  pub same_size : new.size ≡ old.size
+  pub fits : length new.pending ≤ new.size
+  pub never_falls : faults before ≤ faults after
+  pub same_lender : lender after ≡ lender before
+
+-- What a reader of lines shows of itself: the source, the bytes that were read and not given, the line that was given last, with its
+-- newline, how many bytes of the input the lines have that were given, and why no further line comes.
+pub record LinesState (S : Type 0) : Type 0 where
+  pub source : S
+  pub pending : List ℕ
+  pub line : List ℕ
+  pub given : ℕ
+  pub stop : Option Stop
+
+-- what is left of the input behind the lines that were given, where the source tells its bytes
+abbrev pub rest : {S : Type 0} → (S → Option (List ℕ)) → LinesState S → Option (List ℕ)
+rest left l = prepend_known l.pending (left l.source)
+
+-- The line that stands next was given.
+pub record Gives {S : Type 0} (left : S → Option (List ℕ)) (old new : LinesState S) : Type 0 where
+  pub was_open : old.stop ≡ None
+  pub is_open : new.stop ≡ None
+  pub some : 0 < length new.line
+  pub short : length new.line ≤ one_too_many
+  pub given : new.given ≡ old.given + length new.line
+  pub next : IfSome (rest left old) (λ bytes. (next_of old.given bytes ≡ Line new.line) × (rest left new ≡ Some (drop (length new.line) bytes)))
+
+-- The input is at its end.
+pub record Ends {S : Type 0} (left : S → Option (List ℕ)) (old new : LinesState S) : Type 0 where
+  pub was_open : old.stop ≡ None
+  pub is_open : new.stop ≡ None
+  pub given : new.given ≡ old.given
+  pub next : IfSome (rest left old) (λ bytes. (bytes ≡ []) × (rest left new ≡ Some []))
+
+-- why no line was given: the one that stands next is too long or too much, or the source failed
+abbrev pub Blames : {S : Type 0} → (S → Option (List ℕ)) → (S → ℕ) → LinesState S → LinesState S → Stop → Type 0
+Blames left faults old new stop.TooLong = IfSome (rest left old) (λ bytes. next_of old.given bytes ≡ Long (take one_too_many new.pending))
+Blames left faults old new stop.TooMuch = IfSome (rest left old) (λ bytes. next_of old.given bytes ≡ Much)
+Blames left faults old new stop.Failed = Rose (faults old.source) (faults new.source)
+
+-- No further line comes, for a cause in this call or before, and then nothing was done.
+pub record Stops {S : Type 0} (left : S → Option (List ℕ)) (faults : S → ℕ) (old new : LinesState S) (why : Stop) : Type 0 where
+  pub kept : new.stop ≡ Some why
+  pub given : new.given ≡ old.given
+  pub same_rest : rest left new ≡ rest left old
+  pub cause : ((old.stop ≡ Some why) × (new ≡ old)) ⊎ ((old.stop ≡ None) × Blames left faults old new why)
+
+abbrev pub Answers : {S : Type 0} → (S → Option (List ℕ)) → (S → ℕ) → LinesState S → LinesState S → Result Bool Stop → Type 0
+Answers left faults old new (Ok true) = Gives left old new
+Answers left faults old new (Ok false) = Ends left old new
+Answers left faults old new (Err why) = Stops left faults old new why
+
+-- A line was asked for. At most 8,192 bytes were read past the lines that were given.
+pub record Finds {S : Type 0} (left : S → Option (List ℕ)) (faults lender : S → ℕ) (old new : LinesState S) (found : Result Bool Stop) : Type 0 where
+  pub never_falls : faults old.source ≤ faults new.source
+  pub same_lender : lender new.source ≡ lender old.source
+  pub within : new.given ≤ most_bytes
+  pub past : GivesAtMost 8192 (rest left new) (left new.source)
+  pub answer : Answers left faults old new found
+
+-- what was answered, apart from where a line's bytes lie
+abbrev pub found_of : Result (Option LineRead) LinesFault → Result Bool Stop
+found_of (Ok (Some (read.Whole text))) = Ok true
+found_of (Ok (Some (read.TooLong front))) = Err stop.TooLong
+found_of (Ok (Some read.TooMuch)) = Err stop.TooMuch
+found_of (Ok None) = Ok false
+found_of (Err _) = Err stop.Failed
+
+-- what is lent: the line that was given, without its newline, or the front of one that is too long
+abbrev pub Lends : {S : Type 0} → LinesState S → Result (Option LineRead) LinesFault → Type 0
+Lends lines (Ok (Some (read.Whole text))) = text.now ≡ text_of lines.line
+Lends lines (Ok (Some (read.TooLong front))) = front.now ≡ take one_too_many lines.pending
+Lends lines _ = ⊤

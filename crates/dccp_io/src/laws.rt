@@ -1,0 +1,14 @@
+//! What the definition of lines says of whole inputs.
+ghost use Rattle.std.specs.Prelude.{◌≡◌, ℕ, ◌<◌, List, ◌∷◌, length, drop};
+ghost use Rattle.dccp_io.specs.Lines.{lines_of, first_line, next_of, first_of};
+
+/// The lines of an input are its first line, and then the lines of what is behind it.
+pub fn lines_follow_one_another()
+    ensures { (bytes : List ℕ) → 0 < length bytes → lines_of bytes ≡ first_line bytes ∷ lines_of (drop (length (first_line bytes)) bytes) }
+{}
+
+/// What stands next goes by the first of the lines that are left: the end where there is none, too much where that line does
+/// not end in time, too long where it has a 4,097th byte, and else that line.
+pub fn the_first_line_stands_next()
+    ensures { (given : ℕ) (bytes : List ℕ) → next_of given bytes ≡ first_of given (lines_of bytes) }
+{}

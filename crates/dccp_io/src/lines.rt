@@ -1,0 +1,294 @@
+//! The lines of an input, one by one.
+ghost use Rattle.std.specs.Prelude.{◌≡◌, ◌+◌, ◌-◌, ◌≤◌, [], length, take, drop, min, None, IfOk, OnErr, IfSome};
+ghost use Rattle.dccp_io.specs.Counts.{Rose};
+ghost use Rattle.dccp_io.specs.Ahead.{ahead_of};
+ghost use Rattle.dccp_io.specs.Lines.{text_length, first_line, next_of, told, IsLineOf, IsSought, Seeks};
+
+use crate::{Failed, ReadAhead, Source};
+use seq_circle::NoMemory;
+use std::alloc::Global;
+use std::marker::Model;
+
+// The bytes of the block.
+const BLOCK: usize = 8192;
+
+// The byte at which a line is too long, counted from 1.
+const ONE_TOO_MANY: usize = 4097;
+
+// The most bytes of an input.
+const MOST_BYTES: u64 = 16_777_216;
+
+/// What stands next in an input, with its bytes lent from the reader's block until the next line is asked for (own).
+#[derive(Clone, Copy, Debug, PartialEq, Eq)]
+pub enum LineRead<'a> {
+    /// A line, without its newline.
+    Whole(&'a [u8]),
+    /// A line has more than 4,096 bytes: its first 4,097.
+    TooLong(&'a [u8]),
+    /// A line's newline or 4,097th byte, or the end of the input behind it, does not lie within the first 16,777,216 bytes.
+    TooMuch,
+}
+
+/// Why no line could be read (own).
+#[derive(Clone, Copy, Debug, PartialEq, Eq)]
+pub enum LinesFault {
+    /// The source failed.
+    Read,
+}
+
+/// Why no further line comes (own).
+#[derive(Clone, Copy, Debug, PartialEq, Eq)]
+pub enum Stop {
+    /// The next line has more than 4,096 bytes.
+    TooLong,
+    /// The next line's newline or 4,097th byte, or the end of the input behind it, does not lie within the first 16,777,216
+    /// bytes.
+    TooMuch,
+    /// The source failed.
+    Failed,
+}
+
+// What stands first in the bytes that are pending.
+enum Stands {
+    End,
+    // A line that has so many bytes with its newline.
+    Line(usize),
+    TooLong,
+    TooMuch,
+}
+
+// How many bytes stand before the first newline, where none of these is among the first `seen`.
+fn text_length(bytes: &[u8], seen: usize) -> usize
+    requires inside { seen ≤ length bytes.now }
+    requires before { text_length bytes.now ≡ seen + text_length (drop seen bytes.now) }
+    ensures value { result ≡ text_length bytes.now }
+    ensures fits { result ≤ length bytes.now }
+{
+    for index in seen..bytes.len() {
+        if bytes[index] == b'\n' {
+            return index;
+        }
+    }
+    bytes.len()
+}
+
+// Reads on until the first line's newline is pending, or so many bytes of it are, or the input ends; answers how many
+// bytes stand before the newline.
+fn seek<S: Source>(source: &mut S, ahead: &mut ReadAhead, asked: usize) -> Result<usize, Failed>
+    requires { asked ≤ ahead.old.size }
+    ensures seeks { Seeks S.left S.faults S.lender ahead.old ahead.new source.old source.new }
+    ensures value { IfOk result (λ seen. seen ≡ text_length ahead.new.pending) }
+    ensures sought { IfOk result (λ seen. IsSought asked ahead.new.pending (S.left source.new)) }
+    ensures cause { OnErr result (Rose (S.faults source.old) (S.faults source.new)) }
+{
+    let mut seen = text_length(ahead.pending(), 0);
+    while seen < asked {
+        if seen < ahead.len() {
+            return Ok(seen);
+        }
+        let count = ahead.refill(source)?;
+        if count == 0 {
+            return Ok(seen);
+        }
+        seen = text_length(ahead.pending(), seen);
+    }
+    Ok(seen)
+}
+
+// How many bytes the first line has with its newline, of which `seen` stand before that.
+#[tactic(auto, using(crate::proofs::NextLine::first_line_length))]
+fn line_length(pending: &[u8], seen: usize) -> usize
+    requires { seen ≡ text_length pending.now }
+    ensures { result ≡ length (first_line pending.now) }
+{
+    let held = pending.len();
+    if held <= seen {
+        return held;
+    }
+    seen + 1
+}
+
+// What stands first in the bytes that are pending, of which `seen` stand before the first newline.
+fn first_in(pending: &[u8], seen: usize, given: u64) -> Stands
+    requires within { given ≤ 16777216 }
+    requires seen { seen ≡ text_length pending.now }
+    ensures value { told pending.now result ≡ next_of given pending.now }
+    ensures fits { IsLineOf given pending.now result }
+{
+    let line = line_length(pending, seen);
+    if line == 0 {
+        return Stands::End;
+    }
+    if MOST_BYTES < given + line.min(ONE_TOO_MANY) as u64 {
+        return Stands::TooMuch;
+    }
+    if ONE_TOO_MANY <= seen {
+        return Stands::TooLong;
+    }
+    Stands::Line(line)
+}
+
+// How many bytes of a line settle what stands next.
+fn enough(given: u64) -> usize
+    requires { given ≤ 16777216 }
+    ensures { result ≡ min 4097 (16777216 - given + 1) }
+{
+    let room = MOST_BYTES - given;
+    (ONE_TOO_MANY as u64).min(room + 1) as usize
+}
+
+// Reads on until it is known what stands next.
+fn stands_next<S: Source>(
+    source: &mut S,
+    ahead: &mut ReadAhead,
+    given: u64,
+) -> Result<Stands, Failed>
+    requires size { ahead.old.size ≡ 8192 }
+    requires within { given ≤ 16777216 }
+    ensures seeks { Seeks S.left S.faults S.lender ahead.old ahead.new source.old source.new }
+    ensures next { IfOk result (λ stands. IfSome (ahead_of ahead.old (S.left source.old)) (λ bytes. next_of given bytes ≡ told ahead.new.pending stands)) }
+    ensures fits { IfOk result (λ stands. IsLineOf given ahead.new.pending stands) }
+    ensures cause { OnErr result (Rose (S.faults source.old) (S.faults source.new)) }
+{
+    let asked = enough(given);
+    let seen = seek(source, ahead, asked)?;
+    Ok(first_in(ahead.pending(), seen, given))
+}
+
+/// A reader of lines over a source (own). Contracts see the source, what was read of it and not given yet, the line that
+/// was given last, how many bytes the lines have that were given, and why no further line comes.
+#[derive(Drop)]
+pub struct Lines<S: Drop> {
+    source: S,
+    ahead: ReadAhead,
+    // How many of the pending bytes are those of the line that was given last.
+    used: usize,
+    given: u64,
+    stop: Option<Stop>,
+}
+
+impl<S: Drop> Model for Lines<S> {
+    ghost use Rattle.std.specs.Prelude.{◌≡◌, ◌≤◌, take, drop, length};
+    ghost use Rattle.dccp_io.specs.Lines.{LinesState};
+
+    ghost Value = { LinesState S };
+
+    ghost view = { λ l. record {
+      source = l.source;
+      pending = drop l.used l.ahead.pending;
+      line = take l.used l.ahead.pending;
+      given = l.given;
+      stop = l.stop;
+    } };
+
+    ghost invariant = { λ l. (l.used ≤ length l.ahead.pending)
+        × (length l.ahead.pending ≤ 8192) × (l.ahead.size ≡ 8192) × (l.given ≤ 16777216) };
+}
+
+impl<S: Source + Drop> Lines<S> {
+    ghost use Rattle.std.specs.Prelude.{Result, Option, ◌≡◌};
+    ghost use Rattle.std.specs.Borrow.{sem};
+    ghost use Rattle.std.specs.Io.BufRead.{Rests};
+    ghost use Rattle.dccp_io.specs.Lines.{Finds, Lends, found_of, text_of};
+    ghost use Rattle.dccp_io.specs.contracts.lines.Lines.{the_row};
+
+    /// A reader over this source. All memory is taken here, one block of 8,192 bytes, and nothing is read.
+    pub fn new(alloc: Global, source: S) -> Result<Lines<S>, NoMemory>
+        ensures { IfOk result (λ lines. lines ≡ record { source = source; pending = []; line = []; given = 0; stop = None }) }
+    {
+        let ahead = ReadAhead::new(alloc, BLOCK)?;
+        Ok(Lines {
+            source,
+            ahead,
+            used: 0,
+            given: 0,
+            stop: None,
+        })
+    }
+
+    /// Finds the next line, whole however the reads were cut, which is then `line`; false is the end of the input. It takes
+    /// no memory. At most 8,192 bytes are read past the lines that were given. TooLong and TooMuch come exactly where the
+    /// next line is so, too much before too long, and Failed only where the source failed. After one of these each further
+    /// call answers the same, and does nothing.
+    pub fn find(&mut self) -> Result<bool, Stop>
+        ensures { Finds S.left S.faults S.lender self.old self.new result }
+    {
+        if let Some(stop) = self.stop {
+            return Err(stop);
+        }
+        self.ahead.pass(self.used);
+        self.used = 0;
+        match stands_next(&mut self.source, &mut self.ahead, self.given) {
+            Err(_) => {
+                self.stop = Some(Stop::Failed);
+                Err(Stop::Failed)
+            }
+            Ok(Stands::TooLong) => {
+                self.stop = Some(Stop::TooLong);
+                Err(Stop::TooLong)
+            }
+            Ok(Stands::TooMuch) => {
+                self.stop = Some(Stop::TooMuch);
+                Err(Stop::TooMuch)
+            }
+            Ok(Stands::End) => Ok(false),
+            Ok(Stands::Line(count)) => {
+                self.used = count;
+                self.given += count as u64;
+                Ok(true)
+            }
+        }
+    }
+
+    /// The line that was given last, with its newline.
+    pub fn line(&self) -> &[u8]
+        ensures { result.now ≡ self.now.line }
+    {
+        &self.ahead.pending()[..self.used]
+    }
+
+    // The same without its newline.
+    fn text(&self) -> &[u8]
+        ensures { result.now ≡ text_of self.now.line }
+    {
+        let line = self.line();
+        &line[..text_length(line, 0)]
+    }
+
+    // The front of a line that is too long.
+    fn front(&self) -> &[u8]
+        ensures { result.now ≡ take 4097 self.now.pending }
+    {
+        let (_, pending) = self.ahead.pending().split_at(self.used);
+        &pending[..ONE_TOO_MANY.min(pending.len())]
+    }
+
+    /// The next line, or None exactly at the end of the input. It is `find`, and lends what was found: a line without its
+    /// newline, or the front of one that is too long.
+    pub fn next(&mut self) -> Result<Option<LineRead<'_>>, LinesFault>
+        ensures* after { sem 𝓛 (Rests (the_row S.row) self.entry (λ lines. Finds S.left S.faults S.lender self.old lines (found_of result) × Lends lines result)) }
+    {
+        match self.find() {
+            Err(Stop::Failed) => Err(LinesFault::Read),
+            Err(Stop::TooMuch) => Ok(Some(LineRead::TooMuch)),
+            Err(Stop::TooLong) => Ok(Some(LineRead::TooLong(self.front()))),
+            Ok(false) => Ok(None),
+            Ok(true) => Ok(Some(LineRead::Whole(self.text()))),
+        }
+    }
+
+    // The reader, as it stands behind so many bytes of lines that were given.
+    #[cfg(test)]
+    pub(crate) fn behind(self, given: u64) -> Lines<S> {
+        let mut lines = self;
+        lines.given = given.min(MOST_BYTES);
+        lines
+    }
+
+    /// The source, as it then stands.
+    pub fn into_source(self) -> S
+        ensures { result ≡ self.source }
+    {
+        self.source
+    }
+}
