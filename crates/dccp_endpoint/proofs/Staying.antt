@@ -15,7 +15,7 @@ use Rattle.validity_windows.specs.Windows.{InRange}
 use Rattle.validity_windows.specs.declared.marks.Marks.{Marks}
 use Rattle.dccp_endpoint.specs.Causes.{IsCaused}
 use Rattle.dccp_endpoint.specs.Effects.{Effect, end_after, rows_by}
-use Rattle.dccp_endpoint.specs.End.{EndState, IsProper, end_of, fresh, value_in, with_widths}
+use Rattle.dccp_endpoint.specs.End.{EndState, IsProper, end_of, fresh, value_in, with_rows, with_widths}
 use Rattle.dccp_endpoint.specs.Inputs.{Input}
 use Rattle.dccp_endpoint.specs.declared.config.Config.{Config}
 use Rattle.dccp_endpoint.proofs.Lawful.{rows-kept}
@@ -40,6 +40,21 @@ widths-in-range m rows sound =
     let own = row-width rows Here sound in
     let peers = row-width rows There sound in
     record { own_least = own.0; own_most = own.1; peer_least = peers.0; peer_most = peers.1 }
+
+-- rows of the end's role leave one, with the windows that they say
+proper-with : (e : EndState) (rows : List Row) → IsProper e → AreRowsOf (end_of e.config.role) rows → IsProper (with_rows e rows)
+proper-with e rows proper its =
+    record { phase_fits = proper.phase_fits; rows = its; own_width = refl; peer_width = refl; widths = widths-in-range e.marks rows its.sound }
+
+-- the same, where the rows and the marks are changed in place
+pub refitted : (e : EndState) (marks : Marks) (rows : List Row) → IsProper e → AreRowsOf (end_of e.config.role) rows → marks ≡ with_widths e.marks rows
+    → IsProper (record e { marks = marks; rows = rows })
+refitted e marks rows proper its is = subst (λ (m : Marks). IsProper (record e { marks = m; rows = rows })) (sym is) (proper-with e rows proper its)
+
+pub refit_is : (e old : EndState) (marks : Marks) (rows new : List Row) → e ≡ old → marks ≡ with_widths e.marks rows → rows ≡ new
+    → record e { marks = marks; rows = rows } ≡ with_rows old new
+refit_is e old marks rows new same widths is =
+    ap (λ (m : Marks). record e { marks = m; rows = rows }) widths ∙ ap (λ (x : EndState). with_rows x rows) same ∙ ap (λ (r : List Row). with_rows old r) is
 
 -- a step of a proper end leaves one
 pub proper-after : {e : EndState} {given : Input} {f : Effect} → IsProper e → IsCaused e given f → IsProper (end_after e f)

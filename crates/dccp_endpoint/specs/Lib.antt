@@ -1,5 +1,6 @@
 pub mod End
 pub mod Usual
+pub mod Configured
 pub mod Incoming
 pub mod Congesting
 pub mod Faults

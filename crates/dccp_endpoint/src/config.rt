@@ -1,5 +1,6 @@
 //! What an end is made from.
 ghost use Rattle.std.specs.Prelude.{◌≡◌, ◌<◌, ◌^◌};
+ghost use Rattle.dccp_endpoint.specs.Configured.{reversed};
 
 use dccp_states::Role;
 use dccp_sum::Pseudo;
@@ -16,6 +17,25 @@ pub(crate) fn number(n: u64) -> Seq48
         Some(number) => number,
         None => unreachable!(),
     }
+}
+
+// The addresses of the packets that come back.
+fn reversed(addresses: &Pseudo) -> Pseudo
+    ensures { result ≡ reversed addresses.now }
+{
+    match *addresses {
+        Pseudo::V4 { from, to } => Pseudo::V4 { from: to, to: from },
+        Pseudo::V6 { from, to } => Pseudo::V6 { from: to, to: from },
+    }
+}
+
+/// The ports of a connection, as one of its ends sees them.
+#[derive(Clone, Copy, Debug, PartialEq, Eq)]
+pub struct Ports {
+    /// The end's own.
+    pub own: u16,
+    /// That of its peer.
+    pub peer: u16,
 }
 
 /// One end's side of a connection: who it is, between which addresses and ports, and its first sequence number.
@@ -44,7 +64,42 @@ impl Config {
     ghost use Rattle.feature_lists.specs.Wishes.{is_ours, wish_of};
     ghost use Rattle.feature_lists.specs.declared.wishes.PreferFault.TheVariants.{BadList, NotOurs};
     ghost use Rattle.feature_machine.specs.Lists.{IsLists, with_offer, with_wish, without_offers};
+    ghost use Rattle.dccp_endpoint.specs.Configured.{configured};
     ghost use Rattle.dccp_endpoint.specs.Usual.{usual};
+    ghost use Rattle.dccp_states.specs.declared.phase.Role.TheVariants.{Client, Server};
+
+    /// A client that asks for a service. The addresses are those of the packets that it sends, its own the first; the service is a Service
+    /// Code (RFC 4340, section 8.1.2); the number of its first packet is to be one that nobody can guess (section 7.2).
+    ///
+    /// Its wishes and offers are those of `Lists::usual`, which are enough for data under CCID 2. `set`, `offer` and `plain` change them.
+    pub fn client(addresses: Pseudo, ports: Ports, service: u32, iss: Seq48) -> Config
+        ensures { result ≡ configured Client addresses ports service iss }
+    {
+        Config::of_role(Role::Client, addresses, ports, service, iss)
+    }
+
+    /// A server's end for one peer, which offers a service: all as in `client`, seen from the server.
+    pub fn server(addresses: Pseudo, ports: Ports, service: u32, iss: Seq48) -> Config
+        ensures { result ≡ configured Server addresses ports service iss }
+    {
+        Config::of_role(Role::Server, addresses, ports, service, iss)
+    }
+
+    fn of_role(role: Role, addresses: Pseudo, ports: Ports, service: u32, iss: Seq48) -> Config
+        ensures { result ≡ configured role addresses ports service iss }
+    {
+        let pseudo_in = reversed(&addresses);
+        Config {
+            role,
+            pseudo_out: addresses,
+            pseudo_in,
+            own_port: ports.own,
+            peer_port: ports.peer,
+            service,
+            iss,
+            lists: Lists::usual(),
+        }
+    }
 
     /// The ends that a schedule begins with (own): the client at 10.0.0.1, port 40000, with the initial sequence number
     /// 1000; the server at 10.0.0.2, port 5001, with 2000; Service Code 42.

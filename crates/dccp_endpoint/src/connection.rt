@@ -1,6 +1,6 @@
 //! The end without its congestion control.
 ghost use Rattle.std.specs.Prelude.{◌≡◌};
-ghost use Rattle.dccp_endpoint.specs.End.{end_of, first_phase};
+ghost use Rattle.dccp_endpoint.specs.End.{end_of, first_phase, with_widths};
 
 use crate::{Config, Held};
 use ack_vectors::Received;
@@ -37,6 +37,14 @@ fn first_phase(role: Role) -> Phase
         Role::Client => Phase::Closed,
         Role::Server => Phase::Listen,
     }
+}
+
+// The windows are as wide as the rows say.
+fn fit(marks: &mut Marks, rows: &Negotiation)
+    ensures { marks.new ≡ with_widths marks.old rows.now }
+{
+    marks.own_w = rows.held(Feature::SequenceWindow, Place::Here).value;
+    marks.peer_w = rows.held(Feature::SequenceWindow, Place::There).value;
 }
 
 /// One end of a connection but for its congestion control, which is lent to it where something is due to it. Its calls are those of
@@ -127,8 +135,7 @@ impl Connection {
         requires { AreRowsOf (end_of self.old.config.role) rows.now }
         ensures { self.new ≡ with_rows self.old rows.now }
     {
-        self.marks.own_w = rows.held(Feature::SequenceWindow, Place::Here).value;
-        self.marks.peer_w = rows.held(Feature::SequenceWindow, Place::There).value;
+        fit(&mut self.marks, rows);
         self.rows = *rows;
     }
 

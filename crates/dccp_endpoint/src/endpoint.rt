@@ -13,11 +13,56 @@ use std::marker::Model;
 // The CCID with which every end begins (RFC 4340, section 10).
 const FIRST_CCID: u8 = 2;
 
-/// One end of a connection, with the congestion control of the data that it sends. Its readers show the phase, the marks, the
-/// features' values and what is in flight; `open` begins a connection at a client, `send` sends data, `prefer` asks for a feature's
-/// value, `close` and `abort` end a connection; `timer` says that a timer has run out, and `receive` takes any bytes that arrive. Each
-/// call that takes an Outbox empties it first and leaves at most one frame there. A refused call leaves the end and its congestion
-/// control unchanged and the box empty. Only `new` may take memory.
+/// One end of a connection, with the congestion control of the data that it sends. It has no socket and no clock: whoever owns it
+/// has both. Each call that takes an Outbox empties it first and leaves at most one frame there, which the owner then sends to the
+/// peer. A refused call leaves the end and its congestion control unchanged and the box empty. Only `new` may take memory.
+///
+/// # The order of calls
+///
+/// An end serves one connection. A client's is made by `new` and opened once, by `open`; a server's is made by `new` for a peer from
+/// which a datagram came. From then on, in whatever order:
+///
+/// - `receive` for each datagram of the peer, of at most [`MOST_FRAME_BYTES`](crate::MOST_FRAME_BYTES) bytes: the owner drops a longer one
+/// - `timer` for each timer that has run out
+/// - `send` for data, in OPEN
+/// - `prefer` for another value of a feature, in PARTOPEN and OPEN
+/// - `close` to end the connection in order, in PARTOPEN and OPEN, and `abort` to end it at once
+/// - the readers `phase`, `marks`, `held`, `window`, `in_flight`, `is_reported`, `floor` and `marked`, at any time
+///
+/// A feature's value, as `held` shows it, is settled where its stand is Stable. The connection has ended once the phase is CLOSED again.
+/// An end in TIMEWAIT is kept until its timer has run out.
+///
+/// # What an outcome of `receive` asks of the owner
+///
+/// Whatever the outcome, a frame in the box goes to the peer.
+///
+/// | Outcome | What the owner does |
+/// |---|---|
+/// | `Took` with data | takes them from their place in the datagram |
+/// | `Took` without data | nothing; the phase, a feature, or what is in flight may have changed |
+/// | `Dropped` | nothing |
+/// | `Synced` | limits how many Syncs go out (RFC 4340, section 7.5.4) |
+/// | `WasReset` | learns that the connection has ended, with this code; the timer TimeWait runs |
+/// | `SentReset` with 1 | learns that the peer has closed; the end may go |
+/// | `SentReset` with 5 or 6, or with 8 at a client | learns that the connection has failed; the end may go |
+/// | `SentReset` with 3 or 4, or with 8 at a server | limits how many Resets go out; the end is as it was, but for the number that 4 takes |
+///
+/// # What is left to the owner
+///
+/// - The timers. Each runs in the phases that [`Endpoint::timer`] lists, and begins anew once the end was told of it. The waits of RFC
+///   4340: for Request a second at first (section 8.1.1), for Ack 200 milliseconds in PARTOPEN (section 8.1.5), for Negotiate a round trip
+///   (section 6.6.3), for Close two (section 8.3), each doubled from time to time, up to 64 seconds; for TimeWait two lifetimes of a segment,
+///   four minutes. Rto is TCP's, and begins anew where something came out of flight (RFC 4341, section 5). In OPEN an Ack is due within a
+///   short wait after data were delivered (own).
+/// - Initial sequence numbers that nobody can guess (section 7.2).
+/// - Limits: how many Syncs and Resets go out in a second, and for how many peers ends are made.
+/// - Giving up: `abort` after minutes without an answer to the Request, or in PARTOPEN (sections 8.1.1 and 8.1.5).
+/// - Data that `send` refuses with `WindowFull`: to be offered again, or dropped.
+///
+/// # Sizes
+///
+/// An end has 3,128 bytes beside its congestion control's, which are 168 for `Kinds` of ccid_two, and takes two blocks in `new`, of 17,920
+/// bytes together. A flight list takes one of 32,768; `Kinds` has two. An [`Outbox`] has 2,064 bytes: one may serve all ends of a thread.
 #[derive(Drop)]
 pub struct Endpoint<C> {
     connection: Connection,

@@ -1,8 +1,8 @@
 //! What the options of a packet say to the rows of an end (RFC 4340, section 8.5, step 8).
-ghost use Rattle.std.specs.Prelude.{◌≡◌, ◌<◌, ◌≤◌, length, map};
+ghost use Rattle.std.specs.Prelude.{◌≡◌, ◌<◌, ◌≤◌, ℕ, Option, Ok, true, length, map};
 ghost use Rattle.dccp_options.specs.Grammar.{options_of};
 ghost use Rattle.dccp_options.specs.Left.{entry_of, item_of};
-ghost use Rattle.dccp_endpoint.specs.Heeding.{counted, due_of, heeding_or, heeds, heeds_body, heeds_change, heeds_confirm, heeds_entry, heeds_feature, heeds_first, heeds_item, is_change, is_left, is_of_negotiation, met, misunderstood, place_in_used, unheeded};
+ghost use Rattle.dccp_endpoint.specs.Heeding.{Heeding, counted, due_of, heeding_or, heeds, heeds_body, heeds_change, heeds_confirm, heeds_entry, heeds_feature, heeds_first, heeds_item, is_change, is_left, is_of_negotiation, met, misunderstood, place_in_used, unheeded};
 
 use crate::Fault;
 use crate::faults::{fault_of, mandatory_fault};
@@ -69,12 +69,12 @@ fn is_of_negotiation(kind: u8) -> bool
 }
 
 impl Reading {
-    // Nothing was read yet.
-    fn new(rows: Negotiation) -> Reading
-        ensures { result ≡ unheeded rows }
+    /// Nothing was read yet.
+    pub(crate) fn new(rows: &Negotiation) -> Reading
+        ensures { result ≡ unheeded rows.now }
     {
         Reading {
-            rows,
+            rows: *rows,
             used: [false; 512],
             changes: 0,
             confirms: ArrayVec::new(),
@@ -263,18 +263,40 @@ impl Reading {
 /// Reads the options of an area, on a Data packet or on another, in order, up to the first fault; `count` tells whether those of the
 /// negotiation count, and `ack` is the packet's acknowledgement number.
 pub(crate) fn heed(
-    rows: &Negotiation,
+    reading: &mut Reading,
     area: &[u8],
     on_data: bool,
     count: bool,
     ack: &Option<Seq48>,
-) -> Result<Reading, Fault>
+) -> Result<(), Fault>
     requires { length area.now ≤ 1008 }
-    ensures { result ≡ heeds count ack.now (unheeded rows.now) (options_of area.now on_data) }
+    ensures { heeding_or reading.new result ≡ heeds count ack.now reading.old (options_of area.now on_data) }
 {
-    let mut reading = Reading::new(*rows);
     for item in options(area, on_data) {
         reading.heed_item(&item, count, ack)?;
     }
-    Ok(reading)
+    Ok(())
+}
+
+// An option that has no fault and says nothing to the rows.
+fn is_silent(item: &Result<Opt<'_>, OptFault>, count: bool) -> bool
+    ensures { result ≡ true → (ack : Option ℕ) (heeding : Heeding) → heeds_item count ack heeding (item_of item.now) ≡ Ok heeding }
+{
+    match item {
+        Ok(option) => option.is_understood() && !(count && is_of_negotiation(option.kind)),
+        Err(_) => false,
+    }
+}
+
+/// Tells that no option of an area has a fault or says anything to the rows, as nearly always: then there is nothing to read.
+pub(crate) fn are_silent(area: &[u8], on_data: bool, count: bool) -> bool
+    requires { length area.now ≤ 1008 }
+    ensures { result ≡ true → (ack : Option ℕ) (heeding : Heeding) → heeds count ack heeding (options_of area.now on_data) ≡ Ok heeding }
+{
+    for item in options(area, on_data) {
+        if !is_silent(&item, count) {
+            return false;
+        }
+    }
+    true
 }

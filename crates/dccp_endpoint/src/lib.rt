@@ -4,7 +4,9 @@
 //! An [`Endpoint`] is made from a [`Config`], which has its wishes and offers, and a congestion control of any kind, and serves
 //! one connection. Its calls put at most one frame into an `Outbox`, which they empty first; a refused call leaves the end
 //! unchanged and the box empty. It has no socket and no clock, and takes no memory once it is made. Frames that arrive are
-//! handed to `receive`, in whatever order.
+//! handed to `receive`, in whatever order. [`Endpoint`] says in which order its calls come and what is left to whoever owns it.
+//!
+//! What the calls take and give is named here too, so that one crate is enough to import beside that of a congestion control.
 #![tactic(auto)]
 
 mod calls;
@@ -22,7 +24,7 @@ mod speaking;
 mod tests;
 
 pub use crate::calls::{AbortFault, CloseFault, OpenFault, SendFault, Timer};
-pub use crate::config::Config;
+pub use crate::config::{Config, Ports};
 pub use crate::endpoint::Endpoint;
 pub(crate) use crate::exit::Exit;
 pub use crate::laws::{
@@ -30,7 +32,11 @@ pub use crate::laws::{
     own_packets_speak_once, packets_say_one_thing_to_a_row,
 };
 pub use crate::outcome::{Fault, Outcome, Why};
+pub use congestion_trait::Congestion;
+pub use dccp_packets::{Frame, MOST_FRAME_BYTES, Malformed, Outbox, ResetCode};
 pub use dccp_states::{Phase, Role};
+pub use dccp_sum::{Pseudo, SumFault};
 pub use feature_lists::{Feature, Place, PreferFault};
-pub use feature_machine::{Held, Stand};
+pub use feature_machine::{Held, Lists, Stand};
+pub use seq_circle::{NoMemory, Seq48};
 pub use validity_windows::Marks;

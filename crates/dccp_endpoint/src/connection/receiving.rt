@@ -1,5 +1,5 @@
 //! What an end does with a packet that arrives: the sixteen steps of RFC 4340, section 8.5.
-//! `take_bytes`, `take`, `take_options` and `take_steps` list them, and each has a function of its own below.
+//! `take_bytes`, `take`, `take_steps`, `take_options` and `negotiate` list them, and each has a function of its own below.
 ghost use Rattle.std.specs.Prelude.{◌≡◌, length, map};
 ghost use Rattle.dccp_endpoint.specs.End.{is_connected, is_open, is_live};
 ghost use Rattle.dccp_endpoint.specs.Receiving.{packet_fault};
@@ -11,7 +11,7 @@ use super::Connection;
 use super::handing::hand_over;
 use crate::config::number as seq48;
 use crate::faults::counts;
-use crate::heeding::{Reading, heed};
+use crate::heeding::{Reading, are_silent, heed};
 use crate::incoming::IncomingPacket;
 use crate::{Exit, Fault, Outcome, Why};
 use congestion_trait::Congestion;
@@ -99,7 +99,7 @@ impl Connection {
     ghost use Rattle.dccp_endpoint.specs.Drafts.{alone};
     ghost use Rattle.dccp_endpoint.specs.End.{EndState, IsProper, is_phase_of};
     ghost use Rattle.dccp_endpoint.specs.Faults.{counts};
-    ghost use Rattle.dccp_endpoint.specs.Heeding.{due_of, heeds, unheeded};
+    ghost use Rattle.dccp_endpoint.specs.Heeding.{due_of, heeding_or, unheeded};
     ghost use Rattle.dccp_endpoint.specs.Speaking.{HaveRoom, confirming};
     ghost use Rattle.dccp_endpoint.specs.Incoming.{Incoming, is_newest};
     ghost use Rattle.dccp_endpoint.specs.Receiving.{receives, takes, checks_header, is_of_connection, course, Goes, the_steps, through, finds_connection, is_own_service, accepts_request, started, acknowledges_in_window, answers, takes_answer, raises, judged, checks_numbers, ends_by_reset, is_unexpected, is_other_service, checks_type, heeded, reads_options, moved_to, needs_ack, acknowledges, responds, replies, processes, resets, resets_without_connection, leaves};
@@ -177,8 +177,8 @@ impl Connection {
         }
     }
 
-    // Step 8: the first fault of the options ends the connection, and else the rows are stored, once the congestion control has what is
-    // due to it. With the Confirms that are due come steps 10 to 16.
+    // Step 8. Most packets have no option that says anything to the rows: then these stay, and the windows too, which are as wide as they
+    // say, and no Confirm is due.
     fn take_options<C: Congestion>(
         &mut self,
         packet: &IncomingPacket<'_>,
@@ -188,13 +188,27 @@ impl Connection {
         requires { out.old ≡ None }
         ensures { record { after = record { state = self.new; congestion = congestion.new }; frame = out.new; answer = result } ≡ with_control C.control congestion.old (heeded self.old packet.now (reads_options self.old packet.now)) }
     {
-        // Without options the rows stay, and so do the windows, which are as wide as the rows say; and nothing is due.
-        let _rows = self.rows();
-        if packet.options.is_empty() {
-            return self.process(packet, &[], out);
+        if !self.is_silent(packet) {
+            return self.negotiate(packet, out, congestion);
         }
-        match self.read_options(packet) {
-            Ok(reading) => {
+        hand_over(packet, self.rows(), self.rows(), congestion);
+        self.process(packet, &[], out)
+    }
+
+    // Step 8, whole: the first fault of the options ends the connection, and else the rows are stored, once the congestion control has
+    // what is due to it. With the Confirms that are due come steps 10 to 16.
+    fn negotiate<C: Congestion>(
+        &mut self,
+        packet: &IncomingPacket<'_>,
+        out: &mut Outbox,
+        congestion: &mut C,
+    ) -> Outcome
+        requires { out.old ≡ None }
+        ensures { record { after = record { state = self.new; congestion = congestion.new }; frame = out.new; answer = result } ≡ with_control C.control congestion.old (heeded self.old packet.now (reads_options self.old packet.now)) }
+    {
+        let mut reading = Reading::new(self.rows());
+        match self.read_options(packet, &mut reading) {
+            Ok(()) => {
                 hand_over(packet, self.rows(), reading.rows(), congestion);
                 self.store(reading.rows());
                 self.process(packet, reading.confirms(), out)
@@ -406,12 +420,28 @@ impl Connection {
     }
 
     // Options of the negotiation are heeded on the newest packets alone.
-    fn read_options(&self, packet: &IncomingPacket<'_>) -> Result<Reading, Fault>
-        ensures { result ≡ heeds (packet.now.newest && counts self.now.phase packet.now.kind) packet.now.ack (unheeded self.now.rows) packet.now.options }
+    fn heeds_negotiation(&self, packet: &IncomingPacket<'_>) -> bool
+        ensures { result ≡ (packet.now.newest && counts self.now.phase packet.now.kind) }
     {
-        let count = packet.newest && counts(self.phase, packet.kind);
+        packet.newest && counts(self.phase, packet.kind)
+    }
+
+    // No option of the packet has a fault or says anything to the rows.
+    fn is_silent(&self, packet: &IncomingPacket<'_>) -> bool
+        ensures { result ≡ true → reads_options self.now packet.now ≡ Ok (unheeded self.now.rows) }
+    {
+        let count = self.heeds_negotiation(packet);
+        are_silent(packet.options, packet.kind.is_data(), count)
+    }
+
+    // Reads the options, where nothing of them was read yet.
+    fn read_options(&self, packet: &IncomingPacket<'_>, reading: &mut Reading) -> Result<(), Fault>
+        requires { reading.old ≡ unheeded self.now.rows }
+        ensures { heeding_or reading.new result ≡ reads_options self.now packet.now }
+    {
+        let count = self.heeds_negotiation(packet);
         let on_data = packet.kind.is_data();
-        heed(&self.rows, packet.options, on_data, count, &packet.ack)
+        heed(reading, packet.options, on_data, count, &packet.ack)
     }
 
     // The packet is marked, and an acknowledgement is owed.
@@ -641,7 +671,7 @@ impl Connection {
             None => seq48(0),
         };
         let ack = packet.number;
-        out.put(self.frame(own, Kind::Reset { ack, code, detail }));
+        self.put_alone(own, Kind::Reset { ack, code, detail }, out);
         Outcome::SentReset { code, detail }
     }
 }

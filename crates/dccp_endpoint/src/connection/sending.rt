@@ -2,7 +2,7 @@
 ghost use Rattle.std.specs.Prelude.{◌≡◌, ◌≤◌, ◌^◌, Some, None, true, false, if◌then◌else◌, length, map};
 ghost use Rattle.dccp_sum.specs.Checksum.{sealed};
 
-use super::Connection;
+use super::{Connection, fit};
 use crate::speaking::{asking, open_offers, put_changes, put_confirms, send_all};
 use ack_vectors::VectorBytes;
 use dccp_options::OptWriter;
@@ -35,7 +35,7 @@ impl Connection {
         ensures sent { out.new ≡ Some (frame_of self.old.config (next_number self.old) (alone kind)) }
     {
         let number = self.take_number();
-        out.put(self.frame(number, kind));
+        self.put_alone(number, kind, out);
     }
 
     // Sends a packet under the next number.
@@ -53,7 +53,7 @@ impl Connection {
         ensures sent { out.new ≡ Some (framed self.old.config (next_number self.old) kind options.now payload.now) }
     {
         let number = self.take_number();
-        out.put(self.frame_with(number, kind, options.bytes(), payload));
+        self.put_frame(number, kind, options.bytes(), payload, out);
     }
 
     // Sends a packet with Confirms alone under the next number.
@@ -88,6 +88,9 @@ impl Connection {
         ensures counted { self.new ≡ with_next_number self.old }
         ensures sent { out.new ≡ Some (frame_of self.old.config (next_number self.old) (saying kind (map due_of confirms.now) self.old.rows keys.now)) }
     {
+        if confirms.is_empty() && keys.is_empty() {
+            return self.send(kind, out);
+        }
         let mut area = OptWriter::new();
         put_confirms(&mut area, confirms);
         put_changes(&mut area, &self.rows, keys);
@@ -207,9 +210,8 @@ impl Connection {
         ensures asks { self.new ≡ asks self.old keys.now }
         ensures changing { AreChanging self.new.rows keys.now }
     {
-        let mut rows = *self.rows();
-        send_all(&mut rows, keys, self.marks.gss.next());
-        self.store(&rows);
+        send_all(&mut self.rows, keys, self.marks.gss.next());
+        fit(&mut self.marks, &self.rows);
     }
 
     // Sends a packet with the Changes of these rows, which ask, and with these Confirms.
@@ -235,9 +237,8 @@ impl Connection {
     fn offer(&mut self, confirms: &[ConfirmOut])
         ensures { self.new ≡ offers self.old (map due_of confirms.now) }
     {
-        let mut rows = *self.rows();
-        open_offers(&mut rows, confirms);
-        self.store(&rows);
+        open_offers(&mut self.rows, confirms);
+        fit(&mut self.marks, &self.rows);
     }
 
     // Sends a packet with these Confirms, once all offers have come up: it carries the Changes of all rows that ask and have no
@@ -265,21 +266,22 @@ impl Connection {
         number
     }
 
-    // A packet without options and data.
+    // Leaves a packet without options and data in the Outbox.
     #[tactic(auto, using(crate::proofs::Frames::fixed_part_is_short))]
-    pub(crate) fn frame(&self, number: Seq48, kind: Kind) -> Frame
+    pub(crate) fn put_alone(&self, number: Seq48, kind: Kind, out: &mut Outbox)
         requires { has_forms true kind ≡ true }
-        ensures { result ≡ frame_of self.now.config number (alone kind) }
+        ensures { out.new ≡ Some (frame_of self.now.config number (alone kind)) }
     {
-        self.frame_with(number, kind, &[], &[])
+        self.put_frame(number, kind, &[], &[], out);
     }
 
+    // Leaves a packet in the Outbox. A frame is large, so none is handed from function to function by value.
     #[tactic(auto, unfolding(crate::specs::Drafts::framed))]
-    fn frame_with(&self, number: Seq48, kind: Kind, options: &[u8], payload: &[u8]) -> Frame
+    fn put_frame(&self, number: Seq48, kind: Kind, options: &[u8], payload: &[u8], out: &mut Outbox)
         requires form { has_forms true kind ≡ true }
         requires area { fixed_length true (packet_type kind) + length (padded options.now) ≤ 1020 }
         requires short { length payload.now ≤ 1024 }
-        ensures { result ≡ framed self.now.config number kind options.now payload.now }
+        ensures { out.new ≡ Some (framed self.now.config number kind options.now payload.now) }
     {
         let header = Header {
             from: self.config.own_port,
@@ -296,7 +298,7 @@ impl Connection {
             Err(_) => unreachable!(),
         }
         seal_frame(&self.config.pseudo_out, &mut frame);
-        frame
+        out.put(frame);
     }
 }
 
