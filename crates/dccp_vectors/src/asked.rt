@@ -1,7 +1,8 @@
-//! Changes and Confirms that meet a wish, at both roles (RFC 4340, section 6, and the table of this profile). A replay has no line
-//! for a wish, and two ends of this project never send each other most of these; so they stand here and not in examples/.
+//! What a replay has no line for, and two ends of this project never send each other: Changes and Confirms that meet a wish, at both
+//! roles (RFC 4340, section 6, and the table of this profile); each packet type at a client before `open`, and what a server that has
+//! asked for a Close answers to types that its peer may not send (RFC 4340, section 8.5).
 use ccid_two::Kinds;
-use dccp_endpoint::{Config, Held, Outcome, Role, Stand, Timer};
+use dccp_endpoint::{Config, Held, Outcome, Role, Stand, Timer, Why};
 use dccp_packets::Outbox;
 use feature_lists::{Feature, Place};
 use std::alloc::Global;
@@ -124,6 +125,29 @@ const AT_A_CLIENT: &str = "\
     here/3/200 13899c400800fa6507000000000007d200000000000003ea23080300000000c8: sent reset 5 35 3 0, 100*, 9c401389070012160f000000000003eb00000000000007d205230300\n\
     here/3/200 13899c400900f95f07000000000007d200000000000003ea230a03000000000000c80000: sent reset 5 35 3 0, 100*, 9c401389070012160f000000000003eb00000000000007d205230300\n";
 
+// A packet of each type from a server, numbered 2,005, that acknowledges 1,000; and the answer of a client that was not opened.
+const BEFORE_OPEN: &str = "\
+    # Request and Data have no acknowledgement that the Reset could be numbered after\n\
+    13899c4005002dff01000000000007d50000002a: sent reset 3 0 0 0, Closed, 9c40138907001b210f0000000000000000000000000007d503000000\n\
+    13899c400400a1c005000000000007d5686921: sent reset 3 0 0 0, Closed, 9c40138907001b210f0000000000000000000000000007d503000000\n\
+    # Response, Ack, DataAck, CloseReq, Close, Sync, SyncAck\n\
+    13899c400700260f03000000000007d500000000000003e80000002a: sent reset 3 0 0 0, Closed, 9c401389070017380f000000000003e900000000000007d503000000\n\
+    13899c400600233d07000000000007d500000000000003e8: sent reset 3 0 0 0, Closed, 9c401389070017380f000000000003e900000000000007d503000000\n\
+    13899c40060097d009000000000007d500000000000003e8686921: sent reset 3 0 0 0, Closed, 9c401389070017380f000000000003e900000000000007d503000000\n\
+    13899c4006001f3d0b000000000007d500000000000003e8: sent reset 3 0 0 0, Closed, 9c401389070017380f000000000003e900000000000007d503000000\n\
+    13899c4006001d3d0d000000000007d500000000000003e8: sent reset 3 0 0 0, Closed, 9c401389070017380f000000000003e900000000000007d503000000\n\
+    13899c400600193d11000000000007d500000000000003e8: sent reset 3 0 0 0, Closed, 9c401389070017380f000000000003e900000000000007d503000000\n\
+    13899c400600173d13000000000007d500000000000003e8: sent reset 3 0 0 0, Closed, 9c401389070017380f000000000003e900000000000007d503000000\n\
+    # No Reset answers a Reset\n\
+    13899c40070018390f000000000007d500000000000003e802000000: dropped StrayReset, Closed, -\n";
+
+// A packet from a client, numbered 1,005, that acknowledges 2,000; and the answer of a server that has asked for a Close.
+const AFTER_CLOSE_REQ: &str = "\
+    # A Request, a Response and a CloseReq are unexpected\n\
+    9c401389050031e701000000000003ed0000002a: synced 1005, CloseReq, 13899c400600193a11000000000007d300000000000003ed\n\
+    9c4013890700260f03000000000003ed00000000000007d00000002a: synced 1005, CloseReq, 13899c400600193a11000000000007d300000000000003ed\n\
+    9c40138906001f3d0b000000000003ed00000000000007d0: synced 1005, CloseReq, 13899c400600193a11000000000007d300000000000003ed\n";
+
 fn place(text: &str) -> Option<Place> {
     match text {
         "here" => Some(Place::Here),
@@ -158,6 +182,10 @@ fn asks_again(end: &mut Endpoint, out: &mut Outbox) {
 
 fn opens(end: &mut Endpoint, out: &mut Outbox) {
     let _result = end.open(out);
+}
+
+fn closes(end: &mut Endpoint, out: &mut Outbox) {
+    let _result = end.close(out);
 }
 
 fn received(end: &mut Endpoint, bytes: &[u8], out: &mut Outbox) -> Option<Outcome> {
@@ -207,6 +235,11 @@ fn outcome_text(alloc: Global, outcome: &Outcome) -> Result<String, Fail> {
             let [first, second, third] = detail;
             Ok(format!(in alloc; "sent reset {code} {first} {second} {third}")?)
         }
+        Outcome::Synced(acknowledged) => {
+            let number = acknowledged.get();
+            Ok(format!(in alloc; "synced {number}")?)
+        }
+        Outcome::Dropped(Why::StrayReset) => Ok(format!(in alloc; "dropped StrayReset")?),
         _ => Err(Fail::from("another outcome")),
     }
 }
@@ -263,19 +296,64 @@ fn told(alloc: Global, end: &mut Endpoint, role: Role, words: &str) -> Result<St
     Err(Fail::from("a row has a packet"))
 }
 
+// What the end answers to a packet, its phase then, and what it sends.
+fn reply(alloc: Global, end: &mut Endpoint, packet: &str) -> Result<String, Fail> {
+    let bytes = hex::decode(alloc, packet)?;
+    let mut out = Outbox::new();
+    let outcome = received(end, &bytes, &mut out).ok_or("no packet is longer")?;
+    let text = outcome_text(alloc, &outcome)?;
+    let phase = end.phase();
+    let sent = frame_text(alloc, &out)?;
+    Ok(format!(in alloc; "{text}, {phase:?}, {sent}")?)
+}
+
+fn reply_of_a_new_client(alloc: Global, packet: &str) -> Result<String, Fail> {
+    let mut end = new_end(alloc, Role::Client)?;
+    reply(alloc, &mut end, packet)
+}
+
+// The handshake, a close, and the packet.
+fn closing_reply(alloc: Global, end: &mut Endpoint, packet: &str) -> Result<String, Fail> {
+    meets(alloc, end, Role::Server)?;
+    let mut out = Outbox::new();
+    closes(end, &mut out);
+    reply(alloc, end, packet)
+}
+
+fn reply_of_a_closing_server(alloc: Global, packet: &str) -> Result<String, Fail> {
+    let mut end = new_end(alloc, Role::Server)?;
+    closing_reply(alloc, &mut end, packet)
+}
+
 fn row(alloc: Global, role: Role, words: &str) -> Result<String, Fail> {
     let mut end = new_end(alloc, role)?;
     told(alloc, &mut end, role, words)
 }
 
+// Which end a table's rows are for.
+#[derive(Clone, Copy)]
+enum Start {
+    Asks(Role),
+    NewClient,
+    ClosingServer,
+}
+
+fn answer_at(alloc: Global, start: Start, words: &str) -> Result<String, Fail> {
+    match start {
+        Start::Asks(role) => row(alloc, role, words),
+        Start::NewClient => reply_of_a_new_client(alloc, words),
+        Start::ClosingServer => reply_of_a_closing_server(alloc, words),
+    }
+}
+
 // The first row of which something else comes, with that.
-fn first_wrong(alloc: Global, role: Role, rows: &str) -> Result<Option<String>, Fail> {
+fn first_wrong(alloc: Global, start: Start, rows: &str) -> Result<Option<String>, Fail> {
     for line in rows.lines() {
         if line.starts_with("#") {
             continue;
         }
         let (words, wanted) = line.split_once(": ").ok_or("a row has a colon")?;
-        let got = row(alloc, role, words)?;
+        let got = answer_at(alloc, start, words)?;
         if got.as_str() != wanted {
             return Ok(Some(format!(in alloc; "{words}: {got}")?));
         }
@@ -285,9 +363,23 @@ fn first_wrong(alloc: Global, role: Role, rows: &str) -> Result<Option<String>, 
 
 #[test]
 fn what_meets_a_wish(rt: HostRuntime) -> Result<(), Fail> {
-    let wrong = first_wrong(rt.alloc(), Role::Server, AT_A_SERVER)?;
+    let wrong = first_wrong(rt.alloc(), Start::Asks(Role::Server), AT_A_SERVER)?;
     assert!(rt; wrong.is_none(), "{wrong:?}");
-    let wrong = first_wrong(rt.alloc(), Role::Client, AT_A_CLIENT)?;
+    let wrong = first_wrong(rt.alloc(), Start::Asks(Role::Client), AT_A_CLIENT)?;
+    assert!(rt; wrong.is_none(), "{wrong:?}");
+    Ok(())
+}
+
+#[test]
+fn packets_before_open(rt: HostRuntime) -> Result<(), Fail> {
+    let wrong = first_wrong(rt.alloc(), Start::NewClient, BEFORE_OPEN)?;
+    assert!(rt; wrong.is_none(), "{wrong:?}");
+    Ok(())
+}
+
+#[test]
+fn unexpected_in_closereq(rt: HostRuntime) -> Result<(), Fail> {
+    let wrong = first_wrong(rt.alloc(), Start::ClosingServer, AFTER_CLOSE_REQ)?;
     assert!(rt; wrong.is_none(), "{wrong:?}");
     Ok(())
 }
