@@ -1,0 +1,6 @@
+mod Fields
+mod Short
+mod Turns
+mod Drawing
+mod Schedules
+mod Claiming

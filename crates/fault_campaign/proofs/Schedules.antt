@@ -1,0 +1,81 @@
+-- The run of a seed as that of a schedule, from a client and a server whose fields fit.
+use Rattle.std.proofs.Common.{◌≡◌, refl, sym, ap, subst, ◌∙◌, ℕ, zero, suc, ◌+◌, ◌-◌, ◌*◌, ◌/◌, ◌%◌, ◌^◌, ◌≤◌, ◌<◌, List, length, Result, Ok, Err, bit_xor, arith}
+use Rattle.std.proofs.Math.Dec.{lit<}
+use Rattle.std.proofs.Math.Nat.{div-le_self}
+use Rattle.std.proofs.lemmas.Nat.{mod_below, or_lt}
+use Rattle.rand_pcg.specs.Lcg.{Lcg}
+use Rattle.ccid_two.specs.Kinds.{Both, at_first, kinds_control}
+use Rattle.dccp_endpoint.specs.Drafts.{Fits}
+use Rattle.dccp_endpoint.specs.declared.config.Config.{Config}
+use Rattle.dccp_states.specs.declared.phase.Role.TheVariants as role
+use Rattle.feature_machine.proofs.Listing.{usual_are_lists}
+use Rattle.two_ends.specs.Controlled.{Controlled, ControlledStep, begins_with, controlled_after, happens_to, plays}
+use Rattle.two_ends.specs.Safe.{Safe}
+use Rattle.two_ends.specs.declared.event.Event.{Event}
+use Rattle.two_ends.specs.declared.event.Event.TheVariants.{Open}
+use Rattle.two_ends.specs.declared.event.WorldFault.{WorldFault}
+use Rattle.fault_campaign.specs.Draws.{behind, behind_two, generator, initial_number, word}
+use Rattle.fault_campaign.specs.Seeded.{Running, after_event, begun, events_of, goes_on, goes_on_for, next_event, next_events, opened, played, seeded, usual_from}
+
+after-world : (run : Running) (result : Result (ControlledStep Both) WorldFault) → (after_event run result).world ≡ controlled_after run.world result
+after-world run (Ok step) = refl
+after-world run (Err fault) = refl
+
+played-world : (run : Running) (event : Event) → (played run event).world ≡ controlled_after run.world (happens_to kinds_control run.world event)
+unfolding played
+played-world run event = after-world run (happens_to kinds_control run.world event)
+
+rest-plays : (n : ℕ) (run : Running) → (goes_on_for n run).world ≡ plays kinds_control run.world (next_events n run)
+rest-plays zero run = refl
+rest-plays (suc n) run =
+    rest-plays n (goes_on run)
+    ∙ ap (λ (w : Controlled Both). plays kinds_control w (next_events n (goes_on run))) (played-world (record run { words = behind_two run.words }) (next_event run))
+
+pub schedule : (seed events : ℕ) → (seeded seed events).world ≡ plays kinds_control (begun (generator seed)).world (events_of seed events)
+schedule seed events =
+    rest-plays (events - 1) (opened seed)
+    ∙ ap (λ (w : Controlled Both). plays kinds_control w (next_events (events - 1) (opened seed))) (played-world (begun (generator seed)) Open)
+
+rest-many : (n : ℕ) (run : Running) → length (next_events n run) ≡ n
+rest-many zero run = refl
+rest-many (suc n) run = ap suc (rest-many n (goes_on run))
+
+pub many : (seed events : ℕ) → 1 ≤ events → length (events_of seed events) ≡ events
+many seed events some = omega (arith, rest-many (events - 1) (opened seed))
+
+-- a word is below 2^32
+word-fits : (g : Lcg) → word g < 2 ^ 32
+unfolding word
+word-fits g =
+    let mixed = bit_xor (g.state / 2 ^ 18) g.state / 2 ^ 27 % 2 ^ 32 in
+    let by = g.state / 2 ^ 59 % 32 in
+    let less = div-le_self mixed (2 ^ by) in
+    let below = mod_below (bit_xor (g.state / 2 ^ 18) g.state / 2 ^ 27) (2 ^ 32) (lit< tt) in
+    or_lt 32 (mixed / 2 ^ by) (mixed * 2 ^ ((32 - by) % 32) % 2 ^ 32) (omega (arith, less, below)) (mod_below (mixed * 2 ^ ((32 - by) % 32)) (2 ^ 32) (lit< tt))
+
+joined-fits : (high low : ℕ) → low < 2 ^ 32 → high % 65536 * 2 ^ 32 + low < 2 ^ 48
+joined-fits high low fits = omega arith
+
+number-fits : (g : Lcg) → initial_number g < 2 ^ 48
+number-fits g = joined-fits (word g) (word (behind g)) (word-fits (behind g))
+
+client-fits : (number : ℕ) → number < 2 ^ 48 → Fits (usual_from role.Client number)
+client-fits number fits = record { own_port = lit< tt; peer_port = lit< tt; service = lit< tt; iss = fits; lists = usual_are_lists }
+
+server-fits : (number : ℕ) → number < 2 ^ 48 → Fits (usual_from role.Server number)
+server-fits number fits = record { own_port = lit< tt; peer_port = lit< tt; service = lit< tt; iss = fits; lists = usual_are_lists }
+
+abbrev AlwaysSafe : Type 0
+AlwaysSafe =
+    (client server : Config) (for_client for_server : Both) (events : List Event) → client.role ≡ role.Client → server.role ≡ role.Server → Fits client
+    → Fits server → Safe kinds_control (plays kinds_control (begins_with kinds_control client server for_client for_server) events)
+
+begun-safe : AlwaysSafe → (g : Lcg) (events : List Event) → Safe kinds_control (plays kinds_control (begun g).world events)
+unfolding begun
+begun-safe always g events =
+    always (usual_from role.Client (initial_number g)) (usual_from role.Server (initial_number (behind_two g))) at_first at_first events refl refl
+    (client-fits _ (number-fits g)) (server-fits _ (number-fits (behind_two g)))
+
+pub safe : AlwaysSafe → (seed events : ℕ) → Safe kinds_control (seeded seed events).world
+safe always seed events =
+    subst (Safe kinds_control) (sym (schedule seed events)) (begun-safe always (generator seed) (events_of seed events))

@@ -1,0 +1,5 @@
+use Rattle.fault_campaign.proofs.Schedules.{many, safe, schedule}
+use Rattle.fault_campaign.proofs.laws.seeded_runs_are_safe.Goals as goal
+
+pub returns : goal.returns
+returns c = record { schedule = schedule; many = many; safe = safe c.every_run_is_safe.ensures }

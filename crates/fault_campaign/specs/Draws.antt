@@ -1,0 +1,93 @@
+-- What two words of the generator make happen (own).
+use Rattle.std.specs.Prelude.{ℕ, ◌+◌, ◌-◌, ◌*◌, ◌/◌, ◌%◌, ◌^◌, ◌==◌, min, nat_le, if◌then◌else◌, [], ◌∷◌}
+use Rattle.byteorder.specs.Endian.{big_bytes}
+use Rattle.rand_core.specs.Pcg32Seed.{pcg32_seed}
+use Rattle.rand_pcg.specs.Lcg.{Lcg}
+use Rattle.rand_pcg.specs.Pcg.{pcg32, pcg32_of_seed}
+use Rattle.dccp_endpoint.specs.declared.calls.Timer.{Timer}
+use Rattle.dccp_endpoint.specs.declared.calls.Timer.TheVariants as timer
+use Rattle.feature_lists.specs.declared.features.Feature.TheVariants.{Ccid, SequenceWindow, AckRatio, MinCsCov}
+use Rattle.feature_lists.specs.declared.features.Place.TheVariants.{Here, There}
+use Rattle.two_ends.specs.declared.event.Event.{Event}
+use Rattle.two_ends.specs.declared.event.Event.TheVariants as event
+use Rattle.two_ends.specs.declared.event.Side.{Side}
+use Rattle.two_ends.specs.declared.event.Side.TheVariants.{Client, Server}
+
+-- the generator of a seed
+unfoldable pub generator : ℕ → Lcg
+generator seed = pcg32_of_seed (pcg32_seed 16 seed)
+
+-- its next word of 32 bits, and the generator behind it
+unfoldable pub word : Lcg → ℕ
+word g = (pcg32 g).0
+
+unfoldable pub behind : Lcg → Lcg
+behind g = (pcg32 g).1
+
+-- behind two words
+abbrev pub behind_two : Lcg → Lcg
+behind_two g = behind (behind g)
+
+-- an initial sequence number: the last 16 bits of a word, and the next word
+abbrev pub initial_number : Lcg → ℕ
+initial_number g = word g % 65536 * 2 ^ 32 + word (behind g)
+
+-- which of n frames is delivered: at times any, mostly one of the last eight
+abbrev pub index_of : ℕ → ℕ → ℕ
+index_of b n = if b / 256 % 16 == 0 then b / 4096 % n else n - 1 - b % min n 8
+
+-- a frame of this side arrives; where there is none, the client's timer runs out
+abbrev pub delivery : Side → ℕ → ℕ → Event
+delivery from n b = if n == 0 then event.Timer Client timer.Request else event.Deliver from (index_of b n)
+
+abbrev pub sending : Side → ℕ → Event
+sending side b = event.Send side (big_bytes 4 b)
+
+-- a side prefers this, by a number below 8; numbers that are not negotiated are drawn by the rest of the word
+abbrev pub preference : Side → ℕ → ℕ → Event
+preference side which rest =
+    if which == 0 then event.Prefer side Ccid Here (2 ∷ 248 ∷ [])
+    else if which == 1 then event.Prefer side Ccid Here (248 ∷ 2 ∷ [])
+    else if which == 2 then event.Prefer side Ccid There (248 ∷ [])
+    else if which == 3 then event.Prefer side MinCsCov Here (1 ∷ 2 ∷ 3 ∷ [])
+    else if which == 4 then event.Prefer side MinCsCov There (3 ∷ 1 ∷ [])
+    else if which == 5 then event.Prefer side MinCsCov There (2 ∷ [])
+    else if which == 6 then event.Prefer side SequenceWindow Here ((100 + rest % 1000) ∷ [])
+    else event.Prefer side AckRatio Here ((1 + rest % 4) ∷ [])
+
+-- by a number below 6
+abbrev pub timer_of : ℕ → Timer
+timer_of which =
+    if which == 0 then timer.Request
+    else if which == 1 then timer.Ack
+    else if which == 2 then timer.Negotiate
+    else if which == 3 then timer.Rto
+    else if which == 4 then timer.Close
+    else timer.TimeWait
+
+-- seldom an end of the connection, by a number below 512
+abbrev pub ending : ℕ → Event
+ending which =
+    if which == 0 then event.Close Client
+    else if which == 1 then event.Close Server
+    else if which == 2 then event.Abort Client
+    else if which == 3 then event.Abort Server
+    else event.Timer Client timer.Negotiate
+
+-- the event of a number below 32 and a word, where the client has sent so many frames, and the server so many
+abbrev pub event_of : ℕ → ℕ → ℕ → ℕ → Event
+event_of kind b clients servers =
+    if nat_le kind 11 then delivery Client clients b
+    else if nat_le kind 23 then delivery Server servers b
+    else if kind == 24 then sending Client b
+    else if kind == 25 then sending Server b
+    else if kind == 26 then preference Client (b % 8) (b / 8)
+    else if kind == 27 then preference Server (b % 8) (b / 8)
+    else if kind == 28 then event.Timer Client (timer_of (b % 6))
+    else if kind == 29 then event.Timer Server (timer_of (b % 6))
+    else if kind == 30 then ending (b % 512)
+    else event.Timer Server timer.Negotiate
+
+-- the event of two words
+unfoldable pub drawn : ℕ → ℕ → ℕ → ℕ → Event
+drawn a b clients servers = event_of (a % 32) b clients servers

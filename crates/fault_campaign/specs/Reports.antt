@@ -1,0 +1,87 @@
+-- What is counted of runs (own).
+use Rattle.std.specs.Prelude.{ℕ, ◌+◌, ◌&&◌, Bool, true, false, Ok, Err, Some, None}
+use Rattle.feature_lists.specs.declared.features.Feature.{Feature}
+use Rattle.feature_lists.specs.declared.features.Feature.TheVariants as feature
+use Rattle.feature_machine.specs.declared.stands.Stand.{Stand}
+use Rattle.feature_machine.specs.declared.stands.Stand.TheVariants.{Stable, Changing, Unstable}
+use Rattle.dccp_endpoint.specs.declared.outcome.Outcome.{Outcome}
+use Rattle.dccp_endpoint.specs.declared.outcome.Outcome.TheVariants.{Took, Dropped, Synced, WasReset, SentReset}
+use Rattle.two_ends.specs.declared.event.Seen.{Seen}
+use Rattle.two_ends.specs.declared.event.Seen.TheVariants.{Called, Fired, Received}
+use Rattle.two_ends.specs.declared.event.Side.{Side}
+use Rattle.two_ends.specs.declared.event.Side.TheVariants.{Client, Server}
+use Rattle.two_ends.specs.Pairs.{Pair, held_at}
+use Rattle.two_ends.specs.World.{WorldState}
+use Rattle.fault_campaign.specs.declared.report.Report.{Report}
+
+-- a report by each of its fields
+abbrev pub of_fields : ((Report → ℕ) → ℕ) → Report
+of_fields value =
+    record {
+      seeds = value (λ r. r.seeds);
+      events = value (λ r. r.events);
+      client_frames = value (λ r. r.client_frames);
+      server_frames = value (λ r. r.server_frames);
+      took = value (λ r. r.took);
+      delivered = value (λ r. r.delivered);
+      dropped = value (λ r. r.dropped);
+      synced = value (λ r. r.synced);
+      was_reset = value (λ r. r.was_reset);
+      sent_reset = value (λ r. r.sent_reset);
+      refused = value (λ r. r.refused);
+      settled = value (λ r. r.settled);
+    }
+
+abbrev pub nothing : Report
+nothing = of_fields (λ field. 0)
+
+abbrev pub plus : Report → Report → Report
+plus r s = of_fields (λ field. field r + field s)
+
+-- how much is counted in all
+abbrev pub size : Report → ℕ
+size r =
+    r.seeds + r.events + r.client_frames + r.server_frames + r.took + r.delivered + r.dropped + r.synced + r.was_reset + r.sent_reset
+    + r.refused + r.settled
+
+-- a packet that arrived counts by its outcome; one that was taken counts twice where its data were delivered
+abbrev pub with_outcome : Report → Outcome → Report
+with_outcome r (Took None) = record r { took = r.took + 1 }
+with_outcome r (Took (Some place)) = record r { took = r.took + 1; delivered = r.delivered + 1 }
+with_outcome r (Dropped why) = record r { dropped = r.dropped + 1 }
+with_outcome r (Synced number) = record r { synced = r.synced + 1 }
+with_outcome r (WasReset code) = record r { was_reset = r.was_reset + 1 }
+with_outcome r (SentReset code detail) = record r { sent_reset = r.sent_reset + 1 }
+
+-- a call counts where it was refused, a timer never
+abbrev pub with_seen : Report → Seen → Report
+with_seen r (Called (Ok _)) = r
+with_seen r (Called (Err refusal)) = record r { refused = r.refused + 1 }
+with_seen r (Fired applies) = r
+with_seen r (Received outcome) = with_outcome r outcome
+
+-- both ends call the feature settled
+abbrev pub is_stable : Stand → Bool
+is_stable Stable = true
+is_stable Changing = false
+is_stable Unstable = false
+
+abbrev pub is_settled : WorldState → Pair → Bool
+is_settled w pair = is_stable (held_at w pair Client).stand && is_stable (held_at w pair Server).stand
+
+abbrev pub one_if : Bool → ℕ
+one_if true = 1
+one_if false = 0
+
+abbrev pub settles : WorldState → Side → Feature → ℕ
+settles w side feature = one_if (is_settled w (record { feature = feature; location = side }))
+
+-- how many features of a side are settled, and of both
+abbrev pub settled_at : WorldState → Side → ℕ
+settled_at w side =
+    settles w side feature.Ccid + settles w side feature.ShortSeqnos + settles w side feature.SequenceWindow + settles w side feature.EcnIncapable
+    + settles w side feature.AckRatio + settles w side feature.SendAckVector + settles w side feature.SendNdpCount + settles w side feature.MinCsCov
+    + settles w side feature.CheckDataChecksum
+
+abbrev pub settled_of : WorldState → ℕ
+settled_of w = settled_at w Client + settled_at w Server

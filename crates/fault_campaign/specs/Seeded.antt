@@ -1,0 +1,90 @@
+-- The run of a seed (own): two usual ends, initial numbers and events drawn from the seed, and what is counted of it. An event is drawn
+-- by how many frames there are, so the events are defined together with their run.
+use Rattle.std.specs.Prelude.{ℕ, zero, suc, ◌-◌, List, [], ◌∷◌, length, Result, Ok, Err}
+use Rattle.rand_pcg.specs.Lcg.{Lcg}
+use Rattle.ccid_two.specs.Kinds.{Both, at_first, kinds_control}
+use Rattle.dccp_endpoint.specs.Usual.{usual}
+use Rattle.dccp_endpoint.specs.declared.config.Config.{Config}
+use Rattle.dccp_states.specs.declared.phase.Role.{Role}
+use Rattle.dccp_states.specs.declared.phase.Role.TheVariants as role
+use Rattle.two_ends.specs.Controlled.{Controlled, ControlledStep, begins_with, happens_to}
+use Rattle.two_ends.specs.World.{half_of}
+use Rattle.two_ends.specs.declared.event.Event.{Event}
+use Rattle.two_ends.specs.declared.event.Event.TheVariants.{Open}
+use Rattle.two_ends.specs.declared.event.Side.{Side}
+use Rattle.two_ends.specs.declared.event.Side.TheVariants.{Client, Server}
+use Rattle.two_ends.specs.declared.event.WorldFault.{WorldFault}
+use Rattle.fault_campaign.specs.Draws.{generator, word, behind, behind_two, initial_number, drawn}
+use Rattle.fault_campaign.specs.Reports.{nothing, with_seen, settled_of}
+use Rattle.fault_campaign.specs.declared.report.Report.{Report}
+
+-- a run on its way: the generator, the two ends, and what was counted
+pub record Running : Type 0 where
+  pub words : Lcg
+  pub world : Controlled Both
+  pub report : Report
+
+-- the usual end with another initial number
+abbrev pub usual_from : Role → ℕ → Config
+usual_from role number = record (usual role) { iss = number }
+
+-- the client's number is drawn first
+unfoldable pub begun : Lcg → Running
+begun g =
+    record {
+      words = behind_two (behind_two g);
+      world = begins_with kinds_control (usual_from role.Client (initial_number g)) (usual_from role.Server (initial_number (behind_two g))) at_first at_first;
+      report = nothing;
+    }
+
+abbrev pub frames_of : Running → Side → ℕ
+frames_of run side = length (half_of run.world.world side).frames
+
+-- an event and what is seen of it; one that cannot happen changes nothing
+abbrev pub after_event : Running → Result (ControlledStep Both) WorldFault → Running
+after_event run (Ok step) = record run { world = step.after; report = with_seen run.report step.seen }
+after_event run (Err fault) = run
+
+unfoldable pub played : Running → Event → Running
+played run event = after_event run (happens_to kinds_control run.world event)
+
+-- one event more, drawn from two words
+abbrev pub next_event : Running → Event
+next_event run = drawn (word run.words) (word (behind run.words)) (frames_of run Client) (frames_of run Server)
+
+abbrev pub goes_on : Running → Running
+goes_on run = played (record run { words = behind_two run.words }) (next_event run)
+
+abbrev pub goes_on_for : ℕ → Running → Running
+goes_on_for zero run = run
+goes_on_for (suc n) run = goes_on_for n (goes_on run)
+
+-- the first event opens the connection
+abbrev pub opened : ℕ → Running
+opened seed = played (begun (generator seed)) Open
+
+-- The run of a seed with so many events.
+abbrev pub seeded : ℕ → ℕ → Running
+seeded seed events = goes_on_for (events - 1) (opened seed)
+
+-- its events, as a schedule
+abbrev pub next_events : ℕ → Running → List Event
+next_events zero run = []
+next_events (suc n) run = next_event run ∷ next_events n (goes_on run)
+
+abbrev pub events_of : ℕ → ℕ → List Event
+events_of seed events = Open ∷ next_events (events - 1) (opened seed)
+
+-- what is reported of a run
+abbrev pub reported : Running → ℕ → Report
+reported run events =
+    record run.report {
+      seeds = 1;
+      events = events;
+      client_frames = frames_of run Client;
+      server_frames = frames_of run Server;
+      settled = settled_of run.world.world;
+    }
+
+unfoldable pub report_of : ℕ → ℕ → Report
+report_of seed events = reported (seeded seed events) events

@@ -1,0 +1,189 @@
+//! The run of a seed.
+ghost use Rattle.std.specs.Prelude.{◌≡◌, ◌^◌, ◌<◌, ◌≤◌, IfOk, OnOk};
+ghost use Rattle.fault_campaign.specs.Reports.{is_settled, is_stable, settled_at, settles, size};
+ghost use Rattle.fault_campaign.specs.Draws.{behind_two};
+ghost use Rattle.fault_campaign.specs.Seeded.{begun, frames_of, goes_on, next_event, played, report_of, reported, usual_from};
+ghost use Rattle.two_ends.specs.Pairs.{place_at};
+
+use crate::Report;
+use crate::draws::{drawn, generator, initial_number, next_word};
+use ccid_two::Kinds;
+use dccp_endpoint::{Config, Feature, Place, Role, Stand};
+use rand_pcg::Pcg32;
+use seq_circle::{NoMemory, Seq48};
+use std::alloc::Global;
+use std::marker::Model;
+use two_ends::{Event, Side, World, WorldFault};
+
+// A run on its way.
+#[derive(Drop)]
+struct Run {
+    words: Pcg32,
+    world: World<Kinds>,
+    report: Report,
+}
+
+impl Model for Run {
+    ghost use Rattle.fault_campaign.specs.Draws.{behind_two};
+    ghost use Rattle.fault_campaign.specs.Seeded.{Running};
+
+    ghost Value = { Running };
+
+    ghost view = { λ r. record { words = r.words; world = r.world; report = r.report } };
+}
+
+impl Run {
+    #[tactic(auto, unfolding(crate::specs::Seeded::begun))]
+    fn new(alloc: Global, mut words: Pcg32) -> Result<Run, NoMemory>
+        ensures value { IfOk result (λ run. run ≡ begun words) }
+    {
+        let client = usual_from(Role::Client, initial_number(&mut words));
+        let server = usual_from(Role::Server, initial_number(&mut words));
+        let for_client = Kinds::new(alloc)?;
+        let for_server = Kinds::new(alloc)?;
+        let world = World::new(alloc, client, server, for_client, for_server)?;
+        Ok(Run {
+            words,
+            world,
+            report: Report::nothing(),
+        })
+    }
+
+    // Lets an event happen, and counts it.
+    #[tactic(auto, unfolding(crate::specs::Seeded::played))]
+    fn play(&mut self, event: &Event) -> Result<(), NoMemory>
+        requires { size self.old.report < 2 ^ 62 }
+        ensures { OnOk result (self.new ≡ played self.old event.now) }
+    {
+        match self.world.step(event) {
+            Ok(seen) => self.report.count(seen),
+            Err(WorldFault::NoMemory) => return Err(NoMemory),
+            Err(_) => {}
+        }
+        Ok(())
+    }
+
+    fn frames(&self, side: Side) -> u64
+        ensures { result ≡ frames_of self.now side }
+    {
+        self.world.frames(side).len() as u64
+    }
+
+    // The next event, from two words.
+    fn next_event(&mut self) -> Event
+        ensures event { result ≡ next_event self.old }
+        ensures rest { self.new ≡ record self.old { words = behind_two self.old.words } }
+    {
+        let clients = self.frames(Side::Client);
+        let servers = self.frames(Side::Server);
+        let a = next_word(&mut self.words);
+        let b = next_word(&mut self.words);
+        drawn(a, b, clients, servers)
+    }
+
+    fn go_on(&mut self) -> Result<(), NoMemory>
+        requires { size self.old.report < 2 ^ 62 }
+        ensures { OnOk result (self.new ≡ goes_on self.old) }
+    {
+        let event = self.next_event();
+        self.play(&event)
+    }
+
+    fn report(&self, events: u32) -> Report
+        ensures { result ≡ reported self.now events }
+    {
+        Report {
+            seeds: 1,
+            events: u64::from(events),
+            client_frames: self.frames(Side::Client),
+            server_frames: self.frames(Side::Server),
+            settled: settled_at(&self.world, Side::Client) + settled_at(&self.world, Side::Server),
+            ..self.report
+        }
+    }
+}
+
+// The usual end with another initial number.
+fn usual_from(role: Role, number: Seq48) -> Config
+    ensures { result ≡ usual_from role number }
+{
+    let mut config = Config::usual(role);
+    config.iss = number;
+    config
+}
+
+fn is_stable(stand: Stand) -> bool
+    ensures { result ≡ is_stable stand }
+{
+    match stand {
+        Stand::Stable => true,
+        Stand::Changing | Stand::Unstable => false,
+    }
+}
+
+fn place_at(side: Side, location: Side) -> Place
+    ensures { result ≡ place_at side location }
+{
+    if side == location {
+        Place::Here
+    } else {
+        Place::There
+    }
+}
+
+// Both ends call the feature at this side settled.
+fn is_settled(world: &World<Kinds>, location: Side, feature: Feature) -> bool
+    ensures { result ≡ is_settled world.now.world (record { feature = feature; location = location }) }
+{
+    let clients = world
+        .end(Side::Client)
+        .held(feature, place_at(Side::Client, location));
+    let servers = world
+        .end(Side::Server)
+        .held(feature, place_at(Side::Server, location));
+    is_stable(clients.stand) && is_stable(servers.stand)
+}
+
+// 1 where it is so, else 0.
+fn settles(world: &World<Kinds>, location: Side, feature: Feature) -> u64
+    ensures value { result ≡ settles world.now.world location feature }
+    ensures few { result ≤ 1 }
+{
+    if is_settled(world, location, feature) {
+        1
+    } else {
+        0
+    }
+}
+
+fn settled_at(world: &World<Kinds>, location: Side) -> u64
+    ensures value { result ≡ settled_at world.now.world location }
+    ensures few { result ≤ 9 }
+{
+    settles(world, location, Feature::Ccid)
+        + settles(world, location, Feature::ShortSeqnos)
+        + settles(world, location, Feature::SequenceWindow)
+        + settles(world, location, Feature::EcnIncapable)
+        + settles(world, location, Feature::AckRatio)
+        + settles(world, location, Feature::SendAckVector)
+        + settles(world, location, Feature::SendNdpCount)
+        + settles(world, location, Feature::MinCsCov)
+        + settles(world, location, Feature::CheckDataChecksum)
+}
+
+/// Runs a seed (own), with so many events, and answers what was counted of it. The ends are the usual ones, with initial sequence
+/// numbers that are drawn; the first event opens the connection, and all others are drawn: most deliver one of the frames that were sent
+/// last, or at times an older one; others send data, prefer other values, let timers run out, or end the connection. The two ends take
+/// their memory once; each event takes that of a frame.
+#[tactic(auto, unfolding(crate::specs::Seeded::report_of))]
+pub fn run_seed(alloc: Global, seed: u64, events: u32) -> Result<Report, NoMemory>
+    requires events { 1 ≤ events × events ≤ 4096 }
+    ensures value { IfOk result (λ report. report ≡ report_of seed events) }
+{
+    let mut run = Run::new(alloc, generator(seed))?;
+    run.play(&Event::Open)?;
+    for _ in 0..events - 1 {
+        run.go_on()?;
+    }
+    Ok(run.report(events))
+}

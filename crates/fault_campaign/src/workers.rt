@@ -1,0 +1,128 @@
+//! Workers, who claim seeds, run them and add what they count.
+ghost use Rattle.std.specs.Prelude.{◌≡◌, ◌+◌, ◌^◌, ◌<◌, ◌≤◌, IfOk};
+ghost use Rattle.std.specs.Thread.{IsSync};
+ghost use Rattle.fault_campaign.specs.Reports.{size};
+ghost use Rattle.fault_campaign.specs.Totals.{CanWork, HaveWorked, both_reports, totals};
+
+use crate::{Gate, Report, run_seed};
+use campaign_claims::{
+    Claimer, Claims, a_claim_in_vain_ends_the_numbers, make_claims, numbers_once_add_up,
+};
+use seq_circle::NoMemory;
+use std::alloc::Global;
+use std::thread::{Threads, join};
+
+// What all workers do: seeds from the first on, each with so many events.
+#[derive(Clone, Copy)]
+struct Job {
+    first: u64,
+    events: u32,
+}
+
+// One worker: it runs the seeds that it claims until it claims in vain. Where it lacks memory it claims no more.
+fn work<G: Gate>(
+    alloc: Global,
+    gate: &G,
+    claims: &Claims,
+    claimer: Claimer,
+    job: Job,
+) -> (Claimer, Result<Report, NoMemory>)
+    requires same { claimer.claims ≡ claims.now }
+    requires can { CanWork 1 job claimer.view }
+    ensures { HaveWorked 1 job claims.now claimer.view result.0 result.1 }
+{
+    let mut claimer = claimer;
+    let mut report = Report::nothing();
+    while let Some(index) = claimer.claim(claims) {
+        gate.begin(&claimer, index);
+        match run_seed(alloc, job.first + index, job.events) {
+            Ok(one) => report = report.plus(&one),
+            Err(none) => return (claimer, Err(none)),
+        }
+    }
+    (claimer, Ok(report))
+}
+
+fn both(one: Result<Report, NoMemory>, other: Result<Report, NoMemory>) -> Result<Report, NoMemory>
+    requires few { IfOk one (λ r. size r < 2 ^ 62) }
+    requires others { IfOk other (λ r. size r < 2 ^ 62) }
+    ensures { result ≡ both_reports one other }
+{
+    let one = one?;
+    let other = other?;
+    Ok(one.plus(&other))
+}
+
+// So many workers, each half of them beside the other.
+fn work_beside<R: Threads + Sync, G: Gate + Sync>(
+    rt: &R,
+    alloc: Global,
+    gate: &G,
+    claims: &Claims,
+    claimer: Claimer,
+    job: Job,
+    workers: u8,
+) -> (Claimer, Result<Report, NoMemory>)
+    requires some { 1 ≤ workers }
+    requires most { workers ≤ 16 }
+    requires same { claimer.claims ≡ claims.now }
+    requires can { CanWork workers job claimer.view }
+    ensures { HaveWorked workers job claims.now claimer.view result.0 result.1 }
+{
+    if workers == 1 {
+        return work(alloc, gate, claims, claimer, job);
+    }
+    let mut claimer = claimer;
+    let other = match claimer.split(claims) {
+        Ok(other) => other,
+        Err(none) => return (claimer, Err(none)),
+    };
+    let few = workers / 2;
+    let more = workers - few;
+    let ((mut mine, one), (theirs, another)) = join(
+        rt,
+        move || -> (Claimer, Result<Report, NoMemory>)
+            requires row { IsSync R.row × IsSync G.row }
+            requires same { claimer.claims ≡ claims.now }
+            requires can { (1 ≤ more) × (more ≤ 16) × CanWork more job claimer.view }
+            ensures { HaveWorked more job claims.entry.now claimer.view result.0 result.1 }
+        { work_beside(rt, alloc, gate, claims, claimer, job, more) },
+        move || -> (Claimer, Result<Report, NoMemory>)
+            requires row { IsSync R.row × IsSync G.row }
+            requires same { other.claims ≡ claims.now }
+            requires can { (1 ≤ few) × (few ≤ 16) × CanWork few job other.view }
+            ensures { HaveWorked few job claims.entry.now other.view result.0 result.1 }
+        { work_beside(rt, alloc, gate, claims, other, job, few) },
+    );
+    mine.join(claims, theirs);
+    (mine, both(one, another))
+}
+
+/// Runs so many seeds from the first on (own), each once and with so many events, by so many workers at the same time, and adds their
+/// reports. The answer is the same for every number of workers and for every gate: the fields of all seeds' reports, added up.
+///
+/// A worker claims the next seed, calls the gate with the number that it claimed, runs the seed and adds its report, until it claims in
+/// vain. `NoMemory`, where one of them had none, is answered when all have ended.
+pub fn campaign<R: Threads + Sync, G: Gate + Sync>(
+    rt: &R,
+    alloc: Global,
+    gate: &G,
+    first: u64,
+    seeds: u32,
+    events: u32,
+    workers: u8,
+) -> Result<Report, NoMemory>
+    requires seeds { 1 ≤ seeds × seeds ≤ 100000 }
+    requires events { 1 ≤ events × events ≤ 4096 }
+    requires workers { 1 ≤ workers × workers ≤ 16 }
+    requires last { first + seeds ≤ 2 ^ 64 }
+    ensures { IfOk result (λ report. report ≡ totals first seeds events) }
+{
+    numbers_once_add_up();
+    a_claim_in_vain_ends_the_numbers();
+    let (claims, claimer) = make_claims(alloc, u64::from(seeds))?;
+    let job = Job { first, events };
+    let (last, report) = work_beside(rt, alloc, gate, &claims, claimer, job, workers);
+    let _ = claims.close(last);
+    report
+}
