@@ -1,0 +1,91 @@
+-- Data that the owner is told of stand within the datagram.
+use Rattle.std.proofs.Common.{◌≡◌, sym, ap, subst, ℕ, ◌≤◌, List, length, Bool, true, false, if◌then◌else◌, Option, Some, None, unwrap_or, arith}
+use Rattle.dccp_packets.specs.Grammar.{Parts}
+use Rattle.dccp_states.specs.declared.phase.Phase.{Phase}
+use Rattle.dccp_endpoint.specs.End.{EndState}
+use Rattle.dccp_endpoint.specs.Incoming.{Incoming, incoming}
+use Rattle.dccp_endpoint.specs.Inputs.{Input, Arrives}
+use Rattle.dccp_endpoint.specs.Inputs as input
+use Rattle.dccp_endpoint.specs.Outcomes.{HasCause, IsTaken}
+use Rattle.dccp_endpoint.specs.Reporting.{delivered_if}
+use Rattle.dccp_endpoint.specs.declared.outcome.Outcome.{Outcome}
+use Rattle.dccp_endpoint.specs.declared.outcome.Outcome.TheVariants.{Took, Dropped, Synced, WasReset, SentReset}
+use Rattle.dccp_uses.specs.Session.{has_closed, news_of}
+use Rattle.dccp_uses.specs.declared.news.News.{News}
+use Rattle.dccp_uses.specs.declared.news.News.TheVariants as news
+
+-- the place lies within the bytes
+abbrev pub IsWithin : List ℕ → ℕ × ℕ → Type 0
+IsWithin bytes place = (place.0 ≤ place.1) × (place.1 ≤ length bytes)
+
+incoming-within : (e : EndState) (bytes : List ℕ) (p : Parts) (number : ℕ) → IsWithin bytes (incoming e bytes p number).data_place
+incoming-within e bytes p number = (omega arith, omega arith)
+
+place-of : (new : Bool) (place its : ℕ × ℕ) → Some place ≡ delivered_if new its → its ≡ place
+place-of true place its is = sym (ap (λ (o : Option (ℕ × ℕ)). unwrap_or o place) is)
+place-of false place its is = cc is
+
+-- the bytes of an input
+abbrev bytes-or : List ℕ → Input → List ℕ
+bytes-or none (Arrives bytes) = bytes
+bytes-or none input.Opens = none
+bytes-or none input.Closes = none
+bytes-or none input.Aborts = none
+bytes-or none (input.Prefers key values) = none
+bytes-or none (input.Sends payload may_send) = none
+bytes-or none (input.Fires timer in_flight) = none
+
+taken-within : (e : EndState) (bytes : List ℕ) (place : ℕ × ℕ) → IsTaken e bytes (Some place) → IsWithin bytes place
+taken-within e bytes place taken =
+    let came = taken.admitted.valid.came in
+    subst (IsWithin bytes) (place-of _ place taken.packet.data_place taken.delivery)
+    (subst (λ (a : Incoming). IsWithin bytes a.data_place) (sym came.same)
+    (subst (λ (b : List ℕ). IsWithin b (incoming e came.bytes came.packet came.number).data_place) (sym (ap (bytes-or bytes) came.is_given))
+    (incoming-within e came.bytes came.packet came.number)))
+
+abbrev first-or : News → ℕ
+first-or (news.Data first past) = first
+first-or (news.Ended code) = 0
+first-or news.Quiet = 0
+first-or news.TooLong = 0
+
+abbrev past-or : News → ℕ
+past-or (news.Data first past) = past
+past-or (news.Ended code) = 0
+past-or news.Quiet = 0
+past-or news.TooLong = 0
+
+-- News of data are those of an outcome that delivers.
+data-news : (place : ℕ × ℕ) (first past : ℕ) → news.Data place.0 place.1 ≡ news.Data first past → (bytes : List ℕ) → IsWithin bytes place
+    → (first ≤ past) × (past ≤ length bytes)
+data-news place first past is bytes within =
+    let first_is : place.0 ≡ first = ap first-or is in
+    let past_is : place.1 ≡ past = ap past-or is in
+    (subst (λ n. n ≤ past) first_is (subst (λ n. place.0 ≤ n) past_is within.0), subst (λ n. n ≤ length bytes) past_is within.1)
+
+ended-news : (ended : Bool) (code first past : ℕ) → (if ended then news.Ended code else news.Quiet) ≡ news.Data first past → ⊥
+ended-news true code first past is = cc is
+ended-news false code first past is = cc is
+
+-- What the owner is told to be data stands within the bytes that arrived.
+pub news_within : (e : EndState) (bytes : List ℕ) (outcome : Outcome) (was now : Phase) (first past : ℕ) → HasCause e bytes outcome
+    → news_of outcome was now ≡ news.Data first past → (first ≤ past) × (past ≤ length bytes)
+news_within e bytes (Took (Some place)) was now first past cause is = data-news place first past is bytes (taken-within e bytes place cause)
+news_within e bytes (Took None) was now first past cause is = cc is
+news_within e bytes (Dropped why) was now first past cause is = cc is
+news_within e bytes (Synced number) was now first past cause is = cc is
+news_within e bytes (WasReset code) was now first past cause is = cc is
+news_within e bytes (SentReset code detail) was now first past cause is = absurd (ended-news (has_closed was now) code first past is)
+
+ended-short : (ended : Bool) (code : ℕ) → (if ended then news.Ended code else news.Quiet) ≡ news.TooLong → ⊥
+ended-short true code is = cc is
+ended-short false code is = cc is
+
+-- No outcome says that the bytes were too long.
+pub never_too_long : (outcome : Outcome) (was now : Phase) → news_of outcome was now ≡ news.TooLong → ⊥
+never_too_long (Took (Some place)) was now is = cc is
+never_too_long (Took None) was now is = cc is
+never_too_long (Dropped why) was now is = cc is
+never_too_long (Synced number) was now is = cc is
+never_too_long (WasReset code) was now is = cc is
+never_too_long (SentReset code detail) was now is = ended-short (has_closed was now) code is

@@ -1,0 +1,4 @@
+pub mod Delivering
+pub mod Ringing
+pub mod Soonest
+pub mod Accepting

@@ -1,0 +1,120 @@
+-- When the timers of an end run out (RFC 4340, sections 3.4, 6.6.3, 8.1.1, 8.1.5 and 8.3; RFC 4341, section 5). Times are in
+-- milliseconds. Where the standard leaves a wait open it is own.
+use Rattle.std.specs.Prelude.{ℕ, ◌≤◌, ◌-◌, ◌*◌, ◌==◌, ◌&&◌, if◌then◌else◌, max, min, Bool, true, false, Option, Some, None}
+use Rattle.dccp_endpoint.specs.Calling.{applies_in}
+use Rattle.dccp_endpoint.specs.declared.calls.Timer.{Timer}
+use Rattle.dccp_endpoint.specs.declared.calls.Timer.TheVariants as timers
+use Rattle.dccp_uses.specs.declared.alarms.Alarm.{Alarm}
+use Rattle.dccp_uses.specs.declared.alarms.Alarms.{Alarms}
+use Rattle.dccp_uses.specs.declared.alarms.Condition.{Condition}
+
+-- how long an alarm has still to wait; at 0 it has run out
+abbrev pub time_left : Alarm → ℕ → ℕ
+time_left alarm now = alarm.wait - (now - alarm.since)
+
+abbrev pub has_run_out : Option Alarm → ℕ → Bool
+has_run_out None now = false
+has_run_out (Some alarm) now = time_left alarm now == 0
+
+abbrev pub no_alarms : Alarms
+no_alarms = record { request = None; ack = None; negotiate = None; rto = None; close = None; time_wait = None }
+
+-- the alarm of a timer, if it runs
+abbrev pub alarm_of : Alarms → Timer → Option Alarm
+alarm_of alarms timers.Request = alarms.request
+alarm_of alarms timers.Ack = alarms.ack
+alarm_of alarms timers.Negotiate = alarms.negotiate
+alarm_of alarms timers.Rto = alarms.rto
+alarm_of alarms timers.Close = alarms.close
+alarm_of alarms timers.TimeWait = alarms.time_wait
+
+-- the same alarms with this one for a timer
+abbrev pub with_alarm : Alarms → Timer → Option Alarm → Alarms
+with_alarm alarms timers.Request alarm = record alarms { request = alarm }
+with_alarm alarms timers.Ack alarm = record alarms { ack = alarm }
+with_alarm alarms timers.Negotiate alarm = record alarms { negotiate = alarm }
+with_alarm alarms timers.Rto alarm = record alarms { rto = alarm }
+with_alarm alarms timers.Close alarm = record alarms { close = alarm }
+with_alarm alarms timers.TimeWait alarm = record alarms { time_wait = alarm }
+
+-- A timer's first wait: a second for an answer to the Request (section 8.1.1), for a Confirm (own) and for a report (RFC 4341, section 5);
+-- 200 for an Ack (section 8.1.5); two round trips of 200 for the answer to a Close (sections 3.4 and 8.3); two lifetimes of a segment, of
+-- two minutes each, in TIMEWAIT (sections 3.4 and 8.3).
+abbrev pub first_wait : Timer → ℕ
+first_wait timers.Request = 1000
+first_wait timers.Ack = 200
+first_wait timers.Negotiate = 1000
+first_wait timers.Rto = 1000
+first_wait timers.Close = 400
+first_wait timers.TimeWait = 240000
+
+-- each wait is twice the one before, up to 64 seconds (sections 6.6.3, 8.1.1 and 8.3)
+abbrev pub next_wait : ℕ → ℕ
+next_wait wait = max 1 (2 * min wait 32000)
+
+-- A timer runs where the end would do something when it runs out; the timer negotiate runs also where no row asks.
+abbrev pub runs_in : Timer → Condition → Bool
+runs_in timers.Rto c = applies_in timers.Rto c.phase && c.in_flight
+runs_in timer c = applies_in timer c.phase
+
+-- where it runs it goes on, or begins
+abbrev pub alarm_after : Bool → Option Alarm → ℕ → ℕ → Option Alarm
+alarm_after false old wait now = None
+alarm_after true (Some alarm) wait now = Some alarm
+alarm_after true None wait now = Some (record { since = now; wait = wait })
+
+abbrev pub arranged_alarm : Alarms → Timer → Condition → ℕ → Option Alarm
+arranged_alarm alarms timer c now = alarm_after (runs_in timer c) (alarm_of alarms timer) (first_wait timer) now
+
+-- the alarms of an end in this condition
+abbrev pub arranged : Alarms → Condition → ℕ → Alarms
+arranged alarms c now =
+    record {
+      request = arranged_alarm alarms timers.Request c now;
+      ack = arranged_alarm alarms timers.Ack c now;
+      negotiate = arranged_alarm alarms timers.Negotiate c now;
+      rto = arranged_alarm alarms timers.Rto c now;
+      close = arranged_alarm alarms timers.Close c now;
+      time_wait = arranged_alarm alarms timers.TimeWait c now;
+    }
+
+-- a timer that has run out waits longer the next time
+abbrev pub set_back : Option Alarm → ℕ → Option Alarm
+set_back None now = None
+set_back (Some alarm) now = Some (record { since = now; wait = next_wait alarm.wait })
+
+-- the alarms once a timer has run out
+abbrev pub rung : Alarms → Timer → ℕ → Alarms
+rung alarms timer now = with_alarm alarms timer (set_back (alarm_of alarms timer) now)
+
+-- an alarm that is set back already begins anew, and one in its first wait goes on
+abbrev pub first_again : Option Alarm → ℕ → Option Alarm
+first_again None wait = None
+first_again (Some alarm) wait = if alarm.wait == wait then Some alarm else None
+
+-- Where something came out of flight, the timer rto begins anew (RFC 4341, section 5).
+abbrev pub with_progress : Alarms → Bool → Alarms
+with_progress alarms true = record alarms { rto = None }
+with_progress alarms false = alarms
+
+-- Where data were delivered, an Ack goes out no later than after the first wait of its timer.
+abbrev pub with_delivery : Alarms → Bool → Alarms
+with_delivery alarms true = record alarms { ack = first_again alarms.ack (first_wait timers.Ack) }
+with_delivery alarms false = alarms
+
+-- the sooner of two waits
+abbrev pub sooner : Option ℕ → Option Alarm → ℕ → Option ℕ
+sooner left None now = left
+sooner None (Some alarm) now = Some (time_left alarm now)
+sooner (Some left) (Some alarm) now = Some (min left (time_left alarm now))
+
+-- how long it is until the first timer runs out
+unfoldable pub until_first : Alarms → ℕ → Option ℕ
+until_first alarms now =
+    sooner (sooner (sooner (sooner (sooner (sooner None alarms.request now) alarms.ack now) alarms.negotiate now) alarms.rto now) alarms.close now) alarms.time_wait now
+
+-- a timer that runs does not run out before that
+abbrev pub IsNoSooner : Option Alarm → ℕ → Option ℕ → Type 0
+IsNoSooner None now first = Unit {0}
+IsNoSooner (Some alarm) now None = ⊥
+IsNoSooner (Some alarm) now (Some first) = first ≤ time_left alarm now

@@ -1,0 +1,5 @@
+pub mod Alarms
+pub mod Handing
+pub mod Session
+pub mod OneAtATime
+pub mod Listening

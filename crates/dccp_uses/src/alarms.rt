@@ -1,0 +1,248 @@
+//! When each timer of an end runs out. The times are those of whoever owns the end, in milliseconds from any beginning.
+ghost use Rattle.std.specs.Prelude.{◌≡◌};
+ghost use Rattle.dccp_uses.specs.Alarms.{alarm_after, alarm_of, arranged, arranged_alarm, first_again, first_wait, has_run_out, time_left, next_wait, no_alarms, rung, runs_in, set_back, sooner, with_delivery, with_progress};
+
+use dccp_endpoint::{Phase, Timer};
+
+/// A timer that runs: since when, and for how long.
+#[derive(Clone, Copy, Debug, PartialEq, Eq)]
+pub struct Alarm {
+    /// When it began to run.
+    pub since: u64,
+    /// How long it runs, in milliseconds.
+    pub wait: u64,
+}
+
+impl Alarm {
+    /// How many milliseconds it has still to run: at 0 it has run out.
+    pub fn left(&self, now: u64) -> u64
+        ensures { result ≡ time_left self.now now }
+    {
+        self.wait.saturating_sub(now.saturating_sub(self.since))
+    }
+}
+
+/// What the timers of an end go by, after something happened to it.
+#[derive(Clone, Copy, Debug, PartialEq, Eq)]
+pub struct Condition {
+    /// The phase.
+    pub phase: Phase,
+    /// Whether data packets are in flight.
+    pub in_flight: bool,
+}
+
+/// The timers that run for an end, of the six that it has.
+#[derive(Clone, Copy, Debug, PartialEq, Eq)]
+pub struct Alarms {
+    /// Another Request goes out.
+    pub request: Option<Alarm>,
+    /// An Ack goes out.
+    pub ack: Option<Alarm>,
+    /// The Changes that no Confirm answered go out, if there are any.
+    pub negotiate: Option<Alarm>,
+    /// What is in flight is taken for lost.
+    pub rto: Option<Alarm>,
+    /// Another Close or CloseReq goes out.
+    pub close: Option<Alarm>,
+    /// TIMEWAIT is over.
+    pub time_wait: Option<Alarm>,
+}
+
+impl Alarms {
+    ghost use Rattle.std.specs.Prelude.{◌≡◌};
+    ghost use Rattle.dccp_uses.specs.Alarms.{IsNoSooner, until_first};
+
+    /// None of them runs.
+    pub fn none() -> Alarms
+        ensures { result ≡ no_alarms }
+    {
+        Alarms {
+            request: None,
+            ack: None,
+            negotiate: None,
+            rto: None,
+            close: None,
+            time_wait: None,
+        }
+    }
+
+    /// The alarm of a timer, if it runs.
+    pub fn of(&self, timer: Timer) -> Option<Alarm>
+        ensures { result ≡ alarm_of self.now timer }
+    {
+        match timer {
+            Timer::Request => self.request,
+            Timer::Ack => self.ack,
+            Timer::Negotiate => self.negotiate,
+            Timer::Rto => self.rto,
+            Timer::Close => self.close,
+            Timer::TimeWait => self.time_wait,
+        }
+    }
+
+    /// How many milliseconds it is until the first of them runs out, or None where none runs.
+    pub fn until_first(&self, now: u64) -> Option<u64>
+        ensures value { result ≡ until_first self.now now }
+        ensures first { (timer : Timer) → IsNoSooner (alarm_of self.now timer) now result }
+    {
+        let left = sooner(None, self.request, now);
+        let left = sooner(left, self.ack, now);
+        let left = sooner(left, self.negotiate, now);
+        let left = sooner(left, self.rto, now);
+        let left = sooner(left, self.close, now);
+        sooner(left, self.time_wait, now)
+    }
+}
+
+// The sooner of two waits.
+fn sooner(left: Option<u64>, alarm: Option<Alarm>, now: u64) -> Option<u64>
+    ensures { result ≡ sooner left alarm now }
+{
+    match (left, alarm) {
+        (_, None) => left,
+        (None, Some(alarm)) => Some(alarm.left(now)),
+        (Some(left), Some(alarm)) => Some(left.min(alarm.left(now))),
+    }
+}
+
+/// Whether an alarm has run out.
+pub(crate) fn has_run_out(alarm: Option<Alarm>, now: u64) -> bool
+    ensures { result ≡ has_run_out alarm now }
+{
+    match alarm {
+        Some(alarm) => alarm.left(now) == 0,
+        None => false,
+    }
+}
+
+// A timer's first wait.
+fn first_wait(timer: Timer) -> u64
+    ensures { result ≡ first_wait timer }
+{
+    match timer {
+        Timer::Request => 1_000,
+        Timer::Ack => 200,
+        Timer::Negotiate => 1_000,
+        Timer::Rto => 1_000,
+        Timer::Close => 400,
+        Timer::TimeWait => 240_000,
+    }
+}
+
+// Twice as long, up to 64 seconds.
+fn next_wait(wait: u64) -> u64
+    ensures { result ≡ next_wait wait }
+{
+    (2 * wait.min(32_000)).max(1)
+}
+
+// Whether a timer runs.
+fn runs_in(timer: Timer, condition: &Condition) -> bool
+    ensures { result ≡ runs_in timer condition.now }
+{
+    match (timer, condition.phase) {
+        (Timer::Request, Phase::Request) => true,
+        (Timer::Ack | Timer::Negotiate, Phase::PartOpen | Phase::Open) => true,
+        (Timer::Rto, Phase::Open) => condition.in_flight,
+        (Timer::Close, Phase::CloseReq | Phase::Closing) => true,
+        (Timer::TimeWait, Phase::TimeWait) => true,
+        _ => false,
+    }
+}
+
+fn alarm_after(runs: bool, old: Option<Alarm>, wait: u64, now: u64) -> Option<Alarm>
+    ensures { result ≡ alarm_after runs old wait now }
+{
+    match old {
+        _ if !runs => None,
+        Some(alarm) => Some(alarm),
+        None => Some(Alarm { since: now, wait }),
+    }
+}
+
+fn arranged_alarm(alarms: &Alarms, timer: Timer, condition: &Condition, now: u64) -> Option<Alarm>
+    ensures { result ≡ arranged_alarm alarms.now timer condition.now now }
+{
+    alarm_after(
+        runs_in(timer, condition),
+        alarms.of(timer),
+        first_wait(timer),
+        now,
+    )
+}
+
+/// The timers as they run for an end in this condition.
+pub(crate) fn arranged(alarms: &Alarms, condition: &Condition, now: u64) -> Alarms
+    ensures { result ≡ arranged alarms.now condition.now now }
+{
+    Alarms {
+        request: arranged_alarm(alarms, Timer::Request, condition, now),
+        ack: arranged_alarm(alarms, Timer::Ack, condition, now),
+        negotiate: arranged_alarm(alarms, Timer::Negotiate, condition, now),
+        rto: arranged_alarm(alarms, Timer::Rto, condition, now),
+        close: arranged_alarm(alarms, Timer::Close, condition, now),
+        time_wait: arranged_alarm(alarms, Timer::TimeWait, condition, now),
+    }
+}
+
+// The alarm of a timer that has run out: it waits longer the next time.
+fn set_back(alarm: Option<Alarm>, now: u64) -> Option<Alarm>
+    ensures { result ≡ set_back alarm now }
+{
+    match alarm {
+        Some(alarm) => Some(Alarm {
+            since: now,
+            wait: next_wait(alarm.wait),
+        }),
+        None => None,
+    }
+}
+
+/// The timers once this one has run out.
+pub(crate) fn rung(alarms: &Alarms, timer: Timer, now: u64) -> Alarms
+    ensures { result ≡ rung alarms.now timer now }
+{
+    let again = set_back(alarms.of(timer), now);
+    let mut alarms = *alarms;
+    match timer {
+        Timer::Request => alarms.request = again,
+        Timer::Ack => alarms.ack = again,
+        Timer::Negotiate => alarms.negotiate = again,
+        Timer::Rto => alarms.rto = again,
+        Timer::Close => alarms.close = again,
+        Timer::TimeWait => alarms.time_wait = again,
+    }
+    alarms
+}
+
+// The alarm, if it is in its first wait.
+fn first_again(alarm: Option<Alarm>, wait: u64) -> Option<Alarm>
+    ensures { result ≡ first_again alarm wait }
+{
+    match alarm {
+        Some(alarm) if alarm.wait == wait => Some(alarm),
+        _ => None,
+    }
+}
+
+/// The timers where something came out of flight, or not: the timer rto begins anew.
+pub(crate) fn with_progress(alarms: &Alarms, progress: bool) -> Alarms
+    ensures { result ≡ with_progress alarms.now progress }
+{
+    let mut alarms = *alarms;
+    if progress {
+        alarms.rto = None;
+    }
+    alarms
+}
+
+/// The timers where data were delivered, or not: an Ack goes out no later than after its timer's first wait.
+pub(crate) fn with_delivery(alarms: &Alarms, delivered: bool) -> Alarms
+    ensures { result ≡ with_delivery alarms.now delivered }
+{
+    let mut alarms = *alarms;
+    if delivered {
+        alarms.ack = first_again(alarms.ack, first_wait(Timer::Ack));
+    }
+    alarms
+}

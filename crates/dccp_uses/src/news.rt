@@ -1,0 +1,66 @@
+//! What the owner of a session is told of a datagram.
+ghost use Rattle.std.specs.Prelude.{◌≡◌};
+ghost use Rattle.dccp_uses.specs.Session.{has_closed, is_closed, is_delivery, news_of};
+
+use dccp_endpoint::{Outcome, Phase};
+
+/// What a datagram that arrived means to the owner of the session.
+#[derive(Clone, Copy, Debug, PartialEq, Eq)]
+pub enum News {
+    /// It brought data: they stand in the datagram from the place `first` up to the place `past`.
+    Data { first: usize, past: usize },
+    /// Nothing that the owner has to do with: it was taken, answered or dropped.
+    Quiet,
+    /// The connection has ended by a Reset with this code (RFC 4340, section 5.6), either end's. 1 is an orderly close, 2 an end that gave
+    /// up, any other a fault.
+    Ended { code: u8 },
+    /// It is longer than any frame of an end. It was not looked at.
+    TooLong,
+}
+
+fn is_closed(phase: Phase) -> bool
+    ensures { result ≡ is_closed phase }
+{
+    matches!(phase, Phase::Closed)
+}
+
+// The connection has come to its end.
+fn has_closed(was: Phase, is: Phase) -> bool
+    ensures { result ≡ has_closed was is }
+{
+    !is_closed(was) && is_closed(is)
+}
+
+// What an outcome means, by the phases before and after it.
+pub(crate) fn news_of(outcome: &Outcome, was: Phase, is: Phase) -> News
+    ensures { result ≡ news_of outcome.now was is }
+{
+    match *outcome {
+        Outcome::Took {
+            delivered: Some((first, past)),
+        } => News::Data { first, past },
+        Outcome::Took { delivered: None } | Outcome::Dropped(_) | Outcome::Synced(_) => News::Quiet,
+        Outcome::WasReset(code) => News::Ended { code },
+        // Without a connection, and in REQUEST, a Reset goes out and the phase stays.
+        Outcome::SentReset { code, .. } => {
+            if has_closed(was, is) {
+                News::Ended { code }
+            } else {
+                News::Quiet
+            }
+        }
+    }
+}
+
+// Whether the outcome brought data.
+pub(crate) fn is_delivery(outcome: &Outcome) -> bool
+    ensures { result ≡ is_delivery outcome.now }
+{
+    match *outcome {
+        Outcome::Took { delivered } => delivered.is_some(),
+        Outcome::Dropped(_)
+        | Outcome::Synced(_)
+        | Outcome::WasReset(_)
+        | Outcome::SentReset { .. } => false,
+    }
+}
