@@ -3,6 +3,7 @@
 
 use dccp_command::{Status, dccp};
 use dccp_io::{StdSink, StdSource};
+use fault_campaign::OpenGate;
 use std::alloc::AllocError;
 use std::env;
 use std::io::ErrorKind;
@@ -12,7 +13,7 @@ fn main(rt: HostRuntime) -> ExitCode {
     let mut input = StdSource::new(rt.stdin());
     let mut output = StdSink::new(rt.stdout());
     match words_of(&rt) {
-        Ok(words) => code(dccp(&rt, rt.alloc(), &words, &mut input, &mut output)),
+        Ok(words) => code(dccp(&rt, rt.alloc(), &OpenGate, &words, &mut input, &mut output)),
         Err(AllocError) => code(Status::Memory),
     }
 }

@@ -1,3 +1,4 @@
+pub mod Causes
 pub mod Configuring
 pub mod Ending
 pub mod FirstLine
@@ -5,5 +6,8 @@ pub mod HexText
 pub mod LoopInvariant
 pub mod ReplayInvariant
 pub mod RowTexts
+pub mod Settings
 pub mod Showing
+pub mod Streaming
 pub mod Telling
+pub mod Turning

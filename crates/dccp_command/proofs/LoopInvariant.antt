@@ -6,9 +6,9 @@ use Rattle.feature_machine.proofs.Listing.{usual_are_lists}
 use Rattle.two_ends.specs.declared.event.Event.{Event}
 use Rattle.schedule_text.specs.declared.line.LineFault.{LineFault}
 use Rattle.dccp_command.specs.declared.play.Play.{Play}
-use Rattle.dccp_command.specs.Lines.{lines_of}
+use Rattle.dccp_io.specs.Lines.{lines_of}
 use Rattle.dccp_command.specs.RunLines.{end_lines, refusal_line}
-use Rattle.dccp_command.specs.Transcript.{Verdict, Accepted, Refused, judged, Judges, ArePeers, IsBehind, Performance, onto, ends_at, continues_with, performed_from, world_of, first_play, performed, transcript, is_refused}
+use Rattle.dccp_command.specs.Transcript.{Verdict, Accepted, Refused, judged, Judges, ArePeers, IsBehind, Performance, onto, ends_at, continues_with, performed_from, world_of, first_play, performed, transcript, is_refused, accepted_bytes}
 
 -- Before a line: the text and events so far go before those of the lines that are left, the counters are at most the bytes read, and
 -- the configurations are those of a client and a server.
@@ -71,18 +71,20 @@ after-line play next rest behind line text after input before judges further cut
     accepted-by play next rest behind line text after input before (judged play line) refl judges further cut (ap length whole ∙ length-append line behind) some
 
 -- What is known when the schedule is over.
-pub record IsOver (input text : List ℕ) (refused : Bool) : Type 0 where
+pub record IsOver (input text : List ℕ) (refused : Bool) (accepted : ℕ) : Type 0 where
   pub text_is : text ≡ transcript input
   pub refused_is : refused ≡ is_refused input
+  pub accepted_is : accepted_bytes input ≡ accepted
   pub peers : ArePeers (performed input).client (performed input).server
 
 over-at : (play : Play) (rest text more input : List ℕ) (refused : Bool) (before : LoopInvariant play rest text input)
-    → performed_from play (lines_of rest) ≡ ends_at play more refused → IsOver input (text ++ more) refused
+    → performed_from play (lines_of rest) ≡ ends_at play more refused → IsOver input (text ++ more) refused play.read
 over-at play rest text more input refused before over =
     let whole : performed input ≡ onto text before.events (ends_at play more refused) = before.same ∙ ap (onto text before.events) over in
     record {
       text_is = sym (ap (λ (p : Performance). p.text) whole);
       refused_is = sym (ap (λ (p : Performance). p.is_refused) whole);
+      accepted_is = ap (λ (p : Performance). p.accepted) whole;
       peers = subst (λ (p : Performance). ArePeers p.client p.server) (sym whole) before.peers;
     }
 
@@ -91,30 +93,17 @@ no-bytes [] none = refl
 no-bytes (byte ∷ bytes) none = absurd (omega arith)
 
 -- the input was played to its end
-pub at-end : (play : Play) (rest text input : List ℕ) → LoopInvariant play rest text input → length rest ≡ 0 → IsOver input (text ++ end_lines (world_of play)) false
+pub at-end : (play : Play) (rest text input : List ℕ) → LoopInvariant play rest text input → length rest ≡ 0 → IsOver input (text ++ end_lines (world_of play)) false play.read
 at-end play rest text input before none =
     over-at play rest text (end_lines (world_of play)) input false before (ap (λ (left : List ℕ). performed_from play (lines_of left)) (no-bytes rest none))
 
-refused-by : (play next : Play) (rest behind line text after input : List ℕ) (given : LineFault) (before : LoopInvariant play rest text input) (verdict : Verdict)
-    → judged play line ≡ verdict → Judges verdict text after next (Err given) → lines_of rest ≡ line ∷ lines_of behind
-    → IsOver input (after ++ refusal_line play.number given) true
-refused-by play next rest behind line text after input given before (Accepted more events onward) is judges cut = cc judges.2
-refused-by play next rest behind line text after input given before (Refused fault) is judges cut =
-    let over : performed_from play (lines_of rest) ≡ ends_at play (refusal_line play.number fault) true =
-    ap (performed_from play) cut ∙ ap (λ (v : Verdict). continues_with play v (λ p. performed_from p (lines_of behind))) is in
-    let same : fault ≡ given = cc judges.1 in
-    let ends = over-at play rest text (refusal_line play.number fault) input true before over in
-    record {
-      text_is =
-          ap (λ (front : List ℕ). front ++ refusal_line play.number given) judges.0
-          ∙ ap (λ (f : LineFault). text ++ refusal_line play.number f) (sym same)
-          ∙ ends.text_is;
-      refused_is = ends.refused_is;
-      peers = ends.peers;
-    }
-
 -- a line was refused
-pub at-refusal : (play next : Play) (rest behind line text after input : List ℕ) (given : LineFault) → LoopInvariant play rest text input
-    → Judges (judged play line) text after next (Err given) → lines_of rest ≡ line ∷ lines_of behind → IsOver input (after ++ refusal_line play.number given) true
-at-refusal play next rest behind line text after input given before judges cut =
-    refused-by play next rest behind line text after input given before (judged play line) refl judges cut
+pub at-refusal : (play : Play) (rest behind line text input : List ℕ) (fault : LineFault) → LoopInvariant play rest text input
+    → judged play line ≡ Refused fault → lines_of rest ≡ line ∷ lines_of behind → IsOver input (text ++ refusal_line play.number fault) true play.read
+at-refusal play rest behind line text input fault before is cut =
+    over-at play rest text (refusal_line play.number fault) input true before
+    (ap (performed_from play) cut ∙ ap (λ (v : Verdict). continues_with play v (λ p. performed_from p (lines_of behind))) is)
+
+-- the text so far is a front of the whole
+pub front-of : (play : Play) (rest text input : List ℕ) → LoopInvariant play rest text input → (more : List ℕ) × (transcript input ≡ text ++ more)
+front-of play rest text input before = ((performed_from play (lines_of rest)).text, ap (λ (p : Performance). p.text) before.same)

@@ -5,9 +5,9 @@ use Rattle.two_ends.specs.declared.event.Side.TheVariants.{Client, Server}
 use Rattle.schedule_text.specs.declared.line.LineFault.{LineFault}
 use Rattle.dccp_endpoint.specs.Calling.{opens}
 use Rattle.dccp_command.specs.declared.replay.Replay.{Replay}
-use Rattle.dccp_command.specs.Lines.{lines_of}
+use Rattle.dccp_io.specs.Lines.{lines_of}
 use Rattle.dccp_command.specs.RunLines.{end_line, refusal_line}
-use Rattle.dccp_command.specs.Replay.{Verdict, Accepted, Refused, judged, Judges, IsBehind, Replayed, onto, ends_at, continues_with, replayed_from, first_replay, count, begun_from, begun, begun_with, replayed, replay_text, is_refused}
+use Rattle.dccp_command.specs.Replay.{Verdict, Accepted, Refused, judged, Judges, IsBehind, Replayed, onto, ends_at, continues_with, replayed_from, first_replay, count, begun_from, begun, begun_with, replayed, replay_text, is_refused, accepted_bytes}
 
 -- Before a line: the text so far goes before that of the lines that are left, and the counters are at most the bytes read.
 pub record ReplayInvariant (side : Side) (plain : Bool) (replay : Replay) (rest text input : List ℕ) : Type 0 where
@@ -48,6 +48,16 @@ at-start side plain replay text input start put =
       read = ap (λ (n : ℕ). n + length input) read ∙ zero-add (length input);
     }
 
+-- the counters before the first line
+pub counts-at-start : (side : Side) (plain : Bool) (replay : Replay) → replay ≡ (begun side plain).replay
+    → (replay.read ≡ 0) × (replay.number ≡ 1) × (replay.sent ≤ 1)
+counts-at-start side plain replay start =
+    let read : replay.read ≡ 0 = ap (λ (first : Replay). first.read) start ∙ begun-read (first_replay side plain) side in
+    let number : replay.number ≡ 1 = ap (λ (first : Replay). first.number) start ∙ begun-number (first_replay side plain) side in
+    let sent_is : replay.sent ≡ (begun side plain).replay.sent = ap (λ (first : Replay). first.sent) start in
+    let sent_by : (begun side plain).replay.sent ≤ 0 + 1 = begun-sent (first_replay side plain) side in
+    (read, number, omega (arith, sent_is, sent_by))
+
 onto-onto : (text more : List ℕ) (rest : Replayed) → onto text (onto more rest) ≡ onto (text ++ more) rest
 onto-onto text more rest = ap (λ (whole : List ℕ). record rest { text = whole }) (sym (append_assoc text more rest.text))
 
@@ -83,17 +93,19 @@ after-line side plain replay next rest behind line text after input before judge
     accepted-by side plain replay next rest behind line text after input before (judged replay line) refl judges further cut (ap length whole ∙ length-append line behind) some
 
 -- What is known when the replay is over.
-pub record IsOver (side : Side) (plain : Bool) (input text : List ℕ) (refused : Bool) : Type 0 where
+pub record IsOver (side : Side) (plain : Bool) (input text : List ℕ) (refused : Bool) (accepted : ℕ) : Type 0 where
   pub text_is : text ≡ replay_text side plain input
   pub refused_is : refused ≡ is_refused side plain input
+  pub accepted_is : accepted_bytes side plain input ≡ accepted
 
 over-at : (side : Side) (plain : Bool) (replay : Replay) (rest text more input : List ℕ) (refused : Bool) (before : ReplayInvariant side plain replay rest text input)
-    → replayed_from replay (lines_of rest) ≡ ends_at more refused → IsOver side plain input (text ++ more) refused
+    → replayed_from replay (lines_of rest) ≡ ends_at replay more refused → IsOver side plain input (text ++ more) refused replay.read
 over-at side plain replay rest text more input refused before over =
-    let whole : replayed side plain input ≡ onto text (ends_at more refused) = before.same ∙ ap (onto text) over in
+    let whole : replayed side plain input ≡ onto text (ends_at replay more refused) = before.same ∙ ap (onto text) over in
     record {
       text_is = sym (ap (λ (r : Replayed). r.text) whole);
       refused_is = sym (ap (λ (r : Replayed). r.is_refused) whole);
+      accepted_is = ap (λ (r : Replayed). r.accepted) whole;
     }
 
 no-bytes : (bytes : List ℕ) → length bytes ≡ 0 → bytes ≡ []
@@ -102,31 +114,19 @@ no-bytes (byte ∷ bytes) none = absurd (omega arith)
 
 -- the input was replayed to its end
 pub at-end : (side : Side) (plain : Bool) (replay : Replay) (rest text input : List ℕ) → ReplayInvariant side plain replay rest text input → length rest ≡ 0
-    → IsOver side plain input (text ++ end_line replay.side replay.end) false
+    → IsOver side plain input (text ++ end_line replay.side replay.end) false replay.read
 at-end side plain replay rest text input before none =
     over-at side plain replay rest text (end_line replay.side replay.end) input false before
     (ap (λ (left : List ℕ). replayed_from replay (lines_of left)) (no-bytes rest none))
 
-refused-by : (side : Side) (plain : Bool) (replay next : Replay) (rest behind line text after input : List ℕ) (given : LineFault)
-    (before : ReplayInvariant side plain replay rest text input) (verdict : Verdict) → judged replay line ≡ verdict → Judges verdict text after next (Err given)
-    → lines_of rest ≡ line ∷ lines_of behind → IsOver side plain input (after ++ refusal_line replay.number given) true
-refused-by side plain replay next rest behind line text after input given before (Accepted more onward) is judges cut = cc judges.2
-refused-by side plain replay next rest behind line text after input given before (Refused fault) is judges cut =
-    let over : replayed_from replay (lines_of rest) ≡ ends_at (refusal_line replay.number fault) true =
-    ap (replayed_from replay) cut ∙ ap (λ (v : Verdict). continues_with replay v (λ r. replayed_from r (lines_of behind))) is in
-    let same : fault ≡ given = cc judges.1 in
-    let ends = over-at side plain replay rest text (refusal_line replay.number fault) input true before over in
-    record {
-      text_is =
-          ap (λ (front : List ℕ). front ++ refusal_line replay.number given) judges.0
-          ∙ ap (λ (f : LineFault). text ++ refusal_line replay.number f) (sym same)
-          ∙ ends.text_is;
-      refused_is = ends.refused_is;
-    }
-
 -- a line was refused
-pub at-refusal : (side : Side) (plain : Bool) (replay next : Replay) (rest behind line text after input : List ℕ) (given : LineFault)
-    → ReplayInvariant side plain replay rest text input → Judges (judged replay line) text after next (Err given) → lines_of rest ≡ line ∷ lines_of behind
-    → IsOver side plain input (after ++ refusal_line replay.number given) true
-at-refusal side plain replay next rest behind line text after input given before judges cut =
-    refused-by side plain replay next rest behind line text after input given before (judged replay line) refl judges cut
+pub at-refusal : (side : Side) (plain : Bool) (replay : Replay) (rest behind line text input : List ℕ) (fault : LineFault) → ReplayInvariant side plain replay rest text input
+    → judged replay line ≡ Refused fault → lines_of rest ≡ line ∷ lines_of behind → IsOver side plain input (text ++ refusal_line replay.number fault) true replay.read
+at-refusal side plain replay rest behind line text input fault before is cut =
+    over-at side plain replay rest text (refusal_line replay.number fault) input true before
+    (ap (replayed_from replay) cut ∙ ap (λ (v : Verdict). continues_with replay v (λ r. replayed_from r (lines_of behind))) is)
+
+-- the text so far is a front of the whole
+pub front-of : (side : Side) (plain : Bool) (replay : Replay) (rest text input : List ℕ) → ReplayInvariant side plain replay rest text input
+    → (more : List ℕ) × (replay_text side plain input ≡ text ++ more)
+front-of side plain replay rest text input before = ((replayed_from replay (lines_of rest)).text, ap (λ (r : Replayed). r.text) before.same)

@@ -1,8 +1,7 @@
 -- A capture while it is shown: what was written, what stands in the text and what is left make the whole.
-use Rattle.std.proofs.Common.{◌≡◌, ◌≢◌, ◌⊎◌, refl, sym, ap, ◌∙◌, subst, inl, inr, ℕ, ◌+◌, ◌≤◌, ◌<◌, List, [], ◌∷◌, ◌++◌, length, take, drop, Bool, Option, Some, None, Result, Ok, Err, IfSome, append_assoc, arith}
-use Rattle.std.proofs.lemmas.List.{append-nil, take_at, take-append-drop, drop-drop}
-use Rattle.std.proofs.Math.Seq.{take-append-add}
-use Rattle.std.specs.Prelude.{is_some, is_err, OnOk, OnErr, true, false}
+use Rattle.std.proofs.Common.{◌≡◌, ◌≢◌, ◌⊎◌, refl, sym, ap, ◌∙◌, subst, inl, inr, ℕ, ◌+◌, ◌<◌, List, [], ◌∷◌, ◌++◌, length, take, drop, Option, Some, None, Result, Ok, Err, IfSome, append_assoc, arith}
+use Rattle.std.proofs.lemmas.List.{drop-drop}
+use Rattle.std.specs.Prelude.{is_some}
 use Rattle.std.specs.Io.KnownBytes.{append_known, prepend_known}
 use Rattle.capture_reader.specs.declared.fault.CaptureFault.{CaptureFault}
 use Rattle.capture_reader.specs.declared.format.Format.{Format}
@@ -24,7 +23,8 @@ use Rattle.dccp_command.specs.declared.top.Status.{Status}
 use Rattle.dccp_command.specs.declared.top.Status.TheVariants as status
 use Rattle.dccp_command.specs.CaptureText.{first_tally, counted, tallied, record_text, last_line, fault_line, text_from, size_of, end_of, capture_text, is_faulty, records_end}
 use Rattle.dccp_command.specs.Show.{Turns, Closes, RefusesHeader, ShowsRecords, text_of}
-use Rattle.dccp_command.specs.Top.{HasBegun, IsAnswered, IsCutOff, Answers, Moves, SinkFailed}
+use Rattle.dccp_command.specs.Top.{HasBegun, IsCutOff, Answers, Moves}
+use Rattle.dccp_command.proofs.Ending.{append-none, append-twice, begun-longer, begun-behind, none-left, not-both, answers-early, unwritten}
 
 -- the text of what is left
 abbrev pub rest_text : Tally → Captured → List ℕ
@@ -40,14 +40,6 @@ pub record Along (format : Format) (number given : ℕ) (left : Option (List ℕ
   pub text_is : text_of whole ≡ written ++ (text ++ rest_text tally (records_from format 0 number given (drop done input)))
   pub size_is : size_of whole.records ≡ done + size_of (records_from format 0 number given (drop done input)).records
   pub end_is : whole.end ≡ (records_from format 0 number given (drop done input)).end
-
-append-none : (known : Option (List ℕ)) → known ≡ append_known known []
-append-none None = refl
-append-none (Some bytes) = ap Some (sym (append-nil bytes))
-
-append-twice : (known : Option (List ℕ)) (first more : List ℕ) → append_known (append_known known first) more ≡ append_known known (first ++ more)
-append-twice None first more = refl
-append-twice (Some bytes) first more = ap Some (append_assoc bytes first more)
 
 pub along-start : (format : Format) (left : Option (List ℕ)) (before : Option (List ℕ)) (input : List ℕ) → left ≡ Some input
     → Along format 0 24 left first_tally [] before before (records_from format 0 0 24 input) input
@@ -119,23 +111,6 @@ along-moved format number given left tally text kept before after later whole in
       end_is = along.end_is;
     }
 
--- a front of a front
-begun-longer : (after later : Option (List ℕ)) (text more : List ℕ) → HasBegun after later text → HasBegun after later (text ++ more)
-begun-longer after later text more (n, taken) =
-    let front = take n text in
-    let parts : text ++ more ≡ front ++ (drop n text ++ more) =
-    ap (λ (whole : List ℕ). whole ++ more) (sym (take-append-drop n text)) ∙ append_assoc front (drop n text) more in
-    let whole : take (length front) (text ++ more) ≡ front = ap (take (length front)) parts ∙ take_at front (drop n text ++ more) (length front) refl in
-    (length front, taken ∙ ap (append_known after) (sym whole))
-
-begun-behind : (before after later : Option (List ℕ)) (written text : List ℕ) → after ≡ append_known before written → HasBegun after later text
-    → HasBegun before later (written ++ text)
-begun-behind before after later written text first (n, taken) = (
-  length written + n,
-  taken ∙ ap (λ (known : Option (List ℕ)). append_known known (take n text)) first ∙ append-twice before written (take n text)
-      ∙ ap (append_known before) (sym (take-append-add written text n)),
-)
-
 -- the job ended early
 pub along-begun : (format : Format) (number given : ℕ) (left : Option (List ℕ)) (tally : Tally) (text : List ℕ) (before after later : Option (List ℕ)) (whole : Captured)
     (input : List ℕ) → Along format number given left tally text before after whole input → HasBegun after later text → HasBegun before later (text_of whole)
@@ -176,11 +151,6 @@ over-closed tally text end before after later left whole result over closes none
   input = λ is. ap is_some over.end_is ∙ closes.input is;
 }
 
-none-left : (pending : List ℕ) (known : Option (List ℕ)) → prepend_known pending known ≡ Some [] → known ≡ Some []
-none-left pending None is = cc is
-none-left [] (Some bytes) is = is
-none-left (byte ∷ pending) (Some bytes) is = cc is
-
 -- the input ended between two records
 pub shown-end : (format : Format) (number given : ℕ) (left known : Option (List ℕ)) (pending : List ℕ) (tally : Tally) (text : List ℕ)
     (before after later : Option (List ℕ)) (whole : Captured) (input : List ℕ) (result : Status) → Along format number given left tally text before after whole input
@@ -210,24 +180,6 @@ shown-fault format number given left known tally text before after later whole i
       answers = over-closed tally text (Some why) before after later known whole result over closes (λ is. cc (closes.done is));
       past = λ _. subst (λ (all : Option (List ℕ)). Passed 262160 all known) (along.rest_is ∙ ap (λ (n : ℕ). Some (drop n input)) (sym size)) past;
     }
-
-not-both : (result : Status) → IsAnswered result → IsCutOff result → ⊥
-not-both result (inl answered) (inl off) = cc (answered, off)
-not-both result (inl answered) (inr (inl off)) = cc (answered, off)
-not-both result (inl answered) (inr (inr off)) = cc (answered, off)
-not-both result (inr answered) (inl off) = cc (answered, off)
-not-both result (inr answered) (inr (inl off)) = cc (answered, off)
-not-both result (inr answered) (inr (inr off)) = cc (answered, off)
-
--- the job ended early
-answers-early : (text : List ℕ) (faulty : Bool) (result : Status) (left before after : Option (List ℕ)) → IsCutOff result → HasBegun before after text
-    → Answers text faulty result left before after
-answers-early text faulty result left before after off begun = record {
-  whole = λ answered. absurd (not-both result answered off);
-  front = λ _. begun;
-  done = λ is. absurd (not-both result (inl is) off);
-  input = λ is. absurd (not-both result (inr is) off);
-}
 
 pub shown-early : (format : Format) (number given : ℕ) (left known : Option (List ℕ)) (tally : Tally) (text : List ℕ) (before after later : Option (List ℕ)) (whole : Captured)
     (input : List ℕ) (result : Status) → IsCutOff result → Along format number given left tally text before after whole input → HasBegun after later text
@@ -303,15 +255,6 @@ pub source-failed : {S : Type 0} (left : S → Option (List ℕ)) (faults lender
     → Advances left faults lender old new (Err ReadFault) → Rose (faults old.source) (faults new.source)
 source-failed left faults lender old new unended advances = rose-by left faults old new unended advances.answer.cause
 
-pub rose-from : (first before after : ℕ) → first ≤ before → Rose before after → Rose first after
-rose-from first before after less (inl more) = inl (omega arith)
-rose-from first before after less (inr full) = inr full
-
-pub sink-failed-from : (first before after first_takes takes takes_after : ℕ) → first ≤ before → first_takes ≤ takes → SinkFailed before after takes takes_after
-    → SinkFailed first after first_takes takes_after
-sink-failed-from first before after first_takes takes takes_after less fewer (inl rose) = inl (rose-from first before after less rose)
-sink-failed-from first before after first_takes takes takes_after less fewer (inr rose) = inr (rose-from first_takes takes takes_after fewer rose)
-
 -- the last line was not written whole
 pub closes-cut : (text more : List ℕ) (end : Option CaptureFault) (before middle after : Option (List ℕ)) → middle ≡ append_known before text → HasBegun middle after more
     → Closes (text ++ more) end status.Write before after
@@ -346,9 +289,6 @@ refused-past : (why : CaptureFault) (bytes : List ℕ) (left : Option (List ℕ)
 refused-past why bytes left told (n, most, is) =
     let none : captured bytes ≡ record { records = []; end = Some why } = ap (λ (o : Result Format CaptureFault). captured_by o bytes) told in
     subst (λ (c : Captured). Passed 524288 (Some (drop (end_of c.records) bytes)) left) (sym none) (n, omega arith, is)
-
-unwritten : (text : List ℕ) (before after : Option (List ℕ)) → after ≡ before → HasBegun before after text
-unwritten text before after same = (0, same ∙ append-none before)
 
 -- what a refused file header comes to
 pub record Refuses (bytes : List ℕ) (result : Status) (left before after : Option (List ℕ)) : Type 0 where
@@ -417,12 +357,3 @@ counted-one tally Skipped flows = omega arith
 pub tallied-one : (tally next : Tally) (entry : Entry) → next ≡ tallied tally entry → next.shown + next.skipped ≡ tally.shown + tally.skipped + 1
 tallied-one tally next entry counts =
     ap (λ (t : Tally). t.shown + t.skipped) counts ∙ counted-one tally (shows tally.flows entry).shown (shows tally.flows entry).flows
-
--- what a call answered, by the test on its answer
-pub on-err : {A E : Type 0} (result : Result A E) (P : Type 0) → OnErr result P → is_err result ≡ true → P
-on-err (Ok _) P holds is = cc is
-on-err (Err _) P holds is = holds
-
-pub on-ok : {A E : Type 0} (result : Result A E) (P : Type 0) → OnOk result P → is_err result ≡ false → P
-on-ok (Ok _) P holds is = holds
-on-ok (Err _) P holds is = cc is

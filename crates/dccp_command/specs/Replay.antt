@@ -22,7 +22,8 @@ use Rattle.schedule_text.specs.declared.line.FrameLine.{FrameLine}
 use Rattle.schedule_text.specs.declared.line.LineFault.{LineFault}
 use Rattle.schedule_text.specs.declared.line.LineWhy.TheVariants as why
 use Rattle.dccp_command.specs.declared.replay.Replay.{Replay}
-use Rattle.dccp_command.specs.Lines.{lines_of, text_of}
+use Rattle.dccp_io.specs.Lines.{lines_of}
+use Rattle.dccp_command.specs.Lines.{text_of}
 use Rattle.dccp_command.specs.RunLines.{bytes_line, end_line, refusal_line}
 use Rattle.dccp_command.specs.Transcript.{ends_within, whole_line, without_offers}
 
@@ -129,23 +130,24 @@ pub record IsBehind (before : Replay) (piece : List ℕ) (after : Replay) : Type
   pub read : after.read ≡ before.read + length piece
   pub sent : after.sent ≤ before.sent + 1
 
--- What a whole input comes to.
+-- What a whole input comes to: its text, and how many bytes the accepted lines have.
 pub record Replayed : Type 0 where
   pub text : List ℕ
   pub is_refused : Bool
+  pub accepted : ℕ
 
 abbrev pub onto : List ℕ → Replayed → Replayed
 onto text rest = record rest { text = text ++ rest.text }
 
-abbrev pub ends_at : List ℕ → Bool → Replayed
-ends_at text refused = record { text = text; is_refused = refused }
+abbrev pub ends_at : Replay → List ℕ → Bool → Replayed
+ends_at replay text refused = record { text = text; is_refused = refused; accepted = replay.read }
 
 abbrev pub continues_with : Replay → Verdict → (Replay → Replayed) → Replayed
 continues_with replay (Accepted text next) rest = onto text (rest next)
-continues_with replay (Refused fault) rest = ends_at (refusal_line replay.number fault) true
+continues_with replay (Refused fault) rest = ends_at replay (refusal_line replay.number fault) true
 
 abbrev pub replayed_from : Replay → List (List ℕ) → Replayed
-replayed_from replay [] = ends_at (end_line replay.side replay.end) false
+replayed_from replay [] = ends_at replay (end_line replay.side replay.end) false
 replayed_from replay (piece ∷ pieces) = continues_with replay (judged replay piece) (λ next. replayed_from next pieces)
 
 abbrev pub begun_with : Begun → List (List ℕ) → Replayed
@@ -161,3 +163,7 @@ replay_text side plain input = (replayed side plain input).text
 -- The input is refused at some line.
 abbrev pub is_refused : Side → Bool → List ℕ → Bool
 is_refused side plain input = (replayed side plain input).is_refused
+
+-- How many bytes of an input its accepted lines have, those before the first that is refused.
+abbrev pub accepted_bytes : Side → Bool → List ℕ → ℕ
+accepted_bytes side plain input = (replayed side plain input).accepted

@@ -28,7 +28,8 @@ use Rattle.schedule_text.specs.declared.line.LineFault.{LineFault}
 use Rattle.schedule_text.specs.declared.line.LineWhy.{LineWhy}
 use Rattle.schedule_text.specs.declared.line.LineWhy.TheVariants as why
 use Rattle.dccp_command.specs.declared.play.Play.{Play}
-use Rattle.dccp_command.specs.Lines.{lines_of, text_of}
+use Rattle.dccp_io.specs.Lines.{lines_of}
+use Rattle.dccp_command.specs.Lines.{text_of}
 use Rattle.dccp_command.specs.RunLines.{arrived, sent_line, end_lines, refusal_line}
 
 -- The most bytes of an input.
@@ -206,19 +207,21 @@ pub record IsBehind (before : Play) (piece : List ℕ) (after : Play) : Type 0 w
   pub number : after.number ≡ before.number + 1
   pub read : after.read ≡ before.read + length piece
 
--- What a whole input comes to: its text, the two ends as they are configured, and the accepted events.
+-- What a whole input comes to: its text, the two ends as they are configured, the accepted events, and how many bytes the accepted lines
+-- have.
 pub record Performance : Type 0 where
   pub text : List ℕ
   pub client : Config
   pub server : Config
   pub events : List Event
   pub is_refused : Bool
+  pub accepted : ℕ
 
 abbrev pub onto : List ℕ → List Event → Performance → Performance
 onto text events rest = record rest { text = text ++ rest.text; events = events ++ rest.events }
 
 abbrev pub ends_at : Play → List ℕ → Bool → Performance
-ends_at play text refused = record { text = text; client = play.client; server = play.server; events = []; is_refused = refused }
+ends_at play text refused = record { text = text; client = play.client; server = play.server; events = []; is_refused = refused; accepted = play.read }
 
 abbrev pub continues_with : Play → Verdict → (Play → Performance) → Performance
 continues_with play (Accepted text events next) rest = onto text events (rest next)
@@ -238,6 +241,10 @@ transcript input = (performed input).text
 -- The input is refused at some line.
 abbrev pub is_refused : List ℕ → Bool
 is_refused input = (performed input).is_refused
+
+-- How many bytes of an input its accepted lines have, those before the first that is refused.
+abbrev pub accepted_bytes : List ℕ → ℕ
+accepted_bytes input = (performed input).accepted
 
 -- From the two ends as they are configured, the world is safe after each prefix of the accepted events.
 abbrev pub IsSafeThroughout : Performance → Type 0

@@ -1,9 +1,10 @@
 -- What the words after the program's name ask for (own).
-use Rattle.std.specs.Prelude.{ℕ, Bool, true, false, ◌&&◌, List, [], ◌∷◌, codes, Option, Some, None, if◌then◌else◌, String, string_bytes}
+use Rattle.std.specs.Prelude.{ℕ, Bool, true, false, ◌&&◌, List, [], ◌∷◌, codes, Option, Some, None, option_and_then, if◌then◌else◌, String, string_bytes}
 use Rattle.std.specs.Str.{bytes_eq}
 use Rattle.std.specs.declared.alloc.Global.{Global}
 use Rattle.two_ends.specs.declared.event.Side.{Side}
 use Rattle.two_ends.specs.declared.event.Side.TheVariants.{Client, Server}
+use Rattle.dccp_command.specs.CampaignWords.{campaign_of}
 use Rattle.dccp_command.specs.declared.words.Form.{Form}
 use Rattle.dccp_command.specs.declared.words.Form.TheVariants as form
 
@@ -45,17 +46,22 @@ replay_of (first ∷ (second ∷ (third ∷ []))) =
     else None
 replay_of (first ∷ (second ∷ (third ∷ (fourth ∷ words)))) = None
 
+-- The words behind `campaign`.
+abbrev pub campaigns : List (String Global) → Option Form
+campaigns words = option_and_then (λ campaign. Some (form.Campaign campaign)) (campaign_of words)
+
 -- No word may follow `run` and `show`.
 abbrev pub alone : Form → List (String Global) → Option Form
 alone form [] = Some form
 alone form (word ∷ words) = None
 
--- The form that the words have, of those that are built: `run`, `replay` and `show`.
+-- The form that the words have: `run`, `replay`, `campaign` or `show`.
 abbrev pub form_of : List (String Global) → Option Form
 form_of [] = None
 form_of (first ∷ words) =
     if says first (codes "run") then alone form.Run words
     else if says first (codes "replay") then replay_of words
+    else if says first (codes "campaign") then campaigns words
     else if says first (codes "show") then alone form.Show words
     else None
 

@@ -2,8 +2,9 @@
 ghost use Rattle.std.specs.Prelude.{◌≡◌, ◌≤◌, [], OnOk, OnErr};
 ghost use Rattle.std.specs.Io.KnownBytes.{append_known};
 ghost use Rattle.dccp_io.specs.Fronts.{TakesFront};
-ghost use Rattle.dccp_command.specs.Top.{SinkFailed, Moves};
+ghost use Rattle.dccp_command.specs.Top.{SinkFailed, HasBegun, Moves};
 
+use crate::top::Status;
 use dccp_io::{Failed, Sink, write_all};
 
 // A text of so many bytes is written.
@@ -35,4 +36,13 @@ pub(crate) fn flush_if_full<K: Sink>(output: &mut K, text: &mut Vec<u8>) -> Resu
         return Ok(());
     }
     flush(output, text)
+}
+
+/// Writes the lines that are whole, so that none is lost where the job ends early.
+pub(crate) fn cut_off<K: Sink>(output: &mut K, text: &[u8], why: Status) -> Status
+    ensures same { result ≡ why }
+    ensures front { HasBegun (K.taken output.old) (K.taken output.new) text.now }
+{
+    let _ = write_all(output, text);
+    why
 }

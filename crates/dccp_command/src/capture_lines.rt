@@ -22,8 +22,8 @@ fn fault_name(fault: CaptureFault) -> &'static [u8]
     }
 }
 
-// Puts a number behind its word.
-fn put_counted(text: &mut Vec<u8>, word: &[u8], number: u64) -> Result<(), NoMemory>
+/// Puts a number behind its word.
+pub(crate) fn put_counted(text: &mut Vec<u8>, word: &[u8], number: u64) -> Result<(), NoMemory>
     ensures { OnOk result (text.new.items ≡ text.old.items ++ number_text word.now number) }
 {
     put(text, word)?;

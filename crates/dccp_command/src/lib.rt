@@ -1,16 +1,21 @@
 //! The tool's one call: what its words ask for, done over a source and a sink (own).
 //!
 //! It plays the two ends of a world as a schedule's lines say, or hands the frames of a replay to one end, and answers for no end
-//! itself; and it shows the packets of a capture. It opens no file, socket or clock, starts no thread, and reads and writes nothing but the source and the sink
-//! that it is lent.
+//! itself; it shows the packets of a capture; and it runs campaigns, the only job for which it starts threads. It opens no file, socket or
+//! clock, and reads and writes nothing but the source and the sink that it is lent.
 #![tactic(auto)]
 
 mod blocks;
+mod campaign_words;
+mod campaigning;
+#[cfg(test)]
+mod campaigns;
 mod capture_lines;
 mod fault;
 mod lines;
 #[cfg(test)]
 mod negotiations;
+mod numbers;
 mod play;
 mod replay;
 mod replaying;
@@ -25,5 +30,6 @@ mod top;
 mod transcript;
 mod words;
 
+pub use crate::campaign_words::Campaign;
 pub use crate::top::{Status, dccp};
 pub use crate::words::Form;

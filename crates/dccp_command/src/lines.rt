@@ -1,30 +1,59 @@
-//! The lines of an input.
-ghost use Rattle.std.specs.Prelude.{◌≡◌, ◌<◌, ◌≤◌, ◌++◌, ◌∷◌, length};
-ghost use Rattle.dccp_command.specs.Lines.{lines_of, line_length, text_of};
+//! A line of an input, and what a turn over the lines comes to.
+ghost use Rattle.std.specs.Prelude.{◌≡◌, ◌≢◌, ◌++◌, true};
+ghost use Rattle.dccp_command.specs.Lines.{text_of, too_long};
+ghost use Rattle.dccp_command.specs.Loops.{Leaves, stopped, turn_of};
+ghost use Rattle.dccp_command.specs.RunLines.{refusal_line};
+ghost use Rattle.dccp_command.specs.Top.{SinkFailed};
 
-/// The first line of an input with its newline, and what stands behind it.
-#[tactic(auto, using(crate::proofs::FirstLine::first_line_of))]
-pub(crate) fn first_line(input: &[u8]) -> (&[u8], &[u8])
-    requires { 0 < length input.now }
-    ensures lines { lines_of input.now ≡ result.0.now ∷ lines_of result.1.now }
-    ensures whole { input.now ≡ result.0.now ++ result.1.now }
-    ensures some { 0 < length result.0.now }
-    ensures shorter { length result.1.now < length input.now }
-{
-    input.split_at(line_length(input))
+use crate::fault::put_refusal;
+use crate::play::whole_line;
+use crate::top::{Status, answered};
+use dccp_io::{Sink, Stop, write_all};
+use schedule_text::{LineFault, LineWhy};
+
+/// What one turn of a loop over lines came to.
+pub(crate) enum Turn {
+    /// A line was accepted.
+    Accepted,
+    /// The input is at its end.
+    Ended,
+    /// A line is refused.
+    Refused(LineFault),
+    /// The source failed.
+    Failed,
 }
 
-fn line_length(input: &[u8]) -> usize
-    ensures value { result ≡ line_length input.now }
-    ensures fits { result ≤ length input.now }
-    ensures some { 0 < length input.now → 0 < result }
-{
-    for (index, byte) in input.iter().enumerate() {
-        if *byte == b'\n' {
-            return index + 1;
+impl Turn {
+    /// The turn in which the reader stopped.
+    pub(crate) fn stopped(stop: Stop) -> Turn
+        ensures { result ≡ stopped stop }
+    {
+        match stop {
+            Stop::TooLong => Turn::Refused(too_long()),
+            Stop::TooMuch => Turn::Refused(whole_line(LineWhy::TooMuchInput)),
+            Stop::Failed => Turn::Failed,
         }
     }
-    input.len()
+
+    /// The turn in which a line was judged.
+    pub(crate) fn judged(answer: Result<(), LineFault>) -> Turn
+        ensures { result ≡ turn_of answer }
+    {
+        match answer {
+            Ok(()) => Turn::Accepted,
+            Err(fault) => Turn::Refused(fault),
+        }
+    }
+}
+
+// The fault of a line with a 4,097th byte, at that byte.
+fn too_long() -> LineFault
+    ensures { result ≡ too_long }
+{
+    LineFault {
+        column: 4097,
+        why: LineWhy::LineTooLong,
+    }
 }
 
 /// A line without its newline.
@@ -35,4 +64,35 @@ pub(crate) fn text_of(line: &[u8]) -> &[u8]
         [.., b'\n'] => &line[..line.len() - 1],
         _ => line,
     }
+}
+
+/// Writes the rest of the text, and answers.
+pub(crate) fn leave<K: Sink>(output: &mut K, text: &[u8], refused: bool) -> Status
+    ensures words { result ≢ Status.Words }
+    ensures read { result ≢ Status.Read }
+    ensures leaves { Leaves text.now refused result (K.taken output.old) (K.taken output.new) }
+    ensures write { result ≡ Status.Write → SinkFailed (K.faults output.old) (K.faults output.new) (K.empty_takes output.old) (K.empty_takes output.new) }
+{
+    match write_all(output, text) {
+        Err(_) => Status::Write,
+        Ok(()) => answered(refused),
+    }
+}
+
+/// Writes the rest of the text, and the line of a refusal behind it.
+pub(crate) fn refuse<K: Sink>(
+    output: &mut K,
+    text: &mut Vec<u8>,
+    number: u64,
+    fault: LineFault,
+) -> Status
+    ensures words { result ≢ Status.Words }
+    ensures read { result ≢ Status.Read }
+    ensures leaves { Leaves (text.old.items ++ refusal_line number fault) true result (K.taken output.old) (K.taken output.new) }
+    ensures write { result ≡ Status.Write → SinkFailed (K.faults output.old) (K.faults output.new) (K.empty_takes output.old) (K.empty_takes output.new) }
+{
+    if put_refusal(text, number, fault).is_err() {
+        return Status::Memory;
+    }
+    leave(output, text, true)
 }

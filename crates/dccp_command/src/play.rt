@@ -243,12 +243,22 @@ impl Play {
         requires { ArePeers self.old.client self.old.server }
         ensures { OnOk result (self.new ≡ record self.old { world = Some (world_of self.old) }) }
     {
-        if self.world.is_none() {
-            let for_client = Kinds::new(alloc)?;
-            let for_server = Kinds::new(alloc)?;
-            let world = World::new(alloc, self.client, self.server, for_client, for_server)?;
-            self.world = Some(world);
+        if self.world.is_some() {
+            return Ok(());
         }
+        self.begin_world(alloc)
+    }
+
+    // Apart from `make_world`, which each event calls: room for a world is cleared where this is called.
+    fn begin_world(&mut self, alloc: Global) -> Result<(), NoMemory>
+        requires peers { ArePeers self.old.client self.old.server }
+        requires fresh { self.old.world ≡ None }
+        ensures { OnOk result (self.new ≡ record self.old { world = Some (world_of self.old) }) }
+    {
+        let for_client = Kinds::new(alloc)?;
+        let for_server = Kinds::new(alloc)?;
+        let world = World::new(alloc, self.client, self.server, for_client, for_server)?;
+        self.world = Some(world);
         Ok(())
     }
 

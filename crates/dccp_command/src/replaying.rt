@@ -1,45 +1,87 @@
 //! The loop over a replay's lines.
-ghost use Rattle.std.specs.Prelude.{◌≡◌, IfOk};
-ghost use Rattle.dccp_command.specs.Replay.{replay_text, is_refused};
+ghost use Rattle.std.specs.Prelude.{◌≡◌, ◌≢◌, ◌+◌, ◌≤◌, ◌++◌, false, None, IfSome};
+ghost use Rattle.dccp_io.specs.Counts.{Rose};
+ghost use Rattle.dccp_io.specs.Lines.{rest};
+ghost use Rattle.dccp_command.specs.Loops.{Replays, Leaves, GoesThrough};
+ghost use Rattle.dccp_command.specs.Replay.{replay_text, is_refused, accepted_bytes};
+ghost use Rattle.dccp_command.specs.RunLines.{end_line};
+ghost use Rattle.dccp_command.specs.Top.{SinkFailed, EndsForCause};
 
-use crate::fault::put_refusal;
-use crate::lines::first_line;
+use crate::blocks::{cut_off, flush_if_full};
+use crate::lines::{Turn, leave, refuse};
 use crate::replay::Replay;
-use crate::transcript::Transcript;
+use crate::top::Status;
+use dccp_io::{Lines, Sink, Source};
 use seq_circle::NoMemory;
 use std::alloc::Global;
 use two_ends::Side;
 
-/// Replays the lines of an input until it ends or a line is refused.
-pub(crate) fn replay_all(
+// Reads the next line and replays it.
+fn replay_next<S: Source + Drop>(
+    lines: &mut Lines<S>,
+    replay: &mut Replay,
+    text: &mut Vec<u8>,
+) -> Result<Turn, NoMemory>
+    requires number { replay.old.number ≤ replay.old.read + 1 }
+    requires sent { replay.old.sent ≤ replay.old.number }
+    requires read { replay.old.read ≡ lines.old.given }
+    requires unstopped { lines.old.stop ≡ None }
+    ensures { Replays S.left S.faults S.lender lines.old lines.new replay.old replay.new text.old.items text.new.items result }
+{
+    match lines.find() {
+        Err(stop) => Ok(Turn::stopped(stop)),
+        Ok(false) => Ok(Turn::Ended),
+        Ok(true) => Ok(Turn::judged(replay.judge(lines.line(), text)?)),
+    }
+}
+
+// Writes the rest of the text, and the line at a replay's end behind it.
+fn end<K: Sink>(output: &mut K, replay: &Replay, text: &mut Vec<u8>) -> Status
+    ensures words { result ≢ Status.Words }
+    ensures read { result ≢ Status.Read }
+    ensures leaves { Leaves (text.old.items ++ end_line replay.now.side replay.now.end) false result (K.taken output.old) (K.taken output.new) }
+    ensures write { result ≡ Status.Write → SinkFailed (K.faults output.old) (K.faults output.new) (K.empty_takes output.old) (K.empty_takes output.new) }
+{
+    if replay.finish(text).is_err() {
+        return Status::Memory;
+    }
+    leave(output, text, false)
+}
+
+/// Replays the lines of an input, one by one as they are read, until it ends or a line is refused. The text is written in
+/// blocks, and whole at the end.
+pub(crate) fn replay_lines<S: Source + Drop, K: Sink>(
     alloc: Global,
     side: Side,
     plain: bool,
-    input: &[u8],
-) -> Result<Transcript, NoMemory>
-    ensures text { IfOk result (λ played. played.text.items ≡ replay_text side plain input.now) }
-    ensures refused { IfOk result (λ played. played.refused ≡ is_refused side plain input.now) }
+    lines: &mut Lines<S>,
+    output: &mut K,
+) -> Status
+    requires given { lines.old.given ≡ 0 }
+    requires unstopped { lines.old.stop ≡ None }
+    ensures words { result ≢ Status.Words }
+    ensures replays { IfSome (rest S.left lines.old) (λ bytes. GoesThrough (replay_text side plain bytes) (is_refused side plain bytes)
+        (accepted_bytes side plain bytes) bytes result (S.left lines.new.source) (K.taken output.old) (K.taken output.new)) }
+    ensures same_lender { S.lender lines.new.source ≡ S.lender lines.old.source }
+    ensures cause { EndsForCause result (Rose (S.faults lines.old.source) (S.faults lines.new.source))
+        (SinkFailed (K.faults output.old) (K.faults output.new) (K.empty_takes output.old) (K.empty_takes output.new)) }
 {
     let mut text = Vec::new(alloc);
-    let mut replay = Replay::begin(alloc, side, plain, &mut text)?;
-    let mut rest = input;
-    while !rest.is_empty() {
-        let (line, behind) = first_line(rest);
+    let Ok(mut replay) = Replay::begin(alloc, side, plain, &mut text) else {
+        return Status::Memory;
+    };
+    loop {
         let number = replay.number;
-        match replay.judge(line, &mut text)? {
-            Ok(()) => rest = behind,
-            Err(fault) => {
-                put_refusal(&mut text, number, fault)?;
-                return Ok(Transcript {
-                    text,
-                    refused: true,
-                });
+        match replay_next(lines, &mut replay, &mut text) {
+            Ok(Turn::Accepted) => {
+                if flush_if_full(output, &mut text).is_err() {
+                    return Status::Write;
+                }
             }
+            Ok(Turn::Ended) => return end(output, &replay, &mut text),
+            Ok(Turn::Refused(fault)) => return refuse(output, &mut text, number, fault),
+            Ok(Turn::Failed) => return cut_off(output, &text, Status::Read),
+            Err(NoMemory) => return Status::Memory,
         }
     }
-    replay.finish(&mut text)?;
-    Ok(Transcript {
-        text,
-        refused: false,
-    })
 }

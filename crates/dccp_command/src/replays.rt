@@ -2,6 +2,7 @@
 use crate::tests::{shows_usage, words_of};
 use crate::{Status, dccp};
 use dccp_io::{MemorySink, MemorySource};
+use fault_campaign::OpenGate;
 use std::alloc::Global;
 use std::test::Fail;
 use std::thread::Threads;
@@ -12,29 +13,44 @@ const ROOM: usize = 4096;
 // A Request of the client as it opens, with no offers, and its line.
 const REQUEST: &str = "open: ok\nsent c0 9c401389050031ec01000000000003e80000002a\n";
 
-// How a replay ended and what it wrote, where each call of a stream gives or takes at most 7 bytes.
+// How a replay ended and what it wrote, where each call of a stream gives or takes at most so many bytes.
+fn replayed_by<R: Threads + Sync>(
+    rt: &R,
+    alloc: Global,
+    words: &[&str],
+    input: &[u8],
+    most: usize,
+) -> Result<(Status, Vec<u8>), Fail> {
+    let words = words_of(alloc, words)?;
+    let bytes = input.to_vec(alloc)?;
+    let mut input = MemorySource::new(bytes, Vec::new(alloc), most.max(1));
+    let mut output = MemorySink::new(alloc, Vec::new(alloc), most.max(1), ROOM)
+        .ok()
+        .ok_or("no memory")?;
+    let status = dccp(rt, alloc, &OpenGate, &words, &mut input, &mut output);
+    let text = output.taken().to_vec(alloc)?;
+    Ok((status, text))
+}
+
+// The same where each gives or takes at most 7 bytes.
 fn replayed<R: Threads + Sync>(
     rt: &R,
     alloc: Global,
     words: &[&str],
     input: &[u8],
 ) -> Result<(Status, Vec<u8>), Fail> {
-    let words = words_of(alloc, words)?;
-    let bytes = input.to_vec(alloc)?;
-    let mut input = MemorySource::new(bytes, Vec::new(alloc), 7);
-    let mut output = MemorySink::new(alloc, Vec::new(alloc), 7, ROOM)
-        .ok()
-        .ok_or("no memory")?;
-    let status = dccp(rt, alloc, &words, &mut input, &mut output);
-    let text = output.taken().to_vec(alloc)?;
-    Ok((status, text))
+    replayed_by(rt, alloc, words, input, 7)
 }
 
 // Whether a replay at a plain server of these lines was done with this text.
 fn serves<R: Threads + Sync>(rt: &R, alloc: Global, input: &str, want: &str) -> Result<bool, Fail> {
     let words = ["replay", "--side", "server", "--plain"];
-    let (status, text) = replayed(rt, alloc, &words, input.as_bytes())?;
-    Ok(status == Status::Done && text.as_slice() == want.as_bytes())
+    let mut same = true;
+    for most in [1, 7, 4096] {
+        let (status, text) = replayed_by(rt, alloc, &words, input.as_bytes(), most)?;
+        same &= status == Status::Done && text.as_slice() == want.as_bytes();
+    }
+    Ok(same)
 }
 
 // Data that comes before the answer to a Request.

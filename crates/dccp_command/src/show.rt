@@ -5,9 +5,9 @@ ghost use Rattle.capture_reader.specs.Records.{entry_of, records_from};
 ghost use Rattle.capture_reader.specs.State.{Passed, rest};
 ghost use Rattle.dccp_command.specs.CaptureText.{first_tally, tallied, record_text, last_line, capture_text, is_faulty, records_end};
 ghost use Rattle.dccp_command.specs.Show.{Turns, Closes, RefusesHeader, ShowsRecords};
-ghost use Rattle.dccp_command.specs.Top.{SinkFailed, HasBegun, Answers, EndsForCause};
+ghost use Rattle.dccp_command.specs.Top.{SinkFailed, Answers, EndsForCause};
 
-use crate::blocks::{flush, flush_if_full};
+use crate::blocks::{cut_off, flush, flush_if_full};
 use crate::capture_lines::put_last_line;
 use crate::top::{Status, answered};
 use capture_reader::{CaptureFault, Captures, Record};
@@ -106,15 +106,6 @@ fn finish<K: Sink>(
         Err(_) => Status::Write,
         Ok(()) => answered(end.is_some()),
     }
-}
-
-// Writes the lines of whole records, so that none is lost where the job ends early.
-fn cut_off<K: Sink>(output: &mut K, text: &[u8], why: Status) -> Status
-    ensures same { result ≡ why }
-    ensures front { HasBegun (K.taken output.old) (K.taken output.new) text.now }
-{
-    let _ = write_all(output, text);
-    why
 }
 
 // Shows the records behind the file header.

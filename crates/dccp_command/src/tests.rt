@@ -2,6 +2,7 @@
 use crate::negotiations::NEGOTIATIONS;
 use crate::{Status, dccp};
 use dccp_io::{MemorySink, MemorySource};
+use fault_campaign::OpenGate;
 use std::alloc::Global;
 use std::test::Fail;
 use std::thread::Threads;
@@ -196,7 +197,7 @@ fn called<R: Threads + Sync>(
     let mut output = MemorySink::new(alloc, Vec::new(alloc), most.max(1), ROOM)
         .ok()
         .ok_or("no memory")?;
-    let status = dccp(rt, alloc, &words, &mut input, &mut output);
+    let status = dccp(rt, alloc, &OpenGate, &words, &mut input, &mut output);
     let text = output.taken().to_vec(alloc)?;
     Ok((status, text))
 }
@@ -282,9 +283,15 @@ fn worked_schedules(rt: HostRuntime) -> Result<(), Fail> {
         (REFUSED_CALLS_AND_CLOSING, REFUSED_CALLS_AND_CLOSING_TEXT),
         (USUAL_CONNECTION_WITH_DATA, USUAL_CONNECTION_WITH_DATA_TEXT),
     ] {
-        let (status, text) = played(&rt, rt.alloc(), schedule, ROOM)?;
-        assert_eq!(rt; status, Status::Done, "{schedule:?}");
-        assert_eq!(rt; text.as_slice(), want, "{schedule:?}");
+        for most in [1, 7, 4096] {
+            let (status, text) = played(&rt, rt.alloc(), schedule, most)?;
+            assert_eq!(rt; status, Status::Done, "{schedule:?} at {most} bytes a call");
+            assert_eq!(rt;
+                text.as_slice(),
+                want,
+                "{schedule:?} at {most} bytes a call"
+            );
+        }
     }
     Ok(())
 }
@@ -419,7 +426,7 @@ pub(crate) fn shows_usage<R: Threads + Sync>(
     let mut output = MemorySink::new(alloc, Vec::new(alloc), 7, ROOM)
         .ok()
         .ok_or("no memory")?;
-    let status = dccp(rt, alloc, &words, &mut input, &mut output);
+    let status = dccp(rt, alloc, &OpenGate, &words, &mut input, &mut output);
     Ok(status == Status::Words && output.taken() == USAGE)
 }
 
@@ -460,7 +467,7 @@ fn failed<R: Threads + Sync>(
     let mut output = MemorySink::new(alloc, failing_writes.to_vec(alloc)?, most, ROOM)
         .ok()
         .ok_or("no memory")?;
-    let status = dccp(rt, alloc, &words, &mut input, &mut output);
+    let status = dccp(rt, alloc, &OpenGate, &words, &mut input, &mut output);
     let text = output.taken().to_vec(alloc)?;
     Ok((status, text))
 }
@@ -470,15 +477,35 @@ fn failing_streams(rt: HostRuntime) -> Result<(), Fail> {
     let (status, text) = failed(&rt, rt.alloc(), "run", HANDSHAKE, &[1], &[], ROOM)?;
     assert_eq!(rt; status, Status::Read);
     assert_eq!(rt; text.as_slice(), b"".as_slice());
+    // The first two lines were read then, and the second is `open`.
     let (status, text) = failed(&rt, rt.alloc(), "run", HANDSHAKE, &[3], &[], ROOM)?;
     assert_eq!(rt; status, Status::Read);
-    assert_eq!(rt; text.as_slice(), b"".as_slice());
+    assert_eq!(rt;
+        text.as_slice(),
+        b"2 open: ok\nsent c0 9c401389050031ec01000000000003e80000002a\n".as_slice()
+    );
     let (status, text) = failed(&rt, rt.alloc(), "run", HANDSHAKE, &[], &[3], 1)?;
     assert_eq!(rt; status, Status::Write);
     assert_eq!(rt; text.as_slice(), b"2 ".as_slice());
     let (status, text) = failed(&rt, rt.alloc(), "run", HANDSHAKE, &[], &[], 0)?;
     assert_eq!(rt; status, Status::Write);
     assert_eq!(rt; text.as_slice(), b"".as_slice());
+    Ok(())
+}
+
+// The text of a schedule goes out in blocks of at least 4,096 bytes: neither line by line nor when it is whole.
+#[test]
+fn blocks_of_a_schedule(rt: HostRuntime) -> Result<(), Fail> {
+    let mut schedule = Vec::new(rt.alloc());
+    for _ in 0..3000 {
+        schedule.extend_from_slice(b"open\n")?;
+    }
+    let (status, text) = failed(&rt, rt.alloc(), "run", &schedule, &[], &[2], ROOM)?;
+    assert_eq!(rt; status, Status::Write);
+    assert!(rt; text.starts_with(b"1 open: ok\nsent c0 "));
+    assert!(rt; 4096 <= text.len());
+    // Each further line is `N open: refused NotFresh`.
+    assert!(rt; text.len() < 25 * 3000);
     Ok(())
 }
 

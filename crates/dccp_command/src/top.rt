@@ -1,18 +1,23 @@
 //! The tool's one call.
 ghost use Rattle.std.specs.Prelude.{◌≡◌, ◌≢◌, ◌↔◌, ℕ, Bool, List, drop, Some, None, if◌then◌else◌};
 ghost use Rattle.dccp_io.specs.Counts.{Rose};
+ghost use Rattle.dccp_io.specs.Fronts.{GivesAtMost};
 ghost use Rattle.capture_reader.specs.State.{Passed};
-ghost use Rattle.dccp_command.specs.Transcript.{transcript, is_refused, SafeThroughout};
+ghost use Rattle.dccp_command.specs.Transcript.{transcript, is_refused, accepted_bytes, SafeThroughout};
 ghost use Rattle.dccp_command.specs.Replay as replay;
+ghost use Rattle.dccp_command.specs.CampaignText.{AnswersUnread, campaign_text};
 ghost use Rattle.dccp_command.specs.CaptureText.{capture_text, is_faulty, records_end};
 ghost use Rattle.dccp_command.specs.Words.{form_of, usage};
 ghost use Rattle.dccp_command.specs.Top.{SinkFailed, IsWritten, IsAnswered, Answers, EndsForCause};
 
-use crate::replaying::replay_all;
+use crate::campaign_words::Campaign;
+use crate::campaigning::run_campaign;
+use crate::replaying::replay_lines;
 use crate::show::show_capture;
-use crate::transcript::play_all;
+use crate::transcript::play_lines;
 use crate::words::{Form, USAGE, form_of};
-use dccp_io::{InputFault, Sink, Source, read_all, write_all};
+use dccp_io::{Lines, Sink, Source, write_all};
+use fault_campaign::Gate;
 use std::alloc::Global;
 use std::thread::Threads;
 use two_ends::Side;
@@ -20,11 +25,11 @@ use two_ends::Side;
 /// How a call of the tool ended (own), numbered from 0 as the program's exit status.
 #[derive(Clone, Copy, Debug, PartialEq, Eq)]
 pub enum Status {
-    /// The whole job was done; the input was read to its end.
+    /// The whole job was done; an input that it has was read to its end.
     Done,
     /// The input is refused at the place that the last line written states.
     Input,
-    /// The words are none of the forms that are built.
+    /// The words are none of the forms.
     Words,
     /// The source failed.
     Read,
@@ -36,14 +41,19 @@ pub enum Status {
 
 /// Does what the words ask for (own), those after the program's name. `run` plays a schedule: it reads `input`, and
 /// writes to `output` a line for each event and for each frame that it sent, and at last the state of both ends. `replay`
-/// hands the frames of `input` to one end, and writes the same of it. `show` reads a capture, and writes a line for each DCCP packet in it, and at last how many records it has or why it ends early.
+/// hands the frames of `input` to one end, and writes the same of it. `show` reads a capture, and writes a line for each
+/// DCCP packet in it, and at last how many records it has or why it ends early. Each form answers while it reads, a line
+/// or a record at a time, and writes in blocks.
+/// `campaign` reads nothing: it runs seeds on as many threads as it is told, each of which calls `gate` before each seed that it runs, and
+/// writes what was counted of all of them, the same for every number of threads and for every gate.
 ///
 /// Words are judged first; after that the first refusal met in the order of reading decides. With status 0 or 1 the
 /// output is the text of the whole input, and the two ends of a schedule were safe after each of its events. With status 3,
 /// 4 or 5 it is a front of that text.
-pub fn dccp<R: Threads + Sync, S: Source, K: Sink>(
+pub fn dccp<R: Threads + Sync, G: Gate + Sync, S: Source, K: Sink>(
     rt: &R,
     alloc: Global,
+    gate: &G,
     words: &[String],
     input: &mut S,
     output: &mut K,
@@ -58,10 +68,15 @@ pub fn dccp<R: Threads + Sync, S: Source, K: Sink>(
     ensures transcript { form_of words.now ≡ Some Form.Run → (bytes : List ℕ) → S.left input.old ≡ Some bytes
         → Answers (transcript bytes) (is_refused bytes) result (S.left input.new) (K.taken output.old) (K.taken output.new) }
     ensures safe { form_of words.now ≡ Some Form.Run → (bytes : List ℕ) → S.left input.old ≡ Some bytes → IsAnswered result → SafeThroughout bytes }
+    // Where a line is refused, the input was read hardly further than the last accepted line.
+    ensures run_past { form_of words.now ≡ Some Form.Run → (bytes : List ℕ) → S.left input.old ≡ Some bytes → result ≡ Status.Input
+        → GivesAtMost 16384 (Some (drop (accepted_bytes bytes) bytes)) (S.left input.new) }
 
     // `replay`, over an input that the source tells: what is written and how it ends.
     ensures replayed { (side : Side) (plain : Bool) → form_of words.now ≡ Some (Form.Replay side plain) → (bytes : List ℕ) → S.left input.old ≡ Some bytes
         → Answers (replay.replay_text side plain bytes) (replay.is_refused side plain bytes) result (S.left input.new) (K.taken output.old) (K.taken output.new) }
+    ensures replay_past { (side : Side) (plain : Bool) → form_of words.now ≡ Some (Form.Replay side plain) → (bytes : List ℕ) → S.left input.old ≡ Some bytes
+        → result ≡ Status.Input → GivesAtMost 16384 (Some (drop (replay.accepted_bytes side plain bytes) bytes)) (S.left input.new) }
 
     // `show`, over an input that the source tells: what is written and how it ends, and, where the capture has a fault, how far
     // past its last whole record the input was read.
@@ -70,14 +85,20 @@ pub fn dccp<R: Threads + Sync, S: Source, K: Sink>(
     ensures past { form_of words.now ≡ Some Form.Show → (bytes : List ℕ) → S.left input.old ≡ Some bytes → result ≡ Status.Input
         → Passed 524288 (Some (drop (records_end bytes) bytes)) (S.left input.new) }
 
+    // `campaign`: nothing is read, and what is written and how it ends, for every gate.
+    ensures campaign_unread { (campaign : Campaign) → form_of words.now ≡ Some (Form.Campaign campaign) → input.new ≡ input.old }
+    ensures totals { (campaign : Campaign) → form_of words.now ≡ Some (Form.Campaign campaign)
+        → AnswersUnread (campaign_text campaign) result (K.taken output.old) (K.taken output.new)
+        (SinkFailed (K.faults output.old) (K.faults output.new) (K.empty_takes output.old) (K.empty_takes output.new)) }
+
     // Why any form ended.
     ensures cause { (form : Form) → form_of words.now ≡ Some form → EndsForCause result (Rose (S.faults input.old) (S.faults input.new))
         (SinkFailed (K.faults output.old) (K.faults output.new) (K.empty_takes output.old) (K.empty_takes output.new)) }
 {
-    let _ = rt;
     match form_of(words) {
         Some(Form::Run) => run(alloc, input, output),
         Some(Form::Replay { side, plain }) => replay(alloc, side, plain, input, output),
+        Some(Form::Campaign(campaign)) => run_campaign(rt, alloc, gate, campaign, output),
         Some(Form::Show) => show_capture(alloc, input, output),
         None => refuse_words(output),
     }
@@ -97,21 +118,17 @@ fn run<S: Source, K: Sink>(alloc: Global, input: &mut S, output: &mut K) -> Stat
     ensures transcript { (bytes : List ℕ) → S.left input.old ≡ Some bytes
         → Answers (transcript bytes) (is_refused bytes) result (S.left input.new) (K.taken output.old) (K.taken output.new) }
     ensures safe { (bytes : List ℕ) → S.left input.old ≡ Some bytes → IsAnswered result → SafeThroughout bytes }
+    ensures past { (bytes : List ℕ) → S.left input.old ≡ Some bytes → result ≡ Status.Input
+        → GivesAtMost 16384 (Some (drop (accepted_bytes bytes) bytes)) (S.left input.new) }
     ensures cause { EndsForCause result (Rose (S.faults input.old) (S.faults input.new))
         (SinkFailed (K.faults output.old) (K.faults output.new) (K.empty_takes output.old) (K.empty_takes output.new)) }
 {
-    let bytes = match read_all(alloc, input, usize::MAX) {
-        Ok(bytes) => bytes,
-        Err(InputFault::Read) => return Status::Read,
-        Err(InputFault::Memory) => return Status::Memory,
-    };
-    let Ok(played) = play_all(alloc, &bytes) else {
+    let Ok(mut lines) = Lines::new(alloc, &mut *input) else {
         return Status::Memory;
     };
-    match write_all(output, &played.text) {
-        Err(_) => Status::Write,
-        Ok(()) => answered(played.refused),
-    }
+    let status = play_lines(alloc, &mut lines, output);
+    let _ = lines.into_source();
+    status
 }
 
 fn replay<S: Source, K: Sink>(
@@ -124,21 +141,17 @@ fn replay<S: Source, K: Sink>(
     ensures words { result ≢ Status.Words }
     ensures replayed { (bytes : List ℕ) → S.left input.old ≡ Some bytes
         → Answers (replay.replay_text side plain bytes) (replay.is_refused side plain bytes) result (S.left input.new) (K.taken output.old) (K.taken output.new) }
+    ensures past { (bytes : List ℕ) → S.left input.old ≡ Some bytes → result ≡ Status.Input
+        → GivesAtMost 16384 (Some (drop (replay.accepted_bytes side plain bytes) bytes)) (S.left input.new) }
     ensures cause { EndsForCause result (Rose (S.faults input.old) (S.faults input.new))
         (SinkFailed (K.faults output.old) (K.faults output.new) (K.empty_takes output.old) (K.empty_takes output.new)) }
 {
-    let bytes = match read_all(alloc, input, usize::MAX) {
-        Ok(bytes) => bytes,
-        Err(InputFault::Read) => return Status::Read,
-        Err(InputFault::Memory) => return Status::Memory,
-    };
-    let Ok(played) = replay_all(alloc, side, plain, &bytes) else {
+    let Ok(mut lines) = Lines::new(alloc, &mut *input) else {
         return Status::Memory;
     };
-    match write_all(output, &played.text) {
-        Err(_) => Status::Write,
-        Ok(()) => answered(played.refused),
-    }
+    let status = replay_lines(alloc, side, plain, &mut lines, output);
+    let _ = lines.into_source();
+    status
 }
 
 pub(crate) fn answered(refused: bool) -> Status

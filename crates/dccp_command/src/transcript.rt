@@ -1,50 +1,89 @@
 //! The loop over a schedule's lines.
-ghost use Rattle.std.specs.Prelude.{◌≡◌, IfOk, OnOk};
-ghost use Rattle.dccp_command.specs.Transcript.{transcript, is_refused, SafeThroughout};
+ghost use Rattle.std.specs.Prelude.{◌≡◌, ◌≢◌, ◌+◌, ◌≤◌, ◌++◌, false, None, IfSome};
+ghost use Rattle.dccp_io.specs.Counts.{Rose};
+ghost use Rattle.dccp_io.specs.Lines.{rest};
+ghost use Rattle.dccp_command.specs.Loops.{Plays, Leaves, GoesThrough};
+ghost use Rattle.dccp_command.specs.RunLines.{end_lines};
+ghost use Rattle.dccp_command.specs.Top.{IsAnswered, SinkFailed, EndsForCause};
+ghost use Rattle.dccp_command.specs.Transcript.{ArePeers, world_of, transcript, is_refused, accepted_bytes, SafeThroughout};
 
-use crate::fault::put_refusal;
-use crate::lines::first_line;
+use crate::blocks::{cut_off, flush_if_full};
+use crate::lines::{Turn, leave, refuse};
 use crate::play::Play;
+use crate::top::Status;
 use ccid_two::Kinds;
+use dccp_io::{Lines, Sink, Source};
 use seq_circle::NoMemory;
 use std::alloc::Global;
 use two_ends::every_run_is_safe;
 
-/// What `run` or `replay` writes of an input, and whether a line was refused.
-#[derive(Drop)]
-pub(crate) struct Transcript {
-    pub(crate) text: Vec<u8>,
-    pub(crate) refused: bool,
+// Reads the next line and plays it.
+fn play_next<S: Source + Drop>(
+    alloc: Global,
+    lines: &mut Lines<S>,
+    play: &mut Play,
+    text: &mut Vec<u8>,
+) -> Result<Turn, NoMemory>
+    requires peers { ArePeers play.old.client play.old.server }
+    requires number { play.old.number ≤ play.old.read + 1 }
+    requires read { play.old.read ≡ lines.old.given }
+    requires unstopped { lines.old.stop ≡ None }
+    ensures { Plays S.left S.faults S.lender lines.old lines.new play.old play.new text.old.items text.new.items result }
+{
+    match lines.find() {
+        Err(stop) => Ok(Turn::stopped(stop)),
+        Ok(false) => Ok(Turn::Ended),
+        Ok(true) => Ok(Turn::judged(play.judge(alloc, lines.line(), text)?)),
+    }
 }
 
-/// Plays the lines of an input until it ends or a line is refused.
-pub(crate) fn play_all(alloc: Global, input: &[u8]) -> Result<Transcript, NoMemory>
-    ensures text { IfOk result (λ played. played.text.items ≡ transcript input.now) }
-    ensures refused { IfOk result (λ played. played.refused ≡ is_refused input.now) }
-    ensures safe { OnOk result (SafeThroughout input.now) }
+// Writes the rest of the text, and the two lines at a schedule's end behind it.
+fn end<K: Sink>(alloc: Global, output: &mut K, play: &mut Play, text: &mut Vec<u8>) -> Status
+    requires { ArePeers play.old.client play.old.server }
+    ensures words { result ≢ Status.Words }
+    ensures read { result ≢ Status.Read }
+    ensures leaves { Leaves (text.old.items ++ end_lines (world_of play.old)) false result (K.taken output.old) (K.taken output.new) }
+    ensures write { result ≡ Status.Write → SinkFailed (K.faults output.old) (K.faults output.new) (K.empty_takes output.old) (K.empty_takes output.new) }
+{
+    if play.finish(alloc, text).is_err() {
+        return Status::Memory;
+    }
+    leave(output, text, false)
+}
+
+/// Plays the lines of an input, one by one as they are read, until it ends or a line is refused. The text is written in
+/// blocks, and whole at the end.
+pub(crate) fn play_lines<S: Source + Drop, K: Sink>(
+    alloc: Global,
+    lines: &mut Lines<S>,
+    output: &mut K,
+) -> Status
+    requires given { lines.old.given ≡ 0 }
+    requires unstopped { lines.old.stop ≡ None }
+    ensures words { result ≢ Status.Words }
+    ensures plays { IfSome (rest S.left lines.old) (λ bytes. GoesThrough (transcript bytes) (is_refused bytes) (accepted_bytes bytes) bytes result
+        (S.left lines.new.source) (K.taken output.old) (K.taken output.new)) }
+    ensures safe { IfSome (rest S.left lines.old) (λ bytes. IsAnswered result → SafeThroughout bytes) }
+    ensures same_lender { S.lender lines.new.source ≡ S.lender lines.old.source }
+    ensures cause { EndsForCause result (Rose (S.faults lines.old.source) (S.faults lines.new.source))
+        (SinkFailed (K.faults output.old) (K.faults output.new) (K.empty_takes output.old) (K.empty_takes output.new)) }
 {
     // The law, which `safe` follows from.
     every_run_is_safe::<Kinds>();
     let mut play = Play::new();
     let mut text = Vec::new(alloc);
-    let mut rest = input;
-    while !rest.is_empty() {
-        let (line, behind) = first_line(rest);
+    loop {
         let number = play.number;
-        match play.judge(alloc, line, &mut text)? {
-            Ok(()) => rest = behind,
-            Err(fault) => {
-                put_refusal(&mut text, number, fault)?;
-                return Ok(Transcript {
-                    text,
-                    refused: true,
-                });
+        match play_next(alloc, lines, &mut play, &mut text) {
+            Ok(Turn::Accepted) => {
+                if flush_if_full(output, &mut text).is_err() {
+                    return Status::Write;
+                }
             }
+            Ok(Turn::Ended) => return end(alloc, output, &mut play, &mut text),
+            Ok(Turn::Refused(fault)) => return refuse(output, &mut text, number, fault),
+            Ok(Turn::Failed) => return cut_off(output, &text, Status::Read),
+            Err(NoMemory) => return Status::Memory,
         }
     }
-    play.finish(alloc, &mut text)?;
-    Ok(Transcript {
-        text,
-        refused: false,
-    })
 }

@@ -1,7 +1,9 @@
 //! What the words after the program's name ask for.
-ghost use Rattle.std.specs.Prelude.{◌≡◌};
-ghost use Rattle.dccp_command.specs.Words.{says, named_side, joined_side, replays, replay_of, alone, form_of};
+ghost use Rattle.std.specs.Prelude.{◌≡◌, Some};
+ghost use Rattle.dccp_command.specs.CampaignWords.{IsWithin};
+ghost use Rattle.dccp_command.specs.Words.{says, named_side, joined_side, replays, replay_of, alone, campaigns, form_of};
 
+use crate::campaign_words::{Campaign, campaign_of};
 use two_ends::Side;
 
 /// A job of the tool (own).
@@ -11,11 +13,13 @@ pub enum Form {
     Run,
     /// `replay` hands frames to the usual end of this side, with or without its offers.
     Replay { side: Side, plain: bool },
+    /// `campaign` runs seeds and counts.
+    Campaign(Campaign),
     /// `show` tells the packets of a capture.
     Show,
 }
 
-/// The line that answers words which are none of the forms. It names all forms that are planned.
+/// The line that answers words which are none of the forms. It names all forms.
 pub(crate) const USAGE: &[u8] =
     b"usage: dccp run | replay --side server|client [--plain] | campaign --first F --seeds N --events E --workers W | show\n";
 
@@ -84,13 +88,24 @@ fn alone(form: Form, words: &[String]) -> Option<Form>
     if words.is_empty() { Some(form) } else { None }
 }
 
-/// The job that the words ask for, or None where they are none of the forms that are built.
+// The job that the words behind `campaign` ask for.
+fn campaigns(words: &[String]) -> Option<Form>
+    ensures value { result ≡ campaigns words.now }
+    ensures within { (campaign : Campaign) → result ≡ Some (Form.Campaign campaign) → IsWithin campaign }
+{
+    let campaign = campaign_of(words)?;
+    Some(Form::Campaign(campaign))
+}
+
+/// The job that the words ask for, or None where they are none of the forms.
 pub(crate) fn form_of(words: &[String]) -> Option<Form>
-    ensures { result ≡ form_of words.now }
+    ensures value { result ≡ form_of words.now }
+    ensures within { (campaign : Campaign) → result ≡ Some (Form.Campaign campaign) → IsWithin campaign }
 {
     match words {
         [first, words @ ..] if says(first, b"run") => alone(Form::Run, words),
         [first, words @ ..] if says(first, b"replay") => replay_of(words),
+        [first, words @ ..] if says(first, b"campaign") => campaigns(words),
         [first, words @ ..] if says(first, b"show") => alone(Form::Show, words),
         _ => None,
     }

@@ -6,7 +6,8 @@ use Rattle.dccp_command.specs.declared.show.Turn.{Turn}
 use Rattle.dccp_command.specs.Show.{Turns}
 use Rattle.dccp_command.specs.Top.{HasBegun, Moves}
 use Rattle.dccp_io.specs.Fronts.{TakesFront}
-use Rattle.dccp_command.proofs.Showing.{turned, along-moved, shown-early, over, tallied-one, on-err, on-ok}
+use Rattle.dccp_command.proofs.Ending.{on-err, on-ok}
+use Rattle.dccp_command.proofs.Showing.{turned, along-moved, shown-early, over, tallied-one}
 use Rattle.dccp_command.proofs.show.show_records.Goals as goal
 
 pub loop-output-preserved : goal.loop-output-preserved

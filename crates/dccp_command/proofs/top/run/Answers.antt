@@ -1,9 +1,11 @@
-use Rattle.std.proofs.Common.{◌∙◌, subst, arith}
+-- The ends were safe after each event of the input that was lent to the reader of lines.
+use Rattle.std.proofs.Common.{◌≡◌, ℕ, List, Option, Some, IfSome, subst}
+use Rattle.dccp_command.specs.Top.{IsAnswered}
 use Rattle.dccp_command.specs.Transcript.{SafeThroughout}
-use Rattle.dccp_command.proofs.Ending.{read-whole}
+use Rattle.dccp_command.proofs.Streaming.{rest-at-first}
 use Rattle.dccp_command.proofs.top.run.Goals as goal
 
 pub returns-clause-safe : goal.returns-clause-safe
-returns-clause-safe g c = λ bytes told answered.
-    let items = read-whole (g.S.Source.left c.args.input.now) (g.S.Source.left c.read_all.new.source) c.in-Ok.bytes.items bytes c.in-Ok.ensures.next (c.in-Ok.ensures.end (omega arith)) told in
-    subst SafeThroughout (c.deref.ensures.value ∙ items) c.in-Ok-play_all.ensures.safe
+returns-clause-safe g c = λ bytes told.
+    subst (λ (known : Option (List ℕ)). IfSome known (λ all. IsAnswered c.play_lines-status.result → SafeThroughout all))
+    (rest-at-first (λ s. g.S.Source.left s.now) _ c.in-Ok.lines bytes c.in-Ok.ensures told) c.play_lines-status.ensures.safe

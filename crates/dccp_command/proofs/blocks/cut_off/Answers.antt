@@ -1,5 +1,5 @@
 use Rattle.dccp_command.proofs.Ending.{begun-by}
-use Rattle.dccp_command.proofs.show.cut_off.Goals as goal
+use Rattle.dccp_command.proofs.blocks.cut_off.Goals as goal
 
 pub returns-clause-front : goal.returns-clause-front
 returns-clause-front g c =

@@ -1,0 +1,25 @@
+-- The counters fit what the reader gave, the counts of faults never fall, and the text is along that of the whole input.
+use Rattle.std.proofs.Common.{◌≡◌, ◌+◌, ◌-◌, ◌≤◌, None, IfSome}
+use Rattle.dccp_io.specs.Lines.{rest}
+use Rattle.dccp_command.specs.Transcript.{ArePeers}
+use Rattle.dccp_command.proofs.LoopInvariant.{LoopInvariant}
+use Rattle.dccp_command.proofs.Streaming.{Along}
+use Rattle.dccp_command.proofs.transcript.play_lines.Given as goal
+
+abbrev pub invariant-loop-output : goal.invariant-loop-output
+invariant-loop-output g l = record {
+  unstopped : l.lines.stop ≡ None;
+  within : l.lines.given ≤ 16777216;
+  read : l.play.read ≡ l.lines.given;
+  number : l.play.number ≤ l.play.read + 1;
+  peers : ArePeers l.play.client l.play.server;
+  same_lender : g.S.Source.lender l.lines.source ≡ g.S.Source.lender l.fn.lines.source;
+  faults : g.S.Source.faults l.fn.lines.source ≤ g.S.Source.faults l.lines.source;
+  sink_faults : g.K.Sink.faults l.fn.output ≤ g.K.Sink.faults l.output;
+  empty_takes : g.K.Sink.empty_takes l.fn.output ≤ g.K.Sink.empty_takes l.output;
+  along : IfSome (rest g.S.Source.left l.fn.lines) (λ bytes. Along (λ front behind. LoopInvariant l.play behind front bytes) l.play.read
+      (rest g.S.Source.left l.lines) l.text.items (g.K.Sink.taken l.fn.output) (g.K.Sink.taken l.output) bytes);
+}
+
+abbrev pub decreases-loop-output : goal.decreases-loop-output
+decreases-loop-output g l = 16777216 - l.lines.given

@@ -1,0 +1,40 @@
+-- What `campaign` writes: what was counted of all its seeds, a line each (own).
+use Rattle.std.specs.Prelude.{◌≡◌, ◌≢◌, ℕ, ◌++◌, List, codes, Option}
+use Rattle.fault_campaign.specs.Totals.{totals}
+use Rattle.fault_campaign.specs.declared.report.Report.{Report}
+use Rattle.dccp_command.specs.CaptureText.{number_text}
+use Rattle.dccp_command.specs.Top.{HasBegun, HasTaken, IsCutOff, EndsForCause}
+use Rattle.dccp_command.specs.declared.campaign_words.Campaign.{Campaign}
+use Rattle.dccp_command.specs.declared.top.Status.{Status}
+use Rattle.dccp_command.specs.declared.top.Status.TheVariants as status
+
+-- a count behind its name
+abbrev pub count_line : List ℕ → ℕ → List ℕ
+count_line name count = number_text name count ++ codes "\n"
+
+-- what was run and sent
+abbrev pub run_text : Report → List ℕ
+run_text r =
+    count_line (codes "seeds ") r.seeds ++ count_line (codes "events ") r.events ++ count_line (codes "client_frames ") r.client_frames
+    ++ count_line (codes "server_frames ") r.server_frames
+
+-- the frames that arrived, by what became of them
+abbrev pub arrival_text : Report → List ℕ
+arrival_text r =
+    count_line (codes "took ") r.took ++ count_line (codes "delivered ") r.delivered ++ count_line (codes "dropped ") r.dropped
+    ++ count_line (codes "synced ") r.synced ++ count_line (codes "was_reset ") r.was_reset ++ count_line (codes "sent_reset ") r.sent_reset
+
+unfoldable pub report_text : Report → List ℕ
+report_text r = run_text r ++ arrival_text r ++ count_line (codes "refused ") r.refused ++ count_line (codes "settled ") r.settled
+
+-- the sums over all seeds, which no number of workers changes
+unfoldable pub campaign_text : Campaign → List ℕ
+campaign_text c = report_text (totals c.first c.seeds c.events)
+
+-- What a campaign owes, which reads nothing and has nothing to refuse: Done is the whole text, and what was cut off is a front of it. It ends
+-- with Write only where the sink failed, and where that did not, with Done, if memory is found.
+pub record AnswersUnread (text : List ℕ) (result : Status) (before after : Option (List ℕ)) (sink_failed : Type 0) : Type 0 where
+  pub whole : result ≡ status.Done → HasTaken before after text
+  pub front : IsCutOff result → HasBegun before after text
+  pub accepted : result ≢ status.Input
+  pub cause : EndsForCause result ⊥ sink_failed
