@@ -4,11 +4,12 @@
 //! `marks` and a number of rounds makes the calls of received numbers and of congestion control, hands packets to an end, and lets two
 //! ends send each other data, so that what they allocate can be counted. `ratios` and a number of rounds times marks, the writing of Ack Vectors and the taking of reports. `runs` and a
 //! number of rounds times marks in several orders, over both ways to keep runs. `ends` and a number of rounds times an end in OPEN to
-//! which packets of data come.
+//! which packets of data come. `campaign` and a number of workers times a campaign.
 //!
 //! Nothing is claimed of what it prints.
 #![tactic(auto)]
 
+mod campaigns;
 mod data;
 mod ends;
 mod frames;
@@ -30,6 +31,7 @@ enum Form {
     Ratios,
     Runs,
     Ends,
+    Campaign,
 }
 
 // The form that the first word names, and the rounds that the last one names, or one.
@@ -42,6 +44,7 @@ fn asked(rt: &HostRuntime) -> io::Result<(Form, u32)> {
             "ratios" => form = Form::Ratios,
             "runs" => form = Form::Runs,
             "ends" => form = Form::Ends,
+            "campaign" => form = Form::Campaign,
             text => rounds = text.parse::<u32>().unwrap_or(1),
         }
     }
@@ -95,5 +98,6 @@ fn main(rt: HostRuntime) -> io::Result<()> {
         }
         Form::Runs => runs::all(&rt, rounds),
         Form::Ends => ends::all(&rt, rounds),
+        Form::Campaign => campaigns::all(&rt, &rt, rounds),
     }
 }
