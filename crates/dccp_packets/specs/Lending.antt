@@ -1,9 +1,14 @@
--- What a frame ends as, where a `&mut` to its bytes is returned.
-use Rattle.std.specs.Prelude.{ℕ, List, length}
+-- What a frame or an Outbox ends as, where a `&mut` into it is returned.
+use Rattle.std.specs.Prelude.{ℕ, List, Option, Some, length}
 use Rattle.std.specs.Borrow.{Lends, MutBor, Fml, Array, u8}
 use Rattle.std.specs.List.{refill}
-use Rattle.dccp_packets.specs.contracts.frame.Frame.{the_row}
+use Rattle.dccp_packets.specs.contracts.frame.Frame as frame
+use Rattle.dccp_packets.specs.contracts.frame.Outbox as outbox
 
 -- once the borrow ends, the frame has the bytes that were written through it
 abbrev pub LendsBytes : MutBor (List ℕ) → MutBor (List ℕ) → Fml
-LendsBytes f r = Lends the_row (Array u8 0) f r (λ bytes. refill (length f.now) f.now bytes)
+LendsBytes f r = Lends frame.the_row (Array u8 0) f r (λ bytes. refill (length f.now) f.now bytes)
+
+-- once the borrow ends, the Outbox holds the frame that was written through it
+abbrev pub LendsFrame : MutBor (Option (List ℕ)) → MutBor (List ℕ) → Fml
+LendsFrame o r = Lends outbox.the_row frame.the_row o r (λ bytes. Some bytes)

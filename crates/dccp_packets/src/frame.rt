@@ -81,46 +81,65 @@ impl Frame {
 }
 
 /// Where an end leaves the frame that one of its calls sends: it holds no frame, or one. Contracts see no list of bytes,
-/// or one. Each call of an end that takes an Outbox empties it first.
+/// or one. Each call of an end that takes an Outbox empties it first. Its frame has room for the longest one and stays where it is, so an
+/// Outbox is made once and handed to many calls.
 #[derive(Debug, Drop)]
 pub struct Outbox {
-    entry: Option<Frame>,
+    // of an earlier call, where it holds none
+    frame: Frame,
+    holds: bool,
 }
 
 impl Model for Outbox {
-    ghost use Rattle.std.specs.Prelude.{List, Option, ℕ};
+    ghost use Rattle.std.specs.Prelude.{List, Option, Some, None, ℕ, if◌then◌else◌};
 
     ghost Value = { Option (List ℕ) };
 
-    ghost view = { λ o. o.entry };
+    ghost view = { λ o. if o.holds then Some o.frame else None };
 }
 
 impl Outbox {
+    ghost use Rattle.dccp_packets.specs.Lending.{LendsFrame};
+
     /// An Outbox that holds no frame.
     pub fn new() -> Outbox
         ensures { result ≡ None }
     {
-        Outbox { entry: None }
+        Outbox {
+            frame: Frame::new(),
+            holds: false,
+        }
     }
 
     /// The frame that it holds.
     pub fn frame(&self) -> Option<&Frame>
         ensures { MatchOption result (self.now ≡ None) (λ f. self.now ≡ Some f.now) }
     {
-        self.entry.as_ref()
+        if self.holds { Some(&self.frame) } else { None }
     }
 
     /// Takes the frame away, if it holds one.
     pub fn clear(&mut self)
         ensures { self.new ≡ None }
     {
-        self.entry = None;
+        self.holds = false;
     }
 
     /// Holds `frame` alone.
     pub fn put(&mut self, frame: Frame)
         ensures { self.new ≡ Some frame }
     {
-        self.entry = Some(frame);
+        self.frame = frame;
+        self.holds = true;
+    }
+
+    /// Holds a frame of no bytes alone, to be written where it stands.
+    pub fn begin(&mut self) -> &mut Frame
+        ensures* writes_back { sem 𝓛 (LendsFrame self.entry result) }
+        ensures empty { result.now ≡ [] }
+    {
+        self.frame.clear();
+        self.holds = true;
+        &mut self.frame
     }
 }
