@@ -275,7 +275,7 @@ impl Connection {
         self.put_frame(number, kind, &[], &[], out);
     }
 
-    // Leaves a packet in the Outbox. A frame is large, so none is handed from function to function by value.
+    // Leaves a packet in the Outbox, where it is written: a frame is large.
     #[tactic(auto, unfolding(crate::specs::Drafts::framed))]
     fn put_frame(&self, number: Seq48, kind: Kind, options: &[u8], payload: &[u8], out: &mut Outbox)
         requires form { has_forms true kind ≡ true }
@@ -292,13 +292,12 @@ impl Connection {
             number: Number::Long(number),
             kind,
         };
-        let mut frame = Frame::new();
-        match encode(&header, options, payload, &mut frame) {
+        let frame = out.begin();
+        match encode(&header, options, payload, frame) {
             Ok(()) => {}
             Err(_) => unreachable!(),
         }
-        seal_frame(&self.config.pseudo_out, &mut frame);
-        out.put(frame);
+        seal_frame(&self.config.pseudo_out, frame);
     }
 }
 
