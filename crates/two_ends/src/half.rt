@@ -42,6 +42,8 @@ pub(crate) struct HalfWorld<C> {
     processed: Vec<u64>,
     // Empty, with room for a frame of any length during a step.
     spare: Vec<u8>,
+    // Where the end leaves what it sends in a step.
+    out: Outbox,
 }
 
 impl<C> Model for HalfWorld<C> {
@@ -74,6 +76,7 @@ impl<C: Congestion + Drop> HalfWorld<C> {
             frames: Vec::new(alloc),
             processed: Vec::new(alloc),
             spare: Vec::new(alloc),
+            out: Outbox::new(),
         })
     }
 }
@@ -110,15 +113,14 @@ impl<C: Congestion> HalfWorld<C> {
         ensures err { OnErr result (self.new ≡ self.old) }
     {
         take_memory(&mut self.frames, &mut self.spare)?;
-        let mut out = Outbox::new();
-        let seen = answer(&mut self.end, asked, &mut out);
+        let seen = answer(&mut self.end, asked, &mut self.out);
         let processed = self.processed.len() as u64;
         let floor = self.end.floor();
         keep_frame(
             self.alloc,
             &mut self.frames,
             &mut self.spare,
-            &out,
+            &self.out,
             processed,
             floor,
         );
@@ -133,9 +135,8 @@ impl<C: Congestion> HalfWorld<C> {
     {
         take_memory(&mut self.frames, &mut self.spare)?;
         self.processed.reserve(1)?;
-        let mut out = Outbox::new();
         let before = self.end.marked();
-        let outcome = arrive(&mut self.end, bytes, &mut out);
+        let outcome = arrive(&mut self.end, bytes, &mut self.out);
         let taken = before < self.end.marked();
         keep_number(&mut self.processed, taken, bytes);
         let processed = self.processed.len() as u64;
@@ -144,7 +145,7 @@ impl<C: Congestion> HalfWorld<C> {
             self.alloc,
             &mut self.frames,
             &mut self.spare,
-            &out,
+            &self.out,
             processed,
             floor,
         );
