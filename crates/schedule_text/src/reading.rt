@@ -1,5 +1,5 @@
 //! Lines of schedules, read.
-ghost use Rattle.std.specs.Prelude.{◌≡◌, ◌<◌, ◌≤◌, length, OnOk, IfSome};
+ghost use Rattle.std.specs.Prelude.{◌≡◌, ◌<◌, ◌≤◌, length, OnOk, OnErr, IfSome, MatchResult, Ok, Err};
 ghost use Rattle.schedule_text.specs.Left.{word_of, left_of};
 ghost use Rattle.schedule_text.specs.Words.{later};
 ghost use Rattle.schedule_text.specs.Reading as spec;
@@ -104,24 +104,28 @@ impl Word<'_> {
         }
     }
 
-    // The delivery of the frame of this sender with this index.
-    fn delivery(&self, from: Side, index: &[u8]) -> Result<Event, LineFault>
-        ensures { result ≡ spec.delivery (word_of self.now) from (spec.index_of index.now) }
+    // The frame of this sender with this index.
+    fn frame(&self, from: Side, index: &[u8]) -> Result<(Side, u64), LineFault>
+        ensures { MatchResult result
+            (λ frame. spec.delivery (word_of self.now) from (spec.index_of index.now) ≡ Ok (Event.Deliver frame.0 frame.1))
+            (λ fault. spec.delivery (word_of self.now) from (spec.index_of index.now) ≡ Err fault) }
     {
         match index_of(index) {
-            Some(index) => Ok(Event::Deliver { from, index }),
+            Some(index) => Ok((from, index)),
             None => Err(fault_at(self.column, LineWhy::BadNumber)),
         }
     }
 
-    // The delivery of the frame of this name.
-    fn name(&self) -> Result<Event, LineFault>
-        ensures { result ≡ spec.name_word (word_of self.now) }
+    // The frame of this name: its sender and its index.
+    fn name(&self) -> Result<(Side, u64), LineFault>
+        ensures { MatchResult result
+            (λ frame. spec.name_word (word_of self.now) ≡ Ok (Event.Deliver frame.0 frame.1))
+            (λ fault. spec.name_word (word_of self.now) ≡ Err fault) }
     {
         self.present()?;
         match self.text {
-            [b'c', index @ ..] => self.delivery(Side::Client, index),
-            [b's', index @ ..] => self.delivery(Side::Server, index),
+            [b'c', index @ ..] => self.frame(Side::Client, index),
+            [b's', index @ ..] => self.frame(Side::Server, index),
             _ => Err(fault_at(self.column, LineWhy::UnknownWord)),
         }
     }
@@ -216,24 +220,35 @@ fn offered(column: u32, feature: Feature, place: Place) -> Result<(), LineFault>
     }
 }
 
-fn plain(words: &mut Words<'_>) -> Result<Line, LineFault>
-    ensures { result ≡ spec.plain_line (left_of words.old) }
+fn plain(words: &mut Words<'_>, said: &mut Line) -> Result<(), LineFault>
+    ensures value { MatchResult result
+        (λ done. spec.plain_line (left_of words.old) ≡ Ok said.new)
+        (λ fault. spec.plain_line (left_of words.old) ≡ Err fault) }
+    ensures kept { OnErr result (said.new ≡ said.old) }
 {
     end(words)?;
-    Ok(Line::Plain)
+    *said = Line::Plain;
+    Ok(())
 }
 
-fn iss(words: &mut Words<'_>) -> Result<Line, LineFault>
-    ensures { result ≡ spec.iss_line (left_of words.old) }
+fn iss(words: &mut Words<'_>, said: &mut Line) -> Result<(), LineFault>
+    ensures value { MatchResult result
+        (λ done. spec.iss_line (left_of words.old) ≡ Ok said.new)
+        (λ fault. spec.iss_line (left_of words.old) ≡ Err fault) }
+    ensures kept { OnErr result (said.new ≡ said.old) }
 {
     let side = words.next_word().side()?;
     let number = words.next_word().number()?;
     end(words)?;
-    Ok(Line::Iss { side, number })
+    *said = Line::Iss { side, number };
+    Ok(())
 }
 
-fn set(words: &mut Words<'_>) -> Result<Line, LineFault>
-    ensures { result ≡ spec.set_line (left_of words.old) }
+fn set(words: &mut Words<'_>, said: &mut Line) -> Result<(), LineFault>
+    ensures value { MatchResult result
+        (λ done. spec.set_line (left_of words.old) ≡ Ok said.new)
+        (λ fault. spec.set_line (left_of words.old) ≡ Err fault) }
+    ensures kept { OnErr result (said.new ≡ said.old) }
 {
     let side = words.next_word().side()?;
     let place = words.next_word().place()?;
@@ -242,16 +257,20 @@ fn set(words: &mut Words<'_>) -> Result<Line, LineFault>
     let values = word.values()?;
     end(words)?;
     wished(word.column, feature, place, &values)?;
-    Ok(Line::Set {
+    *said = Line::Set {
         side,
         place,
         feature,
         values,
-    })
+    };
+    Ok(())
 }
 
-fn offer(words: &mut Words<'_>) -> Result<Line, LineFault>
-    ensures { result ≡ spec.offer_line (left_of words.old) }
+fn offer(words: &mut Words<'_>, said: &mut Line) -> Result<(), LineFault>
+    ensures value { MatchResult result
+        (λ done. spec.offer_line (left_of words.old) ≡ Ok said.new)
+        (λ fault. spec.offer_line (left_of words.old) ≡ Err fault) }
+    ensures kept { OnErr result (said.new ≡ said.old) }
 {
     let side = words.next_word().side()?;
     let place = words.next_word().place()?;
@@ -260,102 +279,106 @@ fn offer(words: &mut Words<'_>) -> Result<Line, LineFault>
     let mandatory = mandatory(words)?;
     end(words)?;
     offered(word.column, feature, place)?;
-    Ok(Line::Offer {
+    *said = Line::Offer {
         side,
         place,
         feature,
         mandatory,
-    })
+    };
+    Ok(())
 }
 
-fn open(words: &mut Words<'_>) -> Result<Line, LineFault>
-    ensures { result ≡ spec.open_line (left_of words.old) }
+fn open(words: &mut Words<'_>, said: &mut Line) -> Result<(), LineFault>
+    ensures value { MatchResult result
+        (λ done. spec.open_line (left_of words.old) ≡ Ok said.new)
+        (λ fault. spec.open_line (left_of words.old) ≡ Err fault) }
+    ensures kept { OnErr result (said.new ≡ said.old) }
 {
     end(words)?;
-    Ok(Line::Event(Event::Open))
+    *said = Line::Event(Event::Open);
+    Ok(())
 }
 
-fn deliver(words: &mut Words<'_>) -> Result<Line, LineFault>
-    ensures { result ≡ spec.deliver_line (left_of words.old) }
+fn deliver(words: &mut Words<'_>, said: &mut Line) -> Result<(), LineFault>
+    ensures value { MatchResult result
+        (λ done. spec.deliver_line (left_of words.old) ≡ Ok said.new)
+        (λ fault. spec.deliver_line (left_of words.old) ≡ Err fault) }
+    ensures kept { OnErr result (said.new ≡ said.old) }
 {
-    let delivery = words.next_word().name()?;
+    let (from, index) = words.next_word().name()?;
     end(words)?;
-    Ok(Line::Event(delivery))
+    *said = Line::Event(Event::Deliver { from, index });
+    Ok(())
 }
 
-fn send(words: &mut Words<'_>) -> Result<Line, LineFault>
-    ensures { result ≡ spec.send_line (left_of words.old) }
+fn send(words: &mut Words<'_>, said: &mut Line) -> Result<(), LineFault>
+    ensures value { MatchResult result
+        (λ done. spec.send_line (left_of words.old) ≡ Ok said.new)
+        (λ fault. spec.send_line (left_of words.old) ≡ Err fault) }
+    ensures kept { OnErr result (said.new ≡ said.old) }
 {
     let side = words.next_word().side()?;
     let payload = words.next_word().hex()?;
     end(words)?;
-    Ok(Line::Event(Event::Send { side, payload }))
+    *said = Line::Event(Event::Send { side, payload });
+    Ok(())
 }
 
-fn prefer(words: &mut Words<'_>) -> Result<Line, LineFault>
-    ensures { result ≡ spec.prefer_line (left_of words.old) }
+fn prefer(words: &mut Words<'_>, said: &mut Line) -> Result<(), LineFault>
+    ensures value { MatchResult result
+        (λ done. spec.prefer_line (left_of words.old) ≡ Ok said.new)
+        (λ fault. spec.prefer_line (left_of words.old) ≡ Err fault) }
+    ensures kept { OnErr result (said.new ≡ said.old) }
 {
     let side = words.next_word().side()?;
     let place = words.next_word().place()?;
     let feature = words.next_word().feature()?;
     let values = words.next_word().values()?;
     end(words)?;
-    Ok(Line::Event(Event::Prefer {
+    *said = Line::Event(Event::Prefer {
         side,
         feature,
         place,
         values,
-    }))
+    });
+    Ok(())
 }
 
-fn timer(words: &mut Words<'_>) -> Result<Line, LineFault>
-    ensures { result ≡ spec.timer_line (left_of words.old) }
+fn timer(words: &mut Words<'_>, said: &mut Line) -> Result<(), LineFault>
+    ensures value { MatchResult result
+        (λ done. spec.timer_line (left_of words.old) ≡ Ok said.new)
+        (λ fault. spec.timer_line (left_of words.old) ≡ Err fault) }
+    ensures kept { OnErr result (said.new ≡ said.old) }
 {
     let side = words.next_word().side()?;
     let timer = words.next_word().timer()?;
     end(words)?;
-    Ok(Line::Event(Event::Timer { side, timer }))
+    *said = Line::Event(Event::Timer { side, timer });
+    Ok(())
 }
 
-fn close(words: &mut Words<'_>) -> Result<Line, LineFault>
-    ensures { result ≡ spec.close_line (left_of words.old) }
+fn close(words: &mut Words<'_>, said: &mut Line) -> Result<(), LineFault>
+    ensures value { MatchResult result
+        (λ done. spec.close_line (left_of words.old) ≡ Ok said.new)
+        (λ fault. spec.close_line (left_of words.old) ≡ Err fault) }
+    ensures kept { OnErr result (said.new ≡ said.old) }
 {
     let side = words.next_word().side()?;
     end(words)?;
-    Ok(Line::Event(Event::Close { side }))
+    *said = Line::Event(Event::Close { side });
+    Ok(())
 }
 
-fn abort(words: &mut Words<'_>) -> Result<Line, LineFault>
-    ensures { result ≡ spec.abort_line (left_of words.old) }
+fn abort(words: &mut Words<'_>, said: &mut Line) -> Result<(), LineFault>
+    ensures value { MatchResult result
+        (λ done. spec.abort_line (left_of words.old) ≡ Ok said.new)
+        (λ fault. spec.abort_line (left_of words.old) ≡ Err fault) }
+    ensures kept { OnErr result (said.new ≡ said.old) }
 {
     let side = words.next_word().side()?;
     end(words)?;
-    Ok(Line::Event(Event::Abort { side }))
-}
-
-fn read_form(form: Form, words: &mut Words<'_>) -> Result<Line, LineFault>
-    ensures { result ≡ spec.line_of form (left_of words.old) }
-{
-    match form {
-        Form::Plain => plain(words),
-        Form::Iss => iss(words),
-        Form::Set => set(words),
-        Form::Offer => offer(words),
-        Form::Open => open(words),
-        Form::Deliver => deliver(words),
-        Form::Send => send(words),
-        Form::Prefer => prefer(words),
-        Form::Timer => timer(words),
-        Form::Close => close(words),
-        Form::Abort => abort(words),
-    }
-}
-
-fn read_words(words: &mut Words<'_>) -> Result<Line, LineFault>
-    ensures { result ≡ spec.read_words (left_of words.old) }
-{
-    let form = words.next_word().form()?;
-    read_form(form, words)
+    *said = Line::Event(Event::Abort { side });
+    Ok(())
 }
 
 fn is_text(byte: u8) -> bool
@@ -402,9 +425,36 @@ pub(crate) fn says_nothing(line: &[u8]) -> bool
 pub fn read_line(line: &[u8]) -> Result<Line, LineFault>
     ensures { result ≡ spec.read_line line.now }
 {
+    let mut said = Line::Nothing;
+    read_line_into(line, &mut said)?;
+    Ok(said)
+}
+
+/// The same as [`read_line`], but what the line says is left in `said`, which a fault leaves as it is (own). A line has
+/// room for data, and is not moved so.
+pub fn read_line_into(line: &[u8], said: &mut Line) -> Result<(), LineFault>
+    ensures value { MatchResult result
+        (λ done. spec.read_line line.now ≡ Ok said.new)
+        (λ fault. spec.read_line line.now ≡ Err fault) }
+    ensures kept { OnErr result (said.new ≡ said.old) }
+{
     clean(line)?;
     if says_nothing(line) {
-        return Ok(Line::Nothing);
+        *said = Line::Nothing;
+        return Ok(());
     }
-    read_words(&mut Words::of(line))
+    let mut words = Words::of(line);
+    match words.next_word().form()? {
+        Form::Plain => plain(&mut words, said),
+        Form::Iss => iss(&mut words, said),
+        Form::Set => set(&mut words, said),
+        Form::Offer => offer(&mut words, said),
+        Form::Open => open(&mut words, said),
+        Form::Deliver => deliver(&mut words, said),
+        Form::Send => send(&mut words, said),
+        Form::Prefer => prefer(&mut words, said),
+        Form::Timer => timer(&mut words, said),
+        Form::Close => close(&mut words, said),
+        Form::Abort => abort(&mut words, said),
+    }
 }

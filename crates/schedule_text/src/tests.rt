@@ -5,7 +5,7 @@ ghost use Rattle.schedule_text.specs.Results.{IsSeenOf};
 
 use crate::{
     Event, Line, LineFault, LineWhy, Payload, Refusal, Seen, Timer, Values, print_event,
-    print_seen, read_frame, read_line,
+    print_seen, read_frame, read_line, read_line_into,
 };
 use dccp_endpoint::{Outcome, Why};
 use dccp_packets::Malformed;
@@ -261,6 +261,16 @@ fn lines_before_events(rt: HostRuntime) -> Result<(), Fail> {
         }
         _ => return Err(Fail::from("set")),
     }
+    Ok(())
+}
+
+#[test]
+fn lines_are_read_into_their_place(rt: HostRuntime) -> Result<(), Fail> {
+    let mut said = Line::Nothing;
+    assert!(rt; read_line_into(b"plain", &mut said).is_ok());
+    assert!(rt; matches!(&said, Line::Plain));
+    assert!(rt; read_line_into(b"open x", &mut said).is_err());
+    assert!(rt; matches!(&said, Line::Plain));
     Ok(())
 }
 
