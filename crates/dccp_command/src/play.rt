@@ -11,7 +11,7 @@ use crate::run_lines::{arrived, put_end_lines, put_sent_line};
 use ccid_two::Kinds;
 use dccp_endpoint::{Config, Role};
 use feature_lists::{Feature, Place};
-use schedule_text::{Line, LineFault, LineWhy, print_seen, read_line};
+use schedule_text::{Line, LineFault, LineWhy, print_seen, read_line_into};
 use seq_circle::{NoMemory, Seq48};
 use std::alloc::Global;
 use two_ends::{Event, Side, World, WorldFault};
@@ -71,9 +71,10 @@ impl Play {
         if !ends_within(self.read, line) {
             return Ok(Err(whole_line(LineWhy::TooMuchInput)));
         }
-        match read_line(text_of(line)) {
+        let mut said = Line::Nothing;
+        match read_line_into(text_of(line), &mut said) {
             Err(fault) => Ok(Err(self.in_place(fault))),
-            Ok(said) => self.say(alloc, line, &said, text),
+            Ok(()) => self.say(alloc, line, &said, text),
         }
     }
 
