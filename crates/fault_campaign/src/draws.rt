@@ -1,7 +1,7 @@
 //! What two words of the generator make happen.
 ghost use Rattle.std.specs.Prelude.{◌≡◌, ◌<◌, ◌≤◌, length};
 ghost use Rattle.two_ends.specs.declared.event.Event.{Event};
-ghost use Rattle.fault_campaign.specs.Draws.{behind, behind_two, delivery, drawn, ending, generator, index_of, initial_number, preference, sending, timer_of, word};
+ghost use Rattle.fault_campaign.specs.Draws.{behind, behind_two, ending, generator, index_of, initial_number, preference, sending, timer_of, word};
 
 use dccp_endpoint::Timer;
 use feature_lists::{Feature, Place};
@@ -41,46 +41,8 @@ pub(crate) fn initial_number(words: &mut Pcg32) -> Seq48
     }
 }
 
-/// The event of two words, where the client has sent so many frames, and the server so many.
-#[tactic(auto, unfolding(crate::specs::Draws::drawn))]
-pub(crate) fn drawn(a: u32, b: u32, clients: u64, servers: u64) -> Event
-    ensures { result ≡ drawn a b clients servers }
-{
-    match a % 32 {
-        0..=11 => delivery(Side::Client, clients, b),
-        12..=23 => delivery(Side::Server, servers, b),
-        24 => sending(Side::Client, b),
-        25 => sending(Side::Server, b),
-        26 => preference(Side::Client, b % 8, b / 8),
-        27 => preference(Side::Server, b % 8, b / 8),
-        28 => fired(Side::Client, timer_of(b % 6)),
-        29 => fired(Side::Server, timer_of(b % 6)),
-        30 => ending(b % 512),
-        _ => fired(Side::Server, Timer::Negotiate),
-    }
-}
-
-fn fired(side: Side, timer: Timer) -> Event
-    ensures { result ≡ Event.Timer side timer }
-{
-    Event::Timer { side, timer }
-}
-
-// A frame of this side arrives; where there is none, the client's timer runs out.
-fn delivery(from: Side, frames: u64, b: u32) -> Event
-    ensures { result ≡ delivery from frames b }
-{
-    if frames == 0 {
-        return fired(Side::Client, Timer::Request);
-    }
-    Event::Deliver {
-        from,
-        index: index_of(u64::from(b), frames),
-    }
-}
-
-// At times any frame, mostly one of the last eight.
-fn index_of(b: u64, frames: u64) -> u64
+/// Which of so many frames arrives: at times any, mostly one of the last eight.
+pub(crate) fn index_of(b: u64, frames: u64) -> u64
     requires { 0 < frames }
     ensures { result ≡ index_of b frames }
 {
@@ -91,7 +53,8 @@ fn index_of(b: u64, frames: u64) -> u64
     }
 }
 
-fn sending(side: Side, b: u32) -> Event
+/// A side sends the bytes of a word.
+pub(crate) fn sending(side: Side, b: u32) -> Event
     ensures { result ≡ sending side b }
 {
     match Payload::of(&b.to_be_bytes()) {
@@ -100,7 +63,8 @@ fn sending(side: Side, b: u32) -> Event
     }
 }
 
-fn preference(side: Side, which: u32, rest: u32) -> Event
+/// A side prefers this, by a number below 8; numbers that are not negotiated are drawn by the rest of the word.
+pub(crate) fn preference(side: Side, which: u32, rest: u32) -> Event
     ensures { result ≡ preference side which rest }
 {
     match which {
@@ -137,7 +101,8 @@ fn prefer(side: Side, feature: Feature, place: Place, numbers: &[u64]) -> Event
     }
 }
 
-fn timer_of(which: u32) -> Timer
+/// A timer, by a number below 6.
+pub(crate) fn timer_of(which: u32) -> Timer
     ensures { result ≡ timer_of which }
 {
     match which {
@@ -150,8 +115,8 @@ fn timer_of(which: u32) -> Timer
     }
 }
 
-// Seldom an end of the connection.
-fn ending(which: u32) -> Event
+/// Seldom an end of the connection, by a number below 512.
+pub(crate) fn ending(which: u32) -> Event
     ensures { result ≡ ending which }
 {
     match which {
@@ -159,6 +124,9 @@ fn ending(which: u32) -> Event
         1 => Event::Close { side: Side::Server },
         2 => Event::Abort { side: Side::Client },
         3 => Event::Abort { side: Side::Server },
-        _ => fired(Side::Client, Timer::Negotiate),
+        _ => Event::Timer {
+            side: Side::Client,
+            timer: Timer::Negotiate,
+        },
     }
 }

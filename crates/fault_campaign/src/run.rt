@@ -1,14 +1,16 @@
 //! The run of a seed.
 ghost use Rattle.std.specs.Prelude.{◌≡◌, ◌^◌, ◌<◌, ◌≤◌, IfOk, OnOk};
 ghost use Rattle.fault_campaign.specs.Reports.{is_settled, is_stable, settled_at, settles, size};
-ghost use Rattle.fault_campaign.specs.Draws.{behind_two};
-ghost use Rattle.fault_campaign.specs.Seeded.{begun, frames_of, goes_on, next_event, played, report_of, reported, usual_from};
+ghost use Rattle.fault_campaign.specs.Draws.{behind, behind_two, delivery, drawn, ending, preference, sending, word};
+ghost use Rattle.fault_campaign.specs.Seeded.{begun, frames_of, goes_on, played, report_of, reported, usual_from};
 ghost use Rattle.two_ends.specs.Pairs.{place_at};
 
 use crate::Report;
-use crate::draws::{drawn, generator, initial_number, next_word};
+use crate::draws::{
+    ending, generator, index_of, initial_number, next_word, preference, sending, timer_of,
+};
 use ccid_two::Kinds;
-use dccp_endpoint::{Config, Feature, Place, Role, Stand};
+use dccp_endpoint::{Config, Feature, Place, Role, Stand, Timer};
 use rand_pcg::Pcg32;
 use seq_circle::{NoMemory, Seq48};
 use std::alloc::Global;
@@ -69,24 +71,85 @@ impl Run {
         self.world.frames(side).len() as u64
     }
 
-    // The next event, from two words.
-    fn next_event(&mut self) -> Event
-        ensures event { result ≡ next_event self.old }
+    // The next two words.
+    fn next_words(&mut self) -> (u32, u32)
+        ensures first { result.0 ≡ word self.old.words }
+        ensures second { result.1 ≡ word (behind self.old.words) }
         ensures rest { self.new ≡ record self.old { words = behind_two self.old.words } }
     {
-        let clients = self.frames(Side::Client);
-        let servers = self.frames(Side::Server);
         let a = next_word(&mut self.words);
         let b = next_word(&mut self.words);
-        drawn(a, b, clients, servers)
+        (a, b)
     }
 
     fn go_on(&mut self) -> Result<(), NoMemory>
         requires { size self.old.report < 2 ^ 62 }
         ensures { OnOk result (self.new ≡ goes_on self.old) }
     {
-        let event = self.next_event();
-        self.play(&event)
+        let (a, b) = self.next_words();
+        self.play_drawn(a, b)
+    }
+
+    // Plays the event of two words. Each kind of event is made where it is played, since the room that an event has for data
+    // is cleared where it is made and moves with it.
+    #[tactic(auto, unfolding(crate::specs::Draws::drawn))]
+    fn play_drawn(&mut self, a: u32, b: u32) -> Result<(), NoMemory>
+        requires { size self.old.report < 2 ^ 62 }
+        ensures { OnOk result (self.new ≡ played self.old (drawn a b (frames_of self.old Side.Client) (frames_of self.old Side.Server))) }
+    {
+        match a % 32 {
+            0..=11 => self.deliver(Side::Client, b),
+            12..=23 => self.deliver(Side::Server, b),
+            24 => self.send(Side::Client, b),
+            25 => self.send(Side::Server, b),
+            26 => self.prefer(Side::Client, b % 8, b / 8),
+            27 => self.prefer(Side::Server, b % 8, b / 8),
+            28 => self.fire(Side::Client, timer_of(b % 6)),
+            29 => self.fire(Side::Server, timer_of(b % 6)),
+            30 => self.end(b % 512),
+            _ => self.fire(Side::Server, Timer::Negotiate),
+        }
+    }
+
+    // A frame of this side arrives; where there is none, the client's timer runs out.
+    fn deliver(&mut self, from: Side, b: u32) -> Result<(), NoMemory>
+        requires { size self.old.report < 2 ^ 62 }
+        ensures { OnOk result (self.new ≡ played self.old (delivery from (frames_of self.old from) b)) }
+    {
+        let frames = self.frames(from);
+        if frames == 0 {
+            return self.fire(Side::Client, Timer::Request);
+        }
+        let index = index_of(u64::from(b), frames);
+        self.play(&Event::Deliver { from, index })
+    }
+
+    fn send(&mut self, side: Side, b: u32) -> Result<(), NoMemory>
+        requires { size self.old.report < 2 ^ 62 }
+        ensures { OnOk result (self.new ≡ played self.old (sending side b)) }
+    {
+        self.play(&sending(side, b))
+    }
+
+    fn prefer(&mut self, side: Side, which: u32, rest: u32) -> Result<(), NoMemory>
+        requires { size self.old.report < 2 ^ 62 }
+        ensures { OnOk result (self.new ≡ played self.old (preference side which rest)) }
+    {
+        self.play(&preference(side, which, rest))
+    }
+
+    fn fire(&mut self, side: Side, timer: Timer) -> Result<(), NoMemory>
+        requires { size self.old.report < 2 ^ 62 }
+        ensures { OnOk result (self.new ≡ played self.old (Event.Timer side timer)) }
+    {
+        self.play(&Event::Timer { side, timer })
+    }
+
+    fn end(&mut self, which: u32) -> Result<(), NoMemory>
+        requires { size self.old.report < 2 ^ 62 }
+        ensures { OnOk result (self.new ≡ played self.old (ending which)) }
+    {
+        self.play(&ending(which))
     }
 
     fn report(&self, events: u32) -> Report
