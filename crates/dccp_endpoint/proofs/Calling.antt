@@ -1,5 +1,5 @@
 -- Every step of a proper end has an effect. A call or a timer does nothing, moves the phase alone, or sends a packet.
-use Rattle.std.proofs.Common.{◌≡◌, inl, inr, refl, ap, sym, ◌∙◌, subst, ℕ, ◌≤◌, nat_lt, Bool, true, false, not, if◌then◌else◌, List, [], ◌∷◌, length, Option, Some, None, Result, Ok, Err, arith}
+use Rattle.std.proofs.Common.{◌≡◌, inl, inr, refl, ap, sym, ◌∙◌, subst, ℕ, ◌≤◌, nat_lt, Bool, true, false, not, if◌then◌else◌, List, [], ◌∷◌, length, Some, None, Result, Ok, Err, arith}
 use Rattle.std.specs.List.{All}
 use Rattle.std.proofs.lemmas.Bool.{false≢true}
 use Rattle.std.proofs.lemmas.List.Elements.{All-cons, All-nil}
@@ -34,9 +34,8 @@ use Rattle.dccp_endpoint.specs.Inputs.{Input, Arrives, Opens, Closes, Aborts, Fi
 use Rattle.dccp_endpoint.specs.Inputs as input
 use Rattle.dccp_endpoint.specs.Reporting.{is_acking, sends_ack}
 use Rattle.dccp_endpoint.specs.Speaking.{change_items, is_confirmed, saying}
-use Rattle.dccp_endpoint.specs.Steps.{Step, idle, in_phase, detail_of, next_number, with_calls, without_detail}
+use Rattle.dccp_endpoint.specs.Steps.{Step, in_phase, detail_of, next_number, with_calls, without_detail}
 use Rattle.dccp_endpoint.specs.Turns.{Key, offerings, sendings, turn_of}
-use Rattle.dccp_endpoint.specs.declared.calls.SendFault.{SendFault}
 use Rattle.dccp_endpoint.specs.declared.calls.SendFault.TheVariants as send
 use Rattle.dccp_endpoint.specs.declared.calls.Timer.{Timer}
 use Rattle.dccp_endpoint.specs.declared.calls.Timer.TheVariants as timers

@@ -1,5 +1,5 @@
 -- The state of one end of a connection (RFC 4340, sections 7.1, 8 and 11.4).
-use Rattle.std.specs.Prelude.{◌≡◌, ℕ, Bool, true, false, List, []}
+use Rattle.std.specs.Prelude.{◌≡◌, ℕ, Bool, true, false, List}
 use Rattle.ack_vectors.specs.Kept.{Kept}
 use Rattle.ack_vectors.specs.Kept as kept
 use Rattle.feature_lists.specs.Features.{initial_of}
