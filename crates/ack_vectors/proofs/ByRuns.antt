@@ -10,7 +10,7 @@ use Rattle.run_list.specs.Stretches.{stretches}
 use Rattle.ack_vectors.proofs.Pieces.{take_cut}
 use Rattle.run_list.specs.Runs.{downwards, numbers_of, bound_below, AreLaid}
 use Rattle.run_list.proofs.StretchFacts.{down, down_fits, distance-down, below-absent, above-absent, inside-present, falling_numbers, laid_below, laid-stretches}
-use Rattle.ack_vectors.specs.Vector.{state_told, set_states, states_down, Group, group, grouped_with, groups, pieces, spelled, all_bytes}
+use Rattle.ack_vectors.specs.Vector.{state_told, set_states, states_down, Group, group, grouped_with, groups, pieces, bytes_of_groups, all_bytes}
 use Rattle.ack_vectors.specs.ByRuns.{bytes_by_runs}
 
 -- two sets with the same numbers between have the same states
@@ -66,9 +66,9 @@ groups-replicate s (suc count) rest h =
     ap (λ gs. grouped_with s gs) (groups-replicate s count rest h) ∙ grouped_with-same s (suc count) (groups rest) ∙ ap (λ c. group s c ∷ groups rest) one
 
 -- the bytes of a run, and of what follows it
-pub spelled-replicate : (s count : ℕ) (rest : List ℕ) → BeginsWithout s rest → spelled (groups (replicate count s ++ rest)) ≡ pieces s count ++ spelled (groups rest)
+pub spelled-replicate : (s count : ℕ) (rest : List ℕ) → BeginsWithout s rest → bytes_of_groups (groups (replicate count s ++ rest)) ≡ pieces s count ++ bytes_of_groups (groups rest)
 spelled-replicate s zero rest h = refl
-spelled-replicate s (suc count) rest h = ap spelled (groups-replicate s count rest h)
+spelled-replicate s (suc count) rest h = ap bytes_of_groups (groups-replicate s count rest h)
 
 -- steps down, whatever the floor
 pub wrap_back : (n a : ℕ) → n < 2 ^ 48 → a ≤ 2 ^ 48 → residue (residue (n + (2 ^ 48 - a)) + a) ≡ n
@@ -101,10 +101,10 @@ at_top f left n (inl e) h = e
 at_top f left n (inr e) h = absurd (omega arith)
 
 -- the runs of the set spell what its states spell
-pub runs-nothing : (left n : ℕ) → pieces 3 left ≡ spelled (groups (states_down (λ _. 3) left n))
+pub runs-nothing : (left n : ℕ) → pieces 3 left ≡ bytes_of_groups (groups (states_down (λ _. 3) left n))
 runs-nothing left n =
     sym (append-nil (pieces 3 left)) ∙ sym (spelled-replicate 3 left [] tt)
-    ∙ ap (λ ss. spelled (groups ss)) (append-nil (replicate left 3) ∙ sym (constant-states 3 left n))
+    ∙ ap (λ ss. bytes_of_groups (groups ss)) (append-nil (replicate left 3) ∙ sym (constant-states 3 left n))
 
 -- a run above all that is left is passed
 pub runs-passed : (f left n : ℕ) (s : Stretch) (rest : List ℕ) → f < 2 ^ 48 → n < 2 ^ 48 → s.hi < 2 ^ 48 → s.count ≤ distance f s.hi + 1 → IsTop f left n → left ≤ distance f s.hi + 1 - s.count
@@ -176,7 +176,7 @@ runs-first f left n s ss p q h e lt =
     )
 
 pub runs-is : (f b left n : ℕ) (ss : List Stretch) → f < 2 ^ 48 → n < 2 ^ 48 → AreLaid f b ss → IsTop f left n
-    → bytes_by_runs f left ss ≡ spelled (groups (states_down (set_states (has (numbers_of ss))) left n))
+    → bytes_by_runs f left ss ≡ bytes_of_groups (groups (states_down (set_states (has (numbers_of ss))) left n))
 runs-is f b left n [] p q h top = runs-nothing left n
 runs-is f b left n (s ∷ ss) p q h top =
     elim (cases_lt (distance f s.hi + 1 - s.count) left) [
@@ -187,21 +187,21 @@ runs-is f b left n (s ∷ ss) p q h top =
           let some : 1 ≤ s.count = h.0.some in
           let above : s.count ≤ distance f s.hi + 1 = h.0.above in
           let m : ℕ = first.0 in
-          let ih : bytes_by_runs f bottom ss ≡ spelled (groups (states_down (set_states (has (numbers_of ss))) bottom m)) = runs-is f (bound_below f s) bottom m ss p first.1 h.1 first.2 in
+          let ih : bytes_by_runs f bottom ss ≡ bytes_of_groups (groups (states_down (set_states (has (numbers_of ss))) bottom m)) = runs-is f (bound_below f s) bottom m ss p first.1 h.1 first.2 in
           let rest : List ℕ = states_down (set_states (has (numbers_of ss))) bottom m in
           let begins : BeginsWithout 0 rest = begins-missing (has (numbers_of ss)) bottom m
           (λ pos. let here : bottom ≡ distance f m + 1 = at_top f bottom m first.2 pos in
           below-absent f (bound_below f s) m (numbers_of ss) (omega arith) (falling_numbers f (bound_below f s) ss p h.1)) in
           let k : ℕ = min (distance f s.hi + 1) left - bottom in
           let a : ℕ = left - min (distance f s.hi + 1) left in
-          rw test (sym (ap (λ xs. spelled (groups xs)) first.3
+          rw test (sym (ap (λ xs. bytes_of_groups (groups xs)) first.3
           ∙ spelled-replicate 3 a (replicate k 0 ++ rest) (begins-received k rest (omega arith))
           ∙ ap (λ ys. pieces 3 a ++ ys) (spelled-replicate 0 k rest begins ∙ ap (λ ys. pieces 0 k ++ ys) (sym ih))))
       | inr ge ↦
           let test : nat_lt (distance f s.hi + 1 - s.count) left ≡ false = le-ltb (distance f s.hi + 1 - s.count) left ge in
-          let ih : bytes_by_runs f left ss ≡ spelled (groups (states_down (set_states (has (numbers_of ss))) left n)) = runs-is f (bound_below f s) left n ss p q h.1 top in
+          let ih : bytes_by_runs f left ss ≡ bytes_of_groups (groups (states_down (set_states (has (numbers_of ss))) left n)) = runs-is f (bound_below f s) left n ss p q h.1 top in
           let same = runs-passed f left n s (numbers_of ss) p q h.0.fits h.0.above top ge in
-          rw test (ih ∙ ap (λ xs. spelled (groups xs)) (sym same))
+          rw test (ih ∙ ap (λ xs. bytes_of_groups (groups xs)) (sym same))
     ]
 
 -- one run more, by what is written for it
@@ -245,4 +245,4 @@ bytes_by_runs-all set ack s q h =
     let near : is_from set.floor ack ≡ true = lt-ltb (distance set.floor ack) (2 ^ 47) h in
     rw near
     (runs-is set.floor 2048 (distance set.floor ack + 1) ack (stretches set.numbers) s.floor_fits q both.0 (inl refl)
-    ∙ ap (λ ns. spelled (groups (states_down (set_states (has ns)) (distance set.floor ack + 1) ack))) both.1)
+    ∙ ap (λ ns. bytes_of_groups (groups (states_down (set_states (has ns)) (distance set.floor ack + 1) ack))) both.1)

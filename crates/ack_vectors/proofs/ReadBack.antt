@@ -9,7 +9,7 @@ use Rattle.run_list.specs.MarkedSet.{is_from, IsFrom}
 use Rattle.run_list.proofs.StretchFacts.{down, down_fits}
 use Rattle.dccp_options.specs.Vectors.{states, state_at, state_of, run_length}
 use Rattle.dccp_options.proofs.States.{states-append}
-use Rattle.ack_vectors.specs.Vector.{state_told, set_states, states_down, states_between, numbers_between, Group, grouped_with, groups, piece, pieces, spelled, all_bytes, vector_within, is_whole_within, numbers_told_within}
+use Rattle.ack_vectors.specs.Vector.{state_told, set_states, states_down, states_between, numbers_between, Group, grouped_with, groups, piece, pieces, bytes_of_groups, all_bytes, vector_within, is_whole_within, numbers_told_within}
 use Rattle.ack_vectors.proofs.Pieces.{pieces-step}
 use Rattle.ack_vectors.proofs.ByRuns.{states_down-same}
 
@@ -51,21 +51,21 @@ abbrev pub ArePlain : List ℕ → Type 0
 ArePlain [] = Unit {0}
 ArePlain (s ∷ ss) = ((s == 2) ≡ false) × ArePlain ss
 
-pub states-grouped_with : (s : ℕ) (gs : List Group) → (s == 2) ≡ false → states (spelled (grouped_with s gs)) ≡ s ∷ states (spelled gs)
+pub states-grouped_with : (s : ℕ) (gs : List Group) → (s == 2) ≡ false → states (bytes_of_groups (grouped_with s gs)) ≡ s ∷ states (bytes_of_groups gs)
 states-grouped_with s [] two = states-pieces 1 s 1 [] (omega arith) two
 states-grouped_with s (g ∷ gs) two =
     elim (cases_eq g.state s) [
       | inl same ↦
-          let head : states (pieces s (g.count + 1) ++ spelled gs) ≡ replicate (g.count + 1) s ++ states (spelled gs) =
-          states-pieces (g.count + 1) s (g.count + 1) (spelled gs) (omega arith) two in
-          let tail : states (pieces s g.count ++ spelled gs) ≡ replicate g.count s ++ states (spelled gs) =
-          states-pieces g.count s g.count (spelled gs) (omega arith) two in
-          rw (eq-eqb g.state s same) (head ∙ ap (λ k. replicate k s ++ states (spelled gs)) (add-one g.count)
-          ∙ ap (λ ys. s ∷ ys) (sym tail ∙ ap (λ t. states (pieces t g.count ++ spelled gs)) (sym same)))
-      | inr other ↦ rw (ne_eqb g.state s other) (states-pieces 1 s 1 (spelled (g ∷ gs)) (omega arith) two)
+          let head : states (pieces s (g.count + 1) ++ bytes_of_groups gs) ≡ replicate (g.count + 1) s ++ states (bytes_of_groups gs) =
+          states-pieces (g.count + 1) s (g.count + 1) (bytes_of_groups gs) (omega arith) two in
+          let tail : states (pieces s g.count ++ bytes_of_groups gs) ≡ replicate g.count s ++ states (bytes_of_groups gs) =
+          states-pieces g.count s g.count (bytes_of_groups gs) (omega arith) two in
+          rw (eq-eqb g.state s same) (head ∙ ap (λ k. replicate k s ++ states (bytes_of_groups gs)) (add-one g.count)
+          ∙ ap (λ ys. s ∷ ys) (sym tail ∙ ap (λ t. states (pieces t g.count ++ bytes_of_groups gs)) (sym same)))
+      | inr other ↦ rw (ne_eqb g.state s other) (states-pieces 1 s 1 (bytes_of_groups (g ∷ gs)) (omega arith) two)
     ]
 
-pub states-spelled : (ss : List ℕ) → ArePlain ss → states (spelled (groups ss)) ≡ ss
+pub states-spelled : (ss : List ℕ) → ArePlain ss → states (bytes_of_groups (groups ss)) ≡ ss
 states-spelled [] h = refl
 states-spelled (s ∷ ss) h = states-grouped_with s (groups ss) h.0 ∙ ap (λ ts. s ∷ ts) (states-spelled ss h.1)
 
@@ -177,6 +177,6 @@ pub vector-same : (room : ℕ) (one other : ℕ → ℕ) (floor ack : ℕ) → f
     → (vector_within room one floor ack ≡ vector_within room other floor ack) × (is_whole_within room one floor ack ≡ is_whole_within room other floor ack)
 vector-same room one other floor ack a b h =
     let same = states_between-same one other floor ack a b h in (
-      ap (λ ss. take room (spelled (groups ss))) same,
-      ap (λ ss. nat_le (length (spelled (groups ss))) room) same,
+      ap (λ ss. take room (bytes_of_groups (groups ss))) same,
+      ap (λ ss. nat_le (length (bytes_of_groups (groups ss))) room) same,
     )

@@ -7,7 +7,7 @@ use Rattle.std.proofs.lemmas.List.{length-take}
 use Rattle.std.proofs.lemmas.List.Elements.{All-nil, All-cons, All-append, All-replicate, All-take}
 use Rattle.seq_circle.specs.Circle.{distance, down, is_from, IsFrom, IsWithin}
 use Rattle.dccp_options.specs.Vectors.{state_at, is_received}
-use Rattle.ack_vectors.specs.Vector.{state_told, set_states, states_down, numbers_between, states_between, Group, grouped_with, groups, piece, last_piece, pieces, spelled, all_bytes, vector_within, is_whole_within, numbers_told_within}
+use Rattle.ack_vectors.specs.Vector.{state_told, set_states, states_down, numbers_between, states_between, Group, grouped_with, groups, piece, last_piece, pieces, bytes_of_groups, all_bytes, vector_within, is_whole_within, numbers_told_within}
 use Rattle.ack_vectors.proofs.ReadBack.{AllPlain, plain-set, read_back, reach_at_most, whole_reaches}
 
 -- a number that a vector gives a state lies between floor and acknowledgement
@@ -110,10 +110,10 @@ small-groups state zero n h = tt
 small-groups state (suc count) n h =
     small-grouped_with (state n) (groups (states_down state count (down n 1))) (h n) (small-groups state count (down n 1) h)
 
-bytes-spelled : (gs : List Group) → AreSmall gs → All (λ byte. byte < 256) (spelled gs)
+bytes-spelled : (gs : List Group) → AreSmall gs → All (λ byte. byte < 256) (bytes_of_groups gs)
 bytes-spelled [] h = All-nil (λ byte. byte < 256)
 bytes-spelled (g ∷ gs) h =
-    All-append (λ byte. byte < 256) (pieces g.state g.count) (spelled gs) (bytes-pieces g.state g.count h.0) (bytes-spelled gs h.1)
+    All-append (λ byte. byte < 256) (pieces g.state g.count) (bytes_of_groups gs) (bytes-pieces g.state g.count h.0) (bytes-spelled gs h.1)
 
 pub bytes-vector : (room : ℕ) (state : ℕ → ℕ) (floor ack : ℕ) → AllBits state
     → All (λ byte. byte < 256) (vector_within room state floor ack)

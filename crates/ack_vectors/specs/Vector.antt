@@ -57,13 +57,13 @@ abbrev pub pieces : ℕ → ℕ → List ℕ
 pieces state count = replicate (count / 64) (piece state 64) ++ last_piece state (count % 64)
 
 -- the bytes of runs
-abbrev pub spelled : List Group → List ℕ
-spelled [] = []
-spelled (g ∷ gs) = pieces g.state g.count ++ spelled gs
+abbrev pub bytes_of_groups : List Group → List ℕ
+bytes_of_groups [] = []
+bytes_of_groups (g ∷ gs) = pieces g.state g.count ++ bytes_of_groups gs
 
 -- the bytes of states, however many
 abbrev pub all_bytes : (ℕ → ℕ) → ℕ → ℕ → List ℕ
-all_bytes state floor ack = spelled (groups (states_between state floor ack))
+all_bytes state floor ack = bytes_of_groups (groups (states_between state floor ack))
 
 -- the vector that so many bytes have room for: the first of these bytes
 abbrev pub vector_within : ℕ → (ℕ → ℕ) → ℕ → ℕ → List ℕ

@@ -5,8 +5,8 @@ use Rattle.congestion_trait.specs.Flight.{States, acked_count, is_congested}
 use Rattle.congestion_trait.specs.Kind.{Rules}
 
 -- a report of any loss or mark halves the window, down to a packet at least; one of something received lets it grow by a packet, up to 1,024
-abbrev pub reported : ℕ → List Entry → States → ℕ → ℕ
-reported window entries states ratio =
+abbrev pub window_reported : ℕ → List Entry → States → ℕ → ℕ
+window_reported window entries states ratio =
     if is_congested states None entries then max (window / 2) 1
     else if nat_lt 0 (acked_count states entries) && nat_lt window 1024 then window + 1
     else window
@@ -18,6 +18,6 @@ additive = record {
   is_known = λ ccid. ccid == 249;
   fresh = 1;
   with_sent = λ window _. window;
-  with_report = reported;
+  with_report = window_reported;
   timed_out = λ _. 1;
 }

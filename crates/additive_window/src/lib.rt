@@ -4,7 +4,7 @@
 //! loss or of a marked packet (own; CCIDs from 248 are for experiments, RFC 4340, section 10).
 #![tactic(auto)]
 
-ghost use Rattle.std.specs.Prelude.{◌≡◌, [], IfOk};
+ghost use Rattle.std.specs.Prelude.{IfOk, [], ◌≡◌};
 
 use congestion_trait::{Congestion, Flight};
 use dccp_options::AckReport;
@@ -48,10 +48,10 @@ impl AdditiveWindow {
 }
 
 impl Congestion for AdditiveWindow {
-    ghost use Rattle.congestion_trait.specs.Kind.{kind_of, kind_is_lawful};
+    ghost use Rattle.congestion_trait.specs.Kind.{control_by_rules, kind_is_lawful};
     ghost use Rattle.additive_window.specs.Additive.{additive};
 
-    ghost control = { kind_of additive };
+    ghost control = { control_by_rules additive };
 
     ghost lawful = { kind_is_lawful additive };
 

@@ -9,8 +9,8 @@ use Rattle.atomic_table.specs.Seated.{TableId}
 use Rattle.atomic_table.proofs.Lists.{at_set, at_snoc}
 use Rattle.campaign_claims.specs.declared.rule.View.{View}
 use Rattle.campaign_claims.specs.Numbers.{times, once_below, AreOnceBelow}
-use Rattle.campaign_claims.specs.Views.{Held, held, with_number, with_none, claimed, kept, given, both, spent}
-use Rattle.campaign_claims.specs.Rule.{all_drawn, Fits, Counted, Draws}
+use Rattle.campaign_claims.specs.Views.{Held, held, with_claimed, with_none, claimed, kept, given, both, spent}
+use Rattle.campaign_claims.specs.Rule.{all_drawn, ViewFits, Counted, Draws}
 use Rattle.campaign_claims.proofs.Sums.{sum_set, part_of_sum, sum_le, alone}
 use Rattle.campaign_claims.proofs.Below.{is, lie_below, once_below-min, passed, not_passed, below_limit, past_limit}
 
@@ -38,10 +38,10 @@ all_fit n s rule =
     omega arith
 
 -- each view fits after one was put in the place of another
-fit_after : (n : ℕ) (views : List View) (id : ℕ) (w : View) → ((k : ℕ) (v : View) → get_elem? views k ≡ some v → Fits n v) → Fits n w
-    → (k : ℕ) (u : View) → get_elem? (set views id w) k ≡ some u → Fits n u
+fit_after : (n : ℕ) (views : List View) (id : ℕ) (w : View) → ((k : ℕ) (v : View) → get_elem? views k ≡ some v → ViewFits n v) → ViewFits n w
+    → (k : ℕ) (u : View) → get_elem? (set views id w) k ≡ some u → ViewFits n u
 fit_after n views id w each fits k u at = ⊎_elim
-    (λ here. subst (Fits n) here.1 fits)
+    (λ here. subst (ViewFits n) here.1 fits)
     (λ there. each k u there.1)
     (at_set views id k w u at)
 
@@ -91,7 +91,7 @@ claim_goes n id s v rule at part word true test =
     let limit : v.limit ≡ n = fits.same (omega arith) in
     let few = fits.few in
     let found = slice_index s.words 0 in
-    rw test (claim_keeps n id s v (with_number v found) rule at part refl refl refl (omega (arith, length-append v.numbers (found ∷ [])))
+    rw test (claim_keeps n id s v (with_claimed v found) rule at part refl refl refl (omega (arith, length-append v.numbers (found ∷ [])))
     (λ x. rw (times-push x v.numbers found, word) (passed x n (all_drawn s.views) (times x v.numbers) (below_limit found (all_drawn s.views) v.limit n word limit test))))
 claim_goes n id s v rule at part word false test =
     let fits = rule.each id v at in
@@ -118,7 +118,7 @@ splits n id v room s rule at =
       shares = (let a = rule.shares in omega (arith, sum_by_push share_of (set s.views id (kept v)) (given v), sum_set share_of s.views id v (kept v) at));
       each = λ k u there. ⊎_elim
           (λ old. fit_after n s.views id (kept v) rule.each (record { within = omega arith; few = few; same = λ some. fits.same (omega arith) }) k u old)
-          (λ new. subst (Fits n) new (record { within = omega arith; few = omega arith; same = λ some. fits.same (omega arith) }))
+          (λ new. subst (ViewFits n) new (record { within = omega arith; few = omega arith; same = λ some. fits.same (omega arith) }))
           (at_snoc (set s.views id (kept v)) (given v) u k there);
       once = λ x. rw all (
           let a = rule.once x in
@@ -130,7 +130,7 @@ joins n id v other w some_share s rule at apart at_other =
     let fits = rule.each id v at in
     let within = fits.within in
     let few = fits.few in
-    let fits_w : Fits n w = ⊎_elim (λ here. absurd (apart here.0)) (λ there. rule.each other w there.1) (at_set s.views id other (both v w) w at_other) in
+    let fits_w : ViewFits n w = ⊎_elim (λ here. absurd (apart here.0)) (λ there. rule.each other w there.1) (at_set s.views id other (both v w) w at_other) in
     let within_w = fits_w.within in
     let few_w = fits_w.few in
     let one = set s.views id (both v w) in

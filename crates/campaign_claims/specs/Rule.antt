@@ -12,7 +12,7 @@ abbrev pub all_drawn : List View → ℕ
 all_drawn views = sum_by (λ v. v.drawn) views
 
 -- One view: no more claims than its share, no more numbers than claims; one that is not spent knows the limit n
-pub record Fits (n : ℕ) (v : View) : Type 0 where
+pub record ViewFits (n : ℕ) (v : View) : Type 0 where
   pub within : v.drawn ≤ v.share
   pub few : length v.numbers ≤ v.drawn
   pub same : 0 < v.share → v.limit ≡ n
@@ -21,7 +21,7 @@ pub record Fits (n : ℕ) (v : View) : Type 0 where
 pub record Counted (n : ℕ) (s : State ℕ View) : Type 0 where
   pub word : s.words ≡ all_drawn s.views ∷ []
   pub shares : sum_by (λ v. v.share) s.views ≡ 2 ^ 62
-  pub each : (k : ℕ) (v : View) → get_elem? s.views k ≡ some v → Fits n v
+  pub each : (k : ℕ) (v : View) → get_elem? s.views k ≡ some v → ViewFits n v
   pub once : (x : ℕ) → sum_by (λ v. times x v.numbers) s.views ≡ once_below x (min n (all_drawn s.views))
 
 -- a claim that read this word: all numbers of its claimer lie below it

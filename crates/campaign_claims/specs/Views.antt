@@ -19,8 +19,8 @@ abbrev pub first : ℕ → View
 first limit = knows [] 0 (2 ^ 62) limit
 
 -- one claim more, which gave this number
-abbrev pub with_number : View → ℕ → View
-with_number v k = knows (v.numbers ++ k ∷ []) (v.drawn + 1) v.share v.limit
+abbrev pub with_claimed : View → ℕ → View
+with_claimed v k = knows (v.numbers ++ k ∷ []) (v.drawn + 1) v.share v.limit
 
 -- one claim more, which gave none
 abbrev pub with_none : View → View
@@ -28,7 +28,7 @@ with_none v = knows v.numbers (v.drawn + 1) v.share v.limit
 
 -- what a claim makes of a view, by the word that it read
 abbrev pub claimed : View → ℕ → View
-claimed v found = if nat_lt found v.limit then with_number v found else with_none v
+claimed v found = if nat_lt found v.limit then with_claimed v found else with_none v
 
 -- half of the claims that may still be made, rounded down
 abbrev pub half_left : View → ℕ

@@ -2,7 +2,7 @@
 ghost use Rattle.std.specs.Prelude.{◌≡◌, ℕ, ◌-◌, ◌^◌, ◌<◌, ◌≤◌, min, All, IfOk, IfSome, IfNone, IsOk};
 ghost use Rattle.campaign_claims.specs.Numbers.{times, once_below, AreOnceBelow};
 ghost use Rattle.campaign_claims.specs.Rule.{IsClaim};
-ghost use Rattle.campaign_claims.specs.Views.{held, first, with_number, with_none, kept, given, both};
+ghost use Rattle.campaign_claims.specs.Views.{both, first, given, held, kept, with_claimed, with_none};
 
 use crate::rule::{Counts, Draw, Halves, View};
 use atomic_table::{Seat, Table};
@@ -66,7 +66,7 @@ impl Claimer {
         requires part { self.old.view.drawn < self.old.view.share }
         ensures below { IfSome result (λ k. k < self.old.view.limit) }
         ensures greater { IfSome result (λ k. All (λ x. x < k) self.old.view.numbers) }
-        ensures some { IfSome result (λ k. self.new ≡ held self.old.claims (with_number self.old.view k)) }
+        ensures some { IfSome result (λ k. self.new ≡ held self.old.claims (with_claimed self.old.view k)) }
         ensures none { IfNone result (self.new ≡ held self.old.claims (with_none self.old.view)) }
         ensures word { IsClaim self.old.view result self.new.view }
     {

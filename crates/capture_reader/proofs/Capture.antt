@@ -9,8 +9,8 @@ use Rattle.capture_reader.specs.declared.fault.CaptureFault.TheVariants.{BadMagi
 use Rattle.capture_reader.specs.declared.format.Format.{Format}
 use Rattle.capture_reader.specs.declared.record.RecordHeader.{RecordHeader}
 use Rattle.capture_reader.specs.Format.{opened}
-use Rattle.capture_reader.specs.Records.{Entry, most_bytes, most_captured, missing, header_of, header_in, body_fault, found_by, found_in, entry_with, next_by, next_of, Captured, before, onward, records_from, captured_by, captured, unless}
-use Rattle.capture_reader.specs.Capture.{captured_length, IsRecord, IsCut, IsLarge, HasHeader, IsWrong, HasRecords, IsCapture, Refused, Opened}
+use Rattle.capture_reader.specs.Records.{RecordParts, most_bytes, most_captured, missing, record_header, header_in, body_fault, found_by, found_in, entry_with, next_by, next_of, Captured, before, onward, records_from, captured_by, captured, unless_faulty}
+use Rattle.capture_reader.specs.Capture.{captured_length, IsRecord, IsShortOf, IsLarge, HasHeader, IsWrong, HasRecords, IsCapture, Refused, Opened}
 
 -- what is missing, by its three cases
 missing-cut : (count room size : ℕ) → size < count → size < room → missing count room size ≡ Some CutShort
@@ -39,7 +39,7 @@ header-wrong format number given bytes why some wrong =
     ap (λ (h : Result (Option RecordHeader) CaptureFault). next_by format (number + 1) (found_by (most_bytes - given) h bytes) bytes) here
 
 header-there : (format : Format) (given : ℕ) (bytes : List ℕ) → HasHeader given bytes
-    → header_in format.order (most_bytes - given) bytes ≡ Ok (Some (header_of format.order bytes))
+    → header_in format.order (most_bytes - given) bytes ≡ Ok (Some (record_header format.order bytes))
 header-there format given bytes there =
     let test : (length bytes == 0) ≡ false = some-bytes bytes (omega (arith, there.0)) in
     let none : missing 16 (most_bytes - given) (length bytes) ≡ None = missing-none 16 (most_bytes - given) (length bytes) there.0 (omega (arith, there.1)) in
@@ -48,10 +48,10 @@ header-there format given bytes there =
 -- what the captured bytes come to
 body-told : (format : Format) (number given : ℕ) (bytes : List ℕ) (wrong : Option CaptureFault) → HasHeader given bytes
     → body_fault (captured_length format bytes) (most_bytes - given - 16) (length bytes - 16) ≡ wrong
-    → next_of format number given bytes ≡ next_by format (number + 1) (unless wrong (Some (header_of format.order bytes))) bytes
+    → next_of format number given bytes ≡ next_by format (number + 1) (unless_faulty wrong (Some (record_header format.order bytes))) bytes
 body-told format number given bytes wrong there is =
     ap (λ (h : Result (Option RecordHeader) CaptureFault). next_by format (number + 1) (found_by (most_bytes - given) h bytes) bytes) (header-there format given bytes there)
-    ∙ ap (λ (w : Option CaptureFault). next_by format (number + 1) (unless w (Some (header_of format.order bytes))) bytes) is
+    ∙ ap (λ (w : Option CaptureFault). next_by format (number + 1) (unless_faulty w (Some (record_header format.order bytes))) bytes) is
 
 body-long : (captured room size : ℕ) → most_captured < captured → body_fault captured room size ≡ Some RecordTooLong
 body-long captured room size long = let test : nat_lt most_captured captured ≡ true = lt-ltb most_captured captured long in rw test refl
@@ -84,20 +84,20 @@ wrong-read format number given bytes ReadFault some within wrong = absurd wrong
 wrong-read format number given bytes NoMemory some within wrong = absurd wrong
 
 -- a record by the relation is what is read, and what is behind it is left
-record-length : (format : Format) (number given : ℕ) (entry : Entry) (rest bytes : List ℕ) (r : IsRecord format number given entry rest bytes)
+record-length : (format : Format) (number given : ℕ) (entry : RecordParts) (rest bytes : List ℕ) (r : IsRecord format number given entry rest bytes)
     → length bytes ≡ 16 + (length r.body + length rest)
 record-length format number given entry rest bytes r =
     ap (λ (xs : List ℕ). length xs) r.whole ∙ rw (length-append r.header (r.body ++ rest), length-append r.body rest, r.header_length) refl
 
-pub record-behind : (format : Format) (number given : ℕ) (entry : Entry) (rest bytes : List ℕ) → IsRecord format number given entry rest bytes
+pub record-behind : (format : Format) (number given : ℕ) (entry : RecordParts) (rest bytes : List ℕ) → IsRecord format number given entry rest bytes
     → drop (16 + length entry.bytes) bytes ≡ rest
 record-behind format number given entry rest bytes r =
-    let size : length entry.bytes ≡ length r.body = ap (λ (e : Entry). length e.bytes) r.stands in
+    let size : length entry.bytes ≡ length r.body = ap (λ (e : RecordParts). length e.bytes) r.stands in
     ap (λ (n : ℕ). drop (16 + n) bytes) size ∙ sym (drop-drop (length r.body) 16 bytes)
     ∙ ap (λ (xs : List ℕ). drop (length r.body) (drop 16 xs)) r.whole
     ∙ ap (drop (length r.body)) (drop_at r.header (r.body ++ rest) 16 r.header_length) ∙ drop_at r.body rest (length r.body) refl
 
-pub record-read : (format : Format) (number given : ℕ) (entry : Entry) (rest bytes : List ℕ) → IsRecord format number given entry rest bytes
+pub record-read : (format : Format) (number given : ℕ) (entry : RecordParts) (rest bytes : List ℕ) → IsRecord format number given entry rest bytes
     → next_of format number given bytes ≡ Ok (Some entry)
 record-read format number given entry rest bytes r =
     let size = record-length format number given entry rest bytes r in
@@ -110,12 +110,12 @@ record-read format number given entry rest bytes r =
     ap (λ (xs : List ℕ). take (captured_length format bytes) (drop 16 xs)) r.whole
     ∙ ap (take (captured_length format bytes)) (drop_at r.header (r.body ++ rest) 16 r.header_length)
     ∙ take_at r.body rest (captured_length format bytes) r.body_length in
-    read ∙ ap (λ (text : List ℕ). Ok (Some (entry_with format (number + 1) (header_of format.order bytes) text))) body ∙ ap (λ (e : Entry). Ok (Some e)) (sym r.stands)
+    read ∙ ap (λ (text : List ℕ). Ok (Some (entry_with format (number + 1) (record_header format.order bytes) text))) body ∙ ap (λ (e : RecordParts). Ok (Some e)) (sym r.stands)
 
 -- what stands next, by the relation
 pub data Stands (format : Format) (number given : ℕ) (bytes : List ℕ) : Type 0 where
   IsWrongHere : (why : CaptureFault) → IsWrong format given bytes why → Stands format number given bytes
-  IsRecordHere : (entry : Entry) (rest : List ℕ) → IsRecord format number given entry rest bytes → Stands format number given bytes
+  IsRecordHere : (entry : RecordParts) (rest : List ℕ) → IsRecord format number given entry rest bytes → Stands format number given bytes
 
 record-here : (format : Format) (number given : ℕ) (bytes : List ℕ) → 16 + captured_length format bytes ≤ length bytes → captured_length format bytes ≤ most_captured
     → given + (16 + captured_length format bytes) ≤ most_bytes → Stands format number given bytes
@@ -123,7 +123,7 @@ record-here format number given bytes there fits counts =
     let count = captured_length format bytes in
     let body = take count (drop 16 bytes) in
     let size : length body ≡ count = length-take-le count (drop 16 bytes) (rw (length-drop 16 bytes) (omega (arith, there))) in
-    IsRecordHere (entry_with format (number + 1) (header_of format.order bytes) body) (drop count (drop 16 bytes)) (record {
+    IsRecordHere (entry_with format (number + 1) (record_header format.order bytes) body) (drop count (drop 16 bytes)) (record {
       header = take 16 bytes;
       body = body;
       whole = sym (take-append-drop 16 bytes) ∙ ap (λ (xs : List ℕ). take 16 bytes ++ xs) (sym (take-append-drop count (drop 16 bytes)));
@@ -175,9 +175,9 @@ pub records-wrong : (format : Format) (number given : ℕ) (bytes : List ℕ) (w
     → records_from format 0 number given bytes ≡ record { records = []; end = Some why }
 records-wrong format number given [] why some read = absurd (omega (arith, some))
 records-wrong format number given (byte ∷ bytes) why some read =
-    ap (λ (next : Result (Option Entry) CaptureFault). onward next (λ used. records_from format (used - 1) (number + 1) (given + used) bytes)) read
+    ap (λ (next : Result (Option RecordParts) CaptureFault). onward next (λ used. records_from format (used - 1) (number + 1) (given + used) bytes)) read
 
-pub records-next : (format : Format) (number given : ℕ) (bytes : List ℕ) (entry : Entry) → 0 < length bytes → next_of format number given bytes ≡ Ok (Some entry)
+pub records-next : (format : Format) (number given : ℕ) (bytes : List ℕ) (entry : RecordParts) → 0 < length bytes → next_of format number given bytes ≡ Ok (Some entry)
     → records_from format 0 number given bytes
     ≡ before entry (records_from format 0 (number + 1) (given + (16 + length entry.bytes)) (drop (16 + length entry.bytes) bytes))
 records-next format number given [] entry some read = absurd (omega (arith, some))
@@ -186,7 +186,7 @@ records-next format number given (byte ∷ bytes) entry some read =
     let one : used ≡ suc (15 + length entry.bytes) = omega arith in
     let less : used - 1 ≡ 15 + length entry.bytes = omega arith in
     let behind : drop (used - 1) bytes ≡ drop used (byte ∷ bytes) = ap (λ (n : ℕ). drop n bytes) less ∙ sym (ap (λ (n : ℕ). drop n (byte ∷ bytes)) one) in
-    ap (λ (next : Result (Option Entry) CaptureFault). onward next (λ u. records_from format (u - 1) (number + 1) (given + u) bytes)) read
+    ap (λ (next : Result (Option RecordParts) CaptureFault). onward next (λ u. records_from format (u - 1) (number + 1) (given + u) bytes)) read
     ∙ ap (before entry) (skipped format (number + 1) (given + used) (used - 1) bytes ∙ ap (records_from format 0 (number + 1) (given + used)) behind)
 
 has-by : (format : Format) (number given : ℕ) (bytes : List ℕ) → 0 < length bytes → given ≤ most_bytes
@@ -199,7 +199,7 @@ has-by format number given bytes some within others (IsWrongHere why wrong) =
     (sym (records-wrong format number given bytes why some (wrong-read format number given bytes why some within wrong)))
     (some, wrong)
 has-by format number given bytes some within others (IsRecordHere entry rest r) =
-    let size : length entry.bytes ≡ length r.body = ap (λ (e : Entry). length e.bytes) r.stands in
+    let size : length entry.bytes ≡ length r.body = ap (λ (e : RecordParts). length e.bytes) r.stands in
     let shorter : length rest < length bytes = rw (record-length format number given entry rest bytes r) (omega arith) in
     let counts : given + (16 + length entry.bytes) ≤ most_bytes = rw size r.counts in
     let more = others (number + 1) (given + (16 + length entry.bytes)) rest shorter counts in
@@ -221,14 +221,14 @@ has-records (suc fuel) format number given (byte ∷ bytes) enough within =
     (stands-here format number given (byte ∷ bytes))
 
 -- records that meet the relation are the definition's
-pub same-records : (records : List Entry) (format : Format) (number given : ℕ) (bytes : List ℕ) (end : Option CaptureFault) → given ≤ most_bytes
+pub same-records : (records : List RecordParts) (format : Format) (number given : ℕ) (bytes : List ℕ) (end : Option CaptureFault) → given ≤ most_bytes
     → HasRecords format number given bytes records end → records_from format 0 number given bytes ≡ record { records = records; end = end }
 same-records [] format number given bytes None within none =
     ap (records_from format 0 number given) none
 same-records [] format number given bytes (Some why) within (some, wrong) =
     records-wrong format number given bytes why some (wrong-read format number given bytes why some within wrong)
 same-records (entry ∷ entries) format number given bytes end within (rest, r, more) =
-    let size : length entry.bytes ≡ length r.body = ap (λ (e : Entry). length e.bytes) r.stands in
+    let size : length entry.bytes ≡ length r.body = ap (λ (e : RecordParts). length e.bytes) r.stands in
     let some : 0 < length bytes = rw (record-length format number given entry rest bytes r) (omega arith) in
     let counts : given + (16 + length entry.bytes) ≤ most_bytes = rw size r.counts in
     records-next format number given bytes entry some (record-read format number given entry rest bytes r)
@@ -237,13 +237,13 @@ same-records (entry ∷ entries) format number given bytes end within (rest, r, 
     ∙ same-records entries format (number + 1) (given + (16 + length entry.bytes)) rest end counts more)
 
 -- records and an end, of their two parts
-abbrev both : List Entry → Option CaptureFault → Captured
+abbrev both : List RecordParts → Option CaptureFault → Captured
 both records end = record { records = records; end = end }
 
-pub capture-read : (bytes : List ℕ) (records : List Entry) (end : Option CaptureFault) → IsCapture bytes records end → captured bytes ≡ record { records = records; end = end }
+pub capture-read : (bytes : List ℕ) (records : List RecordParts) (end : Option CaptureFault) → IsCapture bytes records end → captured bytes ≡ record { records = records; end = end }
 capture-read bytes records end (Refused why told none ends) =
     ap (λ (o : Result Format CaptureFault). captured_by o bytes) told
-    ∙ ap (λ (rs : List Entry). both rs (Some why)) (sym none) ∙ ap (both records) (sym ends)
+    ∙ ap (λ (rs : List RecordParts). both rs (Some why)) (sym none) ∙ ap (both records) (sym ends)
 capture-read bytes records end (Opened format told has) =
     ap (λ (o : Result Format CaptureFault). captured_by o bytes) told ∙ same-records records format 0 24 (drop 24 bytes) end (omega arith) has
 
@@ -252,5 +252,5 @@ capture-by : (bytes : List ℕ) (told : Result Format CaptureFault) → opened b
 capture-by bytes (Err why) told = Refused why told refl refl
 capture-by bytes (Ok format) told = Opened format told (has-records (length (drop 24 bytes)) format 0 24 (drop 24 bytes) (omega arith) (omega arith))
 
-pub read-capture : (bytes : List ℕ) (records : List Entry) (end : Option CaptureFault) → captured bytes ≡ record { records = records; end = end } → IsCapture bytes records end
+pub read-capture : (bytes : List ℕ) (records : List RecordParts) (end : Option CaptureFault) → captured bytes ≡ record { records = records; end = end } → IsCapture bytes records end
 read-capture bytes records end is = subst (λ (c : Captured). IsCapture bytes c.records c.end) is (capture-by bytes (opened bytes) refl)

@@ -10,7 +10,7 @@ use Rattle.capture_reader.specs.declared.fault.CaptureFault.{CaptureFault}
 use Rattle.capture_reader.specs.declared.format.Format.{Format}
 use Rattle.capture_reader.specs.declared.record.RecordHeader.{RecordHeader}
 use Rattle.capture_reader.specs.Records.{found_in, next_of, next_by, entry_with, most_bytes}
-use Rattle.capture_reader.specs.Steps.{Keeps, RecordRead}
+use Rattle.capture_reader.specs.Steps.{KeepsTheSource, RecordRead}
 use Rattle.capture_reader.specs.State.{CapturesState, rest, Passed, IsOfRecords, Advances}
 use Rattle.capture_reader.proofs.Opening.{passed-ahead}
 
@@ -82,7 +82,7 @@ wrong-next format number given why (Some bytes) wrong = ap (λ (f : Result (Opti
 module _ {S : Type 0} (left : S → Option (List ℕ)) (faults lender : S → ℕ) where
   pub advanced-found : (before after : S) (held passed got : BytesAhead) (lent : ℕ) (format : Format) (given number : ℕ) (fault : Option CaptureFault)
       (header : RecordHeader) → passed ≡ let_go held lent → fault ≡ None → given ≤ 2 ^ 32 → length got.pending ≤ 262144
-      → Keeps faults lender passed got before after
+      → KeepsTheSource faults lender passed got before after
       → RecordRead left faults format.order (most_bytes - given) passed got before after (Ok (Some header))
       → Advances left faults lender (state before held.pending lent format given number fault)
       (state after got.pending header.captured format (given + (16 + header.captured)) (number + 1) fault)
@@ -108,7 +108,7 @@ module _ {S : Type 0} (left : S → Option (List ℕ)) (faults lender : S → �
       }
 
   pub advanced-end : (before after : S) (held passed got : BytesAhead) (lent : ℕ) (format : Format) (given number : ℕ) (fault : Option CaptureFault)
-      → passed ≡ let_go held lent → fault ≡ None → given ≤ 2 ^ 32 → length got.pending ≤ 262144 → Keeps faults lender passed got before after
+      → passed ≡ let_go held lent → fault ≡ None → given ≤ 2 ^ 32 → length got.pending ≤ 262144 → KeepsTheSource faults lender passed got before after
       → RecordRead left faults format.order (most_bytes - given) passed got before after (Ok None)
       → Advances left faults lender (state before held.pending lent format given number fault) (state after got.pending 0 format given number fault) (Ok None)
   advanced-end before after held passed got lent format given number fault is stands within block keeps read =
@@ -132,7 +132,7 @@ module _ {S : Type 0} (left : S → Option (List ℕ)) (faults lender : S → �
 
   pub advanced-wrong : (before after : S) (held passed got : BytesAhead) (lent : ℕ) (format : Format) (given number : ℕ) (fault : Option CaptureFault)
       (why : CaptureFault) → passed ≡ let_go held lent → fault ≡ None → given ≤ 2 ^ 32 → length got.pending ≤ 262144
-      → Keeps faults lender passed got before after
+      → KeepsTheSource faults lender passed got before after
       → RecordRead left faults format.order (most_bytes - given) passed got before after (Err why)
       → Advances left faults lender (state before held.pending lent format given number fault) (state after got.pending 0 format given number (Some why)) (Err why)
   advanced-wrong before after held passed got lent format given number fault why is stands within block keeps read =

@@ -8,9 +8,9 @@ use Rattle.capture_reader.specs.declared.format.Order.TheVariants.{Big, Little}
 use Rattle.capture_reader.specs.declared.format.Format.{Format}
 
 -- the number in some bytes from a place on, in the capture's byte order
-abbrev pub number_at : Order → ℕ → ℕ → List ℕ → ℕ
-number_at Big place count bytes = big_number count (drop place bytes)
-number_at Little place count bytes = little_number count (drop place bytes)
+abbrev pub ordered_number_at : Order → ℕ → ℕ → List ℕ → ℕ
+ordered_number_at Big place count bytes = big_number count (drop place bytes)
+ordered_number_at Little place count bytes = little_number count (drop place bytes)
 
 -- the magic numbers a1b2c3d4, with microseconds, and a1b23c4d, with nanoseconds
 abbrev pub microseconds : ℕ
@@ -20,11 +20,11 @@ abbrev pub nanoseconds : ℕ
 nanoseconds = 2712812621
 
 abbrev pub magic_in : Order → List ℕ → ℕ
-magic_in order bytes = number_at order 0 4 bytes
+magic_in order bytes = ordered_number_at order 0 4 bytes
 
 -- the version is 2.4
 abbrev pub is_version : Order → List ℕ → Bool
-is_version order bytes = number_at order 4 2 bytes == 2 && number_at order 6 2 bytes == 4
+is_version order bytes = ordered_number_at order 4 2 bytes == 2 && ordered_number_at order 6 2 bytes == 4
 
 -- 1 is Ethernet, 101 raw IP
 abbrev pub is_link : ℕ → Bool
@@ -34,8 +34,8 @@ is_link link = link == 1 || link == 101
 abbrev pub format_in : Order → Bool → List ℕ → Result Format CaptureFault
 format_in order nanos bytes =
     if not (is_version order bytes) then Err BadVersion
-    else if not (is_link (number_at order 20 4 bytes)) then Err BadLink
-    else Ok (record { order = order; nanos = nanos; link = number_at order 20 4 bytes })
+    else if not (is_link (ordered_number_at order 20 4 bytes)) then Err BadLink
+    else Ok (record { order = order; nanos = nanos; link = ordered_number_at order 20 4 bytes })
 
 -- a whole header, by its magic number; the byte order in which that is one is the order of all further numbers
 abbrev pub format_of : List ℕ → Result Format CaptureFault

@@ -6,10 +6,10 @@ use Rattle.capture_reader.specs.declared.format.Order.{Order}
 use Rattle.capture_reader.specs.declared.format.Format.{Format}
 use Rattle.capture_reader.specs.declared.record.Record.{Record}
 use Rattle.capture_reader.specs.declared.record.RecordHeader.{RecordHeader}
-use Rattle.capture_reader.specs.Format.{number_at, opened}
+use Rattle.capture_reader.specs.Format.{opened, ordered_number_at}
 
 -- a record, apart from where its bytes lie
-pub record Entry : Type 0 where
+pub record RecordParts : Type 0 where
   pub number : ℕ
   pub seconds : ℕ
   pub fraction : ℕ
@@ -18,7 +18,7 @@ pub record Entry : Type 0 where
   pub original : ℕ
   pub bytes : List ℕ
 
-abbrev pub entry_of : Record → Entry
+abbrev pub entry_of : Record → RecordParts
 entry_of r = record {
   number = r.number;
   seconds = r.seconds;
@@ -38,12 +38,12 @@ abbrev pub most_captured : ℕ
 most_captured = 262144
 
 -- a record's header: seconds, fraction, the captured length and the original one, 32 bits each
-abbrev pub header_of : Order → List ℕ → RecordHeader
-header_of order bytes = record {
-  seconds = number_at order 0 4 bytes;
-  fraction = number_at order 4 4 bytes;
-  captured = number_at order 8 4 bytes;
-  original = number_at order 12 4 bytes;
+abbrev pub record_header : Order → List ℕ → RecordHeader
+record_header order bytes = record {
+  seconds = ordered_number_at order 0 4 bytes;
+  fraction = ordered_number_at order 4 4 bytes;
+  captured = ordered_number_at order 8 4 bytes;
+  original = ordered_number_at order 12 4 bytes;
 }
 
 -- What is wrong where `count` bytes are needed, `size` are there, and only the next `room` count: the input is cut short
@@ -53,14 +53,14 @@ missing count room size =
     if nat_lt size (min count room) then Some CutShort else if nat_lt room count then Some TooLarge else None
 
 -- what is wrong comes before what stands there
-abbrev pub unless : {A : Type 0} → Option CaptureFault → A → Result A CaptureFault
-unless None there = Ok there
-unless (Some why) there = Err why
+abbrev pub unless_faulty : {A : Type 0} → Option CaptureFault → A → Result A CaptureFault
+unless_faulty None there = Ok there
+unless_faulty (Some why) there = Err why
 
 -- the header of the record that begins here, where `room` bytes count; none at the input's end
 abbrev pub header_in : Order → ℕ → List ℕ → Result (Option RecordHeader) CaptureFault
 header_in order room bytes =
-    if length bytes == 0 then Ok None else unless (missing 16 room (length bytes)) (Some (header_of order bytes))
+    if length bytes == 0 then Ok None else unless_faulty (missing 16 room (length bytes)) (Some (record_header order bytes))
 
 -- what is wrong with a record's captured bytes, of which `size` are there and `room` count
 abbrev pub body_fault : ℕ → ℕ → ℕ → Option CaptureFault
@@ -69,7 +69,7 @@ body_fault captured room size = if nat_lt most_captured captured then Some Recor
 abbrev pub found_by : ℕ → Result (Option RecordHeader) CaptureFault → List ℕ → Result (Option RecordHeader) CaptureFault
 found_by room (Err why) bytes = Err why
 found_by room (Ok None) bytes = Ok None
-found_by room (Ok (Some header)) bytes = unless (body_fault header.captured (room - 16) (length bytes - 16)) (Some header)
+found_by room (Ok (Some header)) bytes = unless_faulty (body_fault header.captured (room - 16) (length bytes - 16)) (Some header)
 
 -- The header of the whole record that begins here, where `room` bytes count; none at the input's end; or what is wrong.
 -- First the header's bytes are needed, then its captured length is judged, then the captured bytes are needed.
@@ -77,7 +77,7 @@ abbrev pub found_in : Order → ℕ → List ℕ → Result (Option RecordHeader
 found_in order room bytes = found_by room (header_in order room bytes) bytes
 
 -- the record with this number, header and bytes
-abbrev pub entry_with : Format → ℕ → RecordHeader → List ℕ → Entry
+abbrev pub entry_with : Format → ℕ → RecordHeader → List ℕ → RecordParts
 entry_with format number header bytes = record {
   number = number;
   seconds = header.seconds;
@@ -88,26 +88,26 @@ entry_with format number header bytes = record {
   bytes = bytes;
 }
 
-abbrev pub next_by : Format → ℕ → Result (Option RecordHeader) CaptureFault → List ℕ → Result (Option Entry) CaptureFault
+abbrev pub next_by : Format → ℕ → Result (Option RecordHeader) CaptureFault → List ℕ → Result (Option RecordParts) CaptureFault
 next_by format number (Err why) bytes = Err why
 next_by format number (Ok None) bytes = Ok None
 next_by format number (Ok (Some header)) bytes = Ok (Some (entry_with format number header (take header.captured (drop 16 bytes))))
 
 -- what stands next behind `number` records and `given` bytes of the input
-abbrev pub next_of : Format → ℕ → ℕ → List ℕ → Result (Option Entry) CaptureFault
+abbrev pub next_of : Format → ℕ → ℕ → List ℕ → Result (Option RecordParts) CaptureFault
 next_of format number given bytes = next_by format (number + 1) (found_in format.order (most_bytes - given) bytes) bytes
 
 -- The records of a capture, and the fault that ended it, if any.
 pub record Captured : Type 0 where
-  pub records : List Entry
+  pub records : List RecordParts
   pub end : Option CaptureFault
 
 -- one record before others
-abbrev pub before : Entry → Captured → Captured
+abbrev pub before : RecordParts → Captured → Captured
 before entry others = record { records = entry ∷ others.records; end = others.end }
 
 -- what stands next, and what is behind it, which is asked for by the number of bytes that the record takes
-abbrev pub onward : Result (Option Entry) CaptureFault → (ℕ → Captured) → Captured
+abbrev pub onward : Result (Option RecordParts) CaptureFault → (ℕ → Captured) → Captured
 onward (Ok None) behind = record { records = []; end = None }
 onward (Err why) behind = record { records = []; end = Some why }
 onward (Ok (Some entry)) behind = before entry (behind (16 + length entry.bytes))

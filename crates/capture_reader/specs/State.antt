@@ -8,7 +8,7 @@ use Rattle.capture_reader.specs.declared.format.Format.{Format}
 use Rattle.capture_reader.specs.declared.record.Record.{Record}
 use Rattle.capture_reader.specs.declared.record.RecordHeader.{RecordHeader}
 use Rattle.capture_reader.specs.Format.{opened}
-use Rattle.capture_reader.specs.Records.{Entry, entry_of, next_of, entry_with, most_bytes}
+use Rattle.capture_reader.specs.Records.{RecordParts, entry_of, next_of, entry_with, most_bytes}
 
 -- The source, the bytes that were read and not given, the format, how many bytes of the input were passed and how many
 -- records were given, and the fault that ended the capture.
@@ -41,7 +41,7 @@ IsOfRecords NoMemory = ⊥
 IsOfRecords TooLarge = ⊤
 
 -- a record was given: the one that stands next, of which nothing is left
-pub record Gives {S : Type 0} (left : S → Option (List ℕ)) (old new : CapturesState S) (entry : Entry) : Type 0 where
+pub record Gives {S : Type 0} (left : S → Option (List ℕ)) (old new : CapturesState S) (entry : RecordParts) : Type 0 where
   pub was_open : old.fault ≡ None
   pub is_open : new.fault ≡ None
   pub number : entry.number ≡ old.number + 1
@@ -71,14 +71,14 @@ pub record Refuses {S : Type 0} (left : S → Option (List ℕ)) (faults : S →
   pub counted : new.number ≡ old.number
   pub cause : ((old.fault ≡ Some why) × (new ≡ old)) ⊎ ((old.fault ≡ None) × Blames left faults old new why)
 
-abbrev pub Reads : {S : Type 0} → (S → Option (List ℕ)) → (S → ℕ) → CapturesState S → CapturesState S → Result (Option Entry) CaptureFault → Type 0
+abbrev pub Reads : {S : Type 0} → (S → Option (List ℕ)) → (S → ℕ) → CapturesState S → CapturesState S → Result (Option RecordParts) CaptureFault → Type 0
 Reads left faults old new (Ok (Some entry)) = Gives left old new entry
 Reads left faults old new (Ok None) = Ends left old new
 Reads left faults old new (Err why) = Refuses left faults old new why
 
 -- A call of `next`. At most 262,160 bytes were read of what was left, the last header of 16 and a block.
 pub record Advances {S : Type 0} (left : S → Option (List ℕ)) (faults lender : S → ℕ) (old new : CapturesState S)
-    (read : Result (Option Entry) CaptureFault) : Type 0 where
+    (read : Result (Option RecordParts) CaptureFault) : Type 0 where
   pub never_falls : faults old.source ≤ faults new.source
   pub same_lender : lender new.source ≡ lender old.source
   pub same_format : new.format ≡ old.format
@@ -88,13 +88,13 @@ pub record Advances {S : Type 0} (left : S → Option (List ℕ)) (faults lender
   pub answer : Reads left faults old new read
 
 -- the record that was found, whose bytes the reader then shows as lent
-abbrev pub found : {S : Type 0} → CapturesState S → Result (Option RecordHeader) CaptureFault → Result (Option Entry) CaptureFault
+abbrev pub found : {S : Type 0} → CapturesState S → Result (Option RecordHeader) CaptureFault → Result (Option RecordParts) CaptureFault
 found new (Ok (Some header)) = Ok (Some (entry_with new.format new.number header new.lent))
 found new (Ok None) = Ok None
 found new (Err why) = Err why
 
 -- what was answered, apart from where a record's bytes lie
-abbrev pub read_of : Result (Option Record) CaptureFault → Result (Option Entry) CaptureFault
+abbrev pub read_of : Result (Option Record) CaptureFault → Result (Option RecordParts) CaptureFault
 read_of (Ok (Some r)) = Ok (Some (entry_of r))
 read_of (Ok None) = Ok None
 read_of (Err why) = Err why

@@ -12,7 +12,7 @@ use Rattle.capture_reader.specs.Records.{header_in, body_fault, found_in}
 use Rattle.capture_reader.specs.State.{IsOfRecords, RefusesHeader}
 
 -- what every step keeps
-pub record Keeps {S : Type 0} (faults lender : S → ℕ) (old new : BytesAhead) (before after : S) : Type 0 where
+pub record KeepsTheSource {S : Type 0} (faults lender : S → ℕ) (old new : BytesAhead) (before after : S) : Type 0 where
   pub same_size : new.size ≡ old.size
   pub fits : length new.pending ≤ new.size
   pub never_falls : faults before ≤ faults after

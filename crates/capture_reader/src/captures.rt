@@ -3,8 +3,8 @@ ghost use Rattle.std.specs.Prelude.{◌≡◌, ◌≢◌, ◌+◌, ◌-◌, ◌*
 ghost use Rattle.dccp_io.specs.Counts.{Rose};
 ghost use Rattle.dccp_io.specs.Ahead.{ahead_of};
 ghost use Rattle.capture_reader.specs.Format.{opened};
-ghost use Rattle.capture_reader.specs.Steps.{Keeps, FileRead, HeaderRead, BodyRead, RecordRead};
-ghost use Rattle.capture_reader.specs.State.{Opens, Declines};
+ghost use Rattle.capture_reader.specs.Steps.{KeepsTheSource, FileRead, HeaderRead, BodyRead, RecordRead};
+ghost use Rattle.capture_reader.specs.State.{Declines, Opens};
 
 use crate::CaptureFault;
 use crate::format::{FILE_HEADER, Format, Order, format_of};
@@ -57,7 +57,7 @@ impl<S: Drop> Model for Captures<S> {
 // Reads the file header.
 fn open<S: Source>(source: &mut S, ahead: &mut ReadAhead) -> Result<Format, CaptureFault>
     requires { ahead.old ≡ record { pending = []; size = 262144 } }
-    ensures keeps { Keeps S.faults S.lender ahead.old ahead.new source.old source.new }
+    ensures keeps { KeepsTheSource S.faults S.lender ahead.old ahead.new source.old source.new }
     ensures read { FileRead S.left S.faults ahead.new source.old source.new result }
     ensures no_memory { IfErr result (λ why. why ≢ CaptureFault.NoMemory) }
 {
@@ -83,7 +83,7 @@ fn read_header<S: Source>(
     room: u64,
 ) -> Result<Option<RecordHeader>, CaptureFault>
     requires { ahead.old.size ≡ 262144 }
-    ensures keeps { Keeps S.faults S.lender ahead.old ahead.new source.old source.new }
+    ensures keeps { KeepsTheSource S.faults S.lender ahead.old ahead.new source.old source.new }
     ensures read { HeaderRead S.left S.faults order room ahead.old ahead.new source.old source.new result }
 {
     if gather(source, ahead, RECORD_HEADER).is_err() {
@@ -107,7 +107,7 @@ fn read_body<S: Source>(
     room: u64,
 ) -> Result<usize, CaptureFault>
     requires { ahead.old.size ≡ 262144 }
-    ensures keeps { Keeps S.faults S.lender ahead.old ahead.new source.old source.new }
+    ensures keeps { KeepsTheSource S.faults S.lender ahead.old ahead.new source.old source.new }
     ensures same { ahead_of ahead.new (S.left source.new) ≡ ahead_of ahead.old (S.left source.old) }
     ensures read { BodyRead S.left S.faults captured room ahead.old ahead.new source.old source.new result }
 {
@@ -134,7 +134,7 @@ fn read_record<S: Source>(
     room: u64,
 ) -> Result<Option<RecordHeader>, CaptureFault>
     requires { ahead.old.size ≡ 262144 }
-    ensures keeps { Keeps S.faults S.lender ahead.old ahead.new source.old source.new }
+    ensures keeps { KeepsTheSource S.faults S.lender ahead.old ahead.new source.old source.new }
     ensures read { RecordRead S.left S.faults order room ahead.old ahead.new source.old source.new result }
 {
     match read_header(source, ahead, order, room) {

@@ -1,6 +1,6 @@
 //! The file header (the savefile format of libpcap).
 ghost use Rattle.std.specs.Prelude.{◌≡◌, ◌+◌, ◌≤◌, ◌^◌, ◌<◌, ◌≢◌, length, IfErr};
-ghost use Rattle.capture_reader.specs.Format.{number_at, format_in, format_of};
+ghost use Rattle.capture_reader.specs.Format.{ordered_number_at, format_in, format_of};
 
 use crate::CaptureFault;
 use byteorder::{BigEndian, ByteOrder, LittleEndian};
@@ -48,7 +48,7 @@ impl Order {
     // The number of 32 bits that stands there.
     pub(crate) fn read_u32(self, bytes: &[u8], place: usize) -> u32
         requires { place + 4 ≤ length bytes.now }
-        ensures { result ≡ number_at self place 4 bytes.now }
+        ensures { result ≡ ordered_number_at self place 4 bytes.now }
     {
         match self {
             Order::Big => BigEndian::read_u32(&bytes[place..]),
@@ -59,7 +59,7 @@ impl Order {
     // The number of 16 bits that stands there.
     fn read_u16(self, bytes: &[u8], place: usize) -> u16
         requires { place + 2 ≤ length bytes.now }
-        ensures { result ≡ number_at self place 2 bytes.now }
+        ensures { result ≡ ordered_number_at self place 2 bytes.now }
     {
         match self {
             Order::Big => BigEndian::read_u16(&bytes[place..]),

@@ -1,7 +1,7 @@
 //! Records, and how many bytes they need.
 ghost use Rattle.std.specs.Prelude.{◌≡◌, ◌≢◌, ◌+◌, ◌≤◌, ◌<◌, ◌^◌, [], length, IfOk, IfErr, IfSome};
 ghost use Rattle.capture_reader.specs.State.{IsOfRecords};
-ghost use Rattle.capture_reader.specs.Records.{missing, header_of, header_in};
+ghost use Rattle.capture_reader.specs.Records.{missing, record_header, header_in};
 
 use crate::{CaptureFault, Order};
 
@@ -50,9 +50,9 @@ const CAPTURED: usize = 8;
 
 const ORIGINAL: usize = 12;
 
-fn header_of(order: Order, bytes: &[u8]) -> RecordHeader
+fn record_header(order: Order, bytes: &[u8]) -> RecordHeader
     requires { 16 ≤ length bytes.now }
-    ensures { result ≡ header_of order bytes.now }
+    ensures { result ≡ record_header order bytes.now }
 {
     RecordHeader {
         seconds: order.read_u32(bytes, SECONDS),
@@ -94,6 +94,6 @@ pub(crate) fn header_in(
     }
     match missing(RECORD_HEADER, room, bytes.len()) {
         Some(fault) => Err(fault),
-        None => Ok(Some(header_of(order, bytes))),
+        None => Ok(Some(record_header(order, bytes))),
     }
 }

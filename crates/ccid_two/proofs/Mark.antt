@@ -5,22 +5,22 @@ use Rattle.std.proofs.lemmas.Bool.{and_parts, and_from, not-true}
 use Rattle.seq_circle.specs.Circle.{distance, is_before}
 use Rattle.congestion_trait.specs.declared.flight.Entry.{Entry}
 use Rattle.congestion_trait.specs.declared.flight.Standing.TheVariants.{Out, Reported, Lost}
-use Rattle.congestion_trait.specs.Flight.{States, sent, after_report, reported, lost_if, is_passed, is_past, is_congested, is_out, is_newly_marked, is_newly_lost, acked_count}
+use Rattle.congestion_trait.specs.Flight.{States, sent, after_report, entry_reported, lost_if, is_passed, is_past, is_congested, is_out, is_newly_marked, is_newly_lost, acked_count}
 use Rattle.dccp_options.specs.Vectors.{is_received}
 use Rattle.congestion_trait.specs.Calls.{Call, Starts, Sends, Reports, TimesOut, after_call, run}
 use Rattle.congestion_trait.proofs.Standings.{same_number}
-use Rattle.ccid_two.specs.Window.{State, fresh, with_report, capped, adjusted, ccid_control}
-use Rattle.ccid_two.specs.Mark.{NonePast, IsInOrder, told}
+use Rattle.ccid_two.specs.Window.{State, first_state, with_report, capped, adjusted, ccid_control}
+use Rattle.ccid_two.specs.Mark.{NonePast, IsInOrder, after_reports}
 use Rattle.ccid_two.proofs.Range.{IsSound, IsGrown, grown, sound_report, sound_run, sound_fresh}
 
 -- a report changes no number
 none_past_report : (states : States) (mark : Option ℕ) (entries : List Entry) → NonePast mark entries → NonePast mark (after_report states entries)
 none_past_report states mark [] none = refl
 none_past_report states mark (entry ∷ later) none =
-    let passed = is_passed (map (reported states) later) in
+    let passed = is_passed (map (entry_reported states) later) in
     let parts = and_parts (not (is_past mark entry.number)) (list_all (λ e. not (is_past mark e.number)) later) none in
     let first = ap (λ n. not (is_past mark n)) (same_number (is_received (states entry.number)) passed entry) ∙ parts.0 in
-    and_from (not (is_past mark (lost_if passed (reported states entry)).number)) (list_all (λ e. not (is_past mark e.number)) (after_report states later))
+    and_from (not (is_past mark (lost_if passed (entry_reported states entry)).number)) (list_all (λ e. not (is_past mark e.number)) (after_report states later))
     first (none_past_report states mark later parts.1)
 
 none_past_drop : (mark : Option ℕ) (n : ℕ) (entries : List Entry) → NonePast mark entries → NonePast mark (drop n entries)
@@ -83,7 +83,7 @@ grown_report state states ratio none =
     (sym (nothing_new states state.mark state.flight none)) (grown state (acked_count states state.flight) ratio)
 
 never_lower : (state : State) (reports : List (States × ℕ)) → IsSound state → NonePast state.mark state.flight
-    → state.window ≤ (told state reports).window
+    → state.window ≤ (after_reports state reports).window
 never_lower state [] sound none = omega arith
 never_lower state (report ∷ rest) sound none =
     let next = with_report state report.0 report.1 in
@@ -100,12 +100,12 @@ mark_is_last true state acked ratio is = refl
 mark_is_last false state acked ratio is = cc
 
 pub one_halving : (calls : List Call) (states : States) (ratio : ℕ) (reports : List (States × ℕ))
-    → IsInOrder fresh calls
-    → is_congested states (run ccid_control fresh calls).mark (run ccid_control fresh calls).flight ≡ true
-    → (with_report (run ccid_control fresh calls) states ratio).window ≤ (told (with_report (run ccid_control fresh calls) states ratio) reports).window
+    → IsInOrder first_state calls
+    → is_congested states (run ccid_control first_state calls).mark (run ccid_control first_state calls).flight ≡ true
+    → (with_report (run ccid_control first_state calls) states ratio).window ≤ (after_reports (with_report (run ccid_control first_state calls) states ratio) reports).window
 one_halving calls states ratio reports order congested =
-    let state = run ccid_control fresh calls in
-    let none : NonePast state.last state.flight = none_past_run fresh calls order refl in
+    let state = run ccid_control first_state calls in
+    let none : NonePast state.last state.flight = none_past_run first_state calls order refl in
     let marked = mark_is_last (is_congested states state.mark state.flight) state (acked_count states state.flight) ratio congested in
     let covered = subst (λ mark. NonePast mark (after_report states state.flight)) (sym marked) (none_past_report states state.last state.flight none) in
-    never_lower (with_report state states ratio) reports (sound_report state states ratio (sound_run fresh calls sound_fresh)) covered
+    never_lower (with_report state states ratio) reports (sound_report state states ratio (sound_run first_state calls sound_fresh)) covered

@@ -2,7 +2,7 @@
 use Rattle.std.proofs.Common.{◌≡◌, ℕ, ◌+◌, ◌<◌, ◌≤◌, Bool, true, false, cond, ltb, leb, min, List, [], ◌∷◌, refl, arith}
 use Rattle.congestion_trait.specs.Flight.{States, is_congested, acked_count}
 use Rattle.congestion_trait.specs.Calls.{Call, Starts, Sends, Reports, TimesOut, after_call, run}
-use Rattle.ccid_two.specs.Window.{State, fresh, with_report, grown_in_slow_start, grown_in_avoidance, capped, adjusted, ccid_control}
+use Rattle.ccid_two.specs.Window.{State, first_state, with_report, grown_in_slow_start, grown_in_avoidance, capped, adjusted, ccid_control}
 
 pub record IsSound (state : State) : Type 0 where
   pub low : 1 ≤ state.window
@@ -63,7 +63,7 @@ pub sound_run : (state : State) (calls : List Call) → IsSound state → IsSoun
 sound_run state [] sound = sound
 sound_run state (call ∷ rest) sound = sound_run (after_call ccid_control state call) rest (sound_after state call sound)
 
-pub sound_fresh : IsSound fresh
+pub sound_fresh : IsSound first_state
 sound_fresh = record { low = omega arith; high = omega arith; threshold_low = omega arith; threshold_high = omega arith }
 
 falls_if : (congested : Bool) (state : State) (acked ratio : ℕ) → state.window ≤ 1024

@@ -22,11 +22,11 @@ window_by CcidTwo both = both.ccid_two.window
 window_by Fixed both = 8
 
 -- CCID 248 takes the fixed window; the only other that is known is 2
-abbrev pub started : Both → ℕ → Both
-started both ccid =
+abbrev pub kind_started : Both → ℕ → Both
+kind_started both ccid =
     if ccid == 248
     then record both { kind = Fixed; fixed = [] }
-    else record both { kind = CcidTwo; ccid_two = two.fresh }
+    else record both { kind = CcidTwo; ccid_two = two.first_state }
 
 abbrev pub sent_by : Kind → Both → ℕ → Both
 sent_by CcidTwo both number = record both { ccid_two = two.with_sent both.ccid_two number }
@@ -45,7 +45,7 @@ kinds_control = record {
   flight = λ both. flight_by both.kind both;
   window = λ both. window_by both.kind both;
   is_known = λ ccid. ccid == 2 || ccid == 248;
-  started = started;
+  started = kind_started;
   with_sent = λ both. sent_by both.kind both;
   with_report = λ both. reported_by both.kind both;
   timed_out = λ both. timed_out_by both.kind both;
@@ -53,4 +53,4 @@ kinds_control = record {
 
 -- CCID 2 in force, and nothing sent
 abbrev pub at_first : Both
-at_first = record { kind = CcidTwo; ccid_two = two.fresh; fixed = [] }
+at_first = record { kind = CcidTwo; ccid_two = two.first_state; fixed = [] }

@@ -9,7 +9,7 @@ use Rattle.ccid_two.specs.Window as two
 use Rattle.ccid_two.specs.Kinds.{Both, flight_by, sent_by, reported_by, timed_out_by, kinds_control}
 
 started_empty : (is_fixed : Bool) (both : Both)
-    → let next = cond is_fixed (record both { kind = Fixed; fixed = [] }) (record both { kind = CcidTwo; ccid_two = two.fresh }) in
+    → let next = cond is_fixed (record both { kind = Fixed; fixed = [] }) (record both { kind = CcidTwo; ccid_two = two.first_state }) in
     flight_by next.kind next ≡ []
 started_empty true both = refl
 started_empty false both = refl

@@ -20,6 +20,6 @@ IsInOrder state (Reports states ratio ∷ rest) = IsInOrder (after_call ccid_con
 IsInOrder state (TimesOut ∷ rest) = IsInOrder (after_call ccid_control state TimesOut) rest
 
 -- the state after reports, each with its Ack Ratio, and nothing sent between them
-abbrev pub told : State → List (States × ℕ) → State
-told state [] = state
-told state (report ∷ rest) = told (with_report state report.0 report.1) rest
+abbrev pub after_reports : State → List (States × ℕ) → State
+after_reports state [] = state
+after_reports state (report ∷ rest) = after_reports (with_report state report.0 report.1) rest

@@ -15,8 +15,8 @@ pub record State : Type 0 where
   pub last : Option ℕ
 
 -- as it starts (own numbers)
-abbrev pub fresh : State
-fresh = record { flight = []; window = 4; threshold = 1024; credit = 0; mark = None; last = None }
+abbrev pub first_state : State
+first_state = record { flight = []; window = 4; threshold = 1024; credit = 0; mark = None; last = None }
 
 abbrev pub with_sent : State → ℕ → State
 with_sent state number = record state { flight = sent state.flight number; last = Some number }
@@ -66,7 +66,7 @@ ccid_control = record {
   flight = λ state. state.flight;
   window = λ state. state.window;
   is_known = λ ccid. ccid == 2;
-  started = λ _ _. fresh;
+  started = λ _ _. first_state;
   with_sent = with_sent;
   with_report = with_report;
   timed_out = timed_out;

@@ -2,23 +2,23 @@
 ghost use Rattle.std.specs.Prelude.{◌≡◌, ℕ, ◌<◌, ◌≤◌, ◌⊎◌, ◌↔◌, List, IsTrue};
 ghost use Rattle.congestion_trait.specs.Flight.{States, is_congested};
 ghost use Rattle.congestion_trait.specs.Calls.{Call, run};
-ghost use Rattle.ccid_two.specs.Window.{State, fresh, with_report, ccid_control};
+ghost use Rattle.ccid_two.specs.Window.{State, first_state, with_report, ccid_control};
 ghost use Rattle.ccid_two.specs.Kinds.{kinds_control};
-ghost use Rattle.ccid_two.specs.Mark.{IsInOrder, told};
+ghost use Rattle.ccid_two.specs.Mark.{IsInOrder, after_reports};
 
 /// After any calls from the start the window lies in 1 to 1,024 and the threshold in 2 to 1,024.
 pub fn window_stays_in_range()
-    ensures low { (calls : List Call) → 1 ≤ (run ccid_control fresh calls).window }
-    ensures high { (calls : List Call) → (run ccid_control fresh calls).window ≤ 1024 }
-    ensures threshold_low { (calls : List Call) → 2 ≤ (run ccid_control fresh calls).threshold }
-    ensures threshold_high { (calls : List Call) → (run ccid_control fresh calls).threshold ≤ 1024 }
+    ensures low { (calls : List Call) → 1 ≤ (run ccid_control first_state calls).window }
+    ensures high { (calls : List Call) → (run ccid_control first_state calls).window ≤ 1024 }
+    ensures threshold_low { (calls : List Call) → 2 ≤ (run ccid_control first_state calls).threshold }
+    ensures threshold_high { (calls : List Call) → (run ccid_control first_state calls).threshold ≤ 1024 }
 {}
 
 /// After any calls from the start a report lowers the window only where some entry past the recovery mark became Lost, or
 /// Reported as marked: a loss at or before the mark never halves again.
 pub fn only_losses_past_the_mark_halve()
     ensures { (calls : List Call) (states : States) (ratio : ℕ)
-        → let state = run ccid_control fresh calls in
+        → let state = run ccid_control first_state calls in
         (with_report state states ratio).window < state.window → IsTrue (is_congested states state.mark state.flight) }
 {}
 
@@ -26,10 +26,10 @@ pub fn only_losses_past_the_mark_halve()
 /// further report lowers the window until something is sent.
 pub fn one_mark_one_halving()
     ensures { (calls : List Call) (states : States) (ratio : ℕ) (reports : List (States × ℕ))
-        → let state = run ccid_control fresh calls in
+        → let state = run ccid_control first_state calls in
         let after = with_report state states ratio in
-        IsInOrder fresh calls → IsTrue (is_congested states state.mark state.flight)
-        → after.window ≤ (told after reports).window }
+        IsInOrder first_state calls → IsTrue (is_congested states state.mark state.flight)
+        → after.window ≤ (after_reports after reports).window }
 {}
 
 /// The choice of kinds knows CCID 2 and CCID 248, and no other.

@@ -1,6 +1,6 @@
 //! The window of CCID 2.
 ghost use Rattle.std.specs.Prelude.{◌≡◌, ℕ, ◌≤◌, IfOk};
-ghost use Rattle.ccid_two.specs.Window.{fresh, halved, grown_in_slow_start, grown_in_avoidance, capped, ccid_control};
+ghost use Rattle.ccid_two.specs.Window.{first_state, halved, grown_in_slow_start, grown_in_avoidance, capped, ccid_control};
 
 use congestion_trait::{Congestion, Flight};
 use dccp_options::AckReport;
@@ -48,7 +48,7 @@ impl Ccid2 {
     /// CCID 2 with nothing sent: a window of 4 packets and a threshold of 1,024. NoMemory where no block for the flight list
     /// is to be had.
     pub fn new(alloc: Global) -> Result<Ccid2, NoMemory>
-        ensures { IfOk result (λ ccid. ccid ≡ fresh) }
+        ensures { IfOk result (λ ccid. ccid ≡ first_state) }
     {
         let flight = Flight::new(alloc)?;
         Ok(Ccid2 {

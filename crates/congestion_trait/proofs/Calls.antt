@@ -6,9 +6,9 @@ use Rattle.std.proofs.lemmas.List.{length_push, get_or_push, get_or_append_left,
 use Rattle.congestion_trait.specs.declared.flight.Entry.{Entry}
 use Rattle.congestion_trait.specs.declared.flight.Standing.{Standing}
 use Rattle.congestion_trait.specs.declared.flight.Standing.TheVariants.{Out, Reported}
-use Rattle.congestion_trait.specs.Flight.{sent, Has, IsListed}
+use Rattle.congestion_trait.specs.Flight.{sent, Has, HasEntry}
 use Rattle.congestion_trait.specs.Control.{Control, IsLawful}
-use Rattle.congestion_trait.specs.Calls.{Call, Starts, Sends, Reports, TimesOut, after_call, run, sends, tells}
+use Rattle.congestion_trait.specs.Calls.{Call, Starts, Sends, Reports, TimesOut, after_call, run, call_sends, tells}
 use Rattle.congestion_trait.proofs.Standings.{reported_before_or_received, out_before, listed_before}
 
 -- what stands in a list that lost its front and was given one more stood there, or is the last
@@ -39,7 +39,7 @@ out_sent entries next number h =
     (λ is. inr (sym (ap (λ (e : Entry). e.number) is)))
     (has_sent entries next number (length (entries ++ record { number = next; standing = Out } ∷ []) - 2048) Out h)
 
-pub listed_sent : (entries : List Entry) (next number : ℕ) → IsListed (sent entries next) number → IsListed entries number ⊎ (number ≡ next)
+pub listed_sent : (entries : List Entry) (next number : ℕ) → HasEntry (sent entries next) number → HasEntry entries number ⊎ (number ≡ next)
 listed_sent entries next number h =
     ⊎_elim (λ before. inl (h.0, before))
     (λ is. inr (sym (ap (λ (e : Entry). e.number) is)))
@@ -51,7 +51,7 @@ nothing_there number standing entries none h = let few = ap length none in omega
 module _ {S : Type 0} (control : Control S) (lawful : IsLawful control) where
   -- a number that is Out after a call was Out before, or the call sends it
   pub out_after : (state : S) (call : Call) (number : ℕ)
-      → Has (control.flight (after_call control state call)) number Out → Has (control.flight state) number Out ⊎ IsTrue (sends number call)
+      → Has (control.flight (after_call control state call)) number Out → Has (control.flight state) number Out ⊎ IsTrue (call_sends number call)
   out_after state (Starts ccid) number h = absurd (nothing_there number Out _ (lawful.start_empties state ccid) h)
   out_after state (Sends next) number h =
       ⊎_elim (λ before. inl before) (λ same. inr (eq-eqb number next same))
@@ -73,13 +73,13 @@ module _ {S : Type 0} (control : Control S) (lawful : IsLawful control) where
 
   -- a number that stands in the list after a call stood there before, or the call sends it
   pub listed_after : (state : S) (call : Call) (number : ℕ)
-      → IsListed (control.flight (after_call control state call)) number → IsListed (control.flight state) number ⊎ IsTrue (sends number call)
+      → HasEntry (control.flight (after_call control state call)) number → HasEntry (control.flight state) number ⊎ IsTrue (call_sends number call)
   listed_after state (Starts ccid) number h = absurd (nothing_there number h.0 _ (lawful.start_empties state ccid) h.1)
   listed_after state (Sends next) number h =
       ⊎_elim (λ before. inl before) (λ same. inr (eq-eqb number next same))
-      (listed_sent (control.flight state) next number (subst (λ l. IsListed l number) (lawful.sending_adds state next) h))
+      (listed_sent (control.flight state) next number (subst (λ l. HasEntry l number) (lawful.sending_adds state next) h))
   listed_after state (Reports states ratio) number h =
-      inl (listed_before states (control.flight state) number (subst (λ l. IsListed l number) (lawful.report_settles state states ratio) h))
+      inl (listed_before states (control.flight state) number (subst (λ l. HasEntry l number) (lawful.report_settles state states ratio) h))
   listed_after state TimesOut number h = absurd (nothing_there number h.0 _ (lawful.timeout_empties state) h.1)
 
   or_first : (x y : Bool) → x ≡ true → (x || y) ≡ true
@@ -91,20 +91,20 @@ module _ {S : Type 0} (control : Control S) (lawful : IsLawful control) where
 
   -- a number that is Out was Out before the calls, or one of them sends it
   pub out_run : (state : S) (calls : List Call) (number : ℕ)
-      → Has (control.flight (run control state calls)) number Out → Has (control.flight state) number Out ⊎ IsTrue (list_any (sends number) calls)
+      → Has (control.flight (run control state calls)) number Out → Has (control.flight state) number Out ⊎ IsTrue (list_any (call_sends number) calls)
   out_run state [] number h = inl h
   out_run state (call ∷ rest) number h =
-      ⊎_elim (λ now. ⊎_elim (λ before. inl before) (λ here. inr (or_first (sends number call) (list_any (sends number) rest) here)) (out_after state call number now))
-      (λ later. inr (or_second (sends number call) (list_any (sends number) rest) later))
+      ⊎_elim (λ now. ⊎_elim (λ before. inl before) (λ here. inr (or_first (call_sends number call) (list_any (call_sends number) rest) here)) (out_after state call number now))
+      (λ later. inr (or_second (call_sends number call) (list_any (call_sends number) rest) later))
       (out_run (after_call control state call) rest number h)
 
   -- a number that stands in the list stood there before the calls, or one of them sends it
   pub listed_run : (state : S) (calls : List Call) (number : ℕ)
-      → IsListed (control.flight (run control state calls)) number → IsListed (control.flight state) number ⊎ IsTrue (list_any (sends number) calls)
+      → HasEntry (control.flight (run control state calls)) number → HasEntry (control.flight state) number ⊎ IsTrue (list_any (call_sends number) calls)
   listed_run state [] number h = inl h
   listed_run state (call ∷ rest) number h =
-      ⊎_elim (λ now. ⊎_elim (λ before. inl before) (λ here. inr (or_first (sends number call) (list_any (sends number) rest) here)) (listed_after state call number now))
-      (λ later. inr (or_second (sends number call) (list_any (sends number) rest) later))
+      ⊎_elim (λ now. ⊎_elim (λ before. inl before) (λ here. inr (or_first (call_sends number call) (list_any (call_sends number) rest) here)) (listed_after state call number now))
+      (λ later. inr (or_second (call_sends number call) (list_any (call_sends number) rest) later))
       (listed_run (after_call control state call) rest number h)
 
   -- a number that is Reported was Reported before the calls, or one of them tells that it was received

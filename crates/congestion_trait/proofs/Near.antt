@@ -10,7 +10,7 @@ use Rattle.dccp_options.specs.Vectors.{is_received, state_at, states}
 use Rattle.congestion_trait.specs.declared.flight.Entry.{Entry}
 use Rattle.congestion_trait.specs.declared.flight.Standing.{Standing}
 use Rattle.congestion_trait.specs.declared.flight.Standing.TheVariants.{Out, Reported, Lost}
-use Rattle.congestion_trait.specs.Flight.{States, pipe_of, sent, after_report, is_out, is_reported, reported, lost_if, is_passed}
+use Rattle.congestion_trait.specs.Flight.{States, pipe_of, sent, after_report, is_out, is_reported, entry_reported, lost_if, is_passed}
 use Rattle.congestion_trait.specs.Walk.{is_untouched, AllUntouched, numbers, AreNear}
 
 all_more : (P Q : ℕ → Type 0) (xs : List ℕ) → ((x : ℕ) → P x → Q x) → AllByRecursion P xs → AllByRecursion Q xs
@@ -115,7 +115,7 @@ same_number false passed x = same_lost (is_out x.standing && passed) x
 pub numbers_after_report : (told : States) (entries : List Entry) → numbers (after_report told entries) ≡ numbers entries
 numbers_after_report told [] = refl
 numbers_after_report told (x ∷ later) =
-    ap (λ n. n ∷ numbers (after_report told later)) (same_number (is_received (told x.number)) (is_passed (map (reported told) later)) x)
+    ap (λ n. n ∷ numbers (after_report told later)) (same_number (is_received (told x.number)) (is_passed (map (entry_reported told) later)) x)
     ∙ ap (λ l. x.number ∷ l) (numbers_after_report told later)
 
 no_one : (b : Bool) (n : ℕ) → cond b 1 0 + n ≡ 0 → b ≡ false

@@ -12,7 +12,7 @@ use Rattle.congestion_trait.specs.declared.flight.Entry.{Entry}
 use Rattle.congestion_trait.specs.declared.flight.Standing.{Standing}
 use Rattle.congestion_trait.specs.declared.flight.Standing.TheVariants.{Out, Reported, Lost}
 use Rattle.dccp_options.specs.Vectors.{is_received, is_unmarked, is_marked}
-use Rattle.congestion_trait.specs.Flight.{States, pipe_of, after_report, acked_count, is_congested, is_out, is_reported, is_past, reported, lost_if, is_passed, is_newly_acked}
+use Rattle.congestion_trait.specs.Flight.{States, pipe_of, after_report, acked_count, is_congested, is_out, is_reported, is_past, entry_reported, lost_if, is_passed, is_newly_acked}
 use Rattle.congestion_trait.specs.Walk.{AllReported, is_untouched, AllUntouched}
 
 abbrev at : ℕ → Standing → Entry
@@ -67,8 +67,8 @@ pub report-front : (told : States) (front rest : List Entry) → AllUntouched to
 report-front told [] rest all = refl
 report-front told (entry ∷ front) rest all =
     let parts = and_parts (is_untouched told entry) (list_all (λ e. is_untouched told e) front) all in
-    let later = map (reported told) (front ++ rest) in
-    let same : lost_if (is_passed later) (reported told entry) ≡ entry =
+    let later = map (entry_reported told) (front ++ rest) in
+    let same : lost_if (is_passed later) (entry_reported told entry) ≡ entry =
     stays entry.standing (is_received (told entry.number)) (is_passed later) entry.number parts.0 in
     ap (λ e. e ∷ after_report told (front ++ rest)) same ∙ ap (λ l. entry ∷ l) (report-front told front rest parts.1)
 
@@ -94,7 +94,7 @@ pub is_congested-front : (told : States) (mark : Option ℕ) (front rest : List 
 is_congested-front told mark [] rest all = refl
 is_congested-front told mark (entry ∷ front) rest all =
     let parts = and_parts (is_untouched told entry) (list_all (λ e. is_untouched told e) front) all in
-    let passed = is_passed (map (reported told) (front ++ rest)) in
+    let passed = is_passed (map (entry_reported told) (front ++ rest)) in
     let none = no_news entry.standing (is_past mark entry.number) (is_unmarked (told entry.number)) (is_marked (told entry.number)) passed entry.number parts.0 in
     ap (λ b. b || is_congested told mark (front ++ rest)) none ∙ is_congested-front told mark front rest parts.1
 

@@ -8,7 +8,7 @@ use Rattle.congestion_trait.specs.declared.flight.Standing.{Standing}
 use Rattle.congestion_trait.specs.declared.flight.Standing.TheVariants.{Out, Reported, Lost}
 use Rattle.congestion_trait.specs.declared.walk.Walk.{Walk}
 use Rattle.dccp_options.specs.Vectors.{is_received, is_unmarked, is_marked}
-use Rattle.congestion_trait.specs.Flight.{States, pipe_of, reported_count, after_report, acked_count, is_congested, is_out, is_reported, is_past, is_newly_lost, is_newly_marked, is_newly_acked, reported, lost_if, is_passed, with_losses}
+use Rattle.congestion_trait.specs.Flight.{States, pipe_of, reported_count, after_report, acked_count, is_congested, is_out, is_reported, is_past, is_newly_lost, is_newly_marked, is_newly_acked, entry_reported, lost_if, is_passed, with_losses}
 use Rattle.congestion_trait.specs.Walk.{standing_after, one_if, IsAlong}
 
 lost_where : (test : Bool) (x : Entry) → cond test (record x { standing = Lost }) x ≡ record x { standing = cond test Lost x.standing }
@@ -59,15 +59,15 @@ pub record IsStep (state mark : Option ℕ) (x : Entry) (walk next : Walk) (stan
 pub record IsWalk (told : States) (mark : Option ℕ) (later : List Entry) (walk : Walk) : Type 0 where
   pub acked : walk.acked ≡ acked_count told later
   pub congested : walk.congested ≡ is_congested told mark later
-  pub reported : walk.reported ≡ reported_count (map (reported told) later)
+  pub reported : walk.reported ≡ reported_count (map (entry_reported told) later)
   pub out : walk.out ≡ pipe_of (after_report told later)
   pub seen : walk.seen ≡ pipe_of later
 
 module _ (told : States) (mark : Option ℕ) (later : List Entry) (x : Entry) (walk next : Walk) (standing : Standing)
     (so_far : IsWalk told mark later walk) (step : IsStep (told x.number) mark x walk next standing) where
-  entry_settled : lost_if (is_passed (map (reported told) later)) (reported told x) ≡ record x { standing = standing }
+  entry_settled : lost_if (is_passed (map (entry_reported told) later)) (entry_reported told x) ≡ record x { standing = standing }
   entry_settled =
-      settled-is (is_received (told x.number)) (is_passed (map (reported told) later)) x
+      settled-is (is_received (told x.number)) (is_passed (map (entry_reported told) later)) x
       ∙ ap (λ s. record x { standing = s }) (sym (step.stands ∙ ap (λ n. standing_after (told x.number) (leb 3 n) x.standing) so_far.reported))
 
   list_settled : after_report told (x ∷ later) ≡ record x { standing = standing } ∷ after_report told later
@@ -83,9 +83,9 @@ module _ (told : States) (mark : Option ℕ) (later : List Entry) (x : Entry) (w
       let first = sum_by-cons (λ (e : Entry). cond (is_out e.standing) 1 0) (record x { standing = standing }) (after_report told later) in
       rw list_settled (omega (arith, first, step.out, so_far.out))
 
-  reported_more : next.reported ≡ reported_count (map (reported told) (x ∷ later))
+  reported_more : next.reported ≡ reported_count (map (entry_reported told) (x ∷ later))
   reported_more =
-      let first = sum_by-cons (λ (e : Entry). cond (is_reported e.standing) 1 0) (reported told x) (map (reported told) later) in
+      let first = sum_by-cons (λ (e : Entry). cond (is_reported e.standing) 1 0) (entry_reported told x) (map (entry_reported told) later) in
       let same = still_reported (is_received (told x.number)) (leb 3 walk.reported) x in
       let now = ap (λ s. one_if (is_reported s)) step.stands in
       let one = ap one_if same in
@@ -96,7 +96,7 @@ module _ (told : States) (mark : Option ℕ) (later : List Entry) (x : Entry) (w
       step.congested
       ∙ ap (λ n. is_past mark x.number && (not (is_reported x.standing) && is_marked (told x.number) || is_out x.standing && not (is_received (told x.number)) && leb 3 n) || walk.congested) so_far.reported
       ∙ ap (λ l. is_past mark x.number && (not (is_reported x.standing) && is_marked (told x.number) || l) || walk.congested)
-      (sym (lost_unreceived (is_received (told x.number)) (is_passed (map (reported told) later)) x))
+      (sym (lost_unreceived (is_received (told x.number)) (is_passed (map (entry_reported told) later)) x))
       ∙ ap (λ c. is_past mark x.number && (is_newly_marked told x || is_newly_lost told x later) || c) so_far.congested
 
   seen_more : next.seen ≡ pipe_of (x ∷ later)
@@ -155,7 +155,7 @@ length-with_losses [] = refl
 length-with_losses (entry ∷ later) = ap suc (length-with_losses later)
 
 pub length-after_report : (told : States) (entries : List Entry) → length (after_report told entries) ≡ length entries
-length-after_report told entries = length-with_losses (map (reported told) entries) ∙ length-map entries (reported told)
+length-after_report told entries = length-with_losses (map (entry_reported told) entries) ∙ length-map entries (entry_reported told)
 
 -- while an entry is left, each count is below the length
 pub few_yet : (told : States) (mark : Option ℕ) (old now : List Entry) (n : ℕ) (walk : Walk)
@@ -164,8 +164,8 @@ pub few_yet : (told : States) (mark : Option ℕ) (old now : List Entry) (n : �
 few_yet told mark old now n walk some within few along =
     let rest = length-drop n old in
     let acked = count_by-le-length (λ (e : Entry). is_newly_acked told e) (drop n old) in
-    let those = count_by-le-length (λ (e : Entry). is_reported e.standing) (map (reported told) (drop n old)) in
-    let all = length-map (drop n old) (reported told) in
+    let those = count_by-le-length (λ (e : Entry). is_reported e.standing) (map (entry_reported told) (drop n old)) in
+    let all = length-map (drop n old) (entry_reported told) in
     let out = count_by-le-length (λ (e : Entry). is_out e.standing) (after_report told (drop n old)) in
     let same = length-after_report told (drop n old) in
     let seen = count_by-le-length (λ (e : Entry). is_out e.standing) (drop n old) in (

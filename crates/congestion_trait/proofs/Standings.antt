@@ -5,7 +5,7 @@ use Rattle.congestion_trait.specs.declared.flight.Entry.{Entry}
 use Rattle.congestion_trait.specs.declared.flight.Standing.{Standing}
 use Rattle.congestion_trait.specs.declared.flight.Standing.TheVariants.{Out, Reported, Lost}
 use Rattle.dccp_options.specs.Vectors.{is_received}
-use Rattle.congestion_trait.specs.Flight.{States, pipe_of, after_report, is_out, reported, lost_if, is_passed, Has, IsListed, leaving_count}
+use Rattle.congestion_trait.specs.Flight.{States, pipe_of, after_report, is_out, entry_reported, lost_if, is_passed, Has, HasEntry, leaving_count}
 use Rattle.congestion_trait.proofs.Settling.{settled-is}
 
 -- an entry that is not Lost in the end was not changed into Lost
@@ -35,7 +35,7 @@ reported_at told [] number k within is = absurd (omega arith)
 reported_at told (entry ∷ later) number zero within is =
     ⊎_elim (λ same. inl (0, omega arith, same))
     (λ received. inr (subst (λ n. is_received (told n) ≡ true) received.1 received.0))
-    (head_reported (is_received (told entry.number)) (is_passed (map (reported told) later)) entry number is)
+    (head_reported (is_received (told entry.number)) (is_passed (map (entry_reported told) later)) entry number is)
 reported_at told (entry ∷ later) number (suc k) within is =
     ⊎_elim (λ h. inl (has_later entry later number Reported h)) (λ r. inr r) (reported_at told later number k (omega arith) is)
 
@@ -49,7 +49,7 @@ out_at : (told : States) (entries : List Entry) (number k : ℕ) → k < length 
     → Has entries number Out
 out_at told [] number k within is = absurd (omega arith)
 out_at told (entry ∷ later) number zero within is =
-    (0, omega arith, head_out (is_received (told entry.number)) (is_passed (map (reported told) later)) entry number is)
+    (0, omega arith, head_out (is_received (told entry.number)) (is_passed (map (entry_reported told) later)) entry number is)
 out_at told (entry ∷ later) number (suc k) within is = has_later entry later number Out (out_at told later number k (omega arith) is)
 
 -- a report makes nothing Out
@@ -62,21 +62,21 @@ pub same_number : (received passed : Bool) (entry : Entry)
 same_number true passed entry = refl
 same_number false passed entry = elim (is_out entry.standing && passed) as (λ b. (cond b (record entry { standing = Lost }) entry).number ≡ entry.number) [ true ↦ refl | false ↦ refl ]
 
-listed_later : (entry : Entry) (later : List Entry) (number : ℕ) → IsListed later number → IsListed (entry ∷ later) number
+listed_later : (entry : Entry) (later : List Entry) (number : ℕ) → HasEntry later number → HasEntry (entry ∷ later) number
 listed_later entry later number h = (h.0, has_later entry later number h.0 h.1)
 
 listed_at : (told : States) (entries : List Entry) (number : ℕ) (standing : Standing) (k : ℕ) → k < length (after_report told entries)
     → get_or (after_report told entries) k (record { number = number; standing = standing }) ≡ record { number = number; standing = standing }
-    → IsListed entries number
+    → HasEntry entries number
 listed_at told [] number standing k within is = absurd (omega arith)
 listed_at told (entry ∷ later) number standing zero within is =
-    let numbers = sym (same_number (is_received (told entry.number)) (is_passed (map (reported told) later)) entry) ∙ ap (λ (e : Entry). e.number) is in
+    let numbers = sym (same_number (is_received (told entry.number)) (is_passed (map (entry_reported told) later)) entry) ∙ ap (λ (e : Entry). e.number) is in
     (entry.standing, (0, omega arith, ap {B = Entry} (λ n. record { number = n; standing = entry.standing }) numbers))
 listed_at told (entry ∷ later) number standing (suc k) within is =
     listed_later entry later number (listed_at told later number standing k (omega arith) is)
 
 -- a report adds no number
-pub listed_before : (told : States) (entries : List Entry) (number : ℕ) → IsListed (after_report told entries) number → IsListed entries number
+pub listed_before : (told : States) (entries : List Entry) (number : ℕ) → HasEntry (after_report told entries) number → HasEntry entries number
 listed_before told entries number h = listed_at told entries number h.0 h.1.0 h.1.1 h.1.2
 
 -- one entry's part of the pipe
@@ -96,8 +96,8 @@ pub pipe_of-after_report : (told : States) (entries : List Entry) → pipe_of (a
 pipe_of-after_report told [] = refl
 pipe_of-after_report told (entry ∷ later) =
     let received = is_received (told entry.number) in
-    let passed = is_passed (map (reported told) later) in
-    let after = lost_if passed (reported told entry) in
+    let passed = is_passed (map (entry_reported told) later) in
+    let after = lost_if passed (entry_reported told entry) in
     let before = sum_by-cons (λ (e : Entry). cond (is_out e.standing) 1 0) entry later in
     let now = sum_by-cons (λ (e : Entry). cond (is_out e.standing) 1 0) after (after_report told later) in
     let stands = ap {B = ℕ} (λ (e : Entry). cond (is_out e.standing) 1 0) (settled-is received passed entry) in

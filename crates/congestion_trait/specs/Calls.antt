@@ -23,11 +23,11 @@ run control state [] = state
 run control state (call ∷ rest) = run control (after_call control state call) rest
 
 -- the call sends this number
-abbrev pub sends : ℕ → Call → Bool
-sends number (Starts ccid) = false
-sends number (Sends next) = number == next
-sends number (Reports states ratio) = false
-sends number TimesOut = false
+abbrev pub call_sends : ℕ → Call → Bool
+call_sends number (Starts ccid) = false
+call_sends number (Sends next) = number == next
+call_sends number (Reports states ratio) = false
+call_sends number TimesOut = false
 
 -- the call tells that this number was received, marked or not
 abbrev pub tells : ℕ → Call → Bool

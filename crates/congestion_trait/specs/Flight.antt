@@ -35,8 +35,8 @@ abbrev pub sent : List Entry → ℕ → List Entry
 sent entries number = keep_last 2048 (entries ++ record { number = number; standing = Out } ∷ [])
 
 -- an entry whose number was received is Reported
-abbrev pub reported : States → Entry → Entry
-reported states entry = if is_received (states entry.number) then record entry { standing = Reported } else entry
+abbrev pub entry_reported : States → Entry → Entry
+entry_reported states entry = if is_received (states entry.number) then record entry { standing = Reported } else entry
 
 -- so many later packets were received that one that is Out is lost: three (RFC 4341, section 5)
 abbrev pub is_passed : List Entry → Bool
@@ -53,7 +53,7 @@ with_losses (entry ∷ later) = lost_if (is_passed later) entry ∷ with_losses 
 
 -- what a report makes of the list: first what was received is Reported, and then what was passed is Lost
 abbrev pub after_report : States → List Entry → List Entry
-after_report states entries = with_losses (map (reported states) entries)
+after_report states entries = with_losses (map (entry_reported states) entries)
 
 -- this report makes the entry Reported, by state 0
 abbrev pub is_newly_acked : States → Entry → Bool
@@ -66,7 +66,7 @@ is_newly_marked states entry = not (is_reported entry.standing) && is_marked (st
 -- this report makes the entry Lost
 abbrev pub is_newly_lost : States → Entry → List Entry → Bool
 is_newly_lost states entry later =
-    is_out (reported states entry).standing && is_passed (map (reported states) later)
+    is_out (entry_reported states entry).standing && is_passed (map (entry_reported states) later)
 
 -- how many entries this report makes Reported by state 0
 abbrev pub acked_count : States → List Entry → ℕ
@@ -89,8 +89,8 @@ abbrev pub Has : List Entry → ℕ → Standing → Type 0
 Has entries number standing = Contains entries (record { number = number; standing = standing })
 
 -- some entry of the list has this number, however it stands
-abbrev pub IsListed : List Entry → ℕ → Type 0
-IsListed entries number = (standing : Standing) × Has entries number standing
+abbrev pub HasEntry : List Entry → ℕ → Type 0
+HasEntry entries number = (standing : Standing) × Has entries number standing
 
 -- the numbers that are Reported, in the order of sending
 abbrev pub numbers_reported : List Entry → List ℕ
@@ -99,7 +99,7 @@ numbers_reported entries = map (λ entry. entry.number) (filter (λ entry. is_re
 -- this report takes the entry out of the pipe: it was Out, and is received or passed
 abbrev pub leaves_pipe : States → Entry → List Entry → Bool
 leaves_pipe states entry later =
-    is_out entry.standing && (is_received (states entry.number) || is_passed (map (reported states) later))
+    is_out entry.standing && (is_received (states entry.number) || is_passed (map (entry_reported states) later))
 
 -- how many entries this report takes out of the pipe
 abbrev pub leaving_count : States → List Entry → ℕ

@@ -19,8 +19,8 @@ pub record Rules (R : Type 0) : Type 0 where
   pub with_report : R → List Entry → States → ℕ → R
   pub timed_out : R → R
 
-abbrev pub kind_of : {R : Type 0} → Rules R → Control (Flying R)
-kind_of rules = record {
+abbrev pub control_by_rules : {R : Type 0} → Rules R → Control (Flying R)
+control_by_rules rules = record {
   flight = λ state. state.flight;
   window = λ state. rules.window state.rest;
   is_known = rules.is_known;
@@ -34,7 +34,7 @@ kind_of rules = record {
 }
 
 -- whatever the rules, the flight list keeps its own
-pub kind_is_lawful : {R : Type 0} (rules : Rules R) → IsLawful (kind_of rules)
+pub kind_is_lawful : {R : Type 0} (rules : Rules R) → IsLawful (control_by_rules rules)
 kind_is_lawful rules = record {
   start_empties = λ _ _. refl;
   sending_adds = λ _ _. refl;

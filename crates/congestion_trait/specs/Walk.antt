@@ -9,7 +9,7 @@ use Rattle.congestion_trait.specs.declared.flight.Standing.TheVariants.{Reported
 use Rattle.congestion_trait.specs.declared.flight.Entry.{Entry}
 use Rattle.congestion_trait.specs.declared.walk.Walk.{Walk}
 use Rattle.congestion_trait.specs.declared.walk.Counts.{Counts}
-use Rattle.congestion_trait.specs.Flight.{States, is_out, is_reported, after_report, acked_count, is_congested, reported_count, reported, pipe_of}
+use Rattle.congestion_trait.specs.Flight.{States, is_out, is_reported, after_report, acked_count, is_congested, reported_count, entry_reported, pipe_of}
 
 -- the state that runs give a place, counted from the first run's highest number down
 abbrev pub run_state : List Run → ℕ → Option ℕ
@@ -45,7 +45,7 @@ pub record IsAlong (told : States) (mark : Option ℕ) (old : List Entry) (index
   pub entries : now ≡ take index old ++ after_report told (drop index old)
   pub acked : walk.acked ≡ acked_count told (drop index old)
   pub congested : walk.congested ≡ is_congested told mark (drop index old)
-  pub reported : walk.reported ≡ reported_count (map (reported told) (drop index old))
+  pub reported : walk.reported ≡ reported_count (map (entry_reported told) (drop index old))
   pub out : walk.out ≡ pipe_of (after_report told (drop index old))
   pub seen : walk.seen ≡ pipe_of (drop index old)
 
@@ -71,7 +71,7 @@ AreNear span (number ∷ later) =
     (number < 2 ^ 48) × AllByRecursion (λ other. distance number other ≤ span) later × AreNear span later
 
 -- what the counts beside a list say of it
-pub record IsKept (entries : List Entry) (capacity : ℕ) (counts : Counts) : Type 0 where
+pub record FlightInvariant (entries : List Entry) (capacity : ℕ) (counts : Counts) : Type 0 where
   pub holds : capacity ≡ 2048
   pub counted : counts.out ≡ pipe_of entries
   pub within : counts.settled ≤ length entries

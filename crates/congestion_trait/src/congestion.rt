@@ -15,7 +15,7 @@ use seq_circle::Seq48;
 /// list of entries in it, since the laws range over every Value, also over those that no value of the struct has. `control`
 /// names the functions on that Value: the list and the window that it shows, the CCIDs that it knows, and what each call makes
 /// of it. `lawful` says that the list keeps its own rules. `specs/Kind` makes both of the kind's rules for the rest alone
-/// (`kind_of`, `kind_is_lawful`). The bounds on the window come from the struct's invariant. The crate additive_window is an
+/// (`control_by_rules`, `kind_is_lawful`). The bounds on the window come from the struct's invariant. The crate additive_window is an
 /// example.
 pub trait Congestion {
     // The kind's functions on its state, which contracts alone see.

@@ -66,9 +66,9 @@ impl Model for Flight {
 
     ghost view = { λ f. f.entries.items };
 
-    ghost use Rattle.congestion_trait.specs.Walk.{IsKept};
+    ghost use Rattle.congestion_trait.specs.Walk.{FlightInvariant};
 
-    ghost invariant = { λ f. IsKept f.entries.items f.entries.capacity f.counts };
+    ghost invariant = { λ f. FlightInvariant f.entries.items f.entries.capacity f.counts };
 }
 
 impl Flight {

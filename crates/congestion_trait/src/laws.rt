@@ -4,9 +4,9 @@ ghost use Rattle.congestion_trait.specs.declared.flight.Entry.{Entry};
 ghost use Rattle.congestion_trait.specs.declared.flight.Standing.TheVariants.{Out, Reported};
 ghost use Rattle.congestion_trait.specs.declared.flight.Standing.{Standing};
 ghost use Rattle.std.specs.List.{list_any, Contains};
-ghost use Rattle.congestion_trait.specs.Calls.{Call, after_call, run, sends, tells};
+ghost use Rattle.congestion_trait.specs.Calls.{Call, after_call, call_sends, run, tells};
 ghost use Rattle.dccp_options.specs.Vectors.{is_received};
-ghost use Rattle.congestion_trait.specs.Flight.{States, Has, IsListed, numbers_reported, after_report, leaving_count, pipe_of};
+ghost use Rattle.congestion_trait.specs.Flight.{States, Has, HasEntry, numbers_reported, after_report, leaving_count, pipe_of};
 
 use crate::congestion::Congestion;
 
@@ -45,7 +45,7 @@ pub fn in_flight_falls_once<C: Congestion>()
 pub fn standings_after_calls<C: Congestion>()
     ensures out { (state : C) (calls : List Call) (number : ℕ)
         → Has (C.control.flight (run C.control state calls)) number Out
-        → Has (C.control.flight state) number Out ⊎ IsTrue (list_any (sends number) calls) }
+        → Has (C.control.flight state) number Out ⊎ IsTrue (list_any (call_sends number) calls) }
     ensures reported { (state : C) (calls : List Call) (number : ℕ)
         → Has (C.control.flight (run C.control state calls)) number Reported
         → Has (C.control.flight state) number Reported ⊎ IsTrue (list_any (tells number) calls) }
@@ -55,11 +55,11 @@ pub fn standings_after_calls<C: Congestion>()
 /// before or where a call sends it.
 pub fn every_entry_was_sent<C: Congestion>()
     ensures call { (state : C) (call : Call) (number : ℕ)
-        → IsListed (C.control.flight (after_call C.control state call)) number
-        → IsListed (C.control.flight state) number ⊎ IsTrue (sends number call) }
+        → HasEntry (C.control.flight (after_call C.control state call)) number
+        → HasEntry (C.control.flight state) number ⊎ IsTrue (call_sends number call) }
     ensures calls { (state : C) (calls : List Call) (number : ℕ)
-        → IsListed (C.control.flight (run C.control state calls)) number
-        → IsListed (C.control.flight state) number ⊎ IsTrue (list_any (sends number) calls) }
+        → HasEntry (C.control.flight (run C.control state calls)) number
+        → HasEntry (C.control.flight state) number ⊎ IsTrue (list_any (call_sends number) calls) }
 {}
 
 /// The list of the numbers that are Reported holds just those.

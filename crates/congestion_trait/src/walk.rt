@@ -3,7 +3,7 @@ ghost use Rattle.std.specs.Prelude.{◌≡◌, ℕ, ◌+◌, ◌<◌, ◌≤◌,
 ghost use Rattle.circular_buffer.specs.Buffer.{buffer};
 ghost use Rattle.dccp_options.specs.Vectors.{state_at, is_received, is_unmarked, is_marked};
 ghost use Rattle.congestion_trait.specs.Flight.{pipe_of, reported_count, after_report, acked_count, is_congested, is_out, is_reported, is_past};
-ghost use Rattle.congestion_trait.specs.Walk.{standing_after, one_if, AllReported, IsKept};
+ghost use Rattle.congestion_trait.specs.Walk.{standing_after, one_if, AllReported, FlightInvariant};
 
 use crate::cursor::Cursor;
 use crate::flight::{Entry, Standing};
@@ -129,7 +129,7 @@ pub fn settle(
     mark: &Option<Seq48>,
 ) -> Walk
     requires few { length entries.old.items ≤ 2048 }
-    requires kept { IsKept entries.old.items entries.old.capacity counts.now }
+    requires kept { FlightInvariant entries.old.items entries.old.capacity counts.now }
     ensures entries { entries.new ≡ buffer (after_report (state_at report.now.ack report.now.bytes) entries.old.items) entries.old.capacity }
     ensures acked { result.acked ≡ acked_count (state_at report.now.ack report.now.bytes) entries.old.items }
     ensures congested { result.congested ≡ is_congested (state_at report.now.ack report.now.bytes) mark.now entries.old.items }

@@ -3,12 +3,12 @@ use Rattle.std.proofs.Common.{arith, ◌≡◌, refl, sym, ap, ◌∙◌, subst,
 use Rattle.std.proofs.lemmas.Bool.Decides.{nat_tests}
 use Rattle.std.proofs.lemmas.List.{length-take, take_all}
 use Rattle.std.specs.Prelude.{slice_index, is_some}
-use Rattle.dccp_io.specs.Lines.{newline, text_length, first_line, ends_within, next_of, Next, End, Line, Long, Much}
+use Rattle.dccp_io.specs.Lines.{newline, text_length, first_line, ends_within, next_in_bytes, Next, End, Line, Long, Much}
 use Rattle.dccp_io.proofs.NextLine.{text_length-fits}
 use Rattle.schedule_text.specs.Frames.{read_frame, read_clean_frame}
 use Rattle.schedule_text.specs.Reading.{◌>>◌, fault_at, first_other, text_or_other, read_clean, read_line}
 use Rattle.schedule_text.specs.declared.line.LineWhy.TheVariants as why
-use Rattle.dccp_command.specs.Lines.{text_of, too_long}
+use Rattle.dccp_command.specs.Lines.{too_long, without_newline}
 use Rattle.dccp_command.specs.Replay as replay
 use Rattle.dccp_command.specs.Transcript.{Refused, judged, by_line, whole_line}
 use Rattle.dccp_command.specs.declared.play.Play.{Play}
@@ -32,7 +32,7 @@ with-much true false front first is = cc is
 with-much false long front first is = refl
 
 -- a line stands next
-pub is-line : (given : ℕ) (bytes line : List ℕ) → next_of given bytes ≡ Line line → (0 < length bytes) × (ends_within given (first_line bytes) ≡ true) × (first_line bytes ≡ line)
+pub is-line : (given : ℕ) (bytes line : List ℕ) → next_in_bytes given bytes ≡ Line line → (0 < length bytes) × (ends_within given (first_line bytes) ≡ true) × (first_line bytes ≡ line)
 is-line given [] line is = cc is
 is-line given (byte ∷ bytes) line is = let parts = with-line _ _ _ _ line is in (omega arith, parts.0, parts.1)
 
@@ -40,13 +40,13 @@ is-least : (n m : ℕ) → nat_le n m ≡ true → n ≤ m
 is-least n m is = grind (arith, nat_tests)
 
 -- one that is too long
-pub is-long : (given : ℕ) (bytes front : List ℕ) → next_of given bytes ≡ Long front
+pub is-long : (given : ℕ) (bytes front : List ℕ) → next_in_bytes given bytes ≡ Long front
     → (0 < length bytes) × (ends_within given (first_line bytes) ≡ true) × (4097 ≤ text_length bytes)
 is-long given [] front is = cc is
 is-long given (byte ∷ bytes) front is = let parts = with-long _ _ _ _ front is in (omega arith, parts.0, is-least 4097 (text_length (byte ∷ bytes)) parts.1)
 
 -- one that is too much
-pub is-much : (given : ℕ) (bytes : List ℕ) → next_of given bytes ≡ Much → (0 < length bytes) × (ends_within given (first_line bytes) ≡ false)
+pub is-much : (given : ℕ) (bytes : List ℕ) → next_in_bytes given bytes ≡ Much → (0 < length bytes) × (ends_within given (first_line bytes) ≡ false)
 is-much given [] is = cc is
 is-much given (byte ∷ bytes) is = (omega arith, with-much _ _ _ _ is)
 
@@ -67,7 +67,7 @@ whole-by : (line : List ℕ) (test : Bool) → test ≡ false → (if test then 
 whole-by line true is = cc is
 whole-by line false is = refl
 
-text-whole : (bytes : List ℕ) → 4097 ≤ text_length bytes → text_length bytes ≡ length bytes → text_of bytes ≡ bytes
+text-whole : (bytes : List ℕ) → 4097 ≤ text_length bytes → text_length bytes ≡ length bytes → without_newline bytes ≡ bytes
 text-whole [] long none = absurd (omega (arith, long))
 text-whole (byte ∷ bytes) long none =
     let last : length (byte ∷ bytes) - 1 ≡ length bytes = omega arith in
@@ -75,7 +75,7 @@ text-whole (byte ∷ bytes) long none =
     (subst (λ (n : ℕ). (slice_index (byte ∷ bytes) n == newline) ≡ false) (sym last) (last-other byte bytes none))
 
 text-long-by : (bytes : List ℕ) (inside : Bool) → nat_lt (text_length bytes) (length bytes) ≡ inside → text_length bytes ≤ length bytes → 4097 ≤ text_length bytes
-    → 4096 < length (text_of (first_line bytes))
+    → 4096 < length (without_newline (first_line bytes))
 text-long-by bytes true inside fits long =
     let less : text_length bytes < length bytes = grind (arith, nat_tests) in
     let size : length (first_line bytes) ≡ min (suc (text_length bytes)) (length bytes) = length-take (suc (text_length bytes)) bytes in
@@ -84,10 +84,10 @@ text-long-by bytes true inside fits long =
 text-long-by bytes false inside fits long =
     let none : text_length bytes ≡ length bytes = grind (arith, nat_tests, fits) in
     let whole : first_line bytes ≡ bytes = take_all (suc (text_length bytes)) bytes (omega (arith, none)) in
-    let same : text_of (first_line bytes) ≡ bytes = ap text_of whole ∙ text-whole bytes long none in
+    let same : without_newline (first_line bytes) ≡ bytes = ap without_newline whole ∙ text-whole bytes long none in
     rw same (omega (arith, none, long))
 
-text-long : (bytes : List ℕ) → 4097 ≤ text_length bytes → 4096 < length (text_of (first_line bytes))
+text-long : (bytes : List ℕ) → 4097 ≤ text_length bytes → 4096 < length (without_newline (first_line bytes))
 text-long bytes long = text-long-by bytes (nat_lt (text_length bytes) (length bytes)) refl (text_length-fits bytes) long
 
 is-more : (n : ℕ) → 4096 < n → nat_lt 4096 n ≡ true
@@ -109,21 +109,21 @@ and-false false = refl
 pub long-refused : (play : Play) (bytes : List ℕ) → ends_within play.read (first_line bytes) ≡ true → 4097 ≤ text_length bytes
     → judged play (first_line bytes) ≡ Refused too_long
 long-refused play bytes within long =
-    ap (λ (b : Bool). if b then by_line play (first_line bytes) (read_line (text_of (first_line bytes))) else Refused (whole_line why.TooMuchInput)) within
-    ∙ ap (by_line play (first_line bytes)) (read-long (text_of (first_line bytes)) (text-long bytes long))
+    ap (λ (b : Bool). if b then by_line play (first_line bytes) (read_line (without_newline (first_line bytes))) else Refused (whole_line why.TooMuchInput)) within
+    ∙ ap (by_line play (first_line bytes)) (read-long (without_newline (first_line bytes)) (text-long bytes long))
     ∙ ap (λ (b : Bool). Refused (if b then whole_line why.HeaderLate else too_long)) (and-false (is_some play.world))
 
 pub much-refused : (play : Play) (bytes : List ℕ) → ends_within play.read (first_line bytes) ≡ false → judged play (first_line bytes) ≡ Refused (whole_line why.TooMuchInput)
 much-refused play bytes past =
-    ap (λ (b : Bool). if b then by_line play (first_line bytes) (read_line (text_of (first_line bytes))) else Refused (whole_line why.TooMuchInput)) past
+    ap (λ (b : Bool). if b then by_line play (first_line bytes) (read_line (without_newline (first_line bytes))) else Refused (whole_line why.TooMuchInput)) past
 
 pub long-frame-refused : (before : Replay) (bytes : List ℕ) → ends_within before.read (first_line bytes) ≡ true → 4097 ≤ text_length bytes
     → replay.judged before (first_line bytes) ≡ replay.Refused too_long
 long-frame-refused before bytes within long =
-    ap (λ (b : Bool). if b then replay.by_line before (first_line bytes) (read_frame (text_of (first_line bytes))) else replay.Refused (whole_line why.TooMuchInput)) within
-    ∙ ap (replay.by_line before (first_line bytes)) (read-long-frame (text_of (first_line bytes)) (text-long bytes long))
+    ap (λ (b : Bool). if b then replay.by_line before (first_line bytes) (read_frame (without_newline (first_line bytes))) else replay.Refused (whole_line why.TooMuchInput)) within
+    ∙ ap (replay.by_line before (first_line bytes)) (read-long-frame (without_newline (first_line bytes)) (text-long bytes long))
 
 pub much-frame-refused : (before : Replay) (bytes : List ℕ) → ends_within before.read (first_line bytes) ≡ false
     → replay.judged before (first_line bytes) ≡ replay.Refused (whole_line why.TooMuchInput)
 much-frame-refused before bytes past =
-    ap (λ (b : Bool). if b then replay.by_line before (first_line bytes) (read_frame (text_of (first_line bytes))) else replay.Refused (whole_line why.TooMuchInput)) past
+    ap (λ (b : Bool). if b then replay.by_line before (first_line bytes) (read_frame (without_newline (first_line bytes))) else replay.Refused (whole_line why.TooMuchInput)) past

@@ -7,11 +7,11 @@ use Rattle.dccp_endpoint.specs.Calling.{opens}
 use Rattle.dccp_command.specs.declared.replay.Replay.{Replay}
 use Rattle.dccp_io.specs.Lines.{lines_of}
 use Rattle.dccp_command.specs.RunLines.{end_line, refusal_line}
-use Rattle.dccp_command.specs.Replay.{Verdict, Accepted, Refused, judged, Judges, IsBehind, Replayed, onto, ends_at, continues_with, replayed_from, first_replay, count, begun_from, begun, begun_with, replayed, replay_text, is_refused, accepted_bytes}
+use Rattle.dccp_command.specs.Replay.{Verdict, Accepted, Refused, judged, Judges, IsBehind, Replayed, onto, ends_at, continues_with, replayed_from, first_replay, count, begun_from, begun_replay, begun_with, replay_of_input, replay_text, is_refused, accepted_bytes}
 
 -- Before a line: the text so far goes before that of the lines that are left, and the counters are at most the bytes read.
 pub record ReplayInvariant (side : Side) (plain : Bool) (replay : Replay) (rest text input : List ℕ) : Type 0 where
-  pub same : replayed side plain input ≡ onto text (replayed_from replay (lines_of rest))
+  pub same : replay_of_input side plain input ≡ onto text (replayed_from replay (lines_of rest))
   pub number : replay.number ≤ replay.read + 1
   pub sent : replay.sent ≤ replay.number
   pub read : replay.read + length rest ≡ length input
@@ -32,16 +32,16 @@ begun-sent : (first : Replay) (side : Side) → (begun_from first side).replay.s
 begun-sent first Client = let one = one-at-most (opens first.end.state).frame in omega arith
 begun-sent first Server = omega arith
 
-pub at-start : (side : Side) (plain : Bool) (replay : Replay) (text input : List ℕ) → replay ≡ (begun side plain).replay → text ≡ [] ++ (begun side plain).text
+pub at-start : (side : Side) (plain : Bool) (replay : Replay) (text input : List ℕ) → replay ≡ (begun_replay side plain).replay → text ≡ [] ++ (begun_replay side plain).text
     → ReplayInvariant side plain replay input text input
 at-start side plain replay text input start put =
     let number : replay.number ≡ 1 = ap (λ (first : Replay). first.number) start ∙ begun-number (first_replay side plain) side in
     let read : replay.read ≡ 0 = ap (λ (first : Replay). first.read) start ∙ begun-read (first_replay side plain) side in
-    let sent_is : replay.sent ≡ (begun side plain).replay.sent = ap (λ (first : Replay). first.sent) start in
-    let sent_by : (begun side plain).replay.sent ≤ 0 + 1 = begun-sent (first_replay side plain) side in
+    let sent_is : replay.sent ≡ (begun_replay side plain).replay.sent = ap (λ (first : Replay). first.sent) start in
+    let sent_by : (begun_replay side plain).replay.sent ≤ 0 + 1 = begun-sent (first_replay side plain) side in
     record {
       same =
-          ap (λ (front : List ℕ). onto front (replayed_from (begun side plain).replay (lines_of input))) (sym put)
+          ap (λ (front : List ℕ). onto front (replayed_from (begun_replay side plain).replay (lines_of input))) (sym put)
           ∙ ap (λ (first : Replay). onto text (replayed_from first (lines_of input))) (sym start);
       number = omega arith;
       sent = omega arith;
@@ -49,13 +49,13 @@ at-start side plain replay text input start put =
     }
 
 -- the counters before the first line
-pub counts-at-start : (side : Side) (plain : Bool) (replay : Replay) → replay ≡ (begun side plain).replay
+pub counts-at-start : (side : Side) (plain : Bool) (replay : Replay) → replay ≡ (begun_replay side plain).replay
     → (replay.read ≡ 0) × (replay.number ≡ 1) × (replay.sent ≤ 1)
 counts-at-start side plain replay start =
     let read : replay.read ≡ 0 = ap (λ (first : Replay). first.read) start ∙ begun-read (first_replay side plain) side in
     let number : replay.number ≡ 1 = ap (λ (first : Replay). first.number) start ∙ begun-number (first_replay side plain) side in
-    let sent_is : replay.sent ≡ (begun side plain).replay.sent = ap (λ (first : Replay). first.sent) start in
-    let sent_by : (begun side plain).replay.sent ≤ 0 + 1 = begun-sent (first_replay side plain) side in
+    let sent_is : replay.sent ≡ (begun_replay side plain).replay.sent = ap (λ (first : Replay). first.sent) start in
+    let sent_by : (begun_replay side plain).replay.sent ≤ 0 + 1 = begun-sent (first_replay side plain) side in
     (read, number, omega (arith, sent_is, sent_by))
 
 onto-onto : (text more : List ℕ) (rest : Replayed) → onto text (onto more rest) ≡ onto (text ++ more) rest
@@ -101,7 +101,7 @@ pub record IsOver (side : Side) (plain : Bool) (input text : List ℕ) (refused 
 over-at : (side : Side) (plain : Bool) (replay : Replay) (rest text more input : List ℕ) (refused : Bool) (before : ReplayInvariant side plain replay rest text input)
     → replayed_from replay (lines_of rest) ≡ ends_at replay more refused → IsOver side plain input (text ++ more) refused replay.read
 over-at side plain replay rest text more input refused before over =
-    let whole : replayed side plain input ≡ onto text (ends_at replay more refused) = before.same ∙ ap (onto text) over in
+    let whole : replay_of_input side plain input ≡ onto text (ends_at replay more refused) = before.same ∙ ap (onto text) over in
     record {
       text_is = sym (ap (λ (r : Replayed). r.text) whole);
       refused_is = sym (ap (λ (r : Replayed). r.is_refused) whole);

@@ -6,7 +6,7 @@ use Rattle.std.specs.Io.KnownBytes.{append_known, prepend_known}
 use Rattle.capture_reader.specs.declared.fault.CaptureFault.{CaptureFault}
 use Rattle.capture_reader.specs.declared.format.Format.{Format}
 use Rattle.capture_reader.specs.Format.{opened}
-use Rattle.capture_reader.specs.Records.{Entry, Captured, next_of, records_from, captured, captured_by}
+use Rattle.capture_reader.specs.Records.{RecordParts, Captured, next_of, records_from, captured, captured_by}
 use Rattle.capture_reader.specs.Records.{before as before_others}
 use Rattle.capture_reader.specs.State.{CapturesState, rest, Passed, Advances, Blames}
 use Rattle.capture_reader.specs.State as header
@@ -21,9 +21,9 @@ use Rattle.dccp_command.specs.declared.show.Tally.{Tally}
 use Rattle.dccp_command.specs.declared.show.Turn.TheVariants as turn
 use Rattle.dccp_command.specs.declared.top.Status.{Status}
 use Rattle.dccp_command.specs.declared.top.Status.TheVariants as status
-use Rattle.dccp_command.specs.CaptureText.{first_tally, counted, tallied, record_text, last_line, fault_line, text_from, size_of, end_of, capture_text, is_faulty, records_end}
-use Rattle.dccp_command.specs.Show.{Turns, Closes, RefusesHeader, ShowsRecords, text_of}
-use Rattle.dccp_command.specs.Top.{HasBegun, IsCutOff, Answers, Moves}
+use Rattle.dccp_command.specs.CaptureText.{first_tally, counted_record, tallied, record_text, last_line, fault_line, text_from, size_of, end_of_records, capture_text, is_faulty, records_end}
+use Rattle.dccp_command.specs.Show.{Turns, Closes, ShowsHeaderFault, ShowsRecords, shown_text}
+use Rattle.dccp_command.specs.Top.{HasBegun, IsCutOff, Answers, IsMovedOut}
 use Rattle.dccp_command.proofs.Ending.{append-none, append-twice, begun-longer, begun-behind, none-left, not-both, answers-early, unwritten}
 
 -- the text of what is left
@@ -37,7 +37,7 @@ pub record Along (format : Format) (number given : ℕ) (left : Option (List ℕ
   pub written : List ℕ
   pub rest_is : left ≡ Some (drop done input)
   pub taken_is : after ≡ append_known before written
-  pub text_is : text_of whole ≡ written ++ (text ++ rest_text tally (records_from format 0 number given (drop done input)))
+  pub text_is : shown_text whole ≡ written ++ (text ++ rest_text tally (records_from format 0 number given (drop done input)))
   pub size_is : size_of whole.records ≡ done + size_of (records_from format 0 number given (drop done input)).records
   pub end_is : whole.end ≡ (records_from format 0 number given (drop done input)).end
 
@@ -54,7 +54,7 @@ along-start format left before input is = record {
 }
 
 -- where a record or a fault stands there are bytes
-some-for : (format : Format) (number given : ℕ) (bytes : List ℕ) (entry : Entry) → next_of format number given bytes ≡ Ok (Some entry) → 0 < length bytes
+some-for : (format : Format) (number given : ℕ) (bytes : List ℕ) (entry : RecordParts) → next_of format number given bytes ≡ Ok (Some entry) → 0 < length bytes
 some-for format number given [] entry is = cc is
 some-for format number given (byte ∷ bytes) entry is = omega arith
 
@@ -64,7 +64,7 @@ some-wrong format number given (byte ∷ bytes) why is = omega arith
 
 -- a record was shown
 pub along-turn : (format : Format) (number given : ℕ) (left next : Option (List ℕ)) (tally : Tally) (text : List ℕ) (before after : Option (List ℕ)) (whole : Captured)
-    (input : List ℕ) (entry : Entry) → Along format number given left tally text before after whole input
+    (input : List ℕ) (entry : RecordParts) → Along format number given left tally text before after whole input
     → IfSome left (λ bytes. (next_of format number given bytes ≡ Ok (Some entry)) × (next ≡ Some (drop (16 + length entry.bytes) bytes)))
     → Along format (number + 1) (given + (16 + length entry.bytes)) next (tallied tally entry) (text ++ record_text tally entry) before after whole input
 along-turn format number given left next tally text before after whole input entry along stands =
@@ -93,7 +93,7 @@ along-turn format number given left next tally text before after whole input ent
 
 -- a front of the text was written
 pub along-moved : (format : Format) (number given : ℕ) (left : Option (List ℕ)) (tally : Tally) (text kept : List ℕ) (before after later : Option (List ℕ)) (whole : Captured)
-    (input : List ℕ) → Along format number given left tally text before after whole input → Moves after later text kept
+    (input : List ℕ) → Along format number given left tally text before after whole input → IsMovedOut after later text kept
     → Along format number given left tally kept before later whole input
 along-moved format number given left tally text kept before after later whole input along (moved, taken, parts) =
     let rest = rest_text tally (records_from format 0 number given (drop along.done input)) in
@@ -113,7 +113,7 @@ along-moved format number given left tally text kept before after later whole in
 
 -- the job ended early
 pub along-begun : (format : Format) (number given : ℕ) (left : Option (List ℕ)) (tally : Tally) (text : List ℕ) (before after later : Option (List ℕ)) (whole : Captured)
-    (input : List ℕ) → Along format number given left tally text before after whole input → HasBegun after later text → HasBegun before later (text_of whole)
+    (input : List ℕ) → Along format number given left tally text before after whole input → HasBegun after later text → HasBegun before later (shown_text whole)
 along-begun format number given left tally text before after later whole input along begun =
     let rest = rest_text tally (records_from format 0 number given (drop along.done input)) in
     subst (HasBegun before later) (sym along.text_is)
@@ -123,7 +123,7 @@ along-begun format number given left tally text before after later whole input a
 pub record Over (tally : Tally) (text : List ℕ) (end : Option CaptureFault) (before after : Option (List ℕ)) (whole : Captured) : Type 0 where
   pub written : List ℕ
   pub taken_is : after ≡ append_known before written
-  pub text_is : text_of whole ≡ written ++ (text ++ last_line tally end)
+  pub text_is : shown_text whole ≡ written ++ (text ++ last_line tally end)
   pub end_is : whole.end ≡ end
 
 over-by : (format : Format) (number given : ℕ) (left : Option (List ℕ)) (tally : Tally) (text : List ℕ) (before after : Option (List ℕ)) (whole : Captured)
@@ -139,7 +139,7 @@ over-by format number given left tally text before after whole input end along o
 -- behind them a text was closed
 over-closed : (tally : Tally) (text : List ℕ) (end : Option CaptureFault) (before after later left : Option (List ℕ)) (whole : Captured) (result : Status)
     → Over tally text end before after whole → Closes (text ++ last_line tally end) end result after later → (result ≡ status.Done → left ≡ Some [])
-    → Answers (text_of whole) (is_some whole.end) result left before later
+    → Answers (shown_text whole) (is_some whole.end) result left before later
 over-closed tally text end before after later left whole result over closes none = record {
   whole = λ answered.
       closes.whole answered ∙ ap (λ (known : Option (List ℕ)). append_known known (text ++ last_line tally end)) over.taken_is
@@ -185,7 +185,7 @@ pub shown-early : (format : Format) (number given : ℕ) (left known : Option (L
     (input : List ℕ) (result : Status) → IsCutOff result → Along format number given left tally text before after whole input → HasBegun after later text
     → ShowsRecords whole input result known before later
 shown-early format number given left known tally text before after later whole input result off along begun = record {
-  answers = answers-early (text_of whole) (is_some whole.end) result known before later off
+  answers = answers-early (shown_text whole) (is_some whole.end) result known before later off
       (along-begun format number given left tally text before after later whole input along begun);
   past = λ is. absurd (not-both result (inr is) off);
 }
@@ -198,10 +198,10 @@ pub shown-whole : (bytes : List ℕ) (format : Format) (result : Status) (left b
     → ShowsRecords (records_from format 0 0 24 (drop 24 bytes)) (drop 24 bytes) result left before after
     → Answers (capture_text bytes) (is_faulty bytes) result left before after
 shown-whole bytes format result left before after told shows =
-    subst (λ (c : Captured). Answers (text_of c) (is_some c.end) result left before after) (sym (captured-behind bytes format told)) shows.answers
+    subst (λ (c : Captured). Answers (shown_text c) (is_some c.end) result left before after) (sym (captured-behind bytes format told)) shows.answers
 
-passed-in : (records : List Entry) (bytes : List ℕ) (left : Option (List ℕ)) → Passed 262160 (Some (drop (size_of records) (drop 24 bytes))) left
-    → Passed 524288 (Some (drop (end_of records) bytes)) left
+passed-in : (records : List RecordParts) (bytes : List ℕ) (left : Option (List ℕ)) → Passed 262160 (Some (drop (size_of records) (drop 24 bytes))) left
+    → Passed 524288 (Some (drop (end_of_records records) bytes)) left
 passed-in [] bytes left (n, most, is) = (24 + n, omega arith, is ∙ ap Some (drop-drop n 24 bytes))
 passed-in (entry ∷ entries) bytes left (n, most, is) =
     (n, omega arith, is ∙ ap (λ (behind : List ℕ). Some (drop n behind)) (drop-drop (size_of (entry ∷ entries)) 24 bytes))
@@ -210,11 +210,11 @@ pub passed-whole : (bytes : List ℕ) (format : Format) (result : Status) (left 
     → ShowsRecords (records_from format 0 0 24 (drop 24 bytes)) (drop 24 bytes) result left before after → result ≡ status.Input
     → Passed 524288 (Some (drop (records_end bytes) bytes)) left
 passed-whole bytes format result left before after told shows is =
-    subst (λ (c : Captured). Passed 524288 (Some (drop (end_of c.records) bytes)) left) (sym (captured-behind bytes format told))
+    subst (λ (c : Captured). Passed 524288 (Some (drop (end_of_records c.records) bytes)) left) (sym (captured-behind bytes format told))
     (passed-in (records_from format 0 0 24 (drop 24 bytes)).records bytes left (shows.past is))
 
 -- the turns of the loop, by what the reader says of them
-pub turned : {S : Type 0} (left : S → Option (List ℕ)) (faults lender : S → ℕ) (old new : CapturesState S) (entry : Entry) (tally next : Tally) (text written : List ℕ)
+pub turned : {S : Type 0} (left : S → Option (List ℕ)) (faults lender : S → ℕ) (old new : CapturesState S) (entry : RecordParts) (tally next : Tally) (text written : List ℕ)
     (before after : Option (List ℕ)) (whole : Captured) (input : List ℕ) → Along old.format old.number old.given (rest left old) tally text before after whole input
     → Advances left faults lender old new (Ok (Some entry)) → next ≡ tallied tally entry → written ≡ text ++ record_text tally entry
     → Along new.format new.number new.given (rest left new) next written before after whole input
@@ -267,7 +267,7 @@ closes-cut text more end before middle after first begun = record {
 
 -- a refused file header, by its fault
 pub refused-as : (why : CaptureFault) (result : Status) (before after : Option (List ℕ)) → (why ≡ ReadFault → ⊥) → (why ≡ NoMemory → ⊥)
-    → (result ≢ status.Words) × (result ≢ status.Read) × Closes (fault_line first_tally why) (Some why) result before after → RefusesHeader why result before after
+    → (result ≢ status.Words) × (result ≢ status.Read) × Closes (fault_line first_tally why) (Some why) result before after → ShowsHeaderFault why result before after
 refused-as BadMagic result before after read memory closes = closes
 refused-as BadVersion result before after read memory closes = closes
 refused-as BadLink result before after read memory closes = closes
@@ -281,14 +281,14 @@ refused-whole : (why : CaptureFault) (bytes : List ℕ) (result : Status) (left 
     → Closes (fault_line first_tally why) (Some why) result before after → Answers (capture_text bytes) (is_faulty bytes) result left before after
 refused-whole why bytes result left before after told closes =
     let none : captured bytes ≡ record { records = []; end = Some why } = ap (λ (o : Result Format CaptureFault). captured_by o bytes) told in
-    subst (λ (c : Captured). Answers (text_of c) (is_some c.end) result left before after) (sym none)
+    subst (λ (c : Captured). Answers (shown_text c) (is_some c.end) result left before after) (sym none)
     (record { whole = closes.whole; front = closes.front; done = λ is. cc (closes.done is); input = closes.input })
 
 refused-past : (why : CaptureFault) (bytes : List ℕ) (left : Option (List ℕ)) → opened bytes ≡ Err why → Passed 262144 (Some bytes) left
     → Passed 524288 (Some (drop (records_end bytes) bytes)) left
 refused-past why bytes left told (n, most, is) =
     let none : captured bytes ≡ record { records = []; end = Some why } = ap (λ (o : Result Format CaptureFault). captured_by o bytes) told in
-    subst (λ (c : Captured). Passed 524288 (Some (drop (end_of c.records) bytes)) left) (sym none) (n, omega arith, is)
+    subst (λ (c : Captured). Passed 524288 (Some (drop (end_of_records c.records) bytes)) left) (sym none) (n, omega arith, is)
 
 -- what a refused file header comes to
 pub record Refuses (bytes : List ℕ) (result : Status) (left before after : Option (List ℕ)) : Type 0 where
@@ -310,7 +310,7 @@ refuses-early bytes result left before after off same = record {
 
 pub refuses : {S : Type 0} (left : S → Option (List ℕ)) (faults : S → ℕ) (source handed : S) (why : CaptureFault) (bytes : List ℕ) (result : Status)
     (before after : Option (List ℕ)) → left source ≡ Some bytes → Passed 262144 (left source) (left handed) → header.RefusesHeader left faults source handed why
-    → RefusesHeader why result before after → Refuses bytes result (left handed) before after
+    → ShowsHeaderFault why result before after → Refuses bytes result (left handed) before after
 refuses left faults source handed BadMagic bytes result before after told past cause closes =
     refuses-fault BadMagic bytes result (left handed) before after (subst (λ (o : Option (List ℕ)). IfSome o (λ all. opened all ≡ Err BadMagic)) told cause)
     (subst (λ (o : Option (List ℕ)). Passed 262144 o (left handed)) told past) closes
@@ -350,10 +350,10 @@ over left faults lender old new tally next text written before after later whole
     (subst (λ (front : List ℕ). Closes (front ++ last_line next (Some why)) (Some why) result after later) puts closes))
 
 -- each record is counted once
-counted-one : (tally : Tally) (shown : Shown) (flows : List Flow) → (counted tally shown flows).shown + (counted tally shown flows).skipped ≡ tally.shown + tally.skipped + 1
+counted-one : (tally : Tally) (shown : Shown) (flows : List Flow) → (counted_record tally shown flows).shown + (counted_record tally shown flows).skipped ≡ tally.shown + tally.skipped + 1
 counted-one tally Line flows = omega arith
 counted-one tally Skipped flows = omega arith
 
-pub tallied-one : (tally next : Tally) (entry : Entry) → next ≡ tallied tally entry → next.shown + next.skipped ≡ tally.shown + tally.skipped + 1
+pub tallied-one : (tally next : Tally) (entry : RecordParts) → next ≡ tallied tally entry → next.shown + next.skipped ≡ tally.shown + tally.skipped + 1
 tallied-one tally next entry counts =
     ap (λ (t : Tally). t.shown + t.skipped) counts ∙ counted-one tally (shows tally.flows entry).shown (shows tally.flows entry).flows

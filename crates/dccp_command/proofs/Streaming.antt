@@ -6,13 +6,13 @@ use Rattle.std.specs.Prelude.{option_map}
 use Rattle.std.specs.Io.KnownBytes.{append_known, prepend_known}
 use Rattle.dccp_io.specs.Counts.{Rose}
 use Rattle.dccp_io.specs.Fronts.{GivesAtMost}
-use Rattle.dccp_io.specs.Lines.{LinesState, Finds, Stops, Blames, rest, next_of, Line, Long, Much, text_length, first_line, ends_within, lines_of}
+use Rattle.dccp_io.specs.Lines.{LinesState, Finds, Stops, CausesStop, rest_of_input, next_in_bytes, Line, Long, Much, text_length, first_line, ends_within, lines_of}
 use Rattle.dccp_io.specs.declared.lines.Stop.{Stop}
 use Rattle.dccp_io.specs.declared.lines.Stop.TheVariants as stop
 use Rattle.dccp_io.proofs.LineList.{lines-cut}
 use Rattle.dccp_io.proofs.NextLine.{first_line_length}
-use Rattle.dccp_command.specs.Loops.{Refuses, Leaves, GoesThrough}
-use Rattle.dccp_command.specs.Top.{HasTaken, HasBegun, IsAnswered, IsCutOff, Answers, Moves}
+use Rattle.dccp_command.specs.Loops.{RefusesLine, Leaves, GoesThrough}
+use Rattle.dccp_command.specs.Top.{HasTaken, HasBegun, IsAnswered, IsCutOff, Answers, IsMovedOut}
 use Rattle.dccp_command.specs.declared.top.Status.{Status}
 use Rattle.dccp_command.specs.declared.top.Status.TheVariants as status
 use Rattle.dccp_command.proofs.FirstLine.{is-line, is-long, is-much}
@@ -42,7 +42,7 @@ along-first Stands read (Some input) text before none stands = along-start (Stan
 
 -- a front of the text was written
 pub along-moved : (Stands : List ℕ → List ℕ → Type 0) (read : ℕ) (left : Option (List ℕ)) (text kept : List ℕ) (before after later : Option (List ℕ)) (input : List ℕ)
-    → Along Stands read left text before after input → Moves after later text kept → Along Stands read left kept before later input
+    → Along Stands read left text before after input → IsMovedOut after later text kept → Along Stands read left kept before later input
 along-moved Stands read left text kept before after later input along (moved, taken, parts) = record {
   written = along.written ++ moved;
   rest_is = along.rest_is;
@@ -60,13 +60,13 @@ whole-line bytes =
 -- a line was accepted, which leads from one standing to another
 pub along-line : (Stands Next : List ℕ → List ℕ → Type 0) (read further given : ℕ) (left next : Option (List ℕ)) (line text after : List ℕ) (before taken : Option (List ℕ))
     (input : List ℕ) → Along Stands read left text before taken input → further ≡ read + length line
-    → IfSome left (λ bytes. (next_of given bytes ≡ Line line) × (next ≡ Some (drop (length line) bytes)))
+    → IfSome left (λ bytes. (next_in_bytes given bytes ≡ Line line) × (next ≡ Some (drop (length line) bytes)))
     → ((front bytes behind : List ℕ) → Stands (front ++ text) bytes → lines_of bytes ≡ line ∷ lines_of behind → bytes ≡ line ++ behind → Next (front ++ after) behind)
     → Along Next further next after before taken input
 along-line Stands Next read further given left next line text after before taken input along counts stands leads =
     let bytes = drop read input in
     let behind = drop (length line) bytes in
-    let here = subst (λ (known : Option (List ℕ)). IfSome known (λ all. (next_of given all ≡ Line line) × (next ≡ Some (drop (length line) all)))) along.rest_is stands in
+    let here = subst (λ (known : Option (List ℕ)). IfSome known (λ all. (next_in_bytes given all ≡ Line line) × (next ≡ Some (drop (length line) all)))) along.rest_is stands in
     let first = is-line given bytes line here.0 in
     let cut : lines_of bytes ≡ line ∷ lines_of behind =
     lines-cut bytes first.0 ∙ ap (λ (l : List ℕ). l ∷ lines_of (drop (length l) bytes)) first.2 in
@@ -81,8 +81,8 @@ along-line Stands Next read further given left next line text after before taken
 
 -- before the first turn all of the input is left
 pub rest-at-first : {S : Type 0} (left : S → Option (List ℕ)) (source : S) (lines : LinesState S) (bytes : List ℕ)
-    → lines ≡ record { source = source; pending = []; line = []; given = 0; stop = None } → left source ≡ Some bytes → rest left lines ≡ Some bytes
-rest-at-first left source lines bytes first told = ap (rest left) first ∙ ap (prepend_known []) told
+    → lines ≡ record { source = source; pending = []; line = []; given = 0; stop = None } → left source ≡ Some bytes → rest_of_input left lines ≡ Some bytes
+rest-at-first left source lines bytes first told = ap (rest_of_input left) first ∙ ap (prepend_known []) told
 
 -- memory ran out before the text was left
 pub leaves-unwritten : (text : List ℕ) (refused : Bool) (before : Option (List ℕ)) → Leaves text refused status.Memory before before

@@ -16,7 +16,7 @@ use Rattle.dccp_endpoint.specs.End.{EndState, with_rows}
 use Rattle.dccp_endpoint.specs.Heeding.{Due, Heeding}
 use Rattle.dccp_endpoint.specs.Incoming.{Incoming}
 use Rattle.dccp_endpoint.specs.Inputs as input
-use Rattle.dccp_endpoint.specs.Receiving.{Course, Goes, Leaves, accounted, acknowledges, arrives, checks_header, delivering, ends_as, heeded, leaves, moved_to, moves, needs_ack, reads_options, received, receives, replies, the_steps, through, with_number, with_packet}
+use Rattle.dccp_endpoint.specs.Receiving.{Course, Goes, Leaves, accounted, acknowledges, arrives, checks_header, delivering, ends_as, heeded, leaves, moved_to, moves, needs_ack, reads_options, received, receives, replies, the_steps, through, with_own_number, with_packet}
 use Rattle.dccp_endpoint.specs.Reporting.{counts_data, delivered_if, delivers}
 use Rattle.dccp_endpoint.specs.Steps.{Step, idle}
 use Rattle.dccp_endpoint.specs.declared.exit.Exit.{Exit}
@@ -26,7 +26,7 @@ use Rattle.dccp_endpoint.specs.declared.outcome.Outcome.{Outcome}
 use Rattle.dccp_endpoint.specs.declared.outcome.Outcome.TheVariants.{Took}
 use Rattle.dccp_endpoint.specs.declared.outcome.Why.{Why}
 use Rattle.two_ends.specs.Controlled.{Controlled, ControlledStep, congestion_of, controlled, controls, happens_to, said_by}
-use Rattle.two_ends.specs.World.{Half, HalfStep, Said, WorldState, WorldStep, actor, arrives as arrives_at, half_of, half_steps, happens, is_full, other, refusal_of, seen_of_call, send_refusal_of, with_half}
+use Rattle.two_ends.specs.World.{Half, HalfStep, Said, WorldState, WorldStep, actor, delivers_frame as arrives_at, half_of, half_steps, happens, is_full, other, refusal_of, seen_of_call, send_refusal_of, with_half}
 use Rattle.two_ends.specs.declared.event.Event.{Event}
 use Rattle.two_ends.specs.declared.event.Event.TheVariants as event
 use Rattle.two_ends.specs.declared.event.Refusal.{Refusal}
@@ -38,12 +38,12 @@ use Rattle.two_ends.specs.declared.event.WorldFault.{WorldFault}
 use Rattle.two_ends.specs.declared.event.WorldFault.TheVariants as fault
 use Rattle.two_ends.specs.declared.frames.SentFrame.{SentFrame}
 use Rattle.schedule_text.specs.Results.{HasItsData, IsPlaceIn, IsSeenOf}
-use Rattle.dccp_command.specs.RunLines.{arrived, bytes_of}
+use Rattle.dccp_command.specs.RunLines.{arrived, sent_bytes}
 
 -- One end: the data of a packet end where its bytes do.
 
 numbered-place : (e : EndState) (bytes : List ℕ) (p : Parts) (number : Result ℕ Why)
-    → IfOk (with_number e bytes p number) (λ (a : Incoming). IsPlaceIn bytes (Some a.data_place))
+    → IfOk (with_own_number e bytes p number) (λ (a : Incoming). IsPlaceIn bytes (Some a.data_place))
 numbered-place e bytes p (Ok number) = (omega arith, omega arith)
 numbered-place e bytes p (Err why) = tt
 
@@ -144,9 +144,9 @@ frame-told : (w : WorldState) (from : Side) (index : ℕ) (frame : SentFrame) (h
 frame-told w from index frame half true step found is told = cc is
 frame-told w from index frame half false step found is told =
     let stands : frame.bytes ≡ arrived step.world (event.Deliver from index) =
-    sym (ap bytes_of found)
-    ∙ sym (ap (λ (h : Half). bytes_of (slice_get h.frames index)) (half-kept w from half.half))
-    ∙ ap (λ (x : WorldState). bytes_of (slice_get (half_of x from).frames index)) (ap (world-or w) is) in
+    sym (ap sent_bytes found)
+    ∙ sym (ap (λ (h : Half). sent_bytes (slice_get h.frames index)) (half-kept w from half.half))
+    ∙ ap (λ (x : WorldState). sent_bytes (slice_get (half_of x from).frames index)) (ap (world-or w) is) in
     subst (λ (bytes : List ℕ). IsSeenOf bytes step.seen) stands (subst (IsSeenOf frame.bytes) (ap (seen-or half.seen) is) told)
 
 delivery-told : (w : WorldState) (from : Side) (index : ℕ) (frame : Option SentFrame) (step : WorldStep) → slice_get (half_of w from).frames index ≡ frame

@@ -5,7 +5,7 @@ use Rattle.std.proofs.lemmas.Option.{IfSome_then}
 use Rattle.std.specs.Prelude.{option_map}
 use Rattle.dccp_io.specs.Counts.{Rose}
 use Rattle.dccp_io.specs.Fronts.{GivesAtMost}
-use Rattle.dccp_io.specs.Lines.{LinesState, Finds, Stops, Blames, rest, next_of, Line, ends_within, first_line}
+use Rattle.dccp_io.specs.Lines.{LinesState, Finds, Stops, CausesStop, rest_of_input, next_in_bytes, Line, ends_within, first_line}
 use Rattle.dccp_io.specs.declared.lines.Stop.{Stop}
 use Rattle.dccp_io.specs.declared.lines.Stop.TheVariants as stop
 use Rattle.schedule_text.specs.declared.line.LineFault.{LineFault}
@@ -15,7 +15,7 @@ use Rattle.dccp_command.specs.declared.play.Play.{Play}
 use Rattle.dccp_command.specs.declared.replay.Replay.{Replay}
 use Rattle.dccp_command.specs.declared.top.Status.{Status}
 use Rattle.dccp_command.specs.Lines.{too_long}
-use Rattle.dccp_command.specs.Loops.{stopped, turn_of, Refuses, Plays, Replays, Leaves, GoesThrough}
+use Rattle.dccp_command.specs.Loops.{stopped, judged_turn, RefusesLine, Plays, Replays, Leaves, GoesThrough}
 use Rattle.dccp_command.specs.Replay as replay
 use Rattle.dccp_command.specs.RunLines.{end_lines, end_line, refusal_line}
 use Rattle.dccp_command.specs.Top.{HasBegun, IsAnswered, IsCutOff}
@@ -35,7 +35,7 @@ far-some None known past = tt
 far-some (Some bytes) known (n, most, is) = (n, omega (arith, most), is)
 
 far-line : (given : ℕ) (line : List ℕ) (all next known : Option (List ℕ)) → length line ≤ 4097
-    → IfSome all (λ bytes. (next_of given bytes ≡ Line line) × (next ≡ Some (drop (length line) bytes))) → GivesAtMost 8192 next known
+    → IfSome all (λ bytes. (next_in_bytes given bytes ≡ Line line) × (next ≡ Some (drop (length line) bytes))) → GivesAtMost 8192 next known
     → IfSome all (λ bytes. GivesAtMost 12289 (Some bytes) known)
 far-line given line None next known short stands past = tt
 far-line given line (Some bytes) next known short stands (n, most, is) =
@@ -71,38 +71,38 @@ replays-behind front text written (replay.Accepted more onward) next answer judg
 replays-behind front text written (replay.Refused fault) next answer judges = (ap (λ (t : List ℕ). front ++ t) judges.0, judges.1)
 
 module _ {S : Type 0} (left : S → Option (List ℕ)) (faults lender : S → ℕ) where
-  blames-by : (old new : LinesState S) (why : Stop) → old.stop ≡ None → ((old.stop ≡ Some why) × (new ≡ old)) ⊎ ((old.stop ≡ None) × Blames left faults old new why)
-      → Blames left faults old new why
+  blames-by : (old new : LinesState S) (why : Stop) → old.stop ≡ None → ((old.stop ≡ Some why) × (new ≡ old)) ⊎ ((old.stop ≡ None) × CausesStop left faults old new why)
+      → CausesStop left faults old new why
   blames-by old new why unstopped (inl (was, same)) = cc (was, unstopped)
   blames-by old new why unstopped (inr (is, blames)) = blames
 
-  pub blames : (old new : LinesState S) (why : Stop) → old.stop ≡ None → Finds left faults lender old new (Err why) → Blames left faults old new why
+  pub blames : (old new : LinesState S) (why : Stop) → old.stop ≡ None → Finds left faults lender old new (Err why) → CausesStop left faults old new why
   blames old new why unstopped finds = blames-by old new why unstopped finds.answer.cause
 
   refuses-stopped : (old new : LinesState S) (why : Stop) (IsRefused : List ℕ → Type 0) → Finds left faults lender old new (Err why)
-      → IfSome (rest left old) (λ bytes. (0 < length bytes) × IsRefused (first_line bytes)) → Refuses left faults lender old new IsRefused
+      → IfSome (rest_of_input left old) (λ bytes. (0 < length bytes) × IsRefused (first_line bytes)) → RefusesLine left faults lender old new IsRefused
   refuses-stopped old new why IsRefused finds refused = record {
     never_falls = finds.never_falls;
     same_lender = finds.same_lender;
-    past = far-some (rest left old) (left new.source) (subst (λ (all : Option (List ℕ)). GivesAtMost 8192 all (left new.source)) finds.answer.same_rest finds.past);
+    past = far-some (rest_of_input left old) (left new.source) (subst (λ (all : Option (List ℕ)). GivesAtMost 8192 all (left new.source)) finds.answer.same_rest finds.past);
     refused = refused;
   }
 
   -- the line that was given was refused
   refuses-line : (old new : LinesState S) (IsRefused : List ℕ → Type 0) → Finds left faults lender old new (Ok true) → IsRefused new.line
-      → Refuses left faults lender old new IsRefused
+      → RefusesLine left faults lender old new IsRefused
   refuses-line old new IsRefused finds refused = record {
     never_falls = finds.never_falls;
     same_lender = finds.same_lender;
-    past = far-line old.given new.line (rest left old) (rest left new) (left new.source) finds.answer.short finds.answer.next finds.past;
-    refused = IfSome_then _ finds.answer.next (λ (bytes : List ℕ) (here : (next_of old.given bytes ≡ Line new.line) × (rest left new ≡ Some (drop (length new.line) bytes))).
+    past = far-line old.given new.line (rest_of_input left old) (rest_of_input left new) (left new.source) finds.answer.short finds.answer.next finds.past;
+    refused = IfSome_then _ finds.answer.next (λ (bytes : List ℕ) (here : (next_in_bytes old.given bytes ≡ Line new.line) × (rest_of_input left new ≡ Some (drop (length new.line) bytes))).
         let first = is-line old.given bytes new.line here.0 in
         let whole : (0 < length bytes) × IsRefused (first_line bytes) = (first.0, subst IsRefused (sym first.2) refused) in
         whole);
   }
 
   plays-much : (old new : LinesState S) (play : Play) → old.stop ≡ None → play.read ≡ old.given → Finds left faults lender old new (Err stop.TooMuch)
-      → Refuses left faults lender old new (λ line. judged play line ≡ Refused (whole_line why.TooMuchInput))
+      → RefusesLine left faults lender old new (λ line. judged play line ≡ Refused (whole_line why.TooMuchInput))
   plays-much old new play unstopped read finds =
       refuses-stopped old new stop.TooMuch (λ line. judged play line ≡ Refused (whole_line why.TooMuchInput)) finds (IfSome_then _ (blames old new stop.TooMuch unstopped finds) (λ bytes next.
       let much = is-much old.given bytes next in
@@ -110,7 +110,7 @@ module _ {S : Type 0} (left : S → Option (List ℕ)) (faults lender : S → �
       refused))
 
   plays-long : (old new : LinesState S) (play : Play) → old.stop ≡ None → play.read ≡ old.given → Finds left faults lender old new (Err stop.TooLong)
-      → Refuses left faults lender old new (λ line. judged play line ≡ Refused too_long)
+      → RefusesLine left faults lender old new (λ line. judged play line ≡ Refused too_long)
   plays-long old new play unstopped read finds =
       refuses-stopped old new stop.TooLong (λ line. judged play line ≡ Refused too_long) finds (IfSome_then _ (blames old new stop.TooLong unstopped finds) (λ bytes next.
       let long = is-long old.given bytes (take 4097 new.pending) next in
@@ -118,7 +118,7 @@ module _ {S : Type 0} (left : S → Option (List ℕ)) (faults lender : S → �
       refused))
 
   replays-much : (old new : LinesState S) (before : Replay) → old.stop ≡ None → before.read ≡ old.given → Finds left faults lender old new (Err stop.TooMuch)
-      → Refuses left faults lender old new (λ line. replay.judged before line ≡ replay.Refused (whole_line why.TooMuchInput))
+      → RefusesLine left faults lender old new (λ line. replay.judged before line ≡ replay.Refused (whole_line why.TooMuchInput))
   replays-much old new before unstopped read finds =
       refuses-stopped old new stop.TooMuch (λ line. replay.judged before line ≡ replay.Refused (whole_line why.TooMuchInput)) finds (IfSome_then _ (blames old new stop.TooMuch unstopped finds) (λ bytes next.
       let much = is-much old.given bytes next in
@@ -126,7 +126,7 @@ module _ {S : Type 0} (left : S → Option (List ℕ)) (faults lender : S → �
       refused))
 
   replays-long : (old new : LinesState S) (before : Replay) → old.stop ≡ None → before.read ≡ old.given → Finds left faults lender old new (Err stop.TooLong)
-      → Refuses left faults lender old new (λ line. replay.judged before line ≡ replay.Refused too_long)
+      → RefusesLine left faults lender old new (λ line. replay.judged before line ≡ replay.Refused too_long)
   replays-long old new before unstopped read finds =
       refuses-stopped old new stop.TooLong (λ line. replay.judged before line ≡ replay.Refused too_long) finds (IfSome_then _ (blames old new stop.TooLong unstopped finds) (λ bytes next.
       let long = is-long old.given bytes (take 4097 new.pending) next in
@@ -142,7 +142,7 @@ module _ {S : Type 0} (left : S → Option (List ℕ)) (faults lender : S → �
 
   pub plays-judged : (old new : LinesState S) (play next : Play) (text written : List ℕ) (answer : Result (Unit {0}) LineFault) → Finds left faults lender old new (Ok true)
       → Judges (judged play new.line) text written next answer → (answer ≡ Ok tt → IsBehind play new.line next)
-      → Plays left faults lender old new play next text written (Ok (turn_of answer))
+      → Plays left faults lender old new play next text written (Ok (judged_turn answer))
   plays-judged old new play next text written (Ok _) finds judges further = (finds, judges, further refl)
   plays-judged old new play next text written (Err fault) finds judges further =
       let refused = refused-judged (judged play new.line) text written next fault judges in
@@ -156,7 +156,7 @@ module _ {S : Type 0} (left : S → Option (List ℕ)) (faults lender : S → �
 
   pub replays-judged : (old new : LinesState S) (before next : Replay) (text written : List ℕ) (answer : Result (Unit {0}) LineFault)
       → Finds left faults lender old new (Ok true) → replay.Judges (replay.judged before new.line) text written next answer
-      → (answer ≡ Ok tt → replay.IsBehind before new.line next) → Replays left faults lender old new before next text written (Ok (turn_of answer))
+      → (answer ≡ Ok tt → replay.IsBehind before new.line next) → Replays left faults lender old new before next text written (Ok (judged_turn answer))
   replays-judged old new before next text written (Ok _) finds judges further = (finds, judges, further refl)
   replays-judged old new before next text written (Err fault) finds judges further =
       let refused = refused-replayed (replay.judged before new.line) text written next fault judges in
@@ -164,35 +164,35 @@ module _ {S : Type 0} (left : S → Option (List ℕ)) (faults lender : S → �
 
   -- a schedule behind an accepted line
   pub played-line : (old new : LinesState S) (play next : Play) (text written : List ℕ) (before taken : Option (List ℕ)) (input : List ℕ)
-      → Along (λ front behind. LoopInvariant play behind front input) play.read (rest left old) text before taken input → Finds left faults lender old new (Ok true)
+      → Along (λ front behind. LoopInvariant play behind front input) play.read (rest_of_input left old) text before taken input → Finds left faults lender old new (Ok true)
       → Judges (judged play new.line) text written next (Ok tt) → IsBehind play new.line next
-      → Along (λ front behind. LoopInvariant next behind front input) next.read (rest left new) written before taken input
+      → Along (λ front behind. LoopInvariant next behind front input) next.read (rest_of_input left new) written before taken input
   played-line old new play next text written before taken input along finds judges further =
       along-line (λ front behind. LoopInvariant play behind front input) (λ front behind. LoopInvariant next behind front input) play.read next.read old.given
-      (rest left old) (rest left new) new.line text written before taken input along further.read finds.answer.next
+      (rest_of_input left old) (rest_of_input left new) new.line text written before taken input along further.read finds.answer.next
       (λ front bytes behind stands cut whole.
       play_loop.after-line play next bytes behind new.line (front ++ text) (front ++ written) input stands
       (judges-behind front text written (judged play new.line) next (Ok tt) judges) further cut whole finds.answer.some)
 
   -- a replay behind an accepted line
   pub replayed-line : (side : Side) (plain : Bool) (old new : LinesState S) (now next : Replay) (text written : List ℕ) (before taken : Option (List ℕ)) (input : List ℕ)
-      → Along (λ front behind. ReplayInvariant side plain now behind front input) now.read (rest left old) text before taken input
+      → Along (λ front behind. ReplayInvariant side plain now behind front input) now.read (rest_of_input left old) text before taken input
       → Finds left faults lender old new (Ok true) → replay.Judges (replay.judged now new.line) text written next (Ok tt) → replay.IsBehind now new.line next
-      → Along (λ front behind. ReplayInvariant side plain next behind front input) next.read (rest left new) written before taken input
+      → Along (λ front behind. ReplayInvariant side plain next behind front input) next.read (rest_of_input left new) written before taken input
   replayed-line side plain old new now next text written before taken input along finds judges further =
       along-line (λ front behind. ReplayInvariant side plain now behind front input) (λ front behind. ReplayInvariant side plain next behind front input) now.read next.read
-      old.given (rest left old) (rest left new) new.line text written before taken input along further.read finds.answer.next
+      old.given (rest_of_input left old) (rest_of_input left new) new.line text written before taken input along further.read finds.answer.next
       (λ front bytes behind stands cut whole.
       replay_loop.after-line side plain now next bytes behind new.line (front ++ text) (front ++ written) input stands
       (replays-behind front text written (replay.judged now new.line) next (Ok tt) judges) further cut whole finds.answer.some)
 
   -- a schedule at the end of its input
   pub played-end : (old new : LinesState S) (play : Play) (text : List ℕ) (before taken later : Option (List ℕ)) (input : List ℕ) (result : Status)
-      → Along (λ front behind. LoopInvariant play behind front input) play.read (rest left old) text before taken input → Finds left faults lender old new (Ok false)
+      → Along (λ front behind. LoopInvariant play behind front input) play.read (rest_of_input left old) text before taken input → Finds left faults lender old new (Ok false)
       → Leaves (text ++ end_lines (world_of play)) false result taken later
       → GoesThrough (transcript input) (is_refused input) (accepted_bytes input) input result (left new.source) before later
   played-end old new play text before taken later input result along finds leaves =
-      through-end (λ front behind. LoopInvariant play behind front input) play.read (rest left old) (left new.source) new.pending text (end_lines (world_of play))
+      through-end (λ front behind. LoopInvariant play behind front input) play.read (rest_of_input left old) (left new.source) new.pending text (end_lines (world_of play))
       (transcript input) (is_refused input) (accepted_bytes input) before taken later input result along finds.answer.next
       (λ none.
       let over = play_loop.at-end play (drop play.read input) (along.written ++ text) input along.stands (ap length none) in
@@ -200,11 +200,11 @@ module _ {S : Type 0} (left : S → Option (List ℕ)) (faults lender : S → �
 
   -- a schedule at a line that is refused
   pub played-refusal : (old new : LinesState S) (play : Play) (fault : LineFault) (text : List ℕ) (before taken later : Option (List ℕ)) (input : List ℕ) (result : Status)
-      → Along (λ front behind. LoopInvariant play behind front input) play.read (rest left old) text before taken input
-      → Refuses left faults lender old new (λ line. judged play line ≡ Refused fault) → Leaves (text ++ refusal_line play.number fault) true result taken later
+      → Along (λ front behind. LoopInvariant play behind front input) play.read (rest_of_input left old) text before taken input
+      → RefusesLine left faults lender old new (λ line. judged play line ≡ Refused fault) → Leaves (text ++ refusal_line play.number fault) true result taken later
       → GoesThrough (transcript input) (is_refused input) (accepted_bytes input) input result (left new.source) before later
   played-refusal old new play fault text before taken later input result along refuses leaves =
-      through-refused (λ front behind. LoopInvariant play behind front input) (λ line. judged play line ≡ Refused fault) play.read (rest left old) (left new.source) text
+      through-refused (λ front behind. LoopInvariant play behind front input) (λ line. judged play line ≡ Refused fault) play.read (rest_of_input left old) (left new.source) text
       (refusal_line play.number fault) (transcript input) (is_refused input) (accepted_bytes input) before taken later input result along refuses.past refuses.refused
       (λ bytes behind line stands is cut.
       let over = play_loop.at-refusal play bytes behind line (along.written ++ text) input fault stands is cut in
@@ -212,15 +212,15 @@ module _ {S : Type 0} (left : S → Option (List ℕ)) (faults lender : S → �
 
   -- its two ends are a client and a server then
   pub peers-end : (old new : LinesState S) (play : Play) (text : List ℕ) (before taken : Option (List ℕ)) (input : List ℕ)
-      → Along (λ front behind. LoopInvariant play behind front input) play.read (rest left old) text before taken input → Finds left faults lender old new (Ok false)
+      → Along (λ front behind. LoopInvariant play behind front input) play.read (rest_of_input left old) text before taken input → Finds left faults lender old new (Ok false)
       → ArePeers (performed input).client (performed input).server
   peers-end old new play text before taken input along finds =
-      let none = subst (λ (all : Option (List ℕ)). IfSome all (λ bytes. (bytes ≡ []) × (rest left new ≡ Some []))) along.rest_is finds.answer.next in
+      let none = subst (λ (all : Option (List ℕ)). IfSome all (λ bytes. (bytes ≡ []) × (rest_of_input left new ≡ Some []))) along.rest_is finds.answer.next in
       (play_loop.at-end play (drop play.read input) (along.written ++ text) input along.stands (ap length none.0)).peers
 
   pub peers-refusal : (old new : LinesState S) (play : Play) (fault : LineFault) (text : List ℕ) (before taken : Option (List ℕ)) (input : List ℕ)
-      → Along (λ front behind. LoopInvariant play behind front input) play.read (rest left old) text before taken input
-      → Refuses left faults lender old new (λ line. judged play line ≡ Refused fault) → ArePeers (performed input).client (performed input).server
+      → Along (λ front behind. LoopInvariant play behind front input) play.read (rest_of_input left old) text before taken input
+      → RefusesLine left faults lender old new (λ line. judged play line ≡ Refused fault) → ArePeers (performed input).client (performed input).server
   peers-refusal old new play fault text before taken input along refuses =
       let bytes = drop play.read input in
       let first = subst (λ (all : Option (List ℕ)). IfSome all (λ bs. (0 < length bs) × (judged play (first_line bs) ≡ Refused fault))) along.rest_is refuses.refused in
@@ -237,11 +237,11 @@ module _ {S : Type 0} (left : S → Option (List ℕ)) (faults lender : S → �
 
   -- the same of a replay
   pub replayed-end : (side : Side) (plain : Bool) (old new : LinesState S) (now : Replay) (text : List ℕ) (before taken later : Option (List ℕ)) (input : List ℕ)
-      (result : Status) → Along (λ front behind. ReplayInvariant side plain now behind front input) now.read (rest left old) text before taken input
+      (result : Status) → Along (λ front behind. ReplayInvariant side plain now behind front input) now.read (rest_of_input left old) text before taken input
       → Finds left faults lender old new (Ok false) → Leaves (text ++ end_line now.side now.end) false result taken later
       → GoesThrough (replay.replay_text side plain input) (replay.is_refused side plain input) (replay.accepted_bytes side plain input) input result (left new.source) before later
   replayed-end side plain old new now text before taken later input result along finds leaves =
-      through-end (λ front behind. ReplayInvariant side plain now behind front input) now.read (rest left old) (left new.source) new.pending text (end_line now.side now.end)
+      through-end (λ front behind. ReplayInvariant side plain now behind front input) now.read (rest_of_input left old) (left new.source) new.pending text (end_line now.side now.end)
       (replay.replay_text side plain input) (replay.is_refused side plain input) (replay.accepted_bytes side plain input) before taken later input result along
       finds.answer.next
       (λ none.
@@ -249,11 +249,11 @@ module _ {S : Type 0} (left : S → Option (List ℕ)) (faults lender : S → �
       (over.text_is, over.refused_is)) leaves
 
   pub replayed-refusal : (side : Side) (plain : Bool) (old new : LinesState S) (now : Replay) (fault : LineFault) (text : List ℕ) (before taken later : Option (List ℕ))
-      (input : List ℕ) (result : Status) → Along (λ front behind. ReplayInvariant side plain now behind front input) now.read (rest left old) text before taken input
-      → Refuses left faults lender old new (λ line. replay.judged now line ≡ replay.Refused fault) → Leaves (text ++ refusal_line now.number fault) true result taken later
+      (input : List ℕ) (result : Status) → Along (λ front behind. ReplayInvariant side plain now behind front input) now.read (rest_of_input left old) text before taken input
+      → RefusesLine left faults lender old new (λ line. replay.judged now line ≡ replay.Refused fault) → Leaves (text ++ refusal_line now.number fault) true result taken later
       → GoesThrough (replay.replay_text side plain input) (replay.is_refused side plain input) (replay.accepted_bytes side plain input) input result (left new.source) before later
   replayed-refusal side plain old new now fault text before taken later input result along refuses leaves =
-      through-refused (λ front behind. ReplayInvariant side plain now behind front input) (λ line. replay.judged now line ≡ replay.Refused fault) now.read (rest left old)
+      through-refused (λ front behind. ReplayInvariant side plain now behind front input) (λ line. replay.judged now line ≡ replay.Refused fault) now.read (rest_of_input left old)
       (left new.source) text (refusal_line now.number fault) (replay.replay_text side plain input) (replay.is_refused side plain input)
       (replay.accepted_bytes side plain input) before taken later input result along refuses.past refuses.refused
       (λ bytes behind line stands is cut.

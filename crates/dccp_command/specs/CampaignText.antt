@@ -2,7 +2,7 @@
 use Rattle.std.specs.Prelude.{◌≡◌, ◌≢◌, ℕ, ◌++◌, List, codes, Option}
 use Rattle.fault_campaign.specs.Totals.{totals}
 use Rattle.fault_campaign.specs.declared.report.Report.{Report}
-use Rattle.dccp_command.specs.CaptureText.{number_text}
+use Rattle.dccp_command.specs.CaptureText.{labelled_number}
 use Rattle.dccp_command.specs.Top.{HasBegun, HasTaken, IsCutOff, EndsForCause}
 use Rattle.dccp_command.specs.declared.campaign_words.Campaign.{Campaign}
 use Rattle.dccp_command.specs.declared.top.Status.{Status}
@@ -10,7 +10,7 @@ use Rattle.dccp_command.specs.declared.top.Status.TheVariants as status
 
 -- a count behind its name
 abbrev pub count_line : List ℕ → ℕ → List ℕ
-count_line name count = number_text name count ++ codes "\n"
+count_line name count = labelled_number name count ++ codes "\n"
 
 -- what was run and sent
 abbrev pub run_text : Report → List ℕ

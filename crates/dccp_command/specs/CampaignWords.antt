@@ -37,13 +37,13 @@ abbrev pub number_from : ℕ → Option ℕ → Option ℕ
 number_from low None = None
 number_from low (Some n) = if nat_lt n low then None else Some n
 
-abbrev pub number_of : Figure → List ℕ → Option ℕ
-number_of figure text = number_from (least figure) (number_below (most figure + 1) text)
+abbrev pub figure_number : Figure → List ℕ → Option ℕ
+figure_number figure text = number_from (least figure) (number_below (most figure + 1) text)
 
 -- A figure and the number that is given to it.
 abbrev pub setting_by : Option Figure → List ℕ → Option Setting
 setting_by None text = None
-setting_by (Some figure) text = option_and_then (λ n. Some (record { figure = figure; number = n })) (number_of figure text)
+setting_by (Some figure) text = option_and_then (λ n. Some (record { figure = figure; number = n })) (figure_number figure text)
 
 abbrev pub setting_of : List ℕ → List ℕ → Option Setting
 setting_of name text = setting_by (figure_named name) text
@@ -105,7 +105,7 @@ campaign_of words =
     (given_once Workers words)) (given_once Events words)) (given_once Seeds words)) (given_once First words)
 
 -- what a campaign may be
-pub record IsWithin (campaign : Campaign) : Type 0 where
+pub record IsWithinBounds (campaign : Campaign) : Type 0 where
   pub some_seeds : 1 ≤ campaign.seeds
   pub most_seeds : campaign.seeds ≤ 100000
   pub some_events : 1 ≤ campaign.events

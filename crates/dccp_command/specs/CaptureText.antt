@@ -2,7 +2,7 @@
 use Rattle.std.specs.Prelude.{ℕ, ◌+◌, ◌++◌, Bool, is_some, List, [], ◌∷◌, length, codes, decimal, Option, Some, None}
 use Rattle.capture_reader.specs.declared.fault.CaptureFault.{CaptureFault}
 use Rattle.capture_reader.specs.declared.fault.CaptureFault.TheVariants as fault
-use Rattle.capture_reader.specs.Records.{Entry, captured}
+use Rattle.capture_reader.specs.Records.{RecordParts, captured}
 use Rattle.packet_show.specs.declared.flows.Shown.{Shown}
 use Rattle.packet_show.specs.declared.flows.Shown.TheVariants.{Line, Skipped}
 use Rattle.packet_show.specs.Flows.{Flow}
@@ -24,37 +24,37 @@ abbrev pub first_tally : Tally
 first_tally = record { shown = 0; skipped = 0; flows = [] }
 
 -- one record more, with a line or skipped, and the flows that were seen then
-abbrev pub counted : Tally → Shown → List Flow → Tally
-counted tally Line flows = record { shown = tally.shown + 1; skipped = tally.skipped; flows = flows }
-counted tally Skipped flows = record { shown = tally.shown; skipped = tally.skipped + 1; flows = flows }
+abbrev pub counted_record : Tally → Shown → List Flow → Tally
+counted_record tally Line flows = record { shown = tally.shown + 1; skipped = tally.skipped; flows = flows }
+counted_record tally Skipped flows = record { shown = tally.shown; skipped = tally.skipped + 1; flows = flows }
 
-abbrev pub tallied : Tally → Entry → Tally
-tallied tally entry = counted tally (shows tally.flows entry).shown (shows tally.flows entry).flows
+abbrev pub tallied : Tally → RecordParts → Tally
+tallied tally entry = counted_record tally (shows tally.flows entry).shown (shows tally.flows entry).flows
 
 -- a record's line; nothing where it is skipped
-abbrev pub record_text : Tally → Entry → List ℕ
+abbrev pub record_text : Tally → RecordParts → List ℕ
 record_text tally entry = (shows tally.flows entry).text
 
 -- a number behind its word
-abbrev pub number_text : List ℕ → ℕ → List ℕ
-number_text word number = word ++ decimal number
+abbrev pub labelled_number : List ℕ → ℕ → List ℕ
+labelled_number word number = word ++ decimal number
 
 abbrev pub counts_line : Tally → List ℕ
 counts_line tally =
-    number_text (codes "records ") (tally.shown + tally.skipped) ++ number_text (codes " shown ") tally.shown
-    ++ number_text (codes " skipped ") tally.skipped ++ number_text (codes " flows ") (length tally.flows) ++ codes "\n"
+    labelled_number (codes "records ") (tally.shown + tally.skipped) ++ labelled_number (codes " shown ") tally.shown
+    ++ labelled_number (codes " skipped ") tally.skipped ++ labelled_number (codes " flows ") (length tally.flows) ++ codes "\n"
 
 -- a fault's line tells how many whole records stand before it
 abbrev pub fault_line : Tally → CaptureFault → List ℕ
 fault_line tally why =
-    codes "capture " ++ fault_name why ++ codes " after " ++ number_text (codes "record ") (tally.shown + tally.skipped) ++ codes "\n"
+    codes "capture " ++ fault_name why ++ codes " after " ++ labelled_number (codes "record ") (tally.shown + tally.skipped) ++ codes "\n"
 
 abbrev pub last_line : Tally → Option CaptureFault → List ℕ
 last_line tally None = counts_line tally
 last_line tally (Some why) = fault_line tally why
 
 -- the text of these records, and of what ended them, behind those that were tallied
-abbrev pub text_from : Tally → List Entry → Option CaptureFault → List ℕ
+abbrev pub text_from : Tally → List RecordParts → Option CaptureFault → List ℕ
 text_from tally [] end = last_line tally end
 text_from tally (entry ∷ entries) end = record_text tally entry ++ text_from (tallied tally entry) entries end
 
@@ -67,14 +67,14 @@ abbrev pub is_faulty : List ℕ → Bool
 is_faulty input = is_some (captured input).end
 
 -- how many bytes these records take, each with its header of 16
-abbrev pub size_of : List Entry → ℕ
+abbrev pub size_of : List RecordParts → ℕ
 size_of [] = 0
 size_of (entry ∷ entries) = (16 + length entry.bytes) + size_of entries
 
 -- where the last of these records ends in an input, whose file header has 24 bytes; 0 where there is none
-abbrev pub end_of : List Entry → ℕ
-end_of [] = 0
-end_of (entry ∷ entries) = 24 + size_of (entry ∷ entries)
+abbrev pub end_of_records : List RecordParts → ℕ
+end_of_records [] = 0
+end_of_records (entry ∷ entries) = 24 + size_of (entry ∷ entries)
 
 abbrev pub records_end : List ℕ → ℕ
-records_end input = end_of (captured input).records
+records_end input = end_of_records (captured input).records

@@ -5,8 +5,8 @@ use Rattle.schedule_text.specs.declared.line.LineFault.{LineFault}
 use Rattle.schedule_text.specs.declared.line.LineWhy.TheVariants as why
 
 -- A line without its newline.
-abbrev pub text_of : List ℕ → List ℕ
-text_of line = if slice_index line (length line - 1) == newline then take (length line - 1) line else line
+abbrev pub without_newline : List ℕ → List ℕ
+without_newline line = if slice_index line (length line - 1) == newline then take (length line - 1) line else line
 
 -- The fault of a line with a 4,097th byte, at that byte.
 abbrev pub too_long : LineFault

@@ -1,7 +1,7 @@
 -- What the steps of `run` and `replay` do over the lines of their input (own).
 use Rattle.std.specs.Prelude.{◌≡◌, ◌≢◌, ℕ, ◌≤◌, ◌<◌, ◌++◌, Bool, true, false, List, length, drop, Option, Some, IfSome, Result, Ok, Err}
 use Rattle.dccp_io.specs.Fronts.{GivesAtMost}
-use Rattle.dccp_io.specs.Lines.{LinesState, Finds, rest, first_line}
+use Rattle.dccp_io.specs.Lines.{LinesState, Finds, rest_of_input, first_line}
 use Rattle.dccp_io.specs.declared.lines.Stop.{Stop}
 use Rattle.dccp_io.specs.declared.lines.Stop.TheVariants as stop
 use Rattle.schedule_text.specs.declared.line.LineFault.{LineFault}
@@ -24,16 +24,16 @@ stopped stop.TooLong = turn.Refused too_long
 stopped stop.TooMuch = turn.Refused (whole_line why.TooMuchInput)
 stopped stop.Failed = turn.Failed
 
-abbrev pub turn_of : Result (Unit {0}) LineFault → Turn
-turn_of (Ok _) = turn.Accepted
-turn_of (Err fault) = turn.Refused fault
+abbrev pub judged_turn : Result (Unit {0}) LineFault → Turn
+judged_turn (Ok _) = turn.Accepted
+judged_turn (Err fault) = turn.Refused fault
 
 -- The first line that is left was refused. It was read, and at most 8,192 bytes behind it; a line is read to its 4,097th byte at most.
-pub record Refuses {S : Type 0} (left : S → Option (List ℕ)) (faults lender : S → ℕ) (old new : LinesState S) (IsRefused : List ℕ → Type 0) : Type 0 where
+pub record RefusesLine {S : Type 0} (left : S → Option (List ℕ)) (faults lender : S → ℕ) (old new : LinesState S) (IsRefused : List ℕ → Type 0) : Type 0 where
   pub never_falls : faults old.source ≤ faults new.source
   pub same_lender : lender new.source ≡ lender old.source
-  pub past : IfSome (rest left old) (λ bytes. GivesAtMost 12289 (Some bytes) (left new.source))
-  pub refused : IfSome (rest left old) (λ bytes. (0 < length bytes) × IsRefused (first_line bytes))
+  pub past : IfSome (rest_of_input left old) (λ bytes. GivesAtMost 12289 (Some bytes) (left new.source))
+  pub refused : IfSome (rest_of_input left old) (λ bytes. (0 < length bytes) × IsRefused (first_line bytes))
 
 -- One turn over a schedule: the line that stands next was played, or refused, or the input is at its end, and nothing else changed.
 abbrev pub Plays : {S : Type 0} → (S → Option (List ℕ)) → (S → ℕ) → (S → ℕ) → LinesState S → LinesState S → Play → Play → List ℕ → List ℕ
@@ -43,7 +43,7 @@ Plays left faults lender old new play next text written (Ok turn.Accepted) =
 Plays left faults lender old new play next text written (Ok turn.Ended) =
     Finds left faults lender old new (Ok false) × (next ≡ play) × (written ≡ text)
 Plays left faults lender old new play next text written (Ok (turn.Refused fault)) =
-    Refuses left faults lender old new (λ line. judged play line ≡ Refused fault) × (written ≡ text)
+    RefusesLine left faults lender old new (λ line. judged play line ≡ Refused fault) × (written ≡ text)
 Plays left faults lender old new play next text written (Ok turn.Failed) =
     Finds left faults lender old new (Err stop.Failed) × (written ≡ text)
 Plays left faults lender old new play next text written (Err _) = lender new.source ≡ lender old.source
@@ -56,7 +56,7 @@ Replays left faults lender old new before next text written (Ok turn.Accepted) =
 Replays left faults lender old new before next text written (Ok turn.Ended) =
     Finds left faults lender old new (Ok false) × (next ≡ before) × (written ≡ text)
 Replays left faults lender old new before next text written (Ok (turn.Refused fault)) =
-    Refuses left faults lender old new (λ line. replay.judged before line ≡ replay.Refused fault) × (written ≡ text)
+    RefusesLine left faults lender old new (λ line. replay.judged before line ≡ replay.Refused fault) × (written ≡ text)
 Replays left faults lender old new before next text written (Ok turn.Failed) =
     Finds left faults lender old new (Err stop.Failed) × (written ≡ text)
 Replays left faults lender old new before next text written (Err _) = lender new.source ≡ lender old.source

@@ -22,10 +22,10 @@ use Rattle.schedule_text.specs.declared.line.FrameLine.{FrameLine}
 use Rattle.schedule_text.specs.declared.line.LineFault.{LineFault}
 use Rattle.schedule_text.specs.declared.line.LineWhy.TheVariants as why
 use Rattle.dccp_command.specs.declared.replay.Replay.{Replay}
-use Rattle.dccp_io.specs.Lines.{lines_of}
-use Rattle.dccp_command.specs.Lines.{text_of}
+use Rattle.dccp_io.specs.Lines.{ends_within, lines_of}
+use Rattle.dccp_command.specs.Lines.{without_newline}
 use Rattle.dccp_command.specs.RunLines.{bytes_line, end_line, refusal_line}
-use Rattle.dccp_command.specs.Transcript.{ends_within, whole_line, without_offers}
+use Rattle.dccp_command.specs.Transcript.{config_without_offers, whole_line}
 
 abbrev pub role_of : Side → Role
 role_of Client = role.Client
@@ -33,7 +33,7 @@ role_of Server = role.Server
 
 -- The usual end of a side, with its offers or without.
 abbrev pub replay_config : Side → Bool → Config
-replay_config side plain = if plain then without_offers (usual (role_of side)) else usual (role_of side)
+replay_config side plain = if plain then config_without_offers (usual (role_of side)) else usual (role_of side)
 
 -- Before all: the end is new, and it has sent nothing.
 abbrev pub first_replay : Side → Bool → Replay
@@ -50,33 +50,33 @@ reply_line side index None = []
 reply_line side index (Some bytes) = bytes_line side index bytes
 
 -- A step of the end, with what it makes of its congestion control.
-abbrev pub controlled : {Answer : Type 0} → Replay → Step Answer → EndStep Both Answer
-controlled replay step = with_control kinds_control replay.end.congestion step
+abbrev pub controlled_step : {Answer : Type 0} → Replay → Step Answer → EndStep Both Answer
+controlled_step replay step = with_control kinds_control replay.end.congestion step
 
 -- The end after a step, and how many frames it has sent then.
 abbrev pub after_step : {Answer : Type 0} → Replay → EndStep Both Answer → Replay
 after_step replay step = record replay { end = step.after; sent = replay.sent + count step.frame }
 
 -- The line of the call `open`.
-abbrev pub open_line : Result (Unit {0}) OpenFault → List ℕ
-open_line (Ok _) = codes "open: ok\n"
-open_line (Err _) = codes "open: refused NotFresh\n"
+abbrev pub opened_line : Result (Unit {0}) OpenFault → List ℕ
+opened_line (Ok _) = codes "open: ok\n"
+opened_line (Err _) = codes "open: refused NotFresh\n"
 
 -- What stands before the first line: its text, and where the replay then stands.
 pub record Begun : Type 0 where
   pub text : List ℕ
   pub replay : Replay
 
-abbrev pub opening : Replay → EndStep Both (Result (Unit {0}) OpenFault) → Begun
-opening replay step = record { text = open_line step.answer ++ reply_line replay.side replay.sent step.frame; replay = after_step replay step }
+abbrev pub opened_replay : Replay → EndStep Both (Result (Unit {0}) OpenFault) → Begun
+opened_replay replay step = record { text = opened_line step.answer ++ reply_line replay.side replay.sent step.frame; replay = after_step replay step }
 
 -- A client opens first; a server waits.
 abbrev pub begun_from : Replay → Side → Begun
-begun_from replay Client = opening replay (controlled replay (opens replay.end.state))
+begun_from replay Client = opened_replay replay (controlled_step replay (opens replay.end.state))
 begun_from replay Server = record { text = []; replay = replay }
 
-abbrev pub begun : Side → Bool → Begun
-begun side plain = begun_from (first_replay side plain) side
+abbrev pub begun_replay : Side → Bool → Begun
+begun_replay side plain = begun_from (first_replay side plain) side
 
 -- The next line begins behind this one.
 abbrev pub behind : Replay → List ℕ → Replay
@@ -93,15 +93,15 @@ abbrev pub arriving : Side → FrameLine → List ℕ
 arriving side frame = if frame.seal then sealed (usual (role_of side)).pseudo_in frame.bytes else frame.bytes
 
 -- The line of what the end does with the frame, and that of the frame that it sends.
-abbrev pub told : Replay → List ℕ → EndStep Both Outcome → List ℕ
-told replay bytes step =
+abbrev pub replay_line : Replay → List ℕ → EndStep Both Outcome → List ℕ
+replay_line replay bytes step =
     result_line replay.number (seen.Received step.answer) bytes ++ reply_line replay.side replay.sent step.frame
 
 abbrev pub by_step : Replay → List ℕ → List ℕ → EndStep Both Outcome → Verdict
-by_step replay piece bytes step = Accepted (told replay bytes step) (behind (after_step replay step) piece)
+by_step replay piece bytes step = Accepted (replay_line replay bytes step) (behind (after_step replay step) piece)
 
 abbrev pub by_frame : Replay → List ℕ → List ℕ → Verdict
-by_frame replay piece bytes = by_step replay piece bytes (controlled replay (receives replay.end.state bytes))
+by_frame replay piece bytes = by_step replay piece bytes (controlled_step replay (receives replay.end.state bytes))
 
 abbrev pub by_line : Replay → List ℕ → Result (Option FrameLine) LineFault → Verdict
 by_line replay piece (Err fault) = Refused fault
@@ -111,7 +111,7 @@ by_line replay piece (Ok (Some frame)) = by_frame replay piece (arriving replay.
 -- A line with its newline. The bytes of the input are judged before the line by itself.
 abbrev pub judged : Replay → List ℕ → Verdict
 judged replay piece =
-    if ends_within replay.read piece then by_line replay piece (read_frame (text_of piece)) else Refused (whole_line why.TooMuchInput)
+    if ends_within replay.read piece then by_line replay piece (read_frame (without_newline piece)) else Refused (whole_line why.TooMuchInput)
 
 -- A line was replayed so: an accepted one leaves its text at the text's end and leads on, a refused one leaves the text as it was.
 abbrev pub Judges : Verdict → List ℕ → List ℕ → Replay → Result (Unit {0}) LineFault → Type 0
@@ -153,17 +153,17 @@ replayed_from replay (piece ∷ pieces) = continues_with replay (judged replay p
 abbrev pub begun_with : Begun → List (List ℕ) → Replayed
 begun_with begun pieces = onto begun.text (replayed_from begun.replay pieces)
 
-abbrev pub replayed : Side → Bool → List ℕ → Replayed
-replayed side plain input = begun_with (begun side plain) (lines_of input)
+abbrev pub replay_of_input : Side → Bool → List ℕ → Replayed
+replay_of_input side plain input = begun_with (begun_replay side plain) (lines_of input)
 
 -- What `replay` writes of an input.
 abbrev pub replay_text : Side → Bool → List ℕ → List ℕ
-replay_text side plain input = (replayed side plain input).text
+replay_text side plain input = (replay_of_input side plain input).text
 
 -- The input is refused at some line.
 abbrev pub is_refused : Side → Bool → List ℕ → Bool
-is_refused side plain input = (replayed side plain input).is_refused
+is_refused side plain input = (replay_of_input side plain input).is_refused
 
 -- How many bytes of an input its accepted lines have, those before the first that is refused.
 abbrev pub accepted_bytes : Side → Bool → List ℕ → ℕ
-accepted_bytes side plain input = (replayed side plain input).accepted
+accepted_bytes side plain input = (replay_of_input side plain input).accepted

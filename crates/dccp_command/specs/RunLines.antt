@@ -1,7 +1,7 @@
 -- The lines that `run` writes (own).
 use Rattle.std.specs.Prelude.{ℕ, ◌++◌, List, [], ◌∷◌, codes, decimal, flat_map, slice_get, Option, Some, None}
 use Rattle.hex.specs.Hex.{encode_lower}
-use Rattle.feature_lists.specs.Features.{number_of}
+use Rattle.feature_lists.specs.Features.{feature_number}
 use Rattle.feature_lists.specs.declared.features.Feature.{Feature}
 use Rattle.feature_lists.specs.declared.features.Feature.TheVariants as feature
 use Rattle.feature_lists.specs.declared.features.Place.TheVariants.{Here, There}
@@ -9,7 +9,7 @@ use Rattle.ccid_two.specs.Kinds.{Both, kinds_control}
 use Rattle.dccp_endpoint.specs.Controlled.{End, window_of, in_flight_of}
 use Rattle.dccp_endpoint.specs.End.{EndState, held_of}
 use Rattle.feature_machine.specs.declared.stands.Held.{Held}
-use Rattle.two_ends.specs.Controlled.{Controlled, end_of}
+use Rattle.two_ends.specs.Controlled.{Controlled, end_of_side}
 use Rattle.two_ends.specs.World.{WorldState, half_of}
 use Rattle.two_ends.specs.declared.frames.SentFrame.{SentFrame}
 use Rattle.two_ends.specs.declared.event.Side.{Side}
@@ -21,26 +21,26 @@ use Rattle.schedule_text.specs.Printing.{frame_name}
 use Rattle.schedule_text.specs.declared.line.LineFault.{LineFault}
 use Rattle.dccp_command.specs.Text.{phase_name, stand_mark, line_why_name}
 
-abbrev pub bytes_of : Option SentFrame → List ℕ
-bytes_of None = []
-bytes_of (Some frame) = frame.bytes
+abbrev pub sent_bytes : Option SentFrame → List ℕ
+sent_bytes None = []
+sent_bytes (Some frame) = frame.bytes
 
 -- The bytes that an event brought to an end, in a world that has the frame; none for a call.
 abbrev pub arrived : WorldState → Event → List ℕ
-arrived w (event.Deliver from index) = bytes_of (slice_get (half_of w from).frames index)
+arrived w (event.Deliver from index) = sent_bytes (slice_get (half_of w from).frames index)
 arrived w _ = []
 
 -- The line of a frame of these bytes that was sent.
 abbrev pub bytes_line : Side → ℕ → List ℕ → List ℕ
 bytes_line side index bytes = codes "sent " ++ frame_name side index ++ codes " " ++ encode_lower bytes ++ codes "\n"
 
-abbrev pub frame_line : Side → ℕ → Option SentFrame → List ℕ
-frame_line side index None = []
-frame_line side index (Some frame) = bytes_line side index frame.bytes
+abbrev pub sent_frame_line : Side → ℕ → Option SentFrame → List ℕ
+sent_frame_line side index None = []
+sent_frame_line side index (Some frame) = bytes_line side index frame.bytes
 
 -- The line of the frame that a side sent in a step, where it had sent so many before; nothing where it sent none.
 abbrev pub sent_line : WorldState → Side → ℕ → List ℕ
-sent_line w side before = frame_line side before (slice_get (half_of w side).frames before)
+sent_line w side before = sent_frame_line side before (slice_get (half_of w side).frames before)
 
 abbrev pub held_text : Held → List ℕ
 held_text held = decimal held.value ++ stand_mark held.stand
@@ -48,7 +48,7 @@ held_text held = decimal held.value ++ stand_mark held.stand
 -- A feature's two values, Here and There.
 unfoldable pub row_text : EndState → Feature → List ℕ
 row_text e feature =
-    codes " " ++ decimal (number_of feature) ++ codes "=" ++ held_text (held_of e feature Here) ++ codes "/" ++ held_text (held_of e feature There)
+    codes " " ++ decimal (feature_number feature) ++ codes "=" ++ held_text (held_of e feature Here) ++ codes "/" ++ held_text (held_of e feature There)
 
 abbrev pub all_features : List Feature
 all_features =
@@ -71,7 +71,7 @@ abbrev pub end_line : Side → End Both → List ℕ
 end_line side e = end_name side e.state ++ end_counts e.congestion ++ end_rows e.state ++ codes "\n"
 
 abbrev pub end_lines : Controlled Both → List ℕ
-end_lines w = end_line Client (end_of w Client) ++ end_line Server (end_of w Server)
+end_lines w = end_line Client (end_of_side w Client) ++ end_line Server (end_of_side w Server)
 
 -- The line of a refusal, under the number of the line that is refused.
 abbrev pub refusal_line : ℕ → LineFault → List ℕ

@@ -2,7 +2,7 @@
 use Rattle.std.specs.Prelude.{◌≡◌, ◌≢◌, ℕ, ◌++◌, false, true, List, drop, Option, Some, None, is_some, Result, Ok, Err}
 use Rattle.capture_reader.specs.declared.fault.CaptureFault.{CaptureFault}
 use Rattle.capture_reader.specs.declared.fault.CaptureFault.TheVariants.{ReadFault, NoMemory}
-use Rattle.capture_reader.specs.Records.{Entry, Captured}
+use Rattle.capture_reader.specs.Records.{RecordParts, Captured}
 use Rattle.capture_reader.specs.State.{CapturesState, Advances, Passed}
 use Rattle.seq_circle.specs.declared.memory.NoMemory as no_memory
 use Rattle.dccp_command.specs.declared.show.Tally.{Tally}
@@ -18,7 +18,7 @@ use Rattle.dccp_command.specs.Top.{IsAnswered, IsCutOff, HasTaken, HasBegun, Ans
 abbrev pub Turns : {S : Type 0} → (S → Option (List ℕ)) → (S → ℕ) → (S → ℕ) → CapturesState S → CapturesState S → Tally → Tally → List ℕ → List ℕ
     → Result Turn no_memory.NoMemory → Type 0
 Turns left faults lender old new tally after text written (Ok turn.Shown) =
-    (entry : Entry) × Advances left faults lender old new (Ok (Some entry)) × (after ≡ tallied tally entry) × (written ≡ text ++ record_text tally entry)
+    (entry : RecordParts) × Advances left faults lender old new (Ok (Some entry)) × (after ≡ tallied tally entry) × (written ≡ text ++ record_text tally entry)
 Turns left faults lender old new tally after text written (Ok (turn.Ended None)) =
     Advances left faults lender old new (Ok None) × (after ≡ tally) × (written ≡ text)
 Turns left faults lender old new tally after text written (Ok (turn.Ended (Some why))) =
@@ -36,18 +36,18 @@ pub record Closes (text : List ℕ) (end : Option CaptureFault) (result : Status
 
 -- A file header was refused: the line of its fault was written as the only one, or nothing where the source failed or memory was not
 -- found.
-abbrev pub RefusesHeader : CaptureFault → Status → Option (List ℕ) → Option (List ℕ) → Type 0
-RefusesHeader ReadFault result before after = (result ≡ status.Read) × (after ≡ before)
-RefusesHeader NoMemory result before after = (result ≡ status.Memory) × (after ≡ before)
-RefusesHeader why result before after =
+abbrev pub ShowsHeaderFault : CaptureFault → Status → Option (List ℕ) → Option (List ℕ) → Type 0
+ShowsHeaderFault ReadFault result before after = (result ≡ status.Read) × (after ≡ before)
+ShowsHeaderFault NoMemory result before after = (result ≡ status.Memory) × (after ≡ before)
+ShowsHeaderFault why result before after =
     (result ≢ status.Words) × (result ≢ status.Read) × Closes (fault_line first_tally why) (Some why) result before after
 
 -- all that `show` writes of a capture whose records are these
-abbrev pub text_of : Captured → List ℕ
-text_of whole = text_from first_tally whole.records whole.end
+abbrev pub shown_text : Captured → List ℕ
+shown_text whole = text_from first_tally whole.records whole.end
 
 -- The records of an input behind its file header were shown: what was written, how it ended, and, where a fault ended them, how far the
 -- input was read past the last whole record.
 pub record ShowsRecords (whole : Captured) (input : List ℕ) (result : Status) (left before after : Option (List ℕ)) : Type 0 where
-  pub answers : Answers (text_of whole) (is_some whole.end) result left before after
+  pub answers : Answers (shown_text whole) (is_some whole.end) result left before after
   pub past : result ≡ status.Input → Passed 262160 (Some (drop (size_of whole.records) input)) left

@@ -14,8 +14,8 @@ abbrev pub HasBegun : Option (List ℕ) → Option (List ℕ) → List ℕ → T
 HasBegun before after text = (n : ℕ) × (after ≡ append_known before (take n text))
 
 -- A front of the text was moved into what a sink has taken.
-abbrev pub Moves : Option (List ℕ) → Option (List ℕ) → List ℕ → List ℕ → Type 0
-Moves before after text kept = (moved : List ℕ) × (after ≡ append_known before moved) × (text ≡ moved ++ kept)
+abbrev pub IsMovedOut : Option (List ℕ) → Option (List ℕ) → List ℕ → List ℕ → Type 0
+IsMovedOut before after text kept = (moved : List ℕ) × (after ≡ append_known before moved) × (text ≡ moved ++ kept)
 
 -- A sink's counts show that it failed, or took no byte of a piece that was not empty.
 abbrev pub SinkFailed : ℕ → ℕ → ℕ → ℕ → Type 0

@@ -1,5 +1,5 @@
 -- What `run` writes of an input: the lines of its accepted lines, then the two end lines or the line of the first refusal (own).
-use Rattle.std.specs.Prelude.{◌≡◌, ℕ, ◌+◌, ◌^◌, ◌<◌, ◌++◌, Bool, true, false, ◌&&◌, nat_le, nat_lt, min, if◌then◌else◌, List, [], ◌∷◌, length, take, Option, Some, None, is_some, Result, Ok, Err}
+use Rattle.std.specs.Prelude.{◌≡◌, ℕ, ◌+◌, ◌^◌, ◌<◌, ◌++◌, Bool, true, false, ◌&&◌, nat_lt, if◌then◌else◌, List, [], ◌∷◌, length, take, Option, Some, None, is_some, Result, Ok, Err}
 use Rattle.dccp_endpoint.specs.Usual.{usual}
 use Rattle.dccp_endpoint.specs.declared.config.Config.{Config}
 use Rattle.dccp_states.specs.declared.phase.Role.TheVariants as role
@@ -28,13 +28,9 @@ use Rattle.schedule_text.specs.declared.line.LineFault.{LineFault}
 use Rattle.schedule_text.specs.declared.line.LineWhy.{LineWhy}
 use Rattle.schedule_text.specs.declared.line.LineWhy.TheVariants as why
 use Rattle.dccp_command.specs.declared.play.Play.{Play}
-use Rattle.dccp_io.specs.Lines.{lines_of}
-use Rattle.dccp_command.specs.Lines.{text_of}
+use Rattle.dccp_io.specs.Lines.{ends_within, lines_of}
+use Rattle.dccp_command.specs.Lines.{without_newline}
 use Rattle.dccp_command.specs.RunLines.{arrived, sent_line, end_lines, refusal_line}
-
--- The most bytes of an input.
-abbrev pub most_bytes : ℕ
-most_bytes = 16777216
 
 -- The most events of a schedule.
 abbrev pub most_events : ℕ
@@ -73,8 +69,8 @@ whole_line cause = record { column = 1; why = cause }
 abbrev pub no_such_frame : LineFault
 no_such_frame = record { column = 9; why = why.NoSuchFrame }
 
-abbrev pub says_nothing : Play → List ℕ → Verdict
-says_nothing play piece = Accepted [] [] (behind play piece)
+abbrev pub accepts_nothing : Play → List ℕ → Verdict
+accepts_nothing play piece = Accepted [] [] (behind play piece)
 
 -- A line that stands before all events changes the configurations.
 abbrev pub configures : Play → Play → Verdict
@@ -92,11 +88,11 @@ abbrev pub with_iss : Side → ℕ → Play → Play
 with_iss side number play = with_config side (record (config_of play side) { iss = number }) play
 
 -- a configuration that offers nothing
-abbrev pub without_offers : Config → Config
-without_offers config = record config { lists = listed.without_offers config.lists }
+abbrev pub config_without_offers : Config → Config
+config_without_offers config = record config { lists = listed.without_offers config.lists }
 
 abbrev pub says_plain : Play → Play
-says_plain play = record play { client = without_offers play.client; server = without_offers play.server }
+says_plain play = record play { client = config_without_offers play.client; server = config_without_offers play.server }
 
 -- A wish or an offer that an end may not have changes nothing; its line was refused before.
 abbrev pub wishing : Config → Feature → Place → Result Wanted PreferFault → Config
@@ -158,25 +154,21 @@ in_place play fault = if is_some play.world && is_of_wish fault.why then whole_l
 
 abbrev pub by_line : Play → List ℕ → Result Line LineFault → Verdict
 by_line play piece (Err fault) = Refused (in_place play fault)
-by_line play piece (Ok line.Nothing) = says_nothing play piece
+by_line play piece (Ok line.Nothing) = accepts_nothing play piece
 by_line play piece (Ok line.Plain) = configures play (says_plain (behind play piece))
 by_line play piece (Ok (line.Iss side number)) = configures play (with_iss side number (behind play piece))
 by_line play piece (Ok (line.Set side place feature values)) = configures play (with_set side feature place values (behind play piece))
 by_line play piece (Ok (line.Offer side place feature mandatory)) = configures play (with_offered side feature place mandatory (behind play piece))
 by_line play piece (Ok (line.Event event)) = says_event play piece event
 
--- Behind so many bytes, those up to a line's newline, or up to the one at which it is too long, lie within those that an input may have.
-abbrev pub ends_within : ℕ → List ℕ → Bool
-ends_within read piece = nat_le (read + min (length piece) 4097) most_bytes
-
-abbrev pub is_within : Play → List ℕ → Bool
-is_within play piece = ends_within play.read piece
+abbrev pub line_is_within : Play → List ℕ → Bool
+line_is_within play piece = ends_within play.read piece
 
 -- A line with its newline. Its faults are judged in this order: the bytes of the input, the line by itself up to its words, that it
 -- stands before all events, what an end may wish, the count of events, the frame that it names.
 abbrev pub judged : Play → List ℕ → Verdict
 judged play piece =
-    if is_within play piece then by_line play piece (read_line (text_of piece)) else Refused (whole_line why.TooMuchInput)
+    if line_is_within play piece then by_line play piece (read_line (without_newline piece)) else Refused (whole_line why.TooMuchInput)
 
 -- A line was played so: an accepted one leaves its text at the text's end and leads on, a refused one leaves the text as it was.
 abbrev pub Judges : Verdict → List ℕ → List ℕ → Play → Result (Unit {0}) LineFault → Type 0
@@ -184,9 +176,9 @@ Judges (Accepted text events next) old new play answer = (new ≡ old ++ text) �
 Judges (Refused fault) old new play answer = (new ≡ old) × (answer ≡ Err fault)
 
 -- An event was shown so.
-abbrev pub Shows : Result Shown LineFault → List ℕ → List ℕ → Controlled Both → Result (Unit {0}) LineFault → Type 0
-Shows (Ok shown) old new after answer = (new ≡ old ++ shown.text) × (after ≡ shown.world) × (answer ≡ Ok tt)
-Shows (Err fault) old new after answer = (new ≡ old) × (answer ≡ Err fault)
+abbrev pub ShowsEvent : Result Shown LineFault → List ℕ → List ℕ → Controlled Both → Result (Unit {0}) LineFault → Type 0
+ShowsEvent (Ok shown) old new after answer = (new ≡ old ++ shown.text) × (after ≡ shown.world) × (answer ≡ Ok tt)
+ShowsEvent (Err fault) old new after answer = (new ≡ old) × (answer ≡ Err fault)
 
 -- A client and a server, whose fields fit their widths.
 pub record ArePeers (client server : Config) : Type 0 where

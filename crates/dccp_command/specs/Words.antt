@@ -9,21 +9,21 @@ use Rattle.dccp_command.specs.declared.words.Form.{Form}
 use Rattle.dccp_command.specs.declared.words.Form.TheVariants as form
 
 -- A word is this text.
-abbrev pub says : String Global → List ℕ → Bool
-says word text = bytes_eq (string_bytes word) text
+abbrev pub is_word : String Global → List ℕ → Bool
+is_word word text = bytes_eq (string_bytes word) text
 
 -- the value of `--side`, as a word of its own
 abbrev pub named_side : String Global → Option Side
 named_side word =
-    if says word (codes "server") then Some Server
-    else if says word (codes "client") then Some Client
+    if is_word word (codes "server") then Some Server
+    else if is_word word (codes "client") then Some Client
     else None
 
 -- the same in one word with its name
 abbrev pub joined_side : String Global → Option Side
 joined_side word =
-    if says word (codes "--side=server") then Some Server
-    else if says word (codes "--side=client") then Some Client
+    if is_word word (codes "--side=server") then Some Server
+    else if is_word word (codes "--side=client") then Some Client
     else None
 
 abbrev pub replays : Bool → Option Side → Option Form
@@ -36,13 +36,13 @@ abbrev pub replay_of : List (String Global) → Option Form
 replay_of [] = None
 replay_of (side ∷ []) = replays false (joined_side side)
 replay_of (first ∷ (second ∷ [])) =
-    if says first (codes "--plain") then replays true (joined_side second)
-    else if says second (codes "--plain") then replays true (joined_side first)
-    else if says first (codes "--side") then replays false (named_side second)
+    if is_word first (codes "--plain") then replays true (joined_side second)
+    else if is_word second (codes "--plain") then replays true (joined_side first)
+    else if is_word first (codes "--side") then replays false (named_side second)
     else None
 replay_of (first ∷ (second ∷ (third ∷ []))) =
-    if says first (codes "--plain") && says second (codes "--side") then replays true (named_side third)
-    else if says first (codes "--side") && says third (codes "--plain") then replays true (named_side second)
+    if is_word first (codes "--plain") && is_word second (codes "--side") then replays true (named_side third)
+    else if is_word first (codes "--side") && is_word third (codes "--plain") then replays true (named_side second)
     else None
 replay_of (first ∷ (second ∷ (third ∷ (fourth ∷ words)))) = None
 
@@ -51,18 +51,18 @@ abbrev pub campaigns : List (String Global) → Option Form
 campaigns words = option_and_then (λ campaign. Some (form.Campaign campaign)) (campaign_of words)
 
 -- No word may follow `run` and `show`.
-abbrev pub alone : Form → List (String Global) → Option Form
-alone form [] = Some form
-alone form (word ∷ words) = None
+abbrev pub takes_no_word : Form → List (String Global) → Option Form
+takes_no_word form [] = Some form
+takes_no_word form (word ∷ words) = None
 
 -- The form that the words have: `run`, `replay`, `campaign` or `show`.
 abbrev pub form_of : List (String Global) → Option Form
 form_of [] = None
 form_of (first ∷ words) =
-    if says first (codes "run") then alone form.Run words
-    else if says first (codes "replay") then replay_of words
-    else if says first (codes "campaign") then campaigns words
-    else if says first (codes "show") then alone form.Show words
+    if is_word first (codes "run") then takes_no_word form.Run words
+    else if is_word first (codes "replay") then replay_of words
+    else if is_word first (codes "campaign") then campaigns words
+    else if is_word first (codes "show") then takes_no_word form.Show words
     else None
 
 -- The line that answers all other words.

@@ -2,7 +2,7 @@
 ghost use Rattle.std.specs.Prelude.{◌≡◌, ◌≤◌, [], OnOk, OnErr};
 ghost use Rattle.std.specs.Io.KnownBytes.{append_known};
 ghost use Rattle.dccp_io.specs.Fronts.{TakesFront};
-ghost use Rattle.dccp_command.specs.Top.{SinkFailed, HasBegun, Moves};
+ghost use Rattle.dccp_command.specs.Top.{SinkFailed, HasBegun, IsMovedOut};
 
 use crate::top::Status;
 use dccp_io::{Failed, Sink, write_all};
@@ -26,7 +26,7 @@ pub(crate) fn flush<K: Sink>(output: &mut K, text: &mut Vec<u8>) -> Result<(), F
 
 /// Writes the text and lets it go where it has a block's length.
 pub(crate) fn flush_if_full<K: Sink>(output: &mut K, text: &mut Vec<u8>) -> Result<(), Failed>
-    ensures moved { OnOk result (Moves (K.taken output.old) (K.taken output.new) text.old.items text.new.items) }
+    ensures moved { OnOk result (IsMovedOut (K.taken output.old) (K.taken output.new) text.old.items text.new.items) }
     ensures front { OnErr result (TakesFront (K.taken output.old) (K.taken output.new) text.old.items) }
     ensures never_falls { K.faults output.old ≤ K.faults output.new }
     ensures takes_never_fall { K.empty_takes output.old ≤ K.empty_takes output.new }

@@ -1,7 +1,7 @@
 //! What the words behind `campaign` ask for.
 ghost use Rattle.std.specs.Prelude.{◌≡◌, ◌≤◌, ◌∷◌, IfSome, IfNone, None, Some, length, map, string_bytes};
 ghost use Rattle.std.specs.Str.{bytes_eq};
-ghost use Rattle.dccp_command.specs.CampaignWords.{IsWithin, campaign_of, figure_named, given_once, is_same, least, most, number_of, preceded, setting_of, settings_of};
+ghost use Rattle.dccp_command.specs.CampaignWords.{IsWithinBounds, campaign_of, figure_named, figure_number, given_once, is_same, least, most, preceded, setting_of, settings_of};
 
 use crate::numbers::number_up_to;
 
@@ -78,7 +78,7 @@ impl Figure {
 
     // The number that this text says, within the figure's bounds.
     fn number(self, text: &[u8]) -> Option<u64>
-        ensures value { result ≡ number_of self text.now }
+        ensures value { result ≡ figure_number self text.now }
         ensures within { IfSome result (λ n. least self ≤ n × n ≤ most self) }
     {
         let number = number_up_to(self.most(), text)?;
@@ -150,7 +150,7 @@ fn given_once(figure: Figure, words: &[String]) -> Option<u64>
 /// The campaign that the words behind `campaign` ask for.
 pub(crate) fn campaign_of(words: &[String]) -> Option<Campaign>
     ensures value { result ≡ campaign_of words.now }
-    ensures within { IfSome result IsWithin }
+    ensures within { IfSome result IsWithinBounds }
 {
     let first = given_once(Figure::First, words)?;
     let seeds = given_once(Figure::Seeds, words)?;

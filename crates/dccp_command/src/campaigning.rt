@@ -1,7 +1,7 @@
 //! `campaign`: seeds that are run by workers, and what is counted of them.
 ghost use Rattle.std.specs.Prelude.{◌≡◌, ◌≢◌, ◌++◌, IfOk, OnOk};
 ghost use Rattle.dccp_command.specs.CampaignText.{AnswersUnread, arrival_text, campaign_text, count_line, report_text, run_text};
-ghost use Rattle.dccp_command.specs.CampaignWords.{IsWithin};
+ghost use Rattle.dccp_command.specs.CampaignWords.{IsWithinBounds};
 ghost use Rattle.dccp_command.specs.Top.{SinkFailed};
 
 use crate::campaign_words::Campaign;
@@ -60,7 +60,7 @@ fn counted<R: Threads + Sync, G: Gate + Sync>(
     gate: &G,
     job: Campaign,
 ) -> Result<Vec<u8>, NoMemory>
-    requires { IsWithin job }
+    requires { IsWithinBounds job }
     ensures { IfOk result (λ text. text.items ≡ campaign_text job) }
 {
     let report = fault_campaign::campaign(
@@ -85,7 +85,7 @@ pub(crate) fn run_campaign<R: Threads + Sync, G: Gate + Sync, K: Sink>(
     job: Campaign,
     output: &mut K,
 ) -> Status
-    requires { IsWithin job }
+    requires { IsWithinBounds job }
     ensures words { result ≢ Status.Words }
     ensures answers { AnswersUnread (campaign_text job) result (K.taken output.old) (K.taken output.new)
         (SinkFailed (K.faults output.old) (K.faults output.new) (K.empty_takes output.old) (K.empty_takes output.new)) }

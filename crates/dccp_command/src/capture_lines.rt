@@ -1,6 +1,6 @@
 //! The last line that `show` writes.
 ghost use Rattle.std.specs.Prelude.{◌≡◌, ◌++◌, ◌+◌, ◌<◌, ◌^◌, OnOk};
-ghost use Rattle.dccp_command.specs.CaptureText.{number_text, fault_name, counts_line, fault_line, last_line};
+ghost use Rattle.dccp_command.specs.CaptureText.{labelled_number, fault_name, counts_line, fault_line, last_line};
 
 use crate::show::Tally;
 use crate::text::{put, put_number};
@@ -24,7 +24,7 @@ fn fault_name(fault: CaptureFault) -> &'static [u8]
 
 /// Puts a number behind its word.
 pub(crate) fn put_counted(text: &mut Vec<u8>, word: &[u8], number: u64) -> Result<(), NoMemory>
-    ensures { OnOk result (text.new.items ≡ text.old.items ++ number_text word.now number) }
+    ensures { OnOk result (text.new.items ≡ text.old.items ++ labelled_number word.now number) }
 {
     put(text, word)?;
     put_number(text, number)

@@ -1,7 +1,7 @@
 //! A line of an input, and what a turn over the lines comes to.
 ghost use Rattle.std.specs.Prelude.{◌≡◌, ◌≢◌, ◌++◌, true};
-ghost use Rattle.dccp_command.specs.Lines.{text_of, too_long};
-ghost use Rattle.dccp_command.specs.Loops.{Leaves, stopped, turn_of};
+ghost use Rattle.dccp_command.specs.Lines.{too_long, without_newline};
+ghost use Rattle.dccp_command.specs.Loops.{Leaves, judged_turn, stopped};
 ghost use Rattle.dccp_command.specs.RunLines.{refusal_line};
 ghost use Rattle.dccp_command.specs.Top.{SinkFailed};
 
@@ -37,7 +37,7 @@ impl Turn {
 
     /// The turn in which a line was judged.
     pub(crate) fn judged(answer: Result<(), LineFault>) -> Turn
-        ensures { result ≡ turn_of answer }
+        ensures { result ≡ judged_turn answer }
     {
         match answer {
             Ok(()) => Turn::Accepted,
@@ -57,8 +57,8 @@ fn too_long() -> LineFault
 }
 
 /// A line without its newline.
-pub(crate) fn text_of(line: &[u8]) -> &[u8]
-    ensures { result.now ≡ text_of line.now }
+pub(crate) fn without_newline(line: &[u8]) -> &[u8]
+    ensures { result.now ≡ without_newline line.now }
 {
     match line {
         [.., b'\n'] => &line[..line.len() - 1],

@@ -1,12 +1,13 @@
 //! A schedule while it is played.
 ghost use Rattle.std.specs.Prelude.{◌≡◌, ◌++◌, ◌+◌, ◌^◌, ◌<◌, length, ℕ, List, is_some, if◌then◌else◌, IfOk, OnOk, Some, Ok, Err};
 ghost use Rattle.dccp_command.specs.RunLines.{end_lines};
-ghost use Rattle.dccp_command.specs.Transcript.{first_play, world_of, ArePeers, IsReady, IsBehind, Shows, event_shown, Judges, judged, by_line, ends_within, behind, configures, says_plain, with_iss, with_set, with_offered, without_offers, wishing, offering, in_place, says_event, whole_line, no_such_frame};
+ghost use Rattle.dccp_command.specs.Transcript.{first_play, world_of, ArePeers, IsReady, IsBehind, ShowsEvent, event_shown, Judges, judged, by_line, behind, configures, says_plain, with_iss, with_set, with_offered, config_without_offers, wishing, offering, in_place, says_event, whole_line, no_such_frame};
+ghost use Rattle.dccp_io.specs.Lines.{ends_within};
 ghost use Rattle.dccp_endpoint.specs.Drafts.{Fits};
 ghost use Rattle.feature_lists.specs.Wishes.{wish_of};
 ghost use Rattle.feature_machine.specs.Lists.{IsLists};
 
-use crate::lines::text_of;
+use crate::lines::without_newline;
 use crate::run_lines::{arrived, put_end_lines, put_sent_line};
 use ccid_two::Kinds;
 use dccp_endpoint::{Config, Role};
@@ -72,7 +73,7 @@ impl Play {
             return Ok(Err(whole_line(LineWhy::TooMuchInput)));
         }
         let mut said = Line::Nothing;
-        match read_line_into(text_of(line), &mut said) {
+        match read_line_into(without_newline(line), &mut said) {
             Err(fault) => Ok(Err(self.in_place(fault))),
             Ok(()) => self.say(alloc, line, &said, text),
         }
@@ -279,7 +280,7 @@ impl Play {
 // A configuration that offers nothing.
 fn offer_nothing(config: &mut Config)
     requires { Fits config.old }
-    ensures plain { config.new ≡ without_offers config.old }
+    ensures plain { config.new ≡ config_without_offers config.old }
     ensures fits { Fits config.new }
 {
     config.plain();
@@ -323,7 +324,7 @@ fn show_event(
     event: &Event,
     text: &mut Vec<u8>,
 ) -> Result<Result<(), LineFault>, NoMemory>
-    ensures { IfOk result (λ answer. Shows (event_shown number world.old event.now) text.old.items text.new.items world.new answer) }
+    ensures { IfOk result (λ answer. ShowsEvent (event_shown number world.old event.now) text.old.items text.new.items world.new answer) }
 {
     let actor = event.actor();
     let before = world.frames(actor).len();

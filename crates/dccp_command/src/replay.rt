@@ -7,9 +7,9 @@ ghost use Rattle.dccp_endpoint.specs.Usual.{usual};
 ghost use Rattle.dccp_sum.specs.Checksum.{sealed};
 ghost use Rattle.schedule_text.specs.Results.{HasItsData};
 ghost use Rattle.dccp_command.specs.RunLines.{end_line};
-ghost use Rattle.dccp_command.specs.Replay.{role_of, replay_config, first_replay, open_line, reply_line, count, begun, begun_from, IsReady, IsBehind, behind, arriving, by_frame, judged, Judges};
+ghost use Rattle.dccp_command.specs.Replay.{role_of, replay_config, first_replay, opened_line, reply_line, count, begun_replay, begun_from, IsReady, IsBehind, behind, arriving, by_frame, judged, Judges};
 
-use crate::lines::text_of;
+use crate::lines::without_newline;
 use crate::play::{ends_within, whole_line};
 use crate::run_lines::{put_end_line, put_frame_line};
 use crate::text::put;
@@ -60,8 +60,8 @@ impl Replay {
         plain: bool,
         text: &mut Vec<u8>,
     ) -> Result<Replay, NoMemory>
-        ensures value { IfOk result (λ replay. replay ≡ (begun side plain).replay) }
-        ensures text { OnOk result (text.new.items ≡ text.old.items ++ (begun side plain).text) }
+        ensures value { IfOk result (λ replay. replay ≡ (begun_replay side plain).replay) }
+        ensures text { OnOk result (text.new.items ≡ text.old.items ++ (begun_replay side plain).text) }
     {
         let mut replay = Replay::new(alloc, side, plain)?;
         if side == Side::Client {
@@ -109,7 +109,7 @@ impl Replay {
         if !ends_within(self.read, line) {
             return Ok(Err(whole_line(LineWhy::TooMuchInput)));
         }
-        match read_frame(text_of(line)) {
+        match read_frame(without_newline(line)) {
             Err(fault) => Ok(Err(fault)),
             Ok(None) => {
                 self.pass(line);
@@ -160,7 +160,7 @@ impl Replay {
 }
 
 fn put_open_line(text: &mut Vec<u8>, answer: Result<(), OpenFault>) -> Result<(), NoMemory>
-    ensures { OnOk result (text.new.items ≡ text.old.items ++ open_line answer) }
+    ensures { OnOk result (text.new.items ≡ text.old.items ++ opened_line answer) }
 {
     match answer {
         Ok(()) => put(text, b"open: ok\n"),

@@ -1,7 +1,7 @@
 //! The loop over a replay's lines.
 ghost use Rattle.std.specs.Prelude.{◌≡◌, ◌≢◌, ◌+◌, ◌≤◌, ◌++◌, false, None, IfSome};
 ghost use Rattle.dccp_io.specs.Counts.{Rose};
-ghost use Rattle.dccp_io.specs.Lines.{rest};
+ghost use Rattle.dccp_io.specs.Lines.{rest_of_input};
 ghost use Rattle.dccp_command.specs.Loops.{Replays, Leaves, GoesThrough};
 ghost use Rattle.dccp_command.specs.Replay.{replay_text, is_refused, accepted_bytes};
 ghost use Rattle.dccp_command.specs.RunLines.{end_line};
@@ -60,7 +60,7 @@ pub(crate) fn replay_lines<S: Source + Drop, K: Sink>(
     requires given { lines.old.given ≡ 0 }
     requires unstopped { lines.old.stop ≡ None }
     ensures words { result ≢ Status.Words }
-    ensures replays { IfSome (rest S.left lines.old) (λ bytes. GoesThrough (replay_text side plain bytes) (is_refused side plain bytes)
+    ensures replays { IfSome (rest_of_input S.left lines.old) (λ bytes. GoesThrough (replay_text side plain bytes) (is_refused side plain bytes)
         (accepted_bytes side plain bytes) bytes result (S.left lines.new.source) (K.taken output.old) (K.taken output.new)) }
     ensures same_lender { S.lender lines.new.source ≡ S.lender lines.old.source }
     ensures cause { EndsForCause result (Rose (S.faults lines.old.source) (S.faults lines.new.source))

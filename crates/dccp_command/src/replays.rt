@@ -33,7 +33,7 @@ fn replayed_by<R: Threads + Sync>(
 }
 
 // The same where each gives or takes at most 7 bytes.
-fn replayed<R: Threads + Sync>(
+fn replay_of_input<R: Threads + Sync>(
     rt: &R,
     alloc: Global,
     words: &[&str],
@@ -58,7 +58,7 @@ fn serves<R: Threads + Sync>(rt: &R, alloc: Global, input: &str, want: &str) -> 
 fn data_in_request(rt: HostRuntime) -> Result<(), Fail> {
     let words = ["replay", "--side", "client", "--plain"];
     let input = b"seal 13899c400400000005000000000007d0\n";
-    let (status, text) = replayed(&rt, rt.alloc(), &words, input)?;
+    let (status, text) = replay_of_input(&rt, rt.alloc(), &words, input)?;
     assert_eq!(rt; status, Status::Done);
     assert!(rt; text.starts_with(REQUEST.as_bytes()));
     assert_eq!(rt;
@@ -103,7 +103,7 @@ fn has(text: &[u8], part: &[u8]) -> bool {
 fn invalid_value(rt: HostRuntime) -> Result<(), Fail> {
     let words = ["replay", "--side", "server", "--plain"];
     for (line, part) in &WINDOWS {
-        let (status, text) = replayed(&rt, rt.alloc(), &words, line.as_bytes())?;
+        let (status, text) = replay_of_input(&rt, rt.alloc(), &words, line.as_bytes())?;
         assert_eq!(rt; status, Status::Done, "{line:?}");
         assert!(rt; has(&text, part.as_bytes()), "{line:?}");
     }
@@ -189,7 +189,7 @@ fn refused_lines(rt: HostRuntime) -> Result<(), Fail> {
         ("00 00", "line 1 column 4: Trailing\n"),
     ] {
         let words = ["replay", "--plain", "--side=server"];
-        let (_, text) = replayed(&rt, rt.alloc(), &words, input.as_bytes())?;
+        let (_, text) = replay_of_input(&rt, rt.alloc(), &words, input.as_bytes())?;
         assert!(rt; text.starts_with(want.as_bytes()), "{input:?}");
     }
     Ok(())
@@ -214,7 +214,7 @@ const WORDS: [(&[&str], &str); 12] = [
 #[test]
 fn words_of_replays(rt: HostRuntime) -> Result<(), Fail> {
     for (words, end) in &WORDS {
-        let (status, text) = replayed(&rt, rt.alloc(), words, b"")?;
+        let (status, text) = replay_of_input(&rt, rt.alloc(), words, b"")?;
         assert_eq!(rt; status, Status::Done, "{words:?}");
         assert!(rt; has(&text, end.as_bytes()), "{words:?}");
     }

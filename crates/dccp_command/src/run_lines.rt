@@ -3,7 +3,7 @@ ghost use Rattle.std.specs.Prelude.{◌≡◌, ◌++◌, OnOk, Some};
 ghost use Rattle.schedule_text.specs.Names.{side_name};
 ghost use Rattle.schedule_text.specs.Printing.{side_letter, frame_name};
 ghost use Rattle.dccp_command.specs.Text.{phase_name, stand_mark};
-ghost use Rattle.dccp_command.specs.RunLines.{arrived, bytes_line, frame_line, sent_line, held_text, row_text, end_name, end_counts, end_rows, end_line, end_lines};
+ghost use Rattle.dccp_command.specs.RunLines.{arrived, bytes_line, sent_frame_line, sent_line, held_text, row_text, end_name, end_counts, end_rows, end_line, end_lines};
 
 use crate::text::{put, put_hex, put_number};
 use ccid_two::Kinds;

@@ -4,7 +4,7 @@ ghost use Rattle.dccp_io.specs.Counts.{Rose};
 ghost use Rattle.capture_reader.specs.Records.{entry_of, records_from};
 ghost use Rattle.capture_reader.specs.State.{Passed, rest};
 ghost use Rattle.dccp_command.specs.CaptureText.{first_tally, tallied, record_text, last_line, capture_text, is_faulty, records_end};
-ghost use Rattle.dccp_command.specs.Show.{Turns, Closes, RefusesHeader, ShowsRecords};
+ghost use Rattle.dccp_command.specs.Show.{Turns, Closes, ShowsHeaderFault, ShowsRecords};
 ghost use Rattle.dccp_command.specs.Top.{SinkFailed, Answers, EndsForCause};
 
 use crate::blocks::{cut_off, flush, flush_if_full};
@@ -142,7 +142,7 @@ fn show_records<S: Source + Drop, K: Sink>(
 
 // Ends where the file header was refused.
 fn refuse_header<K: Sink>(alloc: Global, why: CaptureFault, output: &mut K) -> Status
-    ensures refuses { RefusesHeader why result (K.taken output.old) (K.taken output.new) }
+    ensures refuses { ShowsHeaderFault why result (K.taken output.old) (K.taken output.new) }
     ensures write { result ≡ Status.Write → SinkFailed (K.faults output.old) (K.faults output.new) (K.empty_takes output.old) (K.empty_takes output.new) }
 {
     match why {

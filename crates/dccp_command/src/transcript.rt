@@ -1,7 +1,7 @@
 //! The loop over a schedule's lines.
 ghost use Rattle.std.specs.Prelude.{◌≡◌, ◌≢◌, ◌+◌, ◌≤◌, ◌++◌, false, None, IfSome};
 ghost use Rattle.dccp_io.specs.Counts.{Rose};
-ghost use Rattle.dccp_io.specs.Lines.{rest};
+ghost use Rattle.dccp_io.specs.Lines.{rest_of_input};
 ghost use Rattle.dccp_command.specs.Loops.{Plays, Leaves, GoesThrough};
 ghost use Rattle.dccp_command.specs.RunLines.{end_lines};
 ghost use Rattle.dccp_command.specs.Top.{IsAnswered, SinkFailed, EndsForCause};
@@ -61,9 +61,9 @@ pub(crate) fn play_lines<S: Source + Drop, K: Sink>(
     requires given { lines.old.given ≡ 0 }
     requires unstopped { lines.old.stop ≡ None }
     ensures words { result ≢ Status.Words }
-    ensures plays { IfSome (rest S.left lines.old) (λ bytes. GoesThrough (transcript bytes) (is_refused bytes) (accepted_bytes bytes) bytes result
+    ensures plays { IfSome (rest_of_input S.left lines.old) (λ bytes. GoesThrough (transcript bytes) (is_refused bytes) (accepted_bytes bytes) bytes result
         (S.left lines.new.source) (K.taken output.old) (K.taken output.new)) }
-    ensures safe { IfSome (rest S.left lines.old) (λ bytes. IsAnswered result → SafeThroughout bytes) }
+    ensures safe { IfSome (rest_of_input S.left lines.old) (λ bytes. IsAnswered result → SafeThroughout bytes) }
     ensures same_lender { S.lender lines.new.source ≡ S.lender lines.old.source }
     ensures cause { EndsForCause result (Rose (S.faults lines.old.source) (S.faults lines.new.source))
         (SinkFailed (K.faults output.old) (K.faults output.new) (K.empty_takes output.old) (K.empty_takes output.new)) }

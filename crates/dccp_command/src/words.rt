@@ -1,7 +1,7 @@
 //! What the words after the program's name ask for.
 ghost use Rattle.std.specs.Prelude.{◌≡◌, Some};
-ghost use Rattle.dccp_command.specs.CampaignWords.{IsWithin};
-ghost use Rattle.dccp_command.specs.Words.{says, named_side, joined_side, replays, replay_of, alone, campaigns, form_of};
+ghost use Rattle.dccp_command.specs.CampaignWords.{IsWithinBounds};
+ghost use Rattle.dccp_command.specs.Words.{is_word, named_side, joined_side, replays, replay_of, takes_no_word, campaigns, form_of};
 
 use crate::campaign_words::{Campaign, campaign_of};
 use two_ends::Side;
@@ -23,8 +23,8 @@ pub enum Form {
 pub(crate) const USAGE: &[u8] =
     b"usage: dccp run | replay --side server|client [--plain] | campaign --first F --seeds N --events E --workers W | show\n";
 
-fn says(word: &String, text: &[u8]) -> bool
-    ensures { result ≡ says word.now text.now }
+fn is_word(word: &String, text: &[u8]) -> bool
+    ensures { result ≡ is_word word.now text.now }
 {
     word.as_bytes() == text
 }
@@ -33,10 +33,10 @@ fn says(word: &String, text: &[u8]) -> bool
 fn named_side(word: &String) -> Option<Side>
     ensures { result ≡ named_side word.now }
 {
-    if says(word, b"server") {
+    if is_word(word, b"server") {
         return Some(Side::Server);
     }
-    if says(word, b"client") {
+    if is_word(word, b"client") {
         return Some(Side::Client);
     }
     None
@@ -46,10 +46,10 @@ fn named_side(word: &String) -> Option<Side>
 fn joined_side(word: &String) -> Option<Side>
     ensures { result ≡ joined_side word.now }
 {
-    if says(word, b"--side=server") {
+    if is_word(word, b"--side=server") {
         return Some(Side::Server);
     }
-    if says(word, b"--side=client") {
+    if is_word(word, b"--side=client") {
         return Some(Side::Client);
     }
     None
@@ -68,13 +68,13 @@ fn replay_of(words: &[String]) -> Option<Form>
 {
     match words {
         [side] => replays(false, joined_side(side)),
-        [first, side] if says(first, b"--plain") => replays(true, joined_side(side)),
-        [side, last] if says(last, b"--plain") => replays(true, joined_side(side)),
-        [name, side] if says(name, b"--side") => replays(false, named_side(side)),
-        [first, name, side] if says(first, b"--plain") && says(name, b"--side") => {
+        [first, side] if is_word(first, b"--plain") => replays(true, joined_side(side)),
+        [side, last] if is_word(last, b"--plain") => replays(true, joined_side(side)),
+        [name, side] if is_word(name, b"--side") => replays(false, named_side(side)),
+        [first, name, side] if is_word(first, b"--plain") && is_word(name, b"--side") => {
             replays(true, named_side(side))
         }
-        [name, side, last] if says(name, b"--side") && says(last, b"--plain") => {
+        [name, side, last] if is_word(name, b"--side") && is_word(last, b"--plain") => {
             replays(true, named_side(side))
         }
         _ => None,
@@ -82,8 +82,8 @@ fn replay_of(words: &[String]) -> Option<Form>
 }
 
 // No word may follow.
-fn alone(form: Form, words: &[String]) -> Option<Form>
-    ensures { result ≡ alone form words.now }
+fn takes_no_word(form: Form, words: &[String]) -> Option<Form>
+    ensures { result ≡ takes_no_word form words.now }
 {
     if words.is_empty() { Some(form) } else { None }
 }
@@ -91,7 +91,7 @@ fn alone(form: Form, words: &[String]) -> Option<Form>
 // The job that the words behind `campaign` ask for.
 fn campaigns(words: &[String]) -> Option<Form>
     ensures value { result ≡ campaigns words.now }
-    ensures within { (campaign : Campaign) → result ≡ Some (Form.Campaign campaign) → IsWithin campaign }
+    ensures within { (campaign : Campaign) → result ≡ Some (Form.Campaign campaign) → IsWithinBounds campaign }
 {
     let campaign = campaign_of(words)?;
     Some(Form::Campaign(campaign))
@@ -100,13 +100,13 @@ fn campaigns(words: &[String]) -> Option<Form>
 /// The job that the words ask for, or None where they are none of the forms.
 pub(crate) fn form_of(words: &[String]) -> Option<Form>
     ensures value { result ≡ form_of words.now }
-    ensures within { (campaign : Campaign) → result ≡ Some (Form.Campaign campaign) → IsWithin campaign }
+    ensures within { (campaign : Campaign) → result ≡ Some (Form.Campaign campaign) → IsWithinBounds campaign }
 {
     match words {
-        [first, words @ ..] if says(first, b"run") => alone(Form::Run, words),
-        [first, words @ ..] if says(first, b"replay") => replay_of(words),
-        [first, words @ ..] if says(first, b"campaign") => campaigns(words),
-        [first, words @ ..] if says(first, b"show") => alone(Form::Show, words),
+        [first, words @ ..] if is_word(first, b"run") => takes_no_word(Form::Run, words),
+        [first, words @ ..] if is_word(first, b"replay") => replay_of(words),
+        [first, words @ ..] if is_word(first, b"campaign") => campaigns(words),
+        [first, words @ ..] if is_word(first, b"show") => takes_no_word(Form::Show, words),
         _ => None,
     }
 }

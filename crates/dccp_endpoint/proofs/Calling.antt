@@ -30,7 +30,7 @@ use Rattle.dccp_endpoint.specs.Causes.{Acknowledges, AreHeard, AreTurns, ByCall,
 use Rattle.dccp_endpoint.specs.Drafts.{IsSendable, alone, carrying}
 use Rattle.dccp_endpoint.specs.Effects.{Next, Unheard, effect_of, end_after, frame_by, opened_by}
 use Rattle.dccp_endpoint.specs.End.{EndState, IsProper, is_connected, is_live, is_open, is_phase_of, with_rows}
-use Rattle.dccp_endpoint.specs.Inputs.{Input, Arrives, Opens, Closes, Aborts, Fires, Prefers, stepped}
+use Rattle.dccp_endpoint.specs.Inputs.{Input, Arrives, Opens, Closes, Aborts, Fires, Prefers, end_stepped}
 use Rattle.dccp_endpoint.specs.Inputs as input
 use Rattle.dccp_endpoint.specs.Reporting.{is_acking, sends_ack}
 use Rattle.dccp_endpoint.specs.Speaking.{change_items, is_confirmed, saying}
@@ -285,7 +285,7 @@ module _ (o : EndState) (given : Input) (proper : IsProper (wide o)) where
   fires-in _ in_flight _ called is = idle-has
 
 -- an end as wide as its rows say
-wide-has : (o : EndState) (given : Input) → IsProper (wide o) → Has (wide o) given (stepped (wide o) given)
+wide-has : (o : EndState) (given : Input) → IsProper (wide o) → Has (wide o) given (end_stepped (wide o) given)
 unfolding opens closes aborts fires prefers sends_payload
 wide-has o (Arrives bytes) is =
     let told = (receives-told (wide o) bytes is).effect in
@@ -300,4 +300,4 @@ wide-has o (input.Sends payload may_send) is =
 
 pub every_step_has_an_effect : EveryStepHasOneEffect
 every_step_has_an_effect e given proper =
-    subst (λ (x : EndState). Has x given (stepped x given)) (sym (widened e proper)) (wide-has e given (wide-proper e proper))
+    subst (λ (x : EndState). Has x given (end_stepped x given)) (sym (widened e proper)) (wide-has e given (wide-proper e proper))

@@ -20,7 +20,7 @@ use Rattle.dccp_states.specs.declared.phase.Phase.{Phase}
 use Rattle.dccp_states.specs.declared.phase.Phase.TheVariants as phase
 use Rattle.feature_machine.specs.Negotiating.{due_keys, every_place}
 use Rattle.feature_machine.specs.Turns.{Turn, turned}
-use Rattle.dccp_endpoint.specs.Causes.{HasEffect, Acknowledges, Answers, AreHeard, AreTurns, CallsNothing, Deaf, HasFrame, HasNext, IsAcknowledging, IsCalling, IsCaused, IsFirst, IsHearing, IsOpened, IsOpening, IsSending, Keeps, LeavesIt, NotNow, Offering, Others, Plain, Refuses, Rests, Says, SaysAll, SaysApart, SaysNothing, StaysSo, Acks, IsLooking, LooksNowhere, is_waiting, vector_of, is_without_connection}
+use Rattle.dccp_endpoint.specs.Causes.{HasEffect, Acknowledges, AcknowledgesHeard, AreHeard, AreTurns, CallsNothing, Deaf, HasFrame, HasNext, IsAcknowledging, IsCalling, IsCaused, IsFirst, IsHearing, IsOpened, IsOpening, IsSending, Keeps, LeavesIt, NotNow, Offering, Others, Plain, Refuses, Rests, Says, SaysAll, SaysApart, SaysNothing, StaysSo, Acks, IsLooking, LooksNowhere, is_waiting, vector_of, is_without_connection}
 use Rattle.dccp_endpoint.specs.Drafts.{Draft, IsSendable, alone}
 use Rattle.dccp_endpoint.specs.Effects.{Effect, frame_by, Hearing, Unheard, Sending, Silent, Next, effect_of, end_after, greatest_by, heard_by, owed_by, rows_by, told_by}
 use Rattle.dccp_endpoint.specs.End.{EndState, IsProper, is_begun, is_connected, is_live, is_phase_of, with_rows, with_widths}
@@ -203,7 +203,7 @@ module _ {e : EndState} {given : Input} {h : Hearing} {ack : Option ℕ} {opens 
   -- a packet goes out that is no Ack and no DataAck
   abbrev pub next-caused : {turns : List Turn} (owed : Bool) (unacked : ℕ) (at : AreTurns e given h turns) (packet : Draft) → IsSendable packet
       → packet.options ≡ confirm_items at.confirms ++ change_items (turned e.rows turns) at.keys
-      → (at.confirms ≡ []) ⊎ Answers h (ack_of packet.kind) → is_acking (packet_type packet.kind) ≡ false
+      → (at.confirms ≡ []) ⊎ AcknowledgesHeard h (ack_of packet.kind) → is_acking (packet_type packet.kind) ≡ false
       → Acknowledges e given (greatest_by e.marks.gsr h) (ack_of packet.kind) → is_without_connection e.config.role packet.kind ≡ false
       → IsCaused e given (effect_with turns h ack opens ph called looked owed unacked (Next packet))
   next-caused {turns = turns} owed unacked at packet sendable says answers other acknowledges numbered =
@@ -224,7 +224,7 @@ module _ {e : EndState} {given : Input} {h : Hearing} {ack : Option ℕ} {opens 
 
   abbrev pub ack-caused : {turns : List Turn} (at : AreTurns e given h turns) (options : List Item) → IsSendable (ack_with turns options)
       → options ≡ confirm_items at.confirms ++ change_items (turned e.rows turns) at.keys
-      → (at.confirms ≡ []) ⊎ Answers h (Some (greatest_by e.marks.gsr h)) → is_connected ph ≡ true
+      → (at.confirms ≡ []) ⊎ AcknowledgesHeard h (Some (greatest_by e.marks.gsr h)) → is_connected ph ≡ true
       → IsCaused e given (effect_with turns h ack opens ph called looked false 0 (Next (ack_with turns options)))
   ack-caused {turns = turns} at options sendable says answers connected =
       caused false 0 at (Next (ack_with turns options)) (λ is. inr tt)

@@ -10,7 +10,7 @@ use Rattle.dccp_endpoint.specs.Heeding.{Due}
 use Rattle.dccp_endpoint.specs.Incoming.{Incoming}
 use Rattle.dccp_endpoint.specs.Inputs.{Input, Arrives}
 use Rattle.dccp_endpoint.specs.Outcomes.{HasCause, HasNoOtherCause, IsAdmitted, IsReset, IsValid, IsValidPacket, IsValidReset, OutOfWindow, Unexpected, NoConnection, OtherService, NoAnswer, OtherType, OtherRequest, WrongService, Faulted, AnswersClose, OpensConnection, ResponseToRequest, PacketInWindow, ResetToRequest, ResetInWindow, StrayWithoutConnection, StrayInRequest}
-use Rattle.dccp_endpoint.specs.Receiving.{Course, Goes, Leaves, accounted, acknowledges, answers, checks_type, ends_as, ends_by_reset, heeded, moved_to, needs_ack, raised, raises, reads_options, receives, replies, started, takes, through}
+use Rattle.dccp_endpoint.specs.Receiving.{Course, Goes, Leaves, accounted, acknowledges, answers, checks_type, ends_as, ends_by_reset, heeded, moved_to, needs_ack, raises, reads_options, receives, replies, started, takes, through, with_raised_marks}
 use Rattle.dccp_endpoint.specs.Reporting.{counts_data, delivered_if, delivers}
 use Rattle.run_list.specs.MarkedSet.{answer_to}
 use Rattle.dccp_endpoint.specs.Steps.{Step, detail_of, idle}
@@ -25,7 +25,7 @@ use Rattle.dccp_endpoint.proofs.Phases.{accept-so}
 -- A packet that is no Reset goes past what is made of Resets.
 record IsNoReset (a : Incoming) (e : EndState) (t : PacketType) : Type 0 where
   passes : (x : EndState) → ends_by_reset a t x ≡ Goes x
-  rises : raises a e t ≡ Goes (raised e a)
+  rises : raises a e t ≡ Goes (with_raised_marks e a)
   responds : answers a e t true ≡ Goes (started e e.phase a)
   fails : answers a e t false ≡ Leaves e exits.PacketError
 

@@ -8,7 +8,7 @@ use Rattle.std.proofs.lemmas.List.Elements.{All-contains, All-weaker, filter_pas
 use Rattle.std.proofs.lemmas.List.Folds.{list_any_at, list_any_none}
 use Rattle.std.proofs.lemmas.Map.Views.{Contains-from_any}
 use Rattle.std.proofs.lemmas.List.Kept.{AllPairs-filter}
-use Rattle.feature_lists.specs.Features.{number_of}
+use Rattle.feature_lists.specs.Features.{feature_number}
 use Rattle.feature_lists.specs.declared.features.Feature.{Feature}
 use Rattle.feature_lists.specs.declared.features.Feature.TheVariants as f
 use Rattle.feature_lists.specs.declared.features.Place.{Place}
@@ -42,14 +42,14 @@ place-itself There = refl
 -- a key is one of another row exactly where it is that
 pub key-so : (one other : Key) → is_key one other ≡ true → one ≡ other
 key-so one other is =
-    let parts = and_parts (number_of one.0 == number_of other.0) (is_of_place (is_of_place true one.1) other.1) is in
-    let features : one.0 ≡ other.0 = same_feature one.0 other.0 (eqb-true (number_of one.0) (number_of other.0) parts.0) in
+    let parts = and_parts (feature_number one.0 == feature_number other.0) (is_of_place (is_of_place true one.1) other.1) is in
+    let features : one.0 ≡ other.0 = same_feature one.0 other.0 (eqb-true (feature_number one.0) (feature_number other.0) parts.0) in
     let places : one.1 ≡ other.1 = place-so one.1 other.1 parts.1 in
     ap (λ (feature : Feature). (feature, one.1)) features ∙ ap (λ (place : Place). (other.0, place)) places
 
 pub key-itself : (k : Key) → is_key k k ≡ true
 key-itself k =
-    and_from (number_of k.0 == number_of k.0) (is_of_place (is_of_place true k.1) k.1) (eq-eqb (number_of k.0) (number_of k.0) refl) (place-itself k.1)
+    and_from (feature_number k.0 == feature_number k.0) (is_of_place (is_of_place true k.1) k.1) (eq-eqb (feature_number k.0) (feature_number k.0) refl) (place-itself k.1)
 
 pub key-differs : (one other : Key) → one ≢ other → is_key one other ≡ false
 key-differs one other differs = false_from_ne_true (is_key one other) (λ is. differs (key-so one other is))

@@ -9,7 +9,7 @@ use Rattle.dccp_options.specs.declared.option.OptFault.{OptFault}
 use Rattle.dccp_packets.specs.declared.reset_code.ResetCode.TheVariants as codes
 use Rattle.feature_agreement.specs.Packets.{confirm_of, reply_due}
 use Rattle.feature_agreement.specs.Rows.{opposite}
-use Rattle.feature_lists.specs.Features.{described, feature_numbered, number_of}
+use Rattle.feature_lists.specs.Features.{described, feature_number, feature_numbered}
 use Rattle.feature_machine.specs.Answers.{answered, settling_of}
 use Rattle.feature_machine.specs.Lists.{index_of}
 use Rattle.feature_machine.specs.Negotiating.{RowsStep, changes, confirmed, row_at, stepped}
@@ -22,7 +22,7 @@ use Rattle.feature_machine.specs.Turns.{Turn, events_of}
 use Rattle.feature_machine.specs.declared.row.Row.{Row}
 use Rattle.feature_machine.proofs.Places.{numbered}
 use Rattle.dccp_endpoint.specs.Heeding.{Due, Heeding, body_turns, by_answered, by_settling, counted, entry_turns, event_of, fault_of, feature_turns, heard_turns, heeds, heeds_body, heeds_entry, heeds_feature, heeds_first, heeds_then, is_change, is_left, is_of_negotiation, is_too_many, met, misunderstood, place_in_used, turn_known, turns_then, unheeded}
-use Rattle.dccp_endpoint.specs.Saying.{ConfirmsAreSingle, RowsHearThePacket, begins_with, body_if, confirm_for, event_in, once_if, said_to, speaks_to, times_confirmed}
+use Rattle.dccp_endpoint.specs.Saying.{ConfirmsAreSingle, RowsHearThePacket, begins_with_number, body_if, confirm_for, event_in, once_if, said_to, speaks_to, times_confirmed}
 use Rattle.dccp_endpoint.specs.Speaking.{is_for, is_of_place}
 use Rattle.dccp_endpoint.specs.Turns.{Key}
 use Rattle.dccp_endpoint.specs.declared.outcome.Fault.{Fault}
@@ -208,11 +208,11 @@ settles-silent row stand.Changing c.Wrong = refl
 
 -- an option for this row, the first
 changes-own : (k : Key) (rows : List Row) (body : List ℕ) (mandatory : Bool)
-    → changes rows (letter_to k.1) (number_of k.0) body mandatory ≡ stepped rows k.0 k.1 (Change body mandatory)
+    → changes rows (letter_to k.1) (feature_number k.0) body mandatory ≡ stepped rows k.0 k.1 (Change body mandatory)
 changes-own k rows body mandatory = rw (numbered k.0, letter-place k.1) refl
 
 confirmed-own : (k : Key) (rows : List Row) (body : List ℕ) (ack : Option ℕ)
-    → confirmed rows (letter_to k.1) (number_of k.0) body ack ≡ stepped rows k.0 k.1 (Confirm body ack)
+    → confirmed rows (letter_to k.1) (feature_number k.0) body ack ≡ stepped rows k.0 k.1 (Confirm body ack)
 confirmed-own k rows body ack = rw (numbered k.0, letter-place k.1) refl
 
 module _ (k : Key) (ack : Option ℕ) (h next : Heeding) (entry : Entry) (body : List ℕ) (few : h.changes < 64) (size : length h.used ≡ 512) where
@@ -220,7 +220,7 @@ module _ (k : Key) (ack : Option ℕ) (h next : Heeding) (entry : Entry) (body :
   event change = event_of ack entry change body
 
   abbrev own_turns : Bool → List Turn
-  own_turns change = turn_known (feature_numbered (number_of k.0)) (letter_to k.1) (event change)
+  own_turns change = turn_known (feature_numbered (feature_number k.0)) (letter_to k.1) (event change)
 
   own-events : (change : Bool) → events_of k.0 k.1 (own_turns change) ≡ event change ∷ []
   own-events change = rw (numbered k.0) (events-own k (event change))
@@ -241,12 +241,12 @@ module _ (k : Key) (ack : Option ℕ) (h next : Heeding) (entry : Entry) (body :
       })
 
   answer-tells : (rows : List Row) → length rows ≡ length h.rows → (its : RowAnswer) → answer true ≡ its
-      → by_answered h (spot k) rows entry (answered (letter_to k.1) (number_of k.0) its) ≡ Ok next → Tells k h next (event true) (own_turns true)
+      → by_answered h (spot k) rows entry (answered (letter_to k.1) (feature_number k.0) its) ≡ Ok next → Tells k h next (event true) (own_turns true)
   answer-tells rows same_size (Confirms its) so is =
-      let due : Due = record { left = not (letter_to k.1); number = number_of k.0; body = its } in
+      let due : Due = record { left = not (letter_to k.1); number = feature_number k.0; body = its } in
       let same : met h (spot k) true rows (h.confirms ++ due ∷ []) ≡ next = cc is in
       let more = times-more k due h.confirms in
-      let own : is_for k due ≡ true = and_from (number_of k.0 == number_of k.0) (is_of_place (not (letter_to k.1)) k.1) (eq-eqb (number_of k.0) (number_of k.0) refl) (letter-answer k.1) in
+      let own : is_for k due ≡ true = and_from (feature_number k.0 == feature_number k.0) (is_of_place (not (letter_to k.1)) k.1) (eq-eqb (feature_number k.0) (feature_number k.0) refl) (letter-answer k.1) in
       let one : once_if (is_for k due) ≡ 1 = ap once_if own in
       subst (λ end. Tells k h end (event true) (own_turns true)) same (record {
         keeps = met-keeps h (spot k) true rows (h.confirms ++ due ∷ []) same_size;
@@ -272,7 +272,7 @@ module _ (k : Key) (ack : Option ℕ) (h next : Heeding) (entry : Entry) (body :
   settling-tells rows same_size none Waits is = silent-tells false rows same_size none is
   settling-tells rows same_size none Quiet is = silent-tells false rows same_size none is
 
-  first-tells : (change : Bool) → heeds_first ack h entry change (letter_to k.1) (number_of k.0) body ≡ Ok next
+  first-tells : (change : Bool) → heeds_first ack h entry change (letter_to k.1) (feature_number k.0) body ≡ Ok next
       → Tells k h next (event change) (own_turns change)
   first-tells true is =
       let own = changes-own k h.rows body entry.mandatory in
@@ -280,7 +280,7 @@ module _ (k : Key) (ack : Option ℕ) (h next : Heeding) (entry : Entry) (body :
       let given = sym (cond-true (nat_lt h.changes 64) _ _ less) ∙ is in
       answer-tells (stepped h.rows k.0 k.1 (Change body entry.mandatory)).rows
       (length-set h.rows (index_of k.0 k.1) (row_step (row_at h.rows k.0 k.1) (Change body entry.mandatory)).row) (answer true) refl
-      (subst (λ (step : RowsStep). by_answered h (spot k) step.rows entry (answered (letter_to k.1) (number_of k.0) step.answer) ≡ Ok next) own given)
+      (subst (λ (step : RowsStep). by_answered h (spot k) step.rows entry (answered (letter_to k.1) (feature_number k.0) step.answer) ≡ Ok next) own given)
   first-tells false is =
       let own = confirmed-own k h.rows body ack in
       settling-tells (stepped h.rows k.0 k.1 (Confirm body ack)).rows
@@ -288,13 +288,13 @@ module _ (k : Key) (ack : Option ℕ) (h next : Heeding) (entry : Entry) (body :
       (settles-silent (row_at h.rows k.0 k.1) (row_at h.rows k.0 k.1).stand (confirmation (row_at h.rows k.0 k.1) body ack)) (answer false)
       (subst (λ (step : RowsStep). by_settling h (spot k) step.rows entry (settling_of step.answer) ≡ Ok next) own is)
 
-  own-tells : (change : Bool) → is_used k h ≡ false → heeds_feature ack h entry change (letter_to k.1) (number_of k.0) body ≡ Ok next
-      → Tells k h next (event change) (feature_turns ack h entry change (letter_to k.1) (number_of k.0) body)
+  own-tells : (change : Bool) → is_used k h ≡ false → heeds_feature ack h entry change (letter_to k.1) (feature_number k.0) body ≡ Ok next
+      → Tells k h next (event change) (feature_turns ack h entry change (letter_to k.1) (feature_number k.0) body)
   own-tells change unused is =
       rw (unused, not_many h change few) (first-tells change (sym (cond-false (is_used k h) _ _ unused) ∙ is))
 
-  own-passes : (change : Bool) → is_used k h ≡ true → heeds_feature ack h entry change (letter_to k.1) (number_of k.0) body ≡ Ok next
-      → Passes k h next (feature_turns ack h entry change (letter_to k.1) (number_of k.0) body)
+  own-passes : (change : Bool) → is_used k h ≡ true → heeds_feature ack h entry change (letter_to k.1) (feature_number k.0) body ≡ Ok next
+      → Passes k h next (feature_turns ack h entry change (letter_to k.1) (feature_number k.0) body)
   own-passes change used is =
       let passed : fine (again h change) ≡ Ok next = sym (cond-true (is_used k h) _ _ used) ∙ is in
       let same : again h change ≡ next = cc passed in
@@ -341,10 +341,10 @@ mute-so k entry is = by entry.body is where
   its_place = is_of_place (is_left entry.kind) (opposite k.1)
 
   by : (body : List ℕ) → is_understood entry.kind (length body) ≡ false
-      → (is_of_negotiation entry.kind && (begins_with (number_of k.0) body && its_place)) ≡ false
+      → (is_of_negotiation entry.kind && (begins_with_number (feature_number k.0) body && its_place)) ≡ false
   by [] is = and_right (is_of_negotiation entry.kind) (false && its_place) refl
   by (number ∷ body) is =
-      and_left (is_of_negotiation entry.kind) (number == number_of k.0 && its_place)
+      and_left (is_of_negotiation entry.kind) (number == feature_number k.0 && its_place)
       (false_from_ne_true (is_of_negotiation entry.kind) (λ its. false≢true (sym is ∙ understood-so entry.kind (length body) its)))
 
 module _ (k : Key) (count : Bool) (ack : Option ℕ) (h next : Heeding) (entry : Entry) (few : h.changes < 64) (size : length h.used ≡ 512) where
@@ -360,20 +360,20 @@ module _ (k : Key) (count : Bool) (ack : Option ℕ) (h next : Heeding) (entry :
 
   -- where it counts, it speaks to the row by its feature number and letter
   speaks-so : (body : List ℕ) → entry.body ≡ body → (count && is_of_negotiation entry.kind) ≡ true
-      → (count && speaks_to k entry) ≡ (begins_with (number_of k.0) body && is_of_place (is_left entry.kind) (opposite k.1))
+      → (count && speaks_to k entry) ≡ (begins_with_number (feature_number k.0) body && is_of_place (is_left entry.kind) (opposite k.1))
   speaks-so body is counts =
-      ap (λ (bytes : List ℕ). count && (is_of_negotiation entry.kind && (begins_with (number_of k.0) bytes && is_of_place (is_left entry.kind) (opposite k.1)))) is
-      ∙ and-nested count (is_of_negotiation entry.kind) (begins_with (number_of k.0) body && is_of_place (is_left entry.kind) (opposite k.1))
-      ∙ ap (λ (its : Bool). its && (begins_with (number_of k.0) body && is_of_place (is_left entry.kind) (opposite k.1))) counts
+      ap (λ (bytes : List ℕ). count && (is_of_negotiation entry.kind && (begins_with_number (feature_number k.0) bytes && is_of_place (is_left entry.kind) (opposite k.1)))) is
+      ∙ and-nested count (is_of_negotiation entry.kind) (begins_with_number (feature_number k.0) body && is_of_place (is_left entry.kind) (opposite k.1))
+      ∙ ap (λ (its : Bool). its && (begins_with_number (feature_number k.0) body && is_of_place (is_left entry.kind) (opposite k.1))) counts
 
   own-way : (number : ℕ) (body : List ℕ) → entry.body ≡ number ∷ body → (count && speaks_to k entry) ≡ true → (was : Bool) → is_used k h ≡ was
-      → heeds_feature ack h entry change (letter_to k.1) (number_of k.0) body ≡ Ok next
-      → Its (feature_turns ack h entry change (letter_to k.1) (number_of k.0) body)
+      → heeds_feature ack h entry change (letter_to k.1) (feature_number k.0) body ≡ Ok next
+      → Its (feature_turns ack h entry change (letter_to k.1) (feature_number k.0) body)
   own-way number body is speaks true used so = Repeating used (own-passes k ack h next entry body few size change used so)
   own-way number body is speaks false unused so =
       let same : event_in ack entry ≡ event_of ack entry change body = ap (λ (bytes : List ℕ). event_of ack entry change (drop 1 bytes)) is in
       Telling unused speaks
-      (subst (λ its. Tells k h next its (feature_turns ack h entry change (letter_to k.1) (number_of k.0) body)) (sym same)
+      (subst (λ its. Tells k h next its (feature_turns ack h entry change (letter_to k.1) (feature_number k.0) body)) (sym same)
       (own-tells k ack h next entry body few size change unused so))
 
   body-way : (body : List ℕ) → entry.body ≡ body → (count && is_of_negotiation entry.kind) ≡ true → heeds_body ack h entry body ≡ Ok next
@@ -395,7 +395,7 @@ module _ (k : Key) (count : Bool) (ack : Option ℕ) (h next : Heeding) (entry :
       → Its (if counts then body_turns ack h entry entry.body else [])
   counting-way true is so = body-way entry.body refl is so
   counting-way false is so =
-      let silent = and-nested count (is_of_negotiation entry.kind) (begins_with (number_of k.0) entry.body && is_of_place (is_left entry.kind) (opposite k.1)) in
+      let silent = and-nested count (is_of_negotiation entry.kind) (begins_with_number (feature_number k.0) entry.body && is_of_place (is_left entry.kind) (opposite k.1)) in
       nothing-way (silent ∙ and_left (count && is_of_negotiation entry.kind) _ is) so
 
   entry-way : heeds_entry count ack h entry ≡ Ok next → Its (entry_turns count ack h entry)

@@ -6,7 +6,7 @@ use Rattle.std.proofs.lemmas.Bool.{and_from, and_parts, eq-eqb, false_from_ne_tr
 use Rattle.std.proofs.lemmas.List.{map-append}
 use Rattle.std.proofs.lemmas.List.Elements.{filter-append}
 use Rattle.feature_agreement.specs.Rows.{opposite}
-use Rattle.feature_lists.specs.Features.{feature_numbered, number_of}
+use Rattle.feature_lists.specs.Features.{feature_number, feature_numbered}
 use Rattle.feature_lists.specs.declared.features.Feature.{Feature}
 use Rattle.feature_lists.specs.declared.features.Feature.TheVariants as f
 use Rattle.feature_lists.specs.declared.features.Place.{Place}
@@ -60,27 +60,27 @@ letter-answered false There is = absurd (false≢true is)
 
 -- whether an option by this letter for this feature number speaks to the row
 abbrev pub is_to : Key → Bool → ℕ → Bool
-is_to k left number = number == number_of k.0 && is_of_place left (opposite k.1)
+is_to k left number = number == feature_number k.0 && is_of_place left (opposite k.1)
 
 -- it does
 pub record IsTo (k : Key) (left : Bool) (number : ℕ) : Type 0 where
-  pub number_is : number ≡ number_of k.0
+  pub number_is : number ≡ feature_number k.0
   pub left_is : left ≡ letter_to k.1
 
 pub to-so : (k : Key) (left : Bool) (number : ℕ) → is_to k left number ≡ true → IsTo k left number
 to-so k left number is =
-    let parts = and_parts (number == number_of k.0) (is_of_place left (opposite k.1)) is in
-    record { number_is = eqb-true number (number_of k.0) parts.0; left_is = letter-so left k.1 parts.1 }
+    let parts = and_parts (number == feature_number k.0) (is_of_place left (opposite k.1)) is in
+    record { number_is = eqb-true number (feature_number k.0) parts.0; left_is = letter-so left k.1 parts.1 }
 
-to-from : (k : Key) (left : Bool) (number : ℕ) → number ≡ number_of k.0 → left ≡ letter_to k.1 → is_to k left number ≡ true
+to-from : (k : Key) (left : Bool) (number : ℕ) → number ≡ feature_number k.0 → left ≡ letter_to k.1 → is_to k left number ≡ true
 to-from k left number number_is left_is =
-    and_from (number == number_of k.0) (is_of_place left (opposite k.1)) (eq-eqb number (number_of k.0) number_is) (letter-from left k.1 left_is)
+    and_from (number == feature_number k.0) (is_of_place left (opposite k.1)) (eq-eqb number (feature_number k.0) number_is) (letter-from left k.1 left_is)
 
 -- the row's place among the options that were met
 abbrev pub spot : Key → ℕ
-spot k = place_in_used (letter_to k.1) (number_of k.0)
+spot k = place_in_used (letter_to k.1) (feature_number k.0)
 
-number-below : (feature : Feature) → number_of feature < 10
+number-below : (feature : Feature) → feature_number feature < 10
 number-below f.Ccid = omega arith
 number-below f.ShortSeqnos = omega arith
 number-below f.SequenceWindow = omega arith
@@ -93,7 +93,7 @@ number-below f.CheckDataChecksum = omega arith
 
 pub spot-below : (k : Key) → spot k < 512
 spot-below k = by k.1 (number-below k.0) where
-  by : (place : Place) → number_of k.0 < 10 → place_in_used (letter_to place) (number_of k.0) < 512
+  by : (place : Place) → feature_number k.0 < 10 → place_in_used (letter_to place) (feature_number k.0) < 512
   by Here below = omega arith
   by There below = omega arith
 
@@ -104,7 +104,7 @@ spot-so true false m n is = absurd (omega arith)
 spot-so false true m n is = absurd (omega arith)
 
 -- a feature that is found by a number has it
-pub found : (number : ℕ) (feature : Feature) → feature_numbered number ≡ Some feature → number_of feature ≡ number
+pub found : (number : ℕ) (feature : Feature) → feature_numbered number ≡ Some feature → feature_number feature ≡ number
 found number feature is =
     by 1 f.Ccid refl (number == 1) refl
     (by 2 f.ShortSeqnos refl (number == 2) refl
@@ -116,32 +116,32 @@ found number feature is =
     (by 8 f.MinCsCov refl (number == 8) refl
     (by 9 f.CheckDataChecksum refl (number == 9) refl (λ none. cc none))))))))) is
   where
-    by : {rest : Option Feature} (n : ℕ) (one : Feature) → number_of one ≡ n → (test : Bool) → (number == n) ≡ test
-        → (rest ≡ Some feature → number_of feature ≡ number) → (if test then Some one else rest) ≡ Some feature → number_of feature ≡ number
+    by : {rest : Option Feature} (n : ℕ) (one : Feature) → feature_number one ≡ n → (test : Bool) → (number == n) ≡ test
+        → (rest ≡ Some feature → feature_number feature ≡ number) → (if test then Some one else rest) ≡ Some feature → feature_number feature ≡ number
     by n one its true test later same =
         let features : one ≡ feature = cc same in
-        ap number_of (sym features) ∙ its ∙ sym (eqb-true number n test)
+        ap feature_number (sym features) ∙ its ∙ sym (eqb-true number n test)
     by n one its false test later same = later same
 
 -- An option that does not speak to the row has another place among those that were met, no Confirm for it is for the row, and no turn
 -- by it is the row's.
 pub record IsBeside (k : Key) (left : Bool) (number : ℕ) : Type 0 where
   pub spots : spot k ≢ place_in_used left number
-  pub due : (number == number_of k.0 && is_of_place (not left) k.1) ≡ false
+  pub due : (number == feature_number k.0 && is_of_place (not left) k.1) ≡ false
   pub turn : (feature : Feature) → feature_numbered number ≡ Some feature → index_of feature (place_of left) ≢ index_of k.0 k.1
 
 pub beside-so : (k : Key) (left : Bool) (number : ℕ) → is_to k left number ≡ false → IsBeside k left number
 beside-so k left number is = record {
-  spots = λ same. let parts = spot-so (letter_to k.1) left (number_of k.0) number same in not_both (sym parts.1) (sym parts.0);
-  due = false_from_ne_true (number == number_of k.0 && is_of_place (not left) k.1) (λ both.
-      let parts = and_parts (number == number_of k.0) (is_of_place (not left) k.1) both in
-      not_both (eqb-true number (number_of k.0) parts.0) (letter-answered left k.1 parts.1));
+  spots = λ same. let parts = spot-so (letter_to k.1) left (feature_number k.0) number same in not_both (sym parts.1) (sym parts.0);
+  due = false_from_ne_true (number == feature_number k.0 && is_of_place (not left) k.1) (λ both.
+      let parts = and_parts (number == feature_number k.0) (is_of_place (not left) k.1) both in
+      not_both (eqb-true number (feature_number k.0) parts.0) (letter-answered left k.1 parts.1));
   turn = λ feature has same.
       not_both (sym (found number feature has) ∙ same_number feature k.0 (place_of left) k.1 same)
       (letter-placed left k.1 (same_place feature k.0 (place_of left) k.1 same));
 }
   where
-    not_both : number ≡ number_of k.0 → left ≡ letter_to k.1 → ⊥
+    not_both : number ≡ feature_number k.0 → left ≡ letter_to k.1 → ⊥
     not_both number_is left_is = false≢true (sym is ∙ to-from k left number number_is left_is)
 
 -- turns one behind the other

@@ -12,7 +12,7 @@ use Rattle.dccp_packets.specs.declared.header.Kind.{Kind}
 use Rattle.dccp_packets.specs.declared.header.Kind.TheVariants as kind
 use Rattle.dccp_packets.specs.declared.header.PacketType.{PacketType}
 use Rattle.dccp_packets.proofs.ReadBack.{header-kept}
-use Rattle.dccp_endpoint.specs.Drafts.{Draft, Fits, IsSendable, ReadsAs, alone, frame_of, framed, header_of}
+use Rattle.dccp_endpoint.specs.Drafts.{Draft, Fits, IsSendable, ReadsAs, alone, frame_of, framed, own_header}
 use Rattle.dccp_packets.specs.Kinds.{is_data}
 use Rattle.dccp_endpoint.specs.declared.config.Config.{Config}
 use Rattle.dccp_endpoint.proofs.AnyFrames.{sealed-read}
@@ -30,11 +30,11 @@ type-kept kind.Data = refl
 type-kept _ = refl
 
 pub own_frames_read_in_widths : (config : Config) (number : ℕ) (draft : Draft) → IsSendable draft
-    → ReadsAs (in_widths (header_of config number draft.kind)) config.pseudo_out draft (frame_of config number draft)
+    → ReadsAs (in_widths (own_header config number draft.kind)) config.pseudo_out draft (frame_of config number draft)
 unfolding framed
 own_frames_read_in_widths config number draft sendable =
     let area : List ℕ = written draft.options in
-    let read = sealed-read config.pseudo_out (header_of config number draft.kind) area draft.payload refl sendable.detail sendable.is_long sendable.area in
+    let read = sealed-read config.pseudo_out (own_header config number draft.kind) area draft.payload refl sendable.detail sendable.is_long sendable.area in
     record {
       sum = read.sum;
       is_packet = read.is_packet;
@@ -45,11 +45,11 @@ own_frames_read_in_widths config number draft sendable =
     }
 
 pub own_frames_read : (config : Config) (number : ℕ) (draft : Draft) → Fits config → number < 2 ^ 48 → KindFits draft.kind → IsSendable draft
-    → ReadsAs (header_of config number draft.kind) config.pseudo_out draft (frame_of config number draft)
+    → ReadsAs (own_header config number draft.kind) config.pseudo_out draft (frame_of config number draft)
 own_frames_read config number draft fits small fields sendable =
-    let fit : packets.Fits (header_of config number draft.kind) =
+    let fit : packets.HeaderFits (own_header config number draft.kind) =
     record { from = fits.own_port; to = fits.peer_port; checksum = omega arith; number = small; kind = fields } in
-    subst (λ (h : Header). ReadsAs h config.pseudo_out draft (frame_of config number draft)) (header-kept (header_of config number draft.kind) fit)
+    subst (λ (h : Header). ReadsAs h config.pseudo_out draft (frame_of config number draft)) (header-kept (own_header config number draft.kind) fit)
     (own_frames_read_in_widths config number draft sendable)
 
 -- a type alone can be sent

@@ -10,7 +10,7 @@ use Rattle.dccp_options.specs.Kinds as options
 use Rattle.dccp_options.specs.Written.{Item, entries_at, mark, spelled}
 use Rattle.dccp_options.specs.declared.option.OptFault.{OptFault}
 use Rattle.feature_agreement.specs.Rows.{opposite}
-use Rattle.feature_lists.specs.Features.{number_of}
+use Rattle.feature_lists.specs.Features.{feature_number}
 use Rattle.feature_lists.specs.declared.features.Place.{Place}
 use Rattle.feature_lists.specs.declared.features.Place.TheVariants.{Here, There}
 use Rattle.feature_machine.specs.Negotiating.{IsNegotiation, every_place, row_at}
@@ -52,7 +52,7 @@ confirm-letter test false Here = refl
 confirm-letter test false There = refl
 
 confirm-speaks : (k : Key) (place : ℕ) (due : Due) → speaks_to (theirs k) (entry_of place (confirm_item due)) ≡ is_for k due
-confirm-speaks k place due = confirm-letter (due.number == number_of k.0) due.left k.1
+confirm-speaks k place due = confirm-letter (due.number == feature_number k.0) due.left k.1
 
 change-letter : (test : Bool) (here place : Place)
     → (is_of_negotiation (change_type here) && (test && is_of_place (is_left (change_type here)) (opposite (opposite place))))
@@ -70,8 +70,8 @@ turned-test a b = by (b == a) refl where
 
 change-speaks : (k key : Key) (place : ℕ) (row : Row) → speaks_to (theirs k) (entry_of place (change_item key row)) ≡ is_key k key
 change-speaks k key place row =
-    change-letter (number_of key.0 == number_of k.0) key.1 k.1
-    ∙ ap (λ (test : Bool). test && is_of_place (is_of_place true k.1) key.1) (turned-test (number_of key.0) (number_of k.0))
+    change-letter (feature_number key.0 == feature_number k.0) key.1 k.1
+    ∙ ap (λ (test : Bool). test && is_of_place (is_of_place true k.1) key.1) (turned-test (feature_number key.0) (feature_number k.0))
 
 -- what they say
 confirm-event : (ack : Option ℕ) (place : ℕ) (due : Due) → event_in ack (entry_of place (confirm_item due)) ≡ Confirm due.body ack

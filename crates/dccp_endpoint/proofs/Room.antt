@@ -21,7 +21,7 @@ use Rattle.dccp_packets.specs.Widths.{HasDetail}
 use Rattle.dccp_packets.specs.declared.header.Kind.{Kind}
 use Rattle.dccp_packets.specs.declared.reset_code.ResetCode.TheVariants as codes
 use Rattle.dccp_states.specs.declared.phase.Role.TheVariants as role
-use Rattle.feature_lists.specs.Features.{described, feature_numbered, number_of}
+use Rattle.feature_lists.specs.Features.{described, feature_number, feature_numbered}
 use Rattle.feature_lists.specs.Wishes.{is_allowed}
 use Rattle.feature_lists.specs.declared.features.Feature.{Feature}
 use Rattle.feature_lists.specs.declared.features.Feature.TheVariants as f
@@ -214,7 +214,7 @@ feature-used used left number None is size free = let more = more-used used (pla
 feature-used used left number (Some feature) is size free =
     let k : Key = (feature, place_of left) in
     let at : spot k ≡ place_in_used left number =
-    ap (λ (l : Bool). place_in_used l (number_of feature)) (letter-kept left) ∙ ap (place_in_used left) (found number feature is) in
+    ap (λ (l : Bool). place_in_used l (feature_number feature)) (letter-kept left) ∙ ap (place_in_used left) (found number feature is) in
     let below = spot-below k in
     one-used used (place_in_used left number) every_place (omega (arith, below, at, size)) free
     (ap (λ (place : ℕ). has_spot place every_place) (sym at) ∙ has-row feature (place_of left))

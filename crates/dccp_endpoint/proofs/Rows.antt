@@ -5,7 +5,7 @@ use Rattle.dccp_sum.specs.declared.packet_sum.SumFault.TheVariants as sums
 use Rattle.dccp_states.specs.declared.phase.Phase.TheVariants as phase
 use Rattle.dccp_states.specs.declared.phase.Role.TheVariants.{Client}
 use Rattle.dccp_endpoint.specs.Drafts.{framed}
-use Rattle.dccp_endpoint.specs.End.{EndState, fresh}
+use Rattle.dccp_endpoint.specs.End.{EndState, new_end}
 use Rattle.dccp_endpoint.specs.Receiving.{receives}
 use Rattle.dccp_endpoint.specs.Calling.{aborts, closes, fires, opens}
 use Rattle.dccp_endpoint.specs.declared.calls.AbortFault.TheVariants.{NotLive}
@@ -19,7 +19,7 @@ use Rattle.dccp_endpoint.specs.declared.outcome.Why.TheVariants as why
 
 -- Two ends that offer nothing: Request, Response, Ack and Ack, and nothing was negotiated.
 handshake :
-    (seen (opens (fresh (plain Client))) ≡ (Ok tt, sent request, phase.Request))
+    (seen (opens (new_end (plain Client))) ≡ (Ok tt, sent request, phase.Request))
     × (seen (arrives listening request) ≡ (Took None, sent response, phase.Respond))
     × (seen (arrives requesting response) ≡ (Took None, sent client_ack, phase.PartOpen))
     × (seen (arrives responding client_ack) ≡ (Took None, sent server_ack, phase.Open))
@@ -132,7 +132,7 @@ aborted = (refl, refl, refl)
 
 -- numbers go from 2^48 - 1 on to 0
 abbrev late_client : EndState
-late_client = (opens (fresh (record (plain Client) { iss = 281474976710654 }))).after
+late_client = (opens (new_end (record (plain Client) { iss = 281474976710654 }))).after
 
 abbrev late_answered : Step Outcome
 late_answered = arrives late_client "13899c40070029fd03000000000007d00000fffffffffffe0000002a"

@@ -9,7 +9,7 @@ use Rattle.feature_lists.specs.declared.wishes.Wanted.TheVariants as wanted
 use Rattle.feature_machine.specs.declared.stands.Stand.TheVariants.{Stable, Changing}
 use Rattle.dccp_endpoint.specs.Calling.{fires, opens}
 use Rattle.dccp_endpoint.specs.Drafts.{framed}
-use Rattle.dccp_endpoint.specs.End.{EndState, fresh}
+use Rattle.dccp_endpoint.specs.End.{EndState, new_end}
 use Rattle.dccp_endpoint.specs.Receiving.{receives}
 use Rattle.dccp_endpoint.specs.Usual.{usual}
 use Rattle.dccp_endpoint.specs.declared.calls.Timer.TheVariants as timers
@@ -33,10 +33,10 @@ usual_vector = "13899c400700fb3807000000000007d100000000000003e926030100"
 
 -- the ends on the way through it
 abbrev usual_listening : EndState
-usual_listening = fresh (usual Server)
+usual_listening = new_end (usual Server)
 
 abbrev pub usual_requesting : EndState
-usual_requesting = (opens (fresh (usual Client))).after
+usual_requesting = (opens (new_end (usual Client))).after
 
 abbrev pub usual_responding : EndState
 usual_responding = (arrives usual_listening usual_request).after
@@ -50,7 +50,7 @@ usual_open = (arrives usual_responding usual_ack).after
 -- Each end confirms what the other offers and is confirmed what it offers itself: both are STABLE at the usual rows, and their Acks carry
 -- Ack Vectors.
 usual-handshake :
-    (seen (opens (fresh (usual Client))) ≡ (Ok tt, sent usual_request, phase.Request))
+    (seen (opens (new_end (usual Client))) ≡ (Ok tt, sent usual_request, phase.Request))
     × (shown usual_requesting ≡ row f.EcnIncapable Here 0 Changing (row f.SendAckVector There 0 Changing initial_rows))
     × (seen (arrives usual_listening usual_request) ≡ (Took None, sent usual_response, phase.Respond))
     × (shown usual_responding
@@ -135,20 +135,20 @@ abbrev offering_here : Config
 offering_here = offering (plain Server) f.Ccid Here false
 
 dropped-offers :
-    (seen (arrives (fresh offering_there) "9c40138906000fe201000000000003e80000002a20040102")
+    (seen (arrives (new_end offering_there) "9c40138906000fe201000000000003e80000002a20040102")
     ≡ (Took None, sent "13899c400900fd0b03000000000007d000000000000003e80000002a2306010202f80000", phase.Respond))
-    × (seen (arrives (arrives (fresh offering_there) "9c40138906000fe201000000000003e80000002a20040102").after "9c401389050031eb01000000000003e90000002a")
+    × (seen (arrives (arrives (new_end offering_there) "9c40138906000fe201000000000003e80000002a20040102").after "9c401389050031eb01000000000003e90000002a")
     ≡ (Took None, sent "13899c400700261203000000000007d100000000000003e90000002a", phase.Respond))
-    × (seen (arrives (fresh offering_there) "9c40138906000fe501000000000003e80000002a20030100")
+    × (seen (arrives (new_end offering_there) "9c40138906000fe501000000000003e80000002a20030100")
     ≡ (Took None, sent "13899c400800010d03000000000007d000000000000003e80000002a23030100", phase.Respond))
-    × (seen (arrives (arrives (fresh offering_there) "9c40138906000fe501000000000003e80000002a20030100").after "9c401389050031eb01000000000003e90000002a")
+    × (seen (arrives (arrives (new_end offering_there) "9c40138906000fe501000000000003e80000002a20030100").after "9c401389050031eb01000000000003e90000002a")
     ≡ (Took None, sent "13899c400700261203000000000007d100000000000003e90000002a", phase.Respond))
-    × (seen (arrives (fresh offering_there) request) ≡ (Took None, sent "13899c400900090403000000000007d000000000000003e80000002a22050102f8000000", phase.Respond))
-    × (seen (arrives (fresh offering_here) "9c40138906000de201000000000003e80000002a22040102")
+    × (seen (arrives (new_end offering_there) request) ≡ (Took None, sent "13899c400900090403000000000007d000000000000003e80000002a22050102f8000000", phase.Respond))
+    × (seen (arrives (new_end offering_here) "9c40138906000de201000000000003e80000002a22040102")
     ≡ (Took None, sent "13899c400900ff0b03000000000007d000000000000003e80000002a2106010202f80000", phase.Respond))
-    × (seen (arrives (arrives (fresh offering_here) "9c40138906000de201000000000003e80000002a22040102").after "9c401389050031eb01000000000003e90000002a")
+    × (seen (arrives (arrives (new_end offering_here) "9c40138906000de201000000000003e80000002a22040102").after "9c401389050031eb01000000000003e90000002a")
     ≡ (Took None, sent "13899c400700261203000000000007d100000000000003e90000002a", phase.Respond))
-    × (seen (arrives (fresh offering_here) request) ≡ (Took None, sent "13899c4009000b0403000000000007d000000000000003e80000002a20050102f8000000", phase.Respond))
+    × (seen (arrives (new_end offering_here) request) ≡ (Took None, sent "13899c4009000b0403000000000007d000000000000003e80000002a20050102f8000000", phase.Respond))
 unfolding receives framed
 dropped-offers = (refl, refl, refl, refl, refl, refl, refl, refl)
 
@@ -167,7 +167,7 @@ asking-row-is-confirmed = (refl, refl, refl)
 -- The server's list decides: the client offers 2, 248 for its CCID, and the server prefers 248; then the client prefers 248, and the
 -- server 2.
 abbrev pub choosing_248 : EndState
-choosing_248 = fresh (wishing (plain Server) f.Ccid There (wanted.List (248 ∷ 2 ∷ [])))
+choosing_248 = new_end (wishing (plain Server) f.Ccid There (wanted.List (248 ∷ 2 ∷ [])))
 
 abbrev pub offering_2 : EndState
 offering_2 = requests_as (offering (plain Client) f.Ccid Here false)
@@ -176,7 +176,7 @@ abbrev pub offering_248 : EndState
 offering_248 = requests_as (offering (wishing (plain Client) f.Ccid Here (wanted.List (248 ∷ 2 ∷ []))) f.Ccid Here false)
 
 server-order-wins :
-    (seen (opens (fresh (offering (plain Client) f.Ccid Here false))) ≡ (Ok tt, sent "9c401389070016dc01000000000003e80000002a20050102f8000000", phase.Request))
+    (seen (opens (new_end (offering (plain Client) f.Ccid Here false))) ≡ (Ok tt, sent "9c401389070016dc01000000000003e80000002a20050102f8000000", phase.Request))
     × (seen (arrives choosing_248 "9c401389070016dc01000000000003e80000002a20050102f8000000")
     ≡ (Took None, sent "13899c400900070b03000000000007d000000000000003e80000002a230601f8f8020000", phase.Respond))
     × (shown (arrives choosing_248 "9c401389070016dc01000000000003e80000002a20050102f8000000").after ≡ row f.Ccid There 248 Stable initial_rows)
@@ -197,7 +197,7 @@ abbrev asking_248 : Config
 asking_248 = offering (wishing (plain Server) f.Ccid Here (wanted.List (248 ∷ 2 ∷ []))) f.Ccid Here false
 
 server-asks-in-its-order :
-    (seen (arrives (fresh asking_248) request) ≡ (Took None, sent "13899c400900000f03000000000007d000000000000003e80000002a200501f802000000", phase.Respond))
+    (seen (arrives (new_end asking_248) request) ≡ (Took None, sent "13899c400900000f03000000000007d000000000000003e80000002a200501f802000000", phase.Respond))
     × (shown (responds_as asking_248) ≡ row f.Ccid Here 2 Changing initial_rows)
     × (seen (arrives requesting "13899c400900000f03000000000007d000000000000003e80000002a200501f802000000")
     ≡ (Took None, sent "9c4013890800f94207000000000003e900000000000007d0230601f802f80000", phase.PartOpen))
@@ -209,13 +209,13 @@ server-asks-in-its-order = (refl, refl, refl, refl, refl, refl)
 
 -- Nothing is shared, and the client's Change is mandatory: Send Ack Vector at the server has 1 on the client's list, and 0 on its own.
 abbrev sends_none : EndState
-sends_none = fresh (wishing (plain Server) f.SendAckVector Here (wanted.List (0 ∷ [])))
+sends_none = new_end (wishing (plain Server) f.SendAckVector Here (wanted.List (0 ∷ [])))
 
 abbrev demanding : Config
 demanding = offering (plain Client) f.SendAckVector There true
 
 nothing-shared-mandatory :
-    (seen (opens (fresh demanding)) ≡ (Ok tt, sent "9c401389070029bc01000000000003e80000002a0122040601000000", phase.Request))
+    (seen (opens (new_end demanding)) ≡ (Ok tt, sent "9c401389070029bc01000000000003e80000002a0122040601000000", phase.Request))
     × (seen (arrives sends_none "9c401389070029bc01000000000003e80000002a0122040601000000")
     ≡ (SentReset 6 (34 ∷ 6 ∷ 1 ∷ []), sent "13899c4007000e1b0f000000000007d000000000000003e806220601", phase.Closed))
     × (shown (arrives sends_none "9c401389070029bc01000000000003e80000002a0122040601000000").after ≡ initial_rows)
@@ -233,7 +233,7 @@ abbrev server_demanding : Config
 server_demanding = offering (plain Server) f.SendAckVector There true
 
 nothing-shared-mandatory-at-client :
-    (seen (arrives (fresh server_demanding) request) ≡ (Took None, sent "13899c4009001de403000000000007d000000000000003e80000002a0122040601000000", phase.Respond))
+    (seen (arrives (new_end server_demanding) request) ≡ (Took None, sent "13899c4009001de403000000000007d000000000000003e80000002a0122040601000000", phase.Respond))
     × (seen (arrives client_sends_none "13899c4009001de403000000000007d000000000000003e80000002a0122040601000000")
     ≡ (SentReset 6 (34 ∷ 6 ∷ 1 ∷ []), sent "9c40138907000e1a0f000000000003e900000000000007d006220601", phase.Closed))
     × (shown (arrives client_sends_none "13899c4009001de403000000000007d000000000000003e80000002a0122040601000000").after ≡ initial_rows)
@@ -245,7 +245,7 @@ nothing-shared-mandatory-at-client = (refl, refl, refl, refl, refl)
 
 -- Nothing is shared, without Mandatory: the Confirm names the value that holds, and it stays.
 nothing-shared :
-    (seen (opens (fresh (offering (plain Client) f.SendAckVector There false))) ≡ (Ok tt, sent "9c401389060008e301000000000003e80000002a22040601", phase.Request))
+    (seen (opens (new_end (offering (plain Client) f.SendAckVector There false))) ≡ (Ok tt, sent "9c401389060008e301000000000003e80000002a22040601", phase.Request))
     × (seen (arrives sends_none "9c401389060008e301000000000003e80000002a22040601")
     ≡ (Took None, sent "13899c400900fd0603000000000007d000000000000003e80000002a2105060000000000", phase.Respond))
     × (shown (arrives sends_none "9c401389060008e301000000000003e80000002a22040601").after ≡ initial_rows)
@@ -253,7 +253,7 @@ nothing-shared :
     ≡ (Took None, sent client_ack, phase.PartOpen))
     × (shown (arrives (requests_as (offering (plain Client) f.SendAckVector There false)) "13899c400900fd0603000000000007d000000000000003e80000002a2105060000000000").after
     ≡ initial_rows)
-    × (seen (arrives (fresh (offering (plain Server) f.SendAckVector There false)) request)
+    × (seen (arrives (new_end (offering (plain Server) f.SendAckVector There false)) request)
     ≡ (Took None, sent "13899c400800fd0a03000000000007d000000000000003e80000002a22040601", phase.Respond))
     × (seen (arrives client_sends_none "13899c400800fd0a03000000000007d000000000000003e80000002a22040601")
     ≡ (Took None, sent "9c4013890800fa3307000000000003e900000000000007d02105060000000000", phase.PartOpen))

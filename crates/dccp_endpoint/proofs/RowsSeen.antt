@@ -13,7 +13,7 @@ use Rattle.feature_lists.specs.declared.wishes.Wanted.{Wanted}
 use Rattle.feature_machine.specs.Lists.{index_of, with_offer, with_wish, without_offers}
 use Rattle.feature_machine.specs.declared.stands.Stand.{Stand}
 use Rattle.feature_machine.specs.declared.stands.Stand.TheVariants.{Stable}
-use Rattle.dccp_endpoint.specs.End.{EndState, fresh}
+use Rattle.dccp_endpoint.specs.End.{EndState, new_end}
 use Rattle.dccp_endpoint.specs.Receiving.{receives}
 use Rattle.dccp_endpoint.specs.Calling.{Called, opens, sends_payload}
 use Rattle.dccp_endpoint.specs.Steps.{Step}
@@ -91,10 +91,10 @@ plain role = record (usual role) { lists = without_offers (usual role).lists }
 
 -- the ends on the way through that handshake
 abbrev pub listening : EndState
-listening = fresh (plain Server)
+listening = new_end (plain Server)
 
 abbrev pub requesting : EndState
-requesting = (opens (fresh (plain Client))).after
+requesting = (opens (new_end (plain Client))).after
 
 abbrev pub responding : EndState
 responding = (arrives listening request).after
@@ -134,10 +134,10 @@ offering config feature place mandatory = record config { lists = with_offer con
 
 -- ends of other configurations on the same way; none of their packets but the first has options
 abbrev pub requests_as : Config → EndState
-requests_as config = (opens (fresh config)).after
+requests_as config = (opens (new_end config)).after
 
 abbrev pub responds_as : Config → EndState
-responds_as config = (arrives (fresh config) request).after
+responds_as config = (arrives (new_end config) request).after
 
 abbrev pub open_server_as : Config → EndState
 open_server_as config = (arrives (responds_as config) client_ack).after

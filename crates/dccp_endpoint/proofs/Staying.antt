@@ -15,7 +15,7 @@ use Rattle.validity_windows.specs.Windows.{InRange}
 use Rattle.validity_windows.specs.declared.marks.Marks.{Marks}
 use Rattle.dccp_endpoint.specs.Causes.{IsCaused}
 use Rattle.dccp_endpoint.specs.Effects.{Effect, end_after, rows_by}
-use Rattle.dccp_endpoint.specs.End.{EndState, IsProper, end_of, fresh, value_in, with_rows, with_widths}
+use Rattle.dccp_endpoint.specs.End.{EndState, IsProper, end_of, new_end, value_in, with_rows, with_widths}
 use Rattle.dccp_endpoint.specs.Inputs.{Input}
 use Rattle.dccp_endpoint.specs.declared.config.Config.{Config}
 use Rattle.dccp_endpoint.proofs.Lawful.{rows-kept}
@@ -74,7 +74,7 @@ first-value role config place lists =
     ap (λ (row : Row). row.value) (first-fresh role config.lists lists SequenceWindow place)
     ∙ ap initial_of (lists.each SequenceWindow place).feature_is
 
-pub first-proper : (config : Config) → IsLists config.lists → IsProper (fresh config)
+pub first-proper : (config : Config) → IsLists config.lists → IsProper (new_end config)
 first-proper config lists =
     record {
       phase_fits = (begins config.role).in_role;

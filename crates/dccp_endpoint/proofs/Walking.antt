@@ -37,7 +37,7 @@ use Rattle.feature_machine.specs.Negotiating.{every_place}
 use Rattle.feature_machine.specs.Turns.{Turn, turned}
 use Rattle.feature_machine.specs.declared.row.Row.{Row}
 use Rattle.feature_machine.proofs.Turning.{turned-joined}
-use Rattle.dccp_endpoint.specs.Causes.{is_code_without_connection, is_waiting, IsLooking, Looks, LooksNowhere, Acknowledges, AreHeard, Arrived, BecomesOpen, ByVerdict, ByWindow, CallsFor, Came, FitsPassing, Greatest, Heeds, IsAcknowledging, IsCaused, IsHeeded, IsHearing, IsOpening, Keeps, LeavesIt, NotNow, Raises, Refuses, SaysApart, Starts, StaysSo, counts_in, entrance_of, turns_in, verdict_of}
+use Rattle.dccp_endpoint.specs.Causes.{is_code_without_connection, is_waiting, IsLooking, Looks, LooksNowhere, Acknowledges, AreHeard, Arrived, BecomesOpen, ByVerdict, ByWindow, CallsFor, Came, FitsPassing, Greatest, Heeds, IsAcknowledging, IsCaused, AreOptionsRead, IsHearing, IsOpening, Keeps, LeavesIt, NotNow, Raises, Refuses, SaysApart, Starts, StaysSo, counts_in, entrance_of, turns_in, verdict_of}
 use Rattle.dccp_endpoint.specs.Congesting.{calls_for}
 use Rattle.dccp_endpoint.specs.Drafts.{alone}
 use Rattle.dccp_endpoint.specs.Effects.{Effect, Hearing, Heard, Next, Passing, Refused, Sending, Shut, Silent, Taken, WithoutConnection, effect_of, end_after, frame_by, greatest_or, is_acking_sent}
@@ -47,7 +47,7 @@ use Rattle.dccp_endpoint.specs.Heeding.{Due, Heeding, heeds, unheeded}
 use Rattle.dccp_endpoint.specs.Incoming.{Incoming, incoming, is_newest}
 use Rattle.dccp_endpoint.specs.Inputs.{Input, Arrives}
 use Rattle.dccp_endpoint.specs.Outcomes.{Answering, Closing, HasCause, HasForm, IsNoAnswer, IsValidReset, replying, Correcting, IsAdmitted, IsReset, IsValid, IsValidPacket, Refusing, SyncsInvalid, SyncsUnexpected, OutOfWindow, Unexpected, NoConnection, OtherService, NoAnswer, OtherType, OtherRequest, WrongService, Faulted, AnswersClose, OpensConnection, ResponseToRequest, PacketInWindow, ResetToRequest, ResetInWindow, StrayWithoutConnection, StrayInRequest, is_for_another, IsTaken, IsTaking, kind_sent, unacked_by}
-use Rattle.dccp_endpoint.specs.Receiving.{Goes, acknowledges, acknowledges_in_window, answers, becomes_open, by_ports, by_sum, checks_numbers, checks_type, ends_as, ends_by_reset, expects, heeded, is_of_connection, is_own_service, is_unexpected, judged, long_number, moved_to, needs_ack, number_without_connection, opens_connection, packet_fault, raised, raises, reads_options, received, receives, replies, resets, resets_without_connection, responds, responds_asking, responds_offering, serves, started, takes_answer, the_steps, through, with_number, with_packet}
+use Rattle.dccp_endpoint.specs.Receiving.{Goes, acknowledges, acknowledges_in_window, answers, becomes_open, by_ports, by_sum, by_verdict, checks_numbers, checks_type, ends_as, ends_by_reset, expects, heeded, is_of_connection, is_own_service, is_unexpected, long_number, moved_to, needs_ack, number_without_connection, opens_connection, packet_fault, raises, reads_options, received, receives, replies, resets, resets_without_connection, responds, responds_asking, responds_offering, serves, started, takes_answer, the_steps, through, with_own_number, with_packet, with_raised_marks}
 use Rattle.dccp_endpoint.specs.Reporting.{counts_data, delivered_if, delivers, is_acking, is_enough, looked_up, looks_up, marks, unacked_after}
 use Rattle.dccp_endpoint.specs.Speaking.{asking, confirm_items, confirming, has_confirms, is_confirmed, saying}
 use Rattle.dccp_endpoint.specs.Steps.{Step, in_phase, detail_of, idle, next_number, sends, with_calls, without_detail}
@@ -251,7 +251,7 @@ module _ (o : EndState) (bytes : List ℕ) (proper : IsProper (wide o)) where
 
     -- its options are read whole
     module _ (admitted : IsAdmitted e bytes a end) (h : Heeding) (read : reads_options end a ≡ Ok h) where
-      heeded-so : IsHeeded e a h
+      heeded-so : AreOptionsRead e a h
       heeded-so = ap (λ (ph : Phase). heeds (a.newest && counts ph a.kind) a.ack (unheeded e.rows) a.options) (sym entry.entered) ∙ read
 
       abbrev heard : List Turn
@@ -511,7 +511,7 @@ module _ (o : EndState) (bytes : List ℕ) (proper : IsProper (wide o)) where
       ap (λ (gar : ℕ).
       record e { phase = ph; marks = record e.marks { isr = a.number; gsr = a.number; osr = a.number; gar = gar }; received = kept.fresh a.number }) (gar-by e.marks.gar a.kind a.ack)
 
-  raised-is : (a : Incoming) → raised e a ≡ entered_as e false e.phase a.number (raising a.kind a.ack)
+  raised-is : (a : Incoming) → with_raised_marks e a ≡ entered_as e false e.phase a.number (raising a.kind a.ack)
   raised-is a =
       ap (λ (gar : ℕ). record e { marks = record e.marks { gsr = later_of e.marks.gsr a.number; gar = gar } }) (gar-by e.marks.gar a.kind a.ack)
 
@@ -618,7 +618,7 @@ module _ (o : EndState) (bytes : List ℕ) (proper : IsProper (wide o)) where
         subst (Behind e bytes a a.kind) (sym (raised-is a)) (entry-told a (raised-entry check no_reset valid) a.kind no_reset)
 
     judged-told : entrance_of e a ≡ entrance.Check → (v : Verdict) → verdict_of e a ≡ v
-        → Told e bytes (ends_as a (through (judged a e v) (ends_by_reset a a.kind ∷ checks_type a ∷ [])))
+        → Told e bytes (ends_as a (through (by_verdict a e v) (ends_by_reset a a.kind ∷ checks_type a ∷ [])))
     judged-told check verdicts.Valid same = raises-told check same a.kind refl
     judged-told check (verdicts.SyncFor n) same = synced-told a came n check same
     judged-told check verdicts.Drop same = dropped-told why.BadSync (record { packet = a; came = came; is_checked = check; is_bad = same })
@@ -661,7 +661,7 @@ module _ (o : EndState) (bytes : List ℕ) (proper : IsProper (wide o)) where
   -- step 1
   module _ (p : Parts) (is : decoded bytes ≡ Ok p) where
     form-told : checked e.config.pseudo_in bytes ≡ Ok tt → is_of_connection e p.header ≡ true → (number : Number) → p.header.number ≡ number
-        → Told e bytes (received e (with_number e bytes p (long_number number)))
+        → Told e bytes (received e (with_own_number e bytes p (long_number number)))
     form-told fits ours (Long n) same =
         entered-told (incoming e bytes p n)
         (record { bytes = bytes; packet = p; number = n; is_given = refl; is_packet = is; sum_fits = fits; is_ours = ours; is_long = same; same = refl }) _ refl
@@ -669,11 +669,11 @@ module _ (o : EndState) (bytes : List ℕ) (proper : IsProper (wide o)) where
         dropped-told why.ShortOff (record { packet = p; number = n; is_packet = is; sum_fits = fits; is_ours = ours; is_short = same })
 
     ports-told : checked e.config.pseudo_in bytes ≡ Ok tt → (ours : Bool) → is_of_connection e p.header ≡ ours
-        → Told e bytes (received e (with_number e bytes p (by_ports p.header.number ours)))
+        → Told e bytes (received e (with_own_number e bytes p (by_ports p.header.number ours)))
     ports-told fits true same = form-told fits same p.header.number refl
     ports-told fits false same = dropped-told why.OtherFlow (record { packet = p; is_packet = is; sum_fits = fits; not_ours = same })
 
-    sum-told : (sum : Result (Unit {0}) SumFault) → checked e.config.pseudo_in bytes ≡ sum → Told e bytes (received e (with_number e bytes p (by_sum e p.header sum)))
+    sum-told : (sum : Result (Unit {0}) SumFault) → checked e.config.pseudo_in bytes ≡ sum → Told e bytes (received e (with_own_number e bytes p (by_sum e p.header sum)))
     sum-told (Ok tt) same = ports-told same (is_of_connection e p.header) refl
     sum-told (Err fault) same = dropped-told (why.Sum fault) (record { packet = p; is_packet = is; sum_fails = same })
 

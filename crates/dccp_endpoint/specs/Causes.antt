@@ -35,7 +35,7 @@ use Rattle.dccp_endpoint.specs.Faults.{counts}
 use Rattle.dccp_endpoint.specs.Heeding.{Due, Heeding, heard_turns, heeds, unheeded}
 use Rattle.dccp_packets.specs.Kinds.{ack_of}
 use Rattle.dccp_endpoint.specs.Incoming.{Incoming, incoming}
-use Rattle.dccp_endpoint.specs.Inputs.{Input, Arrives, Opens, stepped}
+use Rattle.dccp_endpoint.specs.Inputs.{Input, Arrives, Opens, end_stepped}
 use Rattle.dccp_endpoint.specs.Inputs as input
 use Rattle.dccp_endpoint.specs.Reporting.{carries_data, is_acking, sends_vectors, vector_items}
 use Rattle.dccp_endpoint.specs.Speaking.{asking, change_items, confirm_items, is_confirmed}
@@ -171,8 +171,8 @@ abbrev pub counts_in : EndState → Incoming → Bool
 counts_in e a = a.newest && counts (phase_entered e.phase) a.kind
 
 -- The packet's options are read whole, and this is what they come to.
-abbrev pub IsHeeded : EndState → Incoming → Heeding → Type 0
-IsHeeded e a h = heeds (counts_in e a) a.ack (unheeded e.rows) a.options ≡ Ok h
+abbrev pub AreOptionsRead : EndState → Incoming → Heeding → Type 0
+AreOptionsRead e a h = heeds (counts_in e a) a.ack (unheeded e.rows) a.options ≡ Ok h
 
 -- what the rows then hear
 abbrev pub turns_in : EndState → Incoming → List Turn
@@ -192,7 +192,7 @@ pub data IsLooking (e : EndState) (given : Input) (hearing : Hearing) : Option �
 -- What the rows heard of a packet that was taken, and the Confirms that are due for it.
 pub data AreHeard (e : EndState) (given : Input) (hearing : Hearing) : List Turn → List Due → Type 0 where
   Deaf : AreHeard e given hearing [] []
-  Heeds : (a : Incoming) (h : Heeding) → WasTaken e given hearing a → IsHeeded e a h → AreHeard e given hearing (turns_in e a) h.confirms
+  Heeds : (a : Incoming) (h : Heeding) → WasTaken e given hearing a → AreOptionsRead e a h → AreHeard e given hearing (turns_in e a) h.confirms
 
 -- What else happens to rows in the step, and whose Changes go out.
 pub data Occasion (e : EndState) (given : Input) (heard : List Turn) (confirms : List Due) : List Turn → List Turn → List Key → Type 0 where
@@ -225,9 +225,9 @@ pub record AreTurns (e : EndState) (given : Input) (hearing : Hearing) (turns : 
   pub apart : All (λ k. is_confirmed confirms k ≡ false) keys
 
 -- the acknowledgement number is that of the packet that was heard
-abbrev pub Answers : Hearing → Option ℕ → Type 0
-Answers Unheard ack = ⊥
-Answers (Heard first number how) ack = ack ≡ Some number
+abbrev pub AcknowledgesHeard : Hearing → Option ℕ → Type 0
+AcknowledgesHeard Unheard ack = ⊥
+AcknowledgesHeard (Heard first number how) ack = ack ≡ Some number
 
 -- the Ack Vector of a packet that goes out, if it has one, of what was received with this step
 abbrev pub vector_of : EndState → Effect → Kind → List Item
@@ -239,7 +239,7 @@ vector_of e f k =
 pub data Says (e : EndState) (f : Effect) (confirms : List Due) (keys : List Key) : Sending → Type 0 where
   SaysNothing : confirms ≡ [] → keys ≡ [] → Says e f confirms keys Silent
   SaysAll : (packet : Draft) → packet.options ≡ vector_of e f packet.kind ++ (confirm_items confirms ++ change_items (rows_by e.rows f) keys)
-      → (confirms ≡ []) ⊎ Answers f.hearing (ack_of packet.kind) → Says e f confirms keys (Next packet)
+      → (confirms ≡ []) ⊎ AcknowledgesHeard f.hearing (ack_of packet.kind) → Says e f confirms keys (Next packet)
   SaysApart : (number : ℕ) (packet : Kind) → confirms ≡ [] → keys ≡ [] → Says e f confirms keys (WithoutConnection number packet)
 
 -- a packet with data goes out
@@ -252,7 +252,7 @@ HasData (WithoutConnection number packet) = ⊥
 -- go out; and for its timer, while something is in flight.
 pub data IsCalling (e : EndState) (given : Input) (hearing : Hearing) (sending : Sending) : List Call → Type 0 where
   CallsNothing : IsCalling e given hearing sending []
-  CallsFor : (a : Incoming) (h : Heeding) → WasTaken e given hearing a → IsHeeded e a h → IsCalling e given hearing sending (calls_for a e.rows h.rows)
+  CallsFor : (a : Incoming) (h : Heeding) → WasTaken e given hearing a → AreOptionsRead e a h → IsCalling e given hearing sending (calls_for a e.rows h.rows)
   CallsSent : (payload : List ℕ) → given ≡ input.Sends payload true → e.phase ≡ phases.Open → HasData sending
       → IsCalling e given hearing sending (call.Sends (next_number e) ∷ [])
   CallsTimeout : given ≡ input.Fires timers.Rto true → e.phase ≡ phases.Open → IsCalling e given hearing sending (call.TimesOut ∷ [])
@@ -282,4 +282,4 @@ pub record HasEffect (e : EndState) (given : Input) (after : EndState) (frame : 
 -- Every step of a proper end has an effect.
 abbrev pub EveryStepHasOneEffect : Type 0
 EveryStepHasOneEffect =
-    (e : EndState) (given : Input) → IsProper e → HasEffect e given (stepped e given).after (stepped e given).frame (stepped e given).calls
+    (e : EndState) (given : Input) → IsProper e → HasEffect e given (end_stepped e given).after (end_stepped e given).frame (end_stepped e given).calls

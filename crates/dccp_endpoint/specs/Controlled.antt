@@ -6,7 +6,7 @@ use Rattle.congestion_trait.specs.Control.{Control}
 use Rattle.congestion_trait.specs.Flight.{numbers_reported, pipe_of}
 use Rattle.feature_lists.specs.Features.{initial_of}
 use Rattle.feature_lists.specs.declared.features.Feature.TheVariants.{Ccid}
-use Rattle.dccp_endpoint.specs.End.{EndState, fresh}
+use Rattle.dccp_endpoint.specs.End.{EndState, new_end}
 use Rattle.dccp_endpoint.specs.Steps.{Step}
 use Rattle.dccp_endpoint.specs.declared.config.Config.{Config}
 
@@ -43,7 +43,7 @@ with_control control congestion step =
 
 -- An end that has sent and received nothing: its congestion control is started with the CCID that the feature has at first.
 abbrev pub begins : {C : Type 0} → Control C → Config → C → End C
-begins control config congestion = record { state = fresh config; congestion = control.started congestion (initial_of Ccid) }
+begins control config congestion = record { state = new_end config; congestion = control.started congestion (initial_of Ccid) }
 
 -- how many data packets may be in flight, and how many are
 abbrev pub window_of : {C : Type 0} → Control C → C → ℕ

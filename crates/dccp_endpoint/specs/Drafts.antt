@@ -29,13 +29,13 @@ abbrev pub carrying : Kind → List ℕ → Draft
 carrying kind payload = record { kind = kind; options = []; payload = payload }
 
 -- the header of an end's own packets: all of the packet is covered, and the checksum follows
-abbrev pub header_of : Config → ℕ → Kind → Header
-header_of config number kind =
+abbrev pub own_header : Config → ℕ → Kind → Header
+own_header config number kind =
     record { from = config.own_port; to = config.peer_port; ccval = 0; cscov = 0; checksum = 0; number = Long number; kind = kind }
 
 -- a packet as it goes out, with its checksum
 unfoldable pub framed : Config → ℕ → Kind → List ℕ → List ℕ → List ℕ
-framed config number kind area payload = sealed config.pseudo_out (spelling (header_of config number kind) area payload)
+framed config number kind area payload = sealed config.pseudo_out (spelling (own_header config number kind) area payload)
 
 -- the frame of a draft
 abbrev pub frame_of : Config → ℕ → Draft → List ℕ

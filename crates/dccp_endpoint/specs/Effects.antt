@@ -10,7 +10,7 @@ use Rattle.dccp_states.specs.declared.phase.Phase.{Phase}
 use Rattle.dccp_endpoint.specs.Drafts.{Draft, alone, frame_of}
 use Rattle.dccp_endpoint.specs.End.{EndState, value_in}
 use Rattle.dccp_endpoint.specs.Receiving.{osr_after}
-use Rattle.dccp_endpoint.specs.Reporting.{is_acking, is_new, looked_by, one_more, recorded_by, sends_vectors}
+use Rattle.dccp_endpoint.specs.Reporting.{is_acking, is_new, looked_by, one_more_taken, recorded_by, sends_vectors}
 use Rattle.dccp_endpoint.specs.Steps.{next_number}
 use Rattle.feature_lists.specs.declared.features.Feature.TheVariants.{SequenceWindow}
 use Rattle.feature_lists.specs.declared.features.Place.TheVariants.{Here, There}
@@ -88,9 +88,9 @@ abbrev pub effect_of_sending : EndState → Sending → Effect
 effect_of_sending e sending = effect_of e Unheard None false e.phase false sending
 
 -- What each part makes of the old value. A first number takes the place of the old one; any other leaves ISR and raises GSR.
-abbrev pub first_or : Bool → ℕ → ℕ → ℕ
-first_or true number old = number
-first_or false number old = old
+abbrev pub isr_or : Bool → ℕ → ℕ → ℕ
+isr_or true number old = number
+isr_or false number old = old
 
 abbrev pub greatest_or : Bool → ℕ → ℕ → ℕ
 greatest_or true number old = number
@@ -99,7 +99,7 @@ greatest_or false number old = later_of old number
 -- ISR, GSR and OSR by what was heard
 abbrev pub first_by : ℕ → Hearing → ℕ
 first_by old Unheard = old
-first_by old (Heard first number how) = first_or first number old
+first_by old (Heard first number how) = isr_or first number old
 
 abbrev pub greatest_by : ℕ → Hearing → ℕ
 greatest_by old Unheard = old
@@ -107,7 +107,7 @@ greatest_by old (Heard first number how) = greatest_or first number old
 
 abbrev pub osr_by : ℕ → Hearing → Bool → ℕ
 osr_by old Unheard opening = old
-osr_by old (Heard first number how) opening = osr_after (first_or first number old) number opening
+osr_by old (Heard first number how) opening = osr_after (isr_or first number old) number opening
 
 -- GAR by what was acknowledged
 abbrev pub gar_by : ℕ → Option ℕ → ℕ
@@ -146,7 +146,7 @@ heard_by old (Heard first number how) = marked_as how (begun_or first number old
 
 -- how many numbers were taken, by what the mark answers
 abbrev pub count_as : Passing → ℕ → Kept → ℕ → ℕ
-count_as Taken count old number = one_more count (is_new (answer_to old.set number))
+count_as Taken count old number = one_more_taken count (is_new (answer_to old.set number))
 count_as Refused count old number = count
 count_as Shut count old number = count
 

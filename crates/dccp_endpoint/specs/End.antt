@@ -147,8 +147,8 @@ first_phase Server = phase.Listen
 
 -- An end that has sent and received nothing. The windows are as wide as the feature Sequence Window says at first (section 7.5.2),
 -- and nothing was negotiated.
-abbrev pub fresh : Config → EndState
-fresh config =
+abbrev pub new_end : Config → EndState
+new_end config =
     record {
       config = config;
       phase = first_phase config.role;

@@ -33,14 +33,14 @@ pub data Answer : Type 0 where
   Sent : (result : Result (Unit {0}) SendFault) → Answer
 
 -- a step with its answer as one of these
-abbrev pub shown : {A : Type 0} → (A → Answer) → Step A → Step Answer
-shown show step = record { after = step.after; frame = step.frame; calls = step.calls; answer = show step.answer }
+abbrev pub step_shown : {A : Type 0} → (A → Answer) → Step A → Step Answer
+step_shown show step = record { after = step.after; frame = step.frame; calls = step.calls; answer = show step.answer }
 
-abbrev pub stepped : EndState → Input → Step Answer
-stepped e (Arrives bytes) = shown Received (receives e bytes)
-stepped e Opens = shown Opened (opens e)
-stepped e Closes = shown Closed (closes e)
-stepped e Aborts = shown Aborted (aborts e)
-stepped e (Fires timer in_flight) = shown Fired (fires e timer in_flight)
-stepped e (Prefers k values) = shown Preferred (prefers e k values)
-stepped e (Sends payload may_send) = shown Sent (sends_payload e payload may_send)
+abbrev pub end_stepped : EndState → Input → Step Answer
+end_stepped e (Arrives bytes) = step_shown Received (receives e bytes)
+end_stepped e Opens = step_shown Opened (opens e)
+end_stepped e Closes = step_shown Closed (closes e)
+end_stepped e Aborts = step_shown Aborted (aborts e)
+end_stepped e (Fires timer in_flight) = step_shown Fired (fires e timer in_flight)
+end_stepped e (Prefers k values) = step_shown Preferred (prefers e k values)
+end_stepped e (Sends payload may_send) = step_shown Sent (sends_payload e payload may_send)

@@ -16,7 +16,7 @@ use Rattle.dccp_states.specs.declared.reply.Reply.{Reply}
 use Rattle.dccp_states.specs.declared.reply.Reply.TheVariants as reply
 use Rattle.run_list.specs.MarkedSet.{answer_to}
 use Rattle.validity_windows.specs.declared.verdict.Verdict.TheVariants as verdicts
-use Rattle.dccp_endpoint.specs.Causes.{Came, IsCaused, IsHeeded, entrance_of, is_code_without_connection, verdict_of}
+use Rattle.dccp_endpoint.specs.Causes.{AreOptionsRead, Came, IsCaused, entrance_of, is_code_without_connection, verdict_of}
 use Rattle.dccp_endpoint.specs.Congesting.{calls_for}
 use Rattle.dccp_endpoint.specs.Drafts.{alone}
 use Rattle.dccp_endpoint.specs.Effects.{Effect, Sending, Silent, Next, WithoutConnection, Heard, Refused, Shut, Taken, effect_of, effect_of_sending, end_after, frame_by, greatest_or, is_acking_sent, rows_by}
@@ -24,7 +24,7 @@ use Rattle.dccp_endpoint.specs.End.{EndState, phase_entered}
 use Rattle.dccp_endpoint.specs.Heeding.{Due, Heeding}
 use Rattle.dccp_endpoint.specs.Incoming.{Incoming}
 use Rattle.dccp_endpoint.specs.Inputs.{Input, Arrives}
-use Rattle.dccp_endpoint.specs.Receiving.{acknowledges_in_window, becomes_open, is_of_connection, is_other_service, is_own_service, is_unexpected, needs_ack, packet_fault, raised, reads_options, started}
+use Rattle.dccp_endpoint.specs.Receiving.{acknowledges_in_window, becomes_open, is_of_connection, is_other_service, is_own_service, is_unexpected, needs_ack, packet_fault, reads_options, started, with_raised_marks}
 use Rattle.dccp_packets.specs.ResetCodes.{number_of_code}
 use Rattle.dccp_packets.specs.declared.reset_code.ResetCode.TheVariants as codes
 use Rattle.dccp_endpoint.specs.Reporting.{delivered_if, delivers, looked_up, unacked_after}
@@ -88,7 +88,7 @@ pub data IsValid (e : EndState) (a : Incoming) (entered : EndState) : Type 0 whe
   OpensConnection : entrance_of e a ≡ entrance.Accept → is_own_service e a.service ≡ true → entered ≡ started e phases.Respond a → IsValid e a entered
   ResponseToRequest : entrance_of e a ≡ entrance.InRequest → a.kind ≢ types.Reset → acknowledges_in_window e a ≡ true → entered ≡ started e e.phase a
       → IsValid e a entered
-  PacketInWindow : entrance_of e a ≡ entrance.Check → a.kind ≢ types.Reset → verdict_of e a ≡ verdicts.Valid → entered ≡ raised e a
+  PacketInWindow : entrance_of e a ≡ entrance.Check → a.kind ≢ types.Reset → verdict_of e a ≡ verdicts.Valid → entered ≡ with_raised_marks e a
       → IsValid e a entered
 
 -- the bytes are such a packet
@@ -189,7 +189,7 @@ pub data IsResetting (e : EndState) (given : Input) (code : ℕ) (detail : List 
       → IsResetting e given code detail (effect_of_sending e (Next (alone (kind.Reset ack code detail))))
   Closing : (first : Bool) (number : ℕ) (ack : Option ℕ)
       → IsResetting e given code detail (effect_of e (Heard first number Shut) ack false phases.Closed false (Next (alone (kind.Reset (greatest_or first number e.marks.gsr) code detail))))
-  Answering : (packet : Incoming) (heeding : Heeding) (first : Bool) (ack : Option ℕ) → Came e given packet → IsHeeded e packet heeding
+  Answering : (packet : Incoming) (heeding : Heeding) (first : Bool) (ack : Option ℕ) → Came e given packet → AreOptionsRead e packet heeding
       → code ≡ (number_of_code codes.Closed)
       → IsResetting e given code detail
       (record (effect_of e (Heard first packet.number Taken) ack false phases.Closed false (Next (alone (kind.Reset (greatest_or first packet.number e.marks.gsr) code detail)))) {
@@ -233,7 +233,7 @@ pub record IsTaking (e : EndState) (given : Input) (delivered : Option (ℕ × �
   pub owes : f.owed ≡ not (is_acking_sent f.sending)
   pub counted : f.unacked ≡ unacked_by e.unacked (is_some delivered) f.sending
   pub heeding : Heeding
-  pub heeds : IsHeeded e packet heeding
+  pub heeds : AreOptionsRead e packet heeding
   pub calls : f.calls ≡ calls_for packet e.rows heeding.rows
   pub replied : kind_sent f.sending
       ≡ replying e (needs_ack to confirms (rows_by e.rows f) (unacked_after e.unacked (is_some delivered))) (greatest_or first packet.number e.marks.gsr)

@@ -78,13 +78,13 @@ abbrev pub checks_header : EndState → List ℕ → Header → Result ℕ Why
 checks_header e bytes header = by_sum e header (checked e.config.pseudo_in bytes)
 
 -- a packet that step 1 lets pass is read once
-abbrev pub with_number : EndState → List ℕ → Parts → Result ℕ Why → Result Incoming Why
-with_number e bytes p (Ok number) = Ok (incoming e bytes p number)
-with_number e bytes p (Err why) = Err why
+abbrev pub with_own_number : EndState → List ℕ → Parts → Result ℕ Why → Result Incoming Why
+with_own_number e bytes p (Ok number) = Ok (incoming e bytes p number)
+with_own_number e bytes p (Err why) = Err why
 
 -- bytes that are no packet are dropped before the rest is asked
 abbrev pub with_packet : EndState → List ℕ → Result Parts Malformed → Result Incoming Why
-with_packet e bytes (Ok p) = with_number e bytes p (checks_header e bytes p.header)
+with_packet e bytes (Ok p) = with_own_number e bytes p (checks_header e bytes p.header)
 with_packet e bytes (Err fault) = Err (why.Malformed fault)
 
 -- step 1, whole
@@ -146,23 +146,23 @@ takes_answer a entrance.PacketError x = Leaves x exits.PacketError
 takes_answer a _ x = Goes x
 
 -- Steps 5 and 6: a packet with valid numbers raises the greatest numbers received, unless it is a Reset.
-abbrev pub raised : EndState → Incoming → EndState
-raised e a = record e { marks = taken e.marks a.kind a.number a.ack }
+abbrev pub with_raised_marks : EndState → Incoming → EndState
+with_raised_marks e a = record e { marks = taken e.marks a.kind a.number a.ack }
 
 -- by the type of a packet whose numbers are valid
 abbrev pub raises : Incoming → EndState → PacketType → Course
 raises a x types.Reset = Goes x
-raises a x _ = Goes (raised x a)
+raises a x _ = Goes (with_raised_marks x a)
 
 -- by the verdict of the windows
-abbrev pub judged : Incoming → EndState → Verdict → Course
-judged a x verdicts.Valid = raises a x a.kind
-judged a x (verdicts.SyncFor number) = Leaves x (exits.Sync number)
-judged a x verdicts.Drop = Leaves x (exits.Drop why.BadSync)
+abbrev pub by_verdict : Incoming → EndState → Verdict → Course
+by_verdict a x verdicts.Valid = raises a x a.kind
+by_verdict a x (verdicts.SyncFor number) = Leaves x (exits.Sync number)
+by_verdict a x verdicts.Drop = Leaves x (exits.Drop why.BadSync)
 
 -- steps 5 and 6, whole
 abbrev pub checks_numbers : Incoming → Entrance → EndState → Course
-checks_numbers a entrance.Check x = judged a x (verdict x.marks a.kind a.number a.ack)
+checks_numbers a entrance.Check x = by_verdict a x (verdict x.marks a.kind a.number a.ack)
 checks_numbers a _ x = Goes x
 
 -- Step 9 comes before 7 and 8 (own): a valid Reset ends the connection, whatever its options.

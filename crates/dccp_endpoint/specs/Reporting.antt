@@ -50,16 +50,16 @@ is_new Again = false
 is_new BelowFloor = false
 
 -- one number more that was taken; the count stays at 2^64 - 1 (own)
-abbrev pub one_more : ℕ → Bool → ℕ
-one_more count true = min (count + 1) (2 ^ 64 - 1)
-one_more count false = count
+abbrev pub one_more_taken : ℕ → Bool → ℕ
+one_more_taken count true = min (count + 1) (2 ^ 64 - 1)
+one_more_taken count false = count
 
 -- The number of a packet is marked, and an acknowledgement is owed, whatever the mark answers.
 abbrev pub marks : EndState → ℕ → EndState
 marks e number =
     record e {
       received = marked_by e.received number;
-      marked = one_more e.marked (is_new (answer_to e.received.set number));
+      marked = one_more_taken e.marked (is_new (answer_to e.received.set number));
       owed = true;
     }
 

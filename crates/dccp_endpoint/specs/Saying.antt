@@ -6,7 +6,7 @@ use Rattle.dccp_options.specs.Written.{Item, entries_at}
 use Rattle.dccp_options.specs.declared.option.OptFault.{OptFault}
 use Rattle.feature_agreement.specs.Packets.{reply_due}
 use Rattle.feature_agreement.specs.Rows.{opposite}
-use Rattle.feature_lists.specs.Features.{number_of}
+use Rattle.feature_lists.specs.Features.{feature_number}
 use Rattle.feature_machine.specs.Negotiating.{IsNegotiation, row_at}
 use Rattle.feature_machine.specs.Rows.{RowEvent, Change, Confirm}
 use Rattle.feature_machine.specs.Turns.{events_of}
@@ -18,13 +18,13 @@ use Rattle.dccp_endpoint.specs.Speaking.{HaveRoom, change_items, confirm_items, 
 use Rattle.dccp_endpoint.specs.Turns.{Key}
 
 -- the data begin with this feature number
-abbrev pub begins_with : ℕ → List ℕ → Bool
-begins_with number [] = false
-begins_with number (first ∷ rest) = first == number
+abbrev pub begins_with_number : ℕ → List ℕ → Bool
+begins_with_number number [] = false
+begins_with_number number (first ∷ rest) = first == number
 
 -- The option speaks to the row: it is a Change or a Confirm for the row's feature, by L for a feature at the peer and by R for one here.
 abbrev pub speaks_to : Key → Entry → Bool
-speaks_to k entry = is_of_negotiation entry.kind && (begins_with (number_of k.0) entry.body && is_of_place (is_left entry.kind) (opposite k.1))
+speaks_to k entry = is_of_negotiation entry.kind && (begins_with_number (feature_number k.0) entry.body && is_of_place (is_left entry.kind) (opposite k.1))
 
 -- what the row hears of the option
 abbrev pub event_in : Option ℕ → Entry → RowEvent
@@ -63,7 +63,7 @@ ConfirmsHaveRoom =
 
 -- whether a row is one of these
 abbrev pub is_key : Key → Key → Bool
-is_key one other = number_of one.0 == number_of other.0 && is_of_place (is_of_place true one.1) other.1
+is_key one other = feature_number one.0 == feature_number other.0 && is_of_place (is_of_place true one.1) other.1
 
 abbrev pub has_key : Key → List Key → Bool
 has_key k keys = list_any (is_key k) keys

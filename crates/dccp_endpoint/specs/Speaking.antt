@@ -6,7 +6,7 @@ use Rattle.byteorder.specs.Endian.{big_bytes}
 use Rattle.dccp_options.specs.Kinds as options
 use Rattle.dccp_options.specs.Written.{Item, written}
 use Rattle.dccp_packets.specs.declared.header.Kind.{Kind}
-use Rattle.feature_lists.specs.Features.{described, number_of}
+use Rattle.feature_lists.specs.Features.{described, feature_number}
 use Rattle.feature_lists.specs.declared.features.Feature.{Feature}
 use Rattle.feature_lists.specs.declared.features.Place.{Place}
 use Rattle.feature_lists.specs.declared.features.Place.TheVariants.{Here, There}
@@ -35,7 +35,7 @@ wish_bytes feature (Some (wanted.Number number)) = big_bytes (described feature)
 
 -- the Change of a row as it goes out
 abbrev pub change_item : Key → Row → Item
-change_item k row = record { mandatory = row.mandatory; kind = change_type k.1; body = number_of k.0 ∷ wish_bytes k.0 row.active }
+change_item k row = record { mandatory = row.mandatory; kind = change_type k.1; body = feature_number k.0 ∷ wish_bytes k.0 row.active }
 
 abbrev pub change_items : List Row → List Key → List Item
 change_items rows keys = map (λ (k : Key). change_item k (row_at rows k.0 k.1)) keys
@@ -80,7 +80,7 @@ is_of_place false There = true
 
 -- a Confirm is for the row
 abbrev pub is_for : Key → Due → Bool
-is_for k due = due.number == number_of k.0 && is_of_place due.left k.1
+is_for k due = due.number == feature_number k.0 && is_of_place due.left k.1
 
 -- one of the Confirms is for the row
 abbrev pub is_confirmed : List Due → Key → Bool

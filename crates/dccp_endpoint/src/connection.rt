@@ -74,13 +74,13 @@ impl Model for Connection {
 
 impl Connection {
     ghost use Rattle.std.specs.Prelude.{◌≡◌, IfOk};
-    ghost use Rattle.dccp_endpoint.specs.End.{EndState, fresh, held_of, floor_of, marked_of, with_rows};
+    ghost use Rattle.dccp_endpoint.specs.End.{EndState, floor_of, held_of, marked_of, new_end, with_rows};
     ghost use Rattle.feature_machine.specs.Negotiating.{AreRowsOf};
     ghost use Rattle.run_list.specs.MarkedSet.{IsSound};
 
     /// An end of its configuration: CLOSED for a client, LISTEN for a server (RFC 4340, section 8.1).
     pub(crate) fn new(alloc: Global, config: Config) -> Result<Connection, NoMemory>
-        ensures { IfOk result (λ e. e ≡ fresh config) }
+        ensures { IfOk result (λ e. e ≡ new_end config) }
     {
         config.shows_lists();
         let phase = first_phase(config.role);

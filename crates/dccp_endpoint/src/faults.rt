@@ -1,6 +1,6 @@
 //! What the options of a packet may be faulted for, and where they count (RFC 4340, sections 5.8 and 8.5, step 8).
 ghost use Rattle.std.specs.Prelude.{◌≡◌, slice_index};
-ghost use Rattle.dccp_options.specs.Left.{entry_of};
+ghost use Rattle.dccp_options.specs.Left.{entry_of_option};
 ghost use Rattle.dccp_endpoint.specs.Faults.{counts, mandatory_fault};
 ghost use Rattle.dccp_endpoint.specs.Heeding.{fault_of};
 
@@ -19,7 +19,7 @@ fn byte_of(body: &[u8], place: usize) -> u8
 
 /// A Reset Code with the option's type and the first two bytes of its data (RFC 4340, section 5.6).
 pub(crate) fn fault_of(code: ResetCode, option: &Opt<'_>) -> Fault
-    ensures { result ≡ fault_of code (entry_of option.now) }
+    ensures { result ≡ fault_of code (entry_of_option option.now) }
 {
     Fault {
         code: code.number(),

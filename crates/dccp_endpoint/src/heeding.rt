@@ -1,7 +1,7 @@
 //! What the options of a packet say to the rows of an end (RFC 4340, section 8.5, step 8).
 ghost use Rattle.std.specs.Prelude.{◌≡◌, ◌<◌, ◌≤◌, ℕ, Option, Ok, true, length, map};
 ghost use Rattle.dccp_options.specs.Grammar.{options_of};
-ghost use Rattle.dccp_options.specs.Left.{entry_of, item_of};
+ghost use Rattle.dccp_options.specs.Left.{entry_of_option, item_of};
 ghost use Rattle.dccp_endpoint.specs.Heeding.{Heeding, counted, due_of, heeding_or, heeds, heeds_body, heeds_change, heeds_confirm, heeds_entry, heeds_feature, heeds_first, heeds_item, is_change, is_left, is_of_negotiation, met, misunderstood, place_in_used, unheeded};
 
 use crate::Fault;
@@ -123,7 +123,7 @@ impl Reading {
         body: &[u8],
     ) -> Result<(), Fault>
         requires { self.old.changes < 64 }
-        ensures { heeding_or self.new result ≡ heeds_change self.old (entry_of option.now) left number body.now }
+        ensures { heeding_or self.new result ≡ heeds_change self.old (entry_of_option option.now) left number body.now }
     {
         match self.rows.on_change(left, number, body, option.mandatory) {
             Answer::Confirm(out) => {
@@ -148,7 +148,7 @@ impl Reading {
         body: &[u8],
         ack: &Option<Seq48>,
     ) -> Result<(), Fault>
-        ensures { heeding_or self.new result ≡ heeds_confirm ack.now self.old (entry_of option.now) left number body.now }
+        ensures { heeding_or self.new result ≡ heeds_confirm ack.now self.old (entry_of_option option.now) left number body.now }
     {
         match self.rows.on_confirm(left, number, body, *ack) {
             Settling::Settled | Settling::Ignored => {
@@ -169,7 +169,7 @@ impl Reading {
         body: &[u8],
         ack: &Option<Seq48>,
     ) -> Result<(), Fault>
-        ensures { heeding_or self.new result ≡ heeds_first ack.now self.old (entry_of option.now) change left number body.now }
+        ensures { heeding_or self.new result ≡ heeds_first ack.now self.old (entry_of_option option.now) change left number body.now }
     {
         if !change {
             return self.heed_confirm(option, left, number, body, ack);
@@ -191,7 +191,7 @@ impl Reading {
         body: &[u8],
         ack: &Option<Seq48>,
     ) -> Result<(), Fault>
-        ensures { heeding_or self.new result ≡ heeds_feature ack.now self.old (entry_of option.now) change left number body.now }
+        ensures { heeding_or self.new result ≡ heeds_feature ack.now self.old (entry_of_option option.now) change left number body.now }
     {
         if self.used[place_in_used(left, number)] {
             self.count(change);
@@ -202,7 +202,7 @@ impl Reading {
 
     // The data are the feature number and what stands behind it.
     fn heed_body(&mut self, option: &Opt<'_>, ack: &Option<Seq48>) -> Result<(), Fault>
-        ensures { heeding_or self.new result ≡ heeds_body ack.now self.old (entry_of option.now) option.now.body.now }
+        ensures { heeding_or self.new result ≡ heeds_body ack.now self.old (entry_of_option option.now) option.now.body.now }
     {
         match option.body {
             [] => Ok(()),
@@ -219,7 +219,7 @@ impl Reading {
 
     // An option that is not understood is a fault behind Mandatory alone.
     fn misunderstand(&self, option: &Opt<'_>) -> Result<(), Fault>
-        ensures { heeding_or self.now result ≡ misunderstood self.now (entry_of option.now) }
+        ensures { heeding_or self.now result ≡ misunderstood self.now (entry_of_option option.now) }
     {
         if option.mandatory {
             return Err(fault_of(ResetCode::MandatoryError, option));
@@ -234,7 +234,7 @@ impl Reading {
         count: bool,
         ack: &Option<Seq48>,
     ) -> Result<(), Fault>
-        ensures { heeding_or self.new result ≡ heeds_entry count ack.now self.old (entry_of option.now) }
+        ensures { heeding_or self.new result ≡ heeds_entry count ack.now self.old (entry_of_option option.now) }
     {
         if !option.is_understood() {
             return self.misunderstand(option);

@@ -4,7 +4,7 @@ ghost use Rattle.dccp_packets.specs.Grammar.{KindFits};
 ghost use Rattle.dccp_packets.specs.Widths.{in_widths};
 ghost use Rattle.dccp_endpoint.specs.declared.config.Config.{Config};
 ghost use Rattle.dccp_endpoint.specs.Causes.{EveryStepHasOneEffect};
-ghost use Rattle.dccp_endpoint.specs.Drafts.{Draft, Fits, IsSendable, ReadsAs, frame_of, header_of};
+ghost use Rattle.dccp_endpoint.specs.Drafts.{Draft, Fits, IsSendable, ReadsAs, frame_of, own_header};
 ghost use Rattle.dccp_endpoint.specs.Saying.{ConfirmsAreSingle, OwnPacketsSayOfARow, OwnPacketsSpeakOnce, RowsHearThePacket};
 
 /// What an end writes is read as it was meant: each frame of a draft is a packet with the draft's type, options and data under the
@@ -12,9 +12,9 @@ ghost use Rattle.dccp_endpoint.specs.Saying.{ConfirmsAreSingle, OwnPacketsSayOfA
 /// low bits are read.
 pub fn own_frames_are_read()
     ensures whole { (config : Config) (number : ℕ) (draft : Draft) → Fits config → number < 2 ^ 48 → KindFits draft.kind → IsSendable draft
-        → ReadsAs (header_of config number draft.kind) config.pseudo_out draft (frame_of config number draft) }
+        → ReadsAs (own_header config number draft.kind) config.pseudo_out draft (frame_of config number draft) }
     ensures in_widths { (config : Config) (number : ℕ) (draft : Draft) → IsSendable draft
-        → ReadsAs (in_widths (header_of config number draft.kind)) config.pseudo_out draft (frame_of config number draft) }
+        → ReadsAs (in_widths (own_header config number draft.kind)) config.pseudo_out draft (frame_of config number draft) }
 {}
 
 /// Each step of an end has one effect: a record of what becomes of each part of the end, of what goes out and why (own). What two ends

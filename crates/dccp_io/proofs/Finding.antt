@@ -10,7 +10,7 @@ use Rattle.dccp_io.specs.Fronts.{GivesAtMost}
 use Rattle.dccp_io.specs.declared.lines.Stands.TheVariants as stands
 use Rattle.dccp_io.specs.declared.lines.Stop.{Stop}
 use Rattle.dccp_io.specs.declared.lines.Stop.TheVariants as stop
-use Rattle.dccp_io.specs.Lines.{most_bytes, next_of, told, IsLineOf, End, Line, Long, Much, Seeks, LinesState, Finds}
+use Rattle.dccp_io.specs.Lines.{most_input_bytes, next_in_bytes, made_out, IsLineOf, End, Line, Long, Much, Seeks, LinesState, Finds}
 
 -- a reader with these parts
 abbrev pub state : {S : Type 0} → S → List ℕ → ℕ → ℕ → Option Stop → LinesState S
@@ -41,12 +41,12 @@ no-end true true front line other is = cc is
 no-end true false front line other is = cc is
 no-end false long front line other is = cc is
 
-only-end : (given : ℕ) (bytes : List ℕ) → next_of given bytes ≡ End → bytes ≡ []
+only-end : (given : ℕ) (bytes : List ℕ) → next_in_bytes given bytes ≡ End → bytes ≡ []
 only-end given [] is = refl
 only-end given (byte ∷ bytes) is = no-end _ _ _ _ (byte ∷ bytes) is
 
 -- nothing is left
-end-next : (given : ℕ) (all ahead : Option (List ℕ)) → ahead ≡ all → IfSome all (λ bytes. next_of given bytes ≡ End)
+end-next : (given : ℕ) (all ahead : Option (List ℕ)) → ahead ≡ all → IfSome all (λ bytes. next_in_bytes given bytes ≡ End)
     → IfSome all (λ bytes. (bytes ≡ []) × (ahead ≡ Some []))
 end-next given None ahead same next = tt
 end-next given (Some bytes) ahead same next =
@@ -54,8 +54,8 @@ end-next given (Some bytes) ahead same next =
 
 -- a line stands next, and behind it what is left
 line-next : (given count : ℕ) (got : List ℕ) (all known : Option (List ℕ)) → count ≤ length got → prepend_known got known ≡ all
-    → IfSome all (λ bytes. next_of given bytes ≡ Line (take count got))
-    → IfSome all (λ bytes. (next_of given bytes ≡ Line (take count got)) × (prepend_known (drop count got) known ≡ Some (drop (length (take count got)) bytes)))
+    → IfSome all (λ bytes. next_in_bytes given bytes ≡ Line (take count got))
+    → IfSome all (λ bytes. (next_in_bytes given bytes ≡ Line (take count got)) × (prepend_known (drop count got) known ≡ Some (drop (length (take count got)) bytes)))
 line-next given count got None known fits same next = tt
 line-next given count got (Some bytes) None fits same next = absurd (none-some bytes same)
 line-next given count got (Some bytes) (Some more) fits same next =
@@ -65,7 +65,7 @@ line-next given count got (Some bytes) (Some more) fits same next =
 
 module _ {S : Type 0} (left : S → Option (List ℕ)) (faults lender : S → ℕ) where
   -- a reader that stopped does nothing
-  pub found-before : (old : LinesState S) (why : Stop) → old.stop ≡ Some why → old.given ≤ most_bytes → length old.pending ≤ 8192
+  pub found-before : (old : LinesState S) (why : Stop) → old.stop ≡ Some why → old.given ≤ most_input_bytes → length old.pending ≤ 8192
       → Finds left faults lender old old (Err why)
   found-before old why kept within block = record {
     never_falls = omega arith;
@@ -76,7 +76,7 @@ module _ {S : Type 0} (left : S → Option (List ℕ)) (faults lender : S → �
   }
 
   pub found-failed : (before after : S) (held passed got : BytesAhead) (used given : ℕ) (stopped : Option Stop) → passed ≡ let_go held used → stopped ≡ None
-      → given ≤ most_bytes → length got.pending ≤ 8192 → Seeks left faults lender passed got before after → Rose (faults before) (faults after)
+      → given ≤ most_input_bytes → length got.pending ≤ 8192 → Seeks left faults lender passed got before after → Rose (faults before) (faults after)
       → Finds left faults lender (state before held.pending used given stopped) (state after got.pending 0 given (Some stop.Failed)) (Err stop.Failed)
   found-failed before after held passed got used given stopped is unstopped within block seeks rose =
       let here : Seeks left faults lender (let_go held used) got before after = subst (λ (ahead : BytesAhead). Seeks left faults lender ahead got before after) is seeks in
@@ -89,8 +89,8 @@ module _ {S : Type 0} (left : S → Option (List ℕ)) (faults lender : S → �
       }
 
   pub found-long : (before after : S) (held passed got : BytesAhead) (used given : ℕ) (stopped : Option Stop) → passed ≡ let_go held used → stopped ≡ None
-      → given ≤ most_bytes → length got.pending ≤ 8192 → Seeks left faults lender passed got before after
-      → IfSome (ahead_of passed (left before)) (λ bytes. next_of given bytes ≡ told got.pending stands.TooLong)
+      → given ≤ most_input_bytes → length got.pending ≤ 8192 → Seeks left faults lender passed got before after
+      → IfSome (ahead_of passed (left before)) (λ bytes. next_in_bytes given bytes ≡ made_out got.pending stands.TooLong)
       → Finds left faults lender (state before held.pending used given stopped) (state after got.pending 0 given (Some stop.TooLong)) (Err stop.TooLong)
   found-long before after held passed got used given stopped is unstopped within block seeks next =
       let here : Seeks left faults lender (let_go held used) got before after = subst (λ (ahead : BytesAhead). Seeks left faults lender ahead got before after) is seeks in
@@ -105,14 +105,14 @@ module _ {S : Type 0} (left : S → Option (List ℕ)) (faults lender : S → �
           same_rest = here.same_ahead;
           cause = inr (
             unstopped,
-            subst (λ (ahead : BytesAhead). IfSome (ahead_of ahead (left before)) (λ bytes. next_of given bytes ≡ told got.pending stands.TooLong)) is next,
+            subst (λ (ahead : BytesAhead). IfSome (ahead_of ahead (left before)) (λ bytes. next_in_bytes given bytes ≡ made_out got.pending stands.TooLong)) is next,
           );
         };
       }
 
   pub found-much : (before after : S) (held passed got : BytesAhead) (used given : ℕ) (stopped : Option Stop) → passed ≡ let_go held used → stopped ≡ None
-      → given ≤ most_bytes → length got.pending ≤ 8192 → Seeks left faults lender passed got before after
-      → IfSome (ahead_of passed (left before)) (λ bytes. next_of given bytes ≡ told got.pending stands.TooMuch)
+      → given ≤ most_input_bytes → length got.pending ≤ 8192 → Seeks left faults lender passed got before after
+      → IfSome (ahead_of passed (left before)) (λ bytes. next_in_bytes given bytes ≡ made_out got.pending stands.TooMuch)
       → Finds left faults lender (state before held.pending used given stopped) (state after got.pending 0 given (Some stop.TooMuch)) (Err stop.TooMuch)
   found-much before after held passed got used given stopped is unstopped within block seeks next =
       let here : Seeks left faults lender (let_go held used) got before after = subst (λ (ahead : BytesAhead). Seeks left faults lender ahead got before after) is seeks in
@@ -127,14 +127,14 @@ module _ {S : Type 0} (left : S → Option (List ℕ)) (faults lender : S → �
           same_rest = here.same_ahead;
           cause = inr (
             unstopped,
-            subst (λ (ahead : BytesAhead). IfSome (ahead_of ahead (left before)) (λ bytes. next_of given bytes ≡ told got.pending stands.TooMuch)) is next,
+            subst (λ (ahead : BytesAhead). IfSome (ahead_of ahead (left before)) (λ bytes. next_in_bytes given bytes ≡ made_out got.pending stands.TooMuch)) is next,
           );
         };
       }
 
   pub found-end : (before after : S) (held passed got : BytesAhead) (used given : ℕ) (stopped : Option Stop) → passed ≡ let_go held used → stopped ≡ None
-      → given ≤ most_bytes → length got.pending ≤ 8192 → Seeks left faults lender passed got before after
-      → IfSome (ahead_of passed (left before)) (λ bytes. next_of given bytes ≡ told got.pending stands.End)
+      → given ≤ most_input_bytes → length got.pending ≤ 8192 → Seeks left faults lender passed got before after
+      → IfSome (ahead_of passed (left before)) (λ bytes. next_in_bytes given bytes ≡ made_out got.pending stands.End)
       → Finds left faults lender (state before held.pending used given stopped) (state after got.pending 0 given stopped) (Ok false)
   found-end before after held passed got used given stopped is unstopped within block seeks next =
       let here : Seeks left faults lender (let_go held used) got before after = subst (λ (ahead : BytesAhead). Seeks left faults lender ahead got before after) is seeks in
@@ -148,13 +148,13 @@ module _ {S : Type 0} (left : S → Option (List ℕ)) (faults lender : S → �
           is_open = unstopped;
           given = refl;
           next = end-next given (prepend_known (drop used held.pending) (left before)) (prepend_known got.pending (left after)) here.same_ahead
-              (subst (λ (ahead : BytesAhead). IfSome (ahead_of ahead (left before)) (λ bytes. next_of given bytes ≡ told got.pending stands.End)) is next);
+              (subst (λ (ahead : BytesAhead). IfSome (ahead_of ahead (left before)) (λ bytes. next_in_bytes given bytes ≡ made_out got.pending stands.End)) is next);
         };
       }
 
   pub found-line : (before after : S) (held passed got : BytesAhead) (used given count : ℕ) (stopped : Option Stop) → passed ≡ let_go held used → stopped ≡ None
       → length got.pending ≤ 8192 → Seeks left faults lender passed got before after
-      → IfSome (ahead_of passed (left before)) (λ bytes. next_of given bytes ≡ told got.pending (stands.Line count))
+      → IfSome (ahead_of passed (left before)) (λ bytes. next_in_bytes given bytes ≡ made_out got.pending (stands.Line count))
       → IsLineOf given got.pending (stands.Line count)
       → Finds left faults lender (state before held.pending used given stopped) (state after got.pending count (given + count) stopped) (Ok true)
   found-line before after held passed got used given count stopped is unstopped block seeks next fits =
@@ -172,6 +172,6 @@ module _ {S : Type 0} (left : S → Option (List ℕ)) (faults lender : S → �
           short = rw size fits.2;
           given = ap (λ (n : ℕ). given + n) (sym size);
           next = line-next given count got.pending (prepend_known (drop used held.pending) (left before)) (left after) fits.1 here.same_ahead
-              (subst (λ (ahead : BytesAhead). IfSome (ahead_of ahead (left before)) (λ bytes. next_of given bytes ≡ told got.pending (stands.Line count))) is next);
+              (subst (λ (ahead : BytesAhead). IfSome (ahead_of ahead (left before)) (λ bytes. next_in_bytes given bytes ≡ made_out got.pending (stands.Line count))) is next);
         };
       }

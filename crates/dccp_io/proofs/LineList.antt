@@ -2,7 +2,7 @@
 use Rattle.std.proofs.Common.{arith, ◌≡◌, refl, sym, ap, ◌∙◌, ℕ, suc, ◌≤◌, ◌<◌, nat_le, Bool, true, false, if◌then◌else◌, ◌==◌, List, [], ◌∷◌, length, take, drop}
 use Rattle.std.proofs.lemmas.Bool.Decides.{nat_tests}
 use Rattle.std.proofs.lemmas.List.{drop_min, take_all, take-append-drop, take-append-le}
-use Rattle.dccp_io.specs.Lines.{newline, one_too_many, text_length, first_line, before_line, lines_of, ends_within, by_length, next_of, first_of, Much}
+use Rattle.dccp_io.specs.Lines.{newline, one_too_many, text_length, first_line, before_line, lines_of, ends_within, by_length, next_in_bytes, next_in_lines, Much}
 use Rattle.dccp_io.proofs.NextLine.{alike-by, is-least, text_length-fits, first_line_length}
 
 is-newline : (byte : ℕ) → (byte == newline) ≡ true → newline ≡ byte
@@ -54,7 +54,7 @@ long-front bytes long =
     ∙ take-append-le one_too_many (first_line bytes) (drop (suc (text_length bytes)) bytes) (omega (arith, long, size, fits))
 
 -- what stands next is the first of the lines
-pub next-first : (given : ℕ) (bytes : List ℕ) → next_of given bytes ≡ first_of given (lines_of bytes)
+pub next-first : (given : ℕ) (bytes : List ℕ) → next_in_bytes given bytes ≡ next_in_lines given (lines_of bytes)
 next-first given [] = refl
 next-first given (byte ∷ rest) =
     let bytes = byte ∷ rest in
@@ -62,4 +62,4 @@ next-first given (byte ∷ rest) =
     alike-by (ends_within given line) (nat_le one_too_many (text_length bytes)) (take one_too_many bytes) (take one_too_many line) line (first_line line)
     (λ long. long-front bytes (is-least one_too_many (text_length bytes) long)) (sym (line-front bytes))
     ∙ ap (λ (n : ℕ). if ends_within given line then by_length line n else Much) (sym (text-front bytes))
-    ∙ ap (first_of given) (sym (lines-cut bytes (omega arith)))
+    ∙ ap (next_in_lines given) (sym (lines-cut bytes (omega arith)))

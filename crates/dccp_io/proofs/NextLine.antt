@@ -5,7 +5,7 @@ use Rattle.std.proofs.lemmas.List.{append-nil, take-append-le, take_min, length-
 use Rattle.std.proofs.lemmas.Option.{none-some}
 use Rattle.std.proofs.Math.Seq.{drop-append_seam}
 use Rattle.std.specs.Io.KnownBytes.{prepend_known}
-use Rattle.dccp_io.specs.Lines.{newline, one_too_many, most_bytes, text_length, first_line, ends_within, by_length, next_of, Next, End, Line, Long, Much, IsSought}
+use Rattle.dccp_io.specs.Lines.{newline, one_too_many, most_input_bytes, text_length, first_line, ends_within, by_length, next_in_bytes, Next, End, Line, Long, Much, IsSought}
 
 -- no newline stands among the first bytes
 past-by : (test : Bool) (n m k t : ℕ) → (if test then 0 else suc n) ≡ suc k → (n ≡ k → m ≡ k + t) → (if test then 0 else suc m) ≡ suc k + t
@@ -39,7 +39,7 @@ scan-on : (xs ys : List ℕ) → text_length xs ≡ length xs → text_length (x
 scan-on xs ys none = text_length-past xs ys none ∙ ap (λ (behind : List ℕ). length xs + text_length behind) (sym (drop-append_seam xs ys))
 
 next-some : (given : ℕ) (bytes : List ℕ) → 0 < length bytes
-    → next_of given bytes ≡ (if ends_within given (first_line bytes) then by_length bytes (text_length bytes) else Much)
+    → next_in_bytes given bytes ≡ (if ends_within given (first_line bytes) then by_length bytes (text_length bytes) else Much)
 next-some given [] some = absurd (omega (arith, some))
 next-some given (byte ∷ bytes) some = refl
 
@@ -53,7 +53,7 @@ pub is-least : (n m : ℕ) → nat_le n m ≡ true → n ≤ m
 is-least n m is = grind (arith, nat_tests)
 
 -- the first line is pending with its newline
-settled-line : (given : ℕ) (pending more : List ℕ) → text_length pending < length pending → next_of given (pending ++ more) ≡ next_of given pending
+settled-line : (given : ℕ) (pending more : List ℕ) → text_length pending < length pending → next_in_bytes given (pending ++ more) ≡ next_in_bytes given pending
 settled-line given pending more inside =
     let n = text_length pending in
     let same : text_length (pending ++ more) ≡ n = text_length-first pending more inside in
@@ -68,14 +68,14 @@ settled-line given pending more inside =
     (λ long. let least = is-least one_too_many n long in take-append-le one_too_many pending more (omega (arith, least, inside))) refl
     ∙ sym (next-some given pending some)
 
-is-past : (given : ℕ) (line : List ℕ) → most_bytes < given + min (length line) one_too_many → ends_within given line ≡ false
+is-past : (given : ℕ) (line : List ℕ) → most_input_bytes < given + min (length line) one_too_many → ends_within given line ≡ false
 is-past given line past = grind (arith, nat_tests)
 
-is-within : (given : ℕ) (line : List ℕ) → given + one_too_many ≤ most_bytes → ends_within given line ≡ true
+is-within : (given : ℕ) (line : List ℕ) → given + one_too_many ≤ most_input_bytes → ends_within given line ≡ true
 is-within given line within = grind (arith, nat_tests)
 
 -- a line of that many bytes is too much
-next-much : (given : ℕ) (bytes : List ℕ) → most_bytes < given + min (text_length bytes) one_too_many → given ≤ most_bytes → next_of given bytes ≡ Much
+next-much : (given : ℕ) (bytes : List ℕ) → most_input_bytes < given + min (text_length bytes) one_too_many → given ≤ most_input_bytes → next_in_bytes given bytes ≡ Much
 next-much given bytes past within =
     let fits = text_length-fits bytes in
     let size : length (first_line bytes) ≡ min (suc (text_length bytes)) (length bytes) = length-take (suc (text_length bytes)) bytes in
@@ -87,7 +87,7 @@ is-long : (n : ℕ) → one_too_many ≤ n → nat_le one_too_many n ≡ true
 is-long n long = grind (arith, nat_tests)
 
 -- a line of that many bytes is too long
-next-long : (given : ℕ) (bytes : List ℕ) → one_too_many ≤ text_length bytes → given + one_too_many ≤ most_bytes → next_of given bytes ≡ Long (take one_too_many bytes)
+next-long : (given : ℕ) (bytes : List ℕ) → one_too_many ≤ text_length bytes → given + one_too_many ≤ most_input_bytes → next_in_bytes given bytes ≡ Long (take one_too_many bytes)
 next-long given bytes long within =
     let fits = text_length-fits bytes in
     next-some given bytes (omega (arith, long, fits))
@@ -101,12 +101,12 @@ first_line_length bytes = length-take (suc (text_length bytes)) bytes
 is-short : (n : ℕ) → n < one_too_many → nat_le one_too_many n ≡ false
 is-short n short = grind (arith, nat_tests)
 
-is-inside : (given : ℕ) (line : List ℕ) → given + min (length line) one_too_many ≤ most_bytes → ends_within given line ≡ true
+is-inside : (given : ℕ) (line : List ℕ) → given + min (length line) one_too_many ≤ most_input_bytes → ends_within given line ≡ true
 is-inside given line inside = grind (arith, nat_tests)
 
 -- a line that is neither too long nor too much
-pub next-line : (given n : ℕ) (bytes : List ℕ) → n ≡ length (first_line bytes) → 0 < n → given + min n one_too_many ≤ most_bytes → text_length bytes < one_too_many
-    → Line (take n bytes) ≡ next_of given bytes
+pub next-line : (given n : ℕ) (bytes : List ℕ) → n ≡ length (first_line bytes) → 0 < n → given + min n one_too_many ≤ most_input_bytes → text_length bytes < one_too_many
+    → Line (take n bytes) ≡ next_in_bytes given bytes
 next-line given n bytes is some inside short =
     let size = first_line_length bytes in
     let more : 0 < length bytes = omega (arith, is, some, size) in
@@ -118,7 +118,7 @@ next-line given n bytes is some inside short =
     ∙ sym (next-some given bytes more)
 
 -- nothing is pending
-pub next-end : (given n : ℕ) (bytes : List ℕ) → n ≡ length (first_line bytes) → n ≡ 0 → End ≡ next_of given bytes
+pub next-end : (given n : ℕ) (bytes : List ℕ) → n ≡ length (first_line bytes) → n ≡ 0 → End ≡ next_in_bytes given bytes
 next-end given n [] is none = refl
 next-end given n (byte ∷ bytes) is none = let size = first_line_length (byte ∷ bytes) in absurd (omega (arith, is, none, size))
 
@@ -135,47 +135,47 @@ scanned before got pending seen is past joined =
     )
 
 -- so many bytes of the first line are pending that it is too long or too much
-settled-front : (given asked : ℕ) (pending more : List ℕ) (tight : Bool) → nat_lt most_bytes (given + one_too_many) ≡ tight → given ≤ most_bytes
-    → asked ≡ min one_too_many (most_bytes - given + 1) → asked ≤ text_length pending → text_length pending ≡ length pending
-    → next_of given (pending ++ more) ≡ next_of given pending
+settled-front : (given asked : ℕ) (pending more : List ℕ) (tight : Bool) → nat_lt most_input_bytes (given + one_too_many) ≡ tight → given ≤ most_input_bytes
+    → asked ≡ min one_too_many (most_input_bytes - given + 1) → asked ≤ text_length pending → text_length pending ≡ length pending
+    → next_in_bytes given (pending ++ more) ≡ next_in_bytes given pending
 settled-front given asked pending more true tight within is enough none =
-    let past : most_bytes < given + one_too_many = grind (arith, nat_tests) in
+    let past : most_input_bytes < given + one_too_many = grind (arith, nat_tests) in
     let longer = text_length-past pending more none in
     next-much given (pending ++ more) (omega (arith, past, longer, is, enough, none, within)) within
     ∙ sym (next-much given pending (omega (arith, past, is, enough, within)) within)
 settled-front given asked pending more false tight within is enough none =
-    let inside : given + one_too_many ≤ most_bytes = grind (arith, nat_tests) in
+    let inside : given + one_too_many ≤ most_input_bytes = grind (arith, nat_tests) in
     let all : one_too_many ≤ text_length pending = omega (arith, inside, is, enough) in
     let longer = text_length-past pending more none in
     next-long given (pending ++ more) (omega (arith, all, longer, none)) inside
     ∙ ap Long (take-append-le one_too_many pending more (omega (arith, all, none)))
     ∙ sym (next-long given pending all inside)
 
-settled-by : (given asked : ℕ) (pending more : List ℕ) (test : Bool) → nat_lt (text_length pending) (length pending) ≡ test → given ≤ most_bytes
-    → asked ≡ min one_too_many (most_bytes - given + 1) → asked ≤ text_length pending → next_of given (pending ++ more) ≡ next_of given pending
+settled-by : (given asked : ℕ) (pending more : List ℕ) (test : Bool) → nat_lt (text_length pending) (length pending) ≡ test → given ≤ most_input_bytes
+    → asked ≡ min one_too_many (most_input_bytes - given + 1) → asked ≤ text_length pending → next_in_bytes given (pending ++ more) ≡ next_in_bytes given pending
 settled-by given asked pending more true test within is enough = settled-line given pending more (grind (arith, nat_tests))
 settled-by given asked pending more false test within is enough =
     let fits = text_length-fits pending in
     let past : length pending ≤ text_length pending = grind (arith, nat_tests) in
-    settled-front given asked pending more (nat_lt most_bytes (given + one_too_many)) refl within is enough (omega (arith, fits, past))
+    settled-front given asked pending more (nat_lt most_input_bytes (given + one_too_many)) refl within is enough (omega (arith, fits, past))
 
 -- what was sought settles what stands next
-settled : (given asked : ℕ) (pending more : List ℕ) → given ≤ most_bytes → asked ≡ min one_too_many (most_bytes - given + 1)
-    → IsSought asked pending (Some more) → next_of given (pending ++ more) ≡ next_of given pending
+settled : (given asked : ℕ) (pending more : List ℕ) → given ≤ most_input_bytes → asked ≡ min one_too_many (most_input_bytes - given + 1)
+    → IsSought asked pending (Some more) → next_in_bytes given (pending ++ more) ≡ next_in_bytes given pending
 settled given asked pending more within is (inl enough) =
     settled-by given asked pending more (nat_lt (text_length pending) (length pending)) refl within is enough
 settled given asked pending more within is (inr (inl inside)) = settled-line given pending more inside
 settled given asked pending more within is (inr (inr none)) =
-    ap (λ (rest : List ℕ). next_of given (pending ++ rest)) none ∙ ap (next_of given) (append-nil pending)
+    ap (λ (rest : List ℕ). next_in_bytes given (pending ++ rest)) none ∙ ap (next_in_bytes given) (append-nil pending)
 
 -- the list in an option
 abbrev from_some : Option (List ℕ) → List ℕ
 from_some None = []
 from_some (Some bytes) = bytes
 
-pub stands-next : (given asked : ℕ) (pending : List ℕ) (all known : Option (List ℕ)) (next : Next) → given ≤ most_bytes → asked ≡ min one_too_many (most_bytes - given + 1)
-    → IsSought asked pending known → prepend_known pending known ≡ all → next ≡ next_of given pending → IfSome all (λ bytes. next_of given bytes ≡ next)
+pub stands-next : (given asked : ℕ) (pending : List ℕ) (all known : Option (List ℕ)) (next : Next) → given ≤ most_input_bytes → asked ≡ min one_too_many (most_input_bytes - given + 1)
+    → IsSought asked pending known → prepend_known pending known ≡ all → next ≡ next_in_bytes given pending → IfSome all (λ bytes. next_in_bytes given bytes ≡ next)
 stands-next given asked pending None known next within is sought same told = tt
 stands-next given asked pending (Some bytes) None next within is sought same told = absurd (none-some bytes same)
 stands-next given asked pending (Some bytes) (Some more) next within is sought same told =
-    ap (next_of given) (sym (ap from_some same)) ∙ settled given asked pending more within is sought ∙ sym told
+    ap (next_in_bytes given) (sym (ap from_some same)) ∙ settled given asked pending more within is sought ∙ sym told

@@ -14,7 +14,7 @@ abbrev pub ahead_of : BytesAhead → Option (List ℕ) → Option (List ℕ)
 ahead_of ahead left = prepend_known ahead.pending left
 
 -- the bytes that came stand behind those that were pending; none came only at the source's end
-pub record Came (old new : BytesAhead) (before : Option (List ℕ)) (count : ℕ) (got : List ℕ) : Type 0 where
+pub record IsAppended (old new : BytesAhead) (before : Option (List ℕ)) (count : ℕ) (got : List ℕ) : Type 0 where
   pub came : length got ≡ count
   pub behind : new ≡ record { pending = old.pending ++ got; size = old.size }
   pub fits : length new.pending ≤ new.size
@@ -28,5 +28,5 @@ pub record Refills {S : Type 0} (left : S → Option (List ℕ)) (faults lender 
   pub never_falls : faults before ≤ faults after
   pub same_lender : lender after ≡ lender before
   pub read : MatchResult result
-      (λ count. (got : List ℕ) × (left before ≡ prepend_known got (left after)) × Came old new (left before) count got)
+      (λ count. (got : List ℕ) × (left before ≡ prepend_known got (left after)) × IsAppended old new (left before) count got)
       (λ _. (new ≡ old) × Rose (faults before) (faults after))

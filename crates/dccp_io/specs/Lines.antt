@@ -21,8 +21,8 @@ abbrev pub one_too_many : ℕ
 one_too_many = 4097
 
 -- The most bytes of an input.
-abbrev pub most_bytes : ℕ
-most_bytes = 16777216
+abbrev pub most_input_bytes : ℕ
+most_input_bytes = 16777216
 
 -- How many bytes stand before the first newline, or before the end where there is none.
 abbrev pub text_length : List ℕ → ℕ
@@ -40,7 +40,7 @@ text_of line = take (text_length line) line
 -- Behind so many bytes, those of a line up to its newline, to the end of the input or to the byte at which it is too long lie within
 -- those that an input may have.
 abbrev pub ends_within : ℕ → List ℕ → Bool
-ends_within given line = nat_le (given + min (length line) one_too_many) most_bytes
+ends_within given line = nat_le (given + min (length line) one_too_many) most_input_bytes
 
 -- What stands next in an input: its end, a line with its newline, the front of a line that is too long, or a line that is too much.
 pub data Next : Type 0 where
@@ -53,9 +53,9 @@ abbrev pub by_length : List ℕ → ℕ → Next
 by_length bytes n = if nat_le one_too_many n then Long (take one_too_many bytes) else Line (first_line bytes)
 
 -- Of the bytes that are left of an input behind so many that were given: a line is judged for too much input before its length.
-abbrev pub next_of : ℕ → List ℕ → Next
-next_of given [] = End
-next_of given (byte ∷ bytes) =
+abbrev pub next_in_bytes : ℕ → List ℕ → Next
+next_in_bytes given [] = End
+next_in_bytes given (byte ∷ bytes) =
     if ends_within given (first_line (byte ∷ bytes)) then by_length (byte ∷ bytes) (text_length (byte ∷ bytes)) else Much
 
 -- The lines of an input, each with its newline; the last may lack it. A byte goes onto the first line behind it.
@@ -68,20 +68,20 @@ lines_of [] = []
 lines_of (byte ∷ rest) = if byte == newline then (newline ∷ []) ∷ lines_of rest else before_line byte (lines_of rest)
 
 -- The same of the lines that are left: the end, or the first of them.
-abbrev pub first_of : ℕ → List (List ℕ) → Next
-first_of given [] = End
-first_of given (line ∷ lines) = if ends_within given line then by_length line (text_length line) else Much
+abbrev pub next_in_lines : ℕ → List (List ℕ) → Next
+next_in_lines given [] = End
+next_in_lines given (line ∷ lines) = if ends_within given line then by_length line (text_length line) else Much
 
 -- What was made out from the bytes that are pending.
-abbrev pub told : List ℕ → Stands → Next
-told bytes stands.End = End
-told bytes (stands.Line count) = Line (take count bytes)
-told bytes stands.TooLong = Long (take one_too_many bytes)
-told bytes stands.TooMuch = Much
+abbrev pub made_out : List ℕ → Stands → Next
+made_out bytes stands.End = End
+made_out bytes (stands.Line count) = Line (take count bytes)
+made_out bytes stands.TooLong = Long (take one_too_many bytes)
+made_out bytes stands.TooMuch = Much
 
 -- A line that was made out has some of the pending bytes, is not too long, and lies within the bytes that an input may have.
 abbrev pub IsLineOf : ℕ → List ℕ → Stands → Type 0
-IsLineOf given bytes (stands.Line count) = (0 < count) × (count ≤ length bytes) × (count ≤ one_too_many) × (given + count ≤ most_bytes)
+IsLineOf given bytes (stands.Line count) = (0 < count) × (count ≤ length bytes) × (count ≤ one_too_many) × (given + count ≤ most_input_bytes)
 IsLineOf given bytes _ = ⊤
 
 -- The first line is pending to its newline, or so many bytes are, or all that is left.
@@ -106,50 +106,50 @@ pub record LinesState (S : Type 0) : Type 0 where
   pub stop : Option Stop
 
 -- what is left of the input behind the lines that were given, where the source tells its bytes
-abbrev pub rest : {S : Type 0} → (S → Option (List ℕ)) → LinesState S → Option (List ℕ)
-rest left l = prepend_known l.pending (left l.source)
+abbrev pub rest_of_input : {S : Type 0} → (S → Option (List ℕ)) → LinesState S → Option (List ℕ)
+rest_of_input left l = prepend_known l.pending (left l.source)
 
 -- The line that stands next was given.
-pub record Gives {S : Type 0} (left : S → Option (List ℕ)) (old new : LinesState S) : Type 0 where
+pub record GivesLine {S : Type 0} (left : S → Option (List ℕ)) (old new : LinesState S) : Type 0 where
   pub was_open : old.stop ≡ None
   pub is_open : new.stop ≡ None
   pub some : 0 < length new.line
   pub short : length new.line ≤ one_too_many
   pub given : new.given ≡ old.given + length new.line
-  pub next : IfSome (rest left old) (λ bytes. (next_of old.given bytes ≡ Line new.line) × (rest left new ≡ Some (drop (length new.line) bytes)))
+  pub next : IfSome (rest_of_input left old) (λ bytes. (next_in_bytes old.given bytes ≡ Line new.line) × (rest_of_input left new ≡ Some (drop (length new.line) bytes)))
 
 -- The input is at its end.
-pub record Ends {S : Type 0} (left : S → Option (List ℕ)) (old new : LinesState S) : Type 0 where
+pub record EndsInput {S : Type 0} (left : S → Option (List ℕ)) (old new : LinesState S) : Type 0 where
   pub was_open : old.stop ≡ None
   pub is_open : new.stop ≡ None
   pub given : new.given ≡ old.given
-  pub next : IfSome (rest left old) (λ bytes. (bytes ≡ []) × (rest left new ≡ Some []))
+  pub next : IfSome (rest_of_input left old) (λ bytes. (bytes ≡ []) × (rest_of_input left new ≡ Some []))
 
 -- why no line was given: the one that stands next is too long or too much, or the source failed
-abbrev pub Blames : {S : Type 0} → (S → Option (List ℕ)) → (S → ℕ) → LinesState S → LinesState S → Stop → Type 0
-Blames left faults old new stop.TooLong = IfSome (rest left old) (λ bytes. next_of old.given bytes ≡ Long (take one_too_many new.pending))
-Blames left faults old new stop.TooMuch = IfSome (rest left old) (λ bytes. next_of old.given bytes ≡ Much)
-Blames left faults old new stop.Failed = Rose (faults old.source) (faults new.source)
+abbrev pub CausesStop : {S : Type 0} → (S → Option (List ℕ)) → (S → ℕ) → LinesState S → LinesState S → Stop → Type 0
+CausesStop left faults old new stop.TooLong = IfSome (rest_of_input left old) (λ bytes. next_in_bytes old.given bytes ≡ Long (take one_too_many new.pending))
+CausesStop left faults old new stop.TooMuch = IfSome (rest_of_input left old) (λ bytes. next_in_bytes old.given bytes ≡ Much)
+CausesStop left faults old new stop.Failed = Rose (faults old.source) (faults new.source)
 
 -- No further line comes, for a cause in this call or before, and then nothing was done.
 pub record Stops {S : Type 0} (left : S → Option (List ℕ)) (faults : S → ℕ) (old new : LinesState S) (why : Stop) : Type 0 where
   pub kept : new.stop ≡ Some why
   pub given : new.given ≡ old.given
-  pub same_rest : rest left new ≡ rest left old
-  pub cause : ((old.stop ≡ Some why) × (new ≡ old)) ⊎ ((old.stop ≡ None) × Blames left faults old new why)
+  pub same_rest : rest_of_input left new ≡ rest_of_input left old
+  pub cause : ((old.stop ≡ Some why) × (new ≡ old)) ⊎ ((old.stop ≡ None) × CausesStop left faults old new why)
 
-abbrev pub Answers : {S : Type 0} → (S → Option (List ℕ)) → (S → ℕ) → LinesState S → LinesState S → Result Bool Stop → Type 0
-Answers left faults old new (Ok true) = Gives left old new
-Answers left faults old new (Ok false) = Ends left old new
-Answers left faults old new (Err why) = Stops left faults old new why
+abbrev pub AnswersNextLine : {S : Type 0} → (S → Option (List ℕ)) → (S → ℕ) → LinesState S → LinesState S → Result Bool Stop → Type 0
+AnswersNextLine left faults old new (Ok true) = GivesLine left old new
+AnswersNextLine left faults old new (Ok false) = EndsInput left old new
+AnswersNextLine left faults old new (Err why) = Stops left faults old new why
 
 -- A line was asked for. At most 8,192 bytes were read past the lines that were given.
 pub record Finds {S : Type 0} (left : S → Option (List ℕ)) (faults lender : S → ℕ) (old new : LinesState S) (found : Result Bool Stop) : Type 0 where
   pub never_falls : faults old.source ≤ faults new.source
   pub same_lender : lender new.source ≡ lender old.source
-  pub within : new.given ≤ most_bytes
-  pub past : GivesAtMost 8192 (rest left new) (left new.source)
-  pub answer : Answers left faults old new found
+  pub within : new.given ≤ most_input_bytes
+  pub past : GivesAtMost 8192 (rest_of_input left new) (left new.source)
+  pub answer : AnswersNextLine left faults old new found
 
 -- what was answered, apart from where a line's bytes lie
 abbrev pub found_of : Result (Option LineRead) LinesFault → Result Bool Stop

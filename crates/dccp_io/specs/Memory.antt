@@ -11,16 +11,16 @@ pub record Calls : Type 0 where
   pub faults : ℕ
 
 -- a call with this number fails
-abbrev pub is_listed : List ℕ → ℕ → Bool
-is_listed failing number = list_any (λ listed. listed == number) failing
+abbrev pub is_failing_call : List ℕ → ℕ → Bool
+is_failing_call failing number = list_any (λ listed. listed == number) failing
 
 -- the next call fails; calls past the last 64-bit number have none
 abbrev pub next_fails : Calls → Bool
-next_fails calls = nat_lt calls.made (2 ^ 64 - 1) && is_listed calls.failing (calls.made + 1)
+next_fails calls = nat_lt calls.made (2 ^ 64 - 1) && is_failing_call calls.failing (calls.made + 1)
 
 -- one call more, which failed or not
-abbrev pub counted : Calls → Calls
-counted calls = record {
+abbrev pub counted_call : Calls → Calls
+counted_call calls = record {
   failing = calls.failing;
   made = one_more calls.made;
   faults = if next_fails calls then one_more calls.faults else calls.faults;
@@ -33,17 +33,17 @@ pub record MemoryBytes : Type 0 where
   pub calls : Calls
 
 -- how many bytes a call gives that does not fail
-abbrev pub given : MemoryBytes → ℕ → ℕ
-given source room = min source.most (min room (length source.left))
+abbrev pub given_count : MemoryBytes → ℕ → ℕ
+given_count source room = min source.most (min room (length source.left))
 
 abbrev pub read_answer : MemoryBytes → ℕ → Result ℕ Failed
-read_answer source room = if next_fails source.calls then Err (record {}) else Ok (given source room)
+read_answer source room = if next_fails source.calls then Err (record {}) else Ok (given_count source room)
 
 abbrev pub after_read : MemoryBytes → ℕ → MemoryBytes
 after_read source room = record {
-  left = if next_fails source.calls then source.left else drop (given source room) source.left;
+  left = if next_fails source.calls then source.left else drop (given_count source room) source.left;
   most = source.most;
-  calls = counted source.calls;
+  calls = counted_call source.calls;
 }
 
 -- a sink: the bytes that it took, how many more it has room for, how many a call takes at most, and how often it took
@@ -68,9 +68,9 @@ after_taking sink piece = record {
   taken = sink.taken ++ take (accepted sink piece) piece;
   room = sink.room - accepted sink piece;
   most = sink.most;
-  calls = counted sink.calls;
+  calls = counted_call sink.calls;
   empty_takes = if accepted sink piece == 0 && nat_lt 0 (length piece) then one_more sink.empty_takes else sink.empty_takes;
 }
 
 abbrev pub after_write : MemoryTaken → List ℕ → MemoryTaken
-after_write sink piece = if next_fails sink.calls then record sink { calls = counted sink.calls } else after_taking sink piece
+after_write sink piece = if next_fails sink.calls then record sink { calls = counted_call sink.calls } else after_taking sink piece

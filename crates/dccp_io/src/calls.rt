@@ -1,7 +1,7 @@
 //! Calls that fail where it was said beforehand.
 ghost use Rattle.std.specs.Prelude.{◌≡◌, IsTrue};
 ghost use Rattle.dccp_io.specs.Counts.{Rose};
-ghost use Rattle.dccp_io.specs.Memory.{is_listed, next_fails, counted};
+ghost use Rattle.dccp_io.specs.Memory.{is_failing_call, next_fails, counted_call};
 
 use std::marker::Model;
 
@@ -22,8 +22,8 @@ impl Model for CallCount {
 }
 
 // Tells whether the call with this number fails.
-fn is_listed(failing: &[u64], number: u64) -> bool
-    ensures { result ≡ is_listed failing.now number }
+fn is_failing_call(failing: &[u64], number: u64) -> bool
+    ensures { result ≡ is_failing_call failing.now number }
 {
     failing.contains(&number)
 }
@@ -43,14 +43,14 @@ impl CallCount {
     // Counts a call, and tells whether it is one that fails.
     pub(crate) fn count(&mut self) -> bool
         ensures answer { result ≡ next_fails self.old }
-        ensures after { self.new ≡ counted self.old }
+        ensures after { self.new ≡ counted_call self.old }
         ensures cause { IsTrue result → Rose self.old.faults self.new.faults }
     {
         let Some(number) = self.made.checked_add(1) else {
             return false;
         };
         self.made = number;
-        let fails = is_listed(&self.failing, number);
+        let fails = is_failing_call(&self.failing, number);
         if fails {
             self.faults = self.faults.saturating_add(1);
         }

@@ -1,6 +1,6 @@
 //! What the definition of lines says of whole inputs.
 ghost use Rattle.std.specs.Prelude.{◌≡◌, ℕ, ◌<◌, List, ◌∷◌, length, drop};
-ghost use Rattle.dccp_io.specs.Lines.{lines_of, first_line, next_of, first_of};
+ghost use Rattle.dccp_io.specs.Lines.{lines_of, first_line, next_in_bytes, next_in_lines};
 
 /// The lines of an input are its first line, and then the lines of what is behind it.
 pub fn lines_follow_one_another()
@@ -10,5 +10,5 @@ pub fn lines_follow_one_another()
 /// What stands next goes by the first of the lines that are left: the end where there is none, too much where that line does
 /// not end in time, too long where it has a 4,097th byte, and else that line.
 pub fn the_first_line_stands_next()
-    ensures { (given : ℕ) (bytes : List ℕ) → next_of given bytes ≡ first_of given (lines_of bytes) }
+    ensures { (given : ℕ) (bytes : List ℕ) → next_in_bytes given bytes ≡ next_in_lines given (lines_of bytes) }
 {}

@@ -2,7 +2,7 @@
 ghost use Rattle.std.specs.Prelude.{◌≡◌, ◌+◌, ◌-◌, ◌≤◌, [], length, take, drop, min, None, IfOk, OnErr, IfSome};
 ghost use Rattle.dccp_io.specs.Counts.{Rose};
 ghost use Rattle.dccp_io.specs.Ahead.{ahead_of};
-ghost use Rattle.dccp_io.specs.Lines.{text_length, first_line, next_of, told, IsLineOf, IsSought, Seeks};
+ghost use Rattle.dccp_io.specs.Lines.{IsLineOf, IsSought, Seeks, first_line, made_out, next_in_bytes, text_length};
 
 use crate::{Failed, ReadAhead, Source};
 use seq_circle::NoMemory;
@@ -112,7 +112,7 @@ fn line_length(pending: &[u8], seen: usize) -> usize
 fn first_in(pending: &[u8], seen: usize, given: u64) -> Stands
     requires within { given ≤ 16777216 }
     requires seen { seen ≡ text_length pending.now }
-    ensures value { told pending.now result ≡ next_of given pending.now }
+    ensures value { made_out pending.now result ≡ next_in_bytes given pending.now }
     ensures fits { IsLineOf given pending.now result }
 {
     let line = line_length(pending, seen);
@@ -146,7 +146,7 @@ fn stands_next<S: Source>(
     requires size { ahead.old.size ≡ 8192 }
     requires within { given ≤ 16777216 }
     ensures seeks { Seeks S.left S.faults S.lender ahead.old ahead.new source.old source.new }
-    ensures next { IfOk result (λ stands. IfSome (ahead_of ahead.old (S.left source.old)) (λ bytes. next_of given bytes ≡ told ahead.new.pending stands)) }
+    ensures next { IfOk result (λ stands. IfSome (ahead_of ahead.old (S.left source.old)) (λ bytes. next_in_bytes given bytes ≡ made_out ahead.new.pending stands)) }
     ensures fits { IfOk result (λ stands. IsLineOf given ahead.new.pending stands) }
     ensures cause { OnErr result (Rose (S.faults source.old) (S.faults source.new)) }
 {

@@ -3,7 +3,7 @@ use Rattle.std.proofs.Common.{◌≡◌, ℕ, zero, suc, ◌+◌, ◌-◌, ◌�
 use Rattle.std.proofs.lemmas.List.{length-take-le, take-append-drop}
 use Rattle.std.proofs.lemmas.Grind.{common_steps}
 use Rattle.dccp_options.specs.declared.option.OptFault.{OptFault}
-use Rattle.dccp_options.specs.Grammar.{Entry, RawOption, raw_options, option_body, is_one_byte, counted_options, is_ignored_on_data, entries, part_of, options_of, at_end}
+use Rattle.dccp_options.specs.Grammar.{Entry, RawOption, raw_options, option_body, is_one_byte, counted_options, is_ignored_on_data, marked_entries, part_of, options_of, at_end}
 use Rattle.dccp_options.specs.Grammar.Part.{Listed}
 use Rattle.dccp_options.specs.Listing.{IsCut, IsListed}
 use Rattle.dccp_options.specs.Listing.IsListed.{at_the_end, cut, padding, mandatory, twice, mandatory_on_data, one_byte, with_length, ignored}
@@ -11,7 +11,7 @@ use Rattle.dccp_options.proofs.ReadBack.{raw_options-long, part-listed, has_leng
 
 -- the list that Grammar computes
 abbrev pub listing : Bool → Bool → ℕ → List ℕ → List (Result Entry OptFault)
-listing on_data marked place area = entries marked (counted_options on_data (raw_options place 0 area))
+listing on_data marked place area = marked_entries marked (counted_options on_data (raw_options place 0 area))
 
 pub listing-padding : (on_data marked : Bool) (place : ℕ) (rest : List ℕ)
     → listing on_data marked place (0 ∷ rest) ≡ listing on_data false (place + 1) rest
@@ -25,15 +25,15 @@ listing-on_data marked place rest = refl
 -- an option of this type that is not ignored on the packet is listed
 pub listed-first : (on_data marked : Bool) (place kind : ℕ) (body : List ℕ) (rest : List RawOption) → part_of kind ≡ Listed
     → (on_data ≡ true → is_ignored_on_data kind ≡ false)
-    → entries marked (counted_options on_data (record { place = place; kind = kind; body = body } ∷ rest))
-    ≡ Ok (record { place = place; mandatory = marked; kind = kind; body = body }) ∷ entries false (counted_options on_data rest)
+    → marked_entries marked (counted_options on_data (record { place = place; kind = kind; body = body } ∷ rest))
+    ≡ Ok (record { place = place; mandatory = marked; kind = kind; body = body }) ∷ marked_entries false (counted_options on_data rest)
 listed-first false marked place kind body rest part counts = rw part refl
 listed-first true marked place kind body rest part counts =
     let read : is_ignored_on_data kind ≡ false = counts refl in rw (read, part) refl
 
 pub ignored-first : (marked : Bool) (place kind : ℕ) (body : List ℕ) (rest : List RawOption) → is_ignored_on_data kind ≡ true
-    → entries marked (counted_options true (record { place = place; kind = kind; body = body } ∷ rest))
-    ≡ entries marked (counted_options true rest)
+    → marked_entries marked (counted_options true (record { place = place; kind = kind; body = body } ∷ rest))
+    ≡ marked_entries marked (counted_options true rest)
 ignored-first marked place kind body rest ignores = rw ignores refl
 
 pub part-one_byte : (kind : ℕ) → 2 ≤ kind → part_of kind ≡ Listed
@@ -72,16 +72,16 @@ listing-only {on_data = false} (mandatory_on_data on later) = cc
 listing-only {on_data = true} (mandatory_on_data on later) = listing-only later
 listing-only {on_data} (one_byte {marked = m} {place = p} {kind = k} {rest = r} low high later) =
     ap (λ xs. Ok (record { place = p; mandatory = m; kind = k; body = [] }) ∷ xs) (listing-only later)
-    ∙ sym (ap (λ raws. entries m (counted_options on_data raws)) (raws-one_byte p k r high)
+    ∙ sym (ap (λ raws. marked_entries m (counted_options on_data raws)) (raws-one_byte p k r high)
     ∙ listed-first on_data m p k [] (raw_options (p + 1) 0 r) (part-one_byte k low) (λ _. read-one_byte k low high))
 listing-only {on_data} (with_length {marked = m} {place = p} {kind = k} b r h counts later) =
     ap (λ xs. Ok (record { place = p; mandatory = m; kind = k; body = b }) ∷ xs) (listing-only later)
-    ∙ sym (ap (λ raws. entries m (counted_options on_data raws)) (raw_options-long p k b r h)
+    ∙ sym (ap (λ raws. marked_entries m (counted_options on_data raws)) (raw_options-long p k b r h)
     ∙ listed-first on_data m p k b (raw_options (p + (length b + 2)) 0 r) (part-listed k h) counts)
 listing-only {on_data = false} (ignored {marked = m} {place = p} {kind = k} b r h on ignores later) = cc
 listing-only {on_data = true} (ignored {marked = m} {place = p} {kind = k} b r h on ignores later) =
     listing-only later
-    ∙ sym (ap (λ raws. entries m (counted_options true raws)) (raw_options-long p k b r h)
+    ∙ sym (ap (λ raws. marked_entries m (counted_options true raws)) (raw_options-long p k b r h)
     ∙ ignored-first m p k b (raw_options (p + (length b + 2)) 0 r) ignores)
 
 -- what follows a type byte is cut, or is a length and as many bytes as it counts
@@ -128,13 +128,13 @@ pub long-is : (on_data marked : Bool) (place kind : ℕ) (body behind : List ℕ
     (listing on_data marked place (kind ∷ (length body + 2) ∷ (body ++ behind)))
 long-is false marked place kind body behind h later =
     let area = kind ∷ (length body + 2) ∷ (body ++ behind) in
-    let long = ap (λ raws. entries marked (counted_options false raws)) (raw_options-long place kind body behind h) in
+    let long = ap (λ raws. marked_entries marked (counted_options false raws)) (raw_options-long place kind body behind h) in
     let first = listed-first false marked place kind body (raw_options (place + (length body + 2)) 0 behind) (part-listed kind h) (λ off. cc) in
     subst (λ items. IsListed false marked place area items) (sym (long ∙ first)) (with_length body behind h (λ off. cc) (later false))
 long-is true marked place kind body behind h later =
     let area = kind ∷ (length body + 2) ∷ (body ++ behind) in
     let raws = raw_options (place + (length body + 2)) 0 behind in
-    let long = ap (λ all. entries marked (counted_options true all)) (raw_options-long place kind body behind h) in
+    let long = ap (λ all. marked_entries marked (counted_options true all)) (raw_options-long place kind body behind h) in
     elim (either (is_ignored_on_data kind)) [
       | inl ignores ↦ subst (λ items. IsListed true marked place area items)
           (sym (long ∙ ignored-first marked place kind body raws ignores)) (ignored body behind h refl ignores (later marked))
@@ -161,7 +161,7 @@ listing-is (suc most) on_data marked place (suc (suc k) ∷ rest) h =
     let raws = raw_options (place + 1) 0 rest in
     elim (at_least_or_below 32 kind) [
       | inr low ↦
-          let here = ap (λ all. entries marked (counted_options on_data all)) (raws-one_byte place kind rest low)
+          let here = ap (λ all. marked_entries marked (counted_options on_data all)) (raws-one_byte place kind rest low)
           ∙ listed-first on_data marked place kind [] raws (part-one_byte kind (omega arith)) (λ _. read-one_byte kind (omega arith) low) in
           subst (λ items. IsListed on_data marked place (kind ∷ rest) items) (sym here)
           (one_byte (omega arith) low (listing-is most on_data false (place + 1) rest (omega arith)))

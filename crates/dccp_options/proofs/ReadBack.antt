@@ -3,7 +3,7 @@ use Rattle.std.proofs.Common.{◌≡◌, ℕ, zero, suc, ◌+◌, ◌-◌, ◌�
 use Rattle.std.proofs.lemmas.Grind.{common_steps}
 use Rattle.std.proofs.lemmas.List.Elements.{All-tail}
 use Rattle.std.proofs.Math.Seq.{take-append_seam, drop-append_seam}
-use Rattle.dccp_options.specs.Grammar.{Entry, RawOption, raw_options, raw_then, counted_body, option_body, bytes_after, is_one_byte, entries, entry_then, part_of, options_of}
+use Rattle.dccp_options.specs.Grammar.{Entry, RawOption, raw_options, raw_then, counted_body, option_body, bytes_after, is_one_byte, marked_entries, entry_then, part_of, options_of}
 use Rattle.dccp_options.specs.Grammar.Part.{Listed}
 use Rattle.dccp_options.specs.Listing.{IsCut}
 use Rattle.dccp_options.specs.Written.{Item, IsWritable, mark, spelled, written, entries_at, item_at}
@@ -49,41 +49,41 @@ raw_options-long place kind body more h =
 
 -- an option with a length is listed, with its mark
 pub entries-listed : (marked : Bool) (place kind : ℕ) (body : List ℕ) (rest : List RawOption) → 32 ≤ kind
-    → entries marked (record { place = place; kind = kind; body = body } ∷ rest)
-    ≡ Ok (record { place = place; mandatory = marked; kind = kind; body = body }) ∷ entries false rest
+    → marked_entries marked (record { place = place; kind = kind; body = body } ∷ rest)
+    ≡ Ok (record { place = place; mandatory = marked; kind = kind; body = body }) ∷ marked_entries false rest
 entries-listed marked place kind body rest h =
-    ap (λ part. entry_then part marked (record { place = place; kind = kind; body = body }) (λ next. entries next rest))
+    ap (λ part. entry_then part marked (record { place = place; kind = kind; body = body }) (λ next. marked_entries next rest))
     (part-listed kind h)
 
 -- zeros behind the options list nothing
-pub entries-padding : (place pads : ℕ) → entries false (raw_options place 0 (replicate pads 0)) ≡ []
+pub entries-padding : (place pads : ℕ) → marked_entries false (raw_options place 0 (replicate pads 0)) ≡ []
 entries-padding place zero = refl
 entries-padding place (suc pads) = entries-padding (place + 1) pads
 
 -- one option, in front of what is listed behind it
 pub entries-spelled : (place kind : ℕ) (mandatory : Bool) (body more : List ℕ) → 32 ≤ kind
-    → entries false (raw_options place 0 (spelled mandatory kind body ++ more))
+    → marked_entries false (raw_options place 0 (spelled mandatory kind body ++ more))
     ≡ Ok (record { place = place + length (mark mandatory); mandatory = mandatory; kind = kind; body = body })
-    ∷ entries false (raw_options (place + length (spelled mandatory kind body)) 0 more)
+    ∷ marked_entries false (raw_options (place + length (spelled mandatory kind body)) 0 more)
 entries-spelled place kind false body more h =
     let long = raw_options-long place kind body more h in
     let n : place + (length body + 2) ≡ place + length (spelled false kind body) = omega arith in
     let p : place ≡ place + 0 = omega arith in
-    ap (entries false) long ∙ entries-listed false place kind body (raw_options (place + (length body + 2)) 0 more) h
+    ap (marked_entries false) long ∙ entries-listed false place kind body (raw_options (place + (length body + 2)) 0 more) h
     ∙ ap (λ at. Ok (record { place = at; mandatory = false; kind = kind; body = body })
-    ∷ entries false (raw_options (place + (length body + 2)) 0 more)) p
+    ∷ marked_entries false (raw_options (place + (length body + 2)) 0 more)) p
     ∙ ap (λ at. Ok (record { place = place + 0; mandatory = false; kind = kind; body = body })
-    ∷ entries false (raw_options at 0 more)) n
+    ∷ marked_entries false (raw_options at 0 more)) n
 entries-spelled place kind true body more h =
     let long = raw_options-long (place + 1) kind body more h in
     let n : place + 1 + (length body + 2) ≡ place + length (spelled true kind body) = omega arith in
-    ap (entries true) long ∙ entries-listed true (place + 1) kind body (raw_options (place + 1 + (length body + 2)) 0 more) h
+    ap (marked_entries true) long ∙ entries-listed true (place + 1) kind body (raw_options (place + 1 + (length body + 2)) 0 more) h
     ∙ ap (λ at. Ok (record { place = place + 1; mandatory = true; kind = kind; body = body })
-    ∷ entries false (raw_options at 0 more)) n
+    ∷ marked_entries false (raw_options at 0 more)) n
 
 -- the options that were written, and zeros behind them, are listed place by place
 pub entries-written : (place pads : ℕ) (items : List Item) → All (λ item. IsWritable item) items
-    → entries false (raw_options place 0 (written items ++ replicate pads 0)) ≡ map Ok (entries_at place items)
+    → marked_entries false (raw_options place 0 (written items ++ replicate pads 0)) ≡ map Ok (entries_at place items)
 entries-written place pads [] _ = entries-padding place pads
 entries-written place pads (item ∷ rest) all =
     let behind = written rest ++ replicate pads 0 in
@@ -92,7 +92,7 @@ entries-written place pads (item ∷ rest) all =
     let joined = append_assoc (spelled item.mandatory item.kind item.body) (written rest) (replicate pads 0) in
     let here = entries-spelled place item.kind item.mandatory item.body behind first.has_length in
     let later = entries-written (place + length (spelled item.mandatory item.kind item.body)) pads rest others in
-    ap (λ b. entries false (raw_options place 0 b)) joined
+    ap (λ b. marked_entries false (raw_options place 0 b)) joined
     ∙ here
     ∙ ap (λ xs. Ok (record { place = place + length (mark item.mandatory); mandatory = item.mandatory; kind = item.kind; body = item.body }) ∷ xs) later
 
@@ -137,20 +137,20 @@ option_body-cut kind (count ∷ rest) h cut =
 
 -- the options that were written are listed, whatever stands behind them
 pub entries-before : (place : ℕ) (items : List Item) (more : List ℕ) → All (λ item. IsWritable item) items
-    → entries false (raw_options place 0 (written items ++ more))
-    ≡ map Ok (entries_at place items) ++ entries false (raw_options (place + length (written items)) 0 more)
-entries-before place [] more _ = ap (λ at. entries false (raw_options at 0 more)) (omega arith)
+    → marked_entries false (raw_options place 0 (written items ++ more))
+    ≡ map Ok (entries_at place items) ++ marked_entries false (raw_options (place + length (written items)) 0 more)
+entries-before place [] more _ = ap (λ at. marked_entries false (raw_options at 0 more)) (omega arith)
 entries-before place (item ∷ rest) more all =
     let here = spelled item.mandatory item.kind item.body in
     let first : IsWritable item = all 0 item (omega arith) in
     let others = All-tail (λ i. IsWritable i) item rest all in
     let at : place + length here + length (written rest) ≡ place + length (here ++ written rest) =
     omega (arith, length-append here (written rest)) in
-    ap (λ b. entries false (raw_options place 0 b)) (append_assoc here (written rest) more)
+    ap (λ b. marked_entries false (raw_options place 0 b)) (append_assoc here (written rest) more)
     ∙ entries-spelled place item.kind item.mandatory item.body (written rest ++ more) first.has_length
     ∙ ap (λ xs. Ok (record { place = place + length (mark item.mandatory); mandatory = item.mandatory; kind = item.kind; body = item.body }) ∷ xs)
     (entries-before (place + length here) rest more others
-    ∙ ap (λ p. map Ok (entries_at (place + length here) rest) ++ entries false (raw_options p 0 more)) at)
+    ∙ ap (λ p. map Ok (entries_at (place + length here) rest) ++ marked_entries false (raw_options p 0 more)) at)
 
 -- one whose length is wrong ends the list as the area's end does
 pub options_of-cut : (items : List Item) (kind : ℕ) (rest : List ℕ) → All IsWritable items → 32 ≤ kind → IsCut rest
@@ -161,5 +161,5 @@ options_of-cut items kind rest all h cut =
     let ends : raw_options (0 + place) 0 (kind ∷ rest) ≡ [] =
     ap (λ found. raw_then (0 + place) kind found (λ skip. raw_options (0 + place + 1) skip rest)) none in
     entries-before 0 items (kind ∷ rest) all
-    ∙ ap (λ raws. map Ok (entries_at 0 items) ++ entries false raws) ends
+    ∙ ap (λ raws. map Ok (entries_at 0 items) ++ marked_entries false raws) ends
     ∙ sym (ap (λ b. options_of b false) (sym (append-nil (written items))) ∙ entries-before 0 items [] all)

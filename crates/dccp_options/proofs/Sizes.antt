@@ -3,7 +3,7 @@ use Rattle.std.proofs.Common.{◌≡◌, ℕ, zero, suc, ◌+◌, ◌-◌, ◌�
 use Rattle.std.specs.List.{concat}
 use Rattle.std.proofs.lemmas.Grind.{common_steps}
 use Rattle.dccp_options.specs.declared.option.OptFault.{OptFault}
-use Rattle.dccp_options.specs.Grammar.{Entry, RawOption, raw_options, raw_then, option_body, bytes_after, counted_options, is_ignored_on_data, entries, entry_then, part_of, Part}
+use Rattle.dccp_options.specs.Grammar.{Entry, RawOption, raw_options, raw_then, option_body, bytes_after, counted_options, is_ignored_on_data, marked_entries, entry_then, part_of, Part}
 use Rattle.dccp_options.specs.Grammar.Part.{Padding, Mandatory, Listed}
 use Rattle.dccp_options.specs.Vectors.{ack_vectors, vector_bytes, is_ack_vector}
 
@@ -66,14 +66,14 @@ length-entry_then Mandatory true raw behind most h = omega arith
 length-entry_then Listed marked raw behind most h =
     omega (arith, h false, length-vector_bytes (record { place = raw.place; mandatory = marked; kind = raw.kind; body = raw.body }) (behind false))
 
-pub length-entries : (marked : Bool) (raws : List RawOption) → length (vector_bytes (entries marked raws)) ≤ data_count raws
+pub length-entries : (marked : Bool) (raws : List RawOption) → length (vector_bytes (marked_entries marked raws)) ≤ data_count raws
 length-entries false [] = omega arith
 length-entries true [] = omega arith
 length-entries marked (raw ∷ rest) =
-    length-entry_then (part_of raw.kind) marked raw (λ next. entries next rest) (data_count rest) (λ next. length-entries next rest)
+    length-entry_then (part_of raw.kind) marked raw (λ next. marked_entries next rest) (data_count rest) (λ next. length-entries next rest)
 
 pub vector_bytes_fit : (marked on_data : Bool) (place : ℕ) (area : List ℕ)
-    → length (vector_bytes (entries marked (counted_options on_data (raw_options place 0 area)))) ≤ length area
+    → length (vector_bytes (marked_entries marked (counted_options on_data (raw_options place 0 area)))) ≤ length area
 vector_bytes_fit marked on_data place area =
     let raws = raw_options place 0 area in
     omega (arith, length-entries marked (counted_options on_data raws), data_count-counted on_data raws, data_count-raw_options place 0 area)

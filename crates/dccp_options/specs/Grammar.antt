@@ -76,10 +76,10 @@ at_end false = []
 at_end true = Err MandatoryAtEnd ∷ []
 
 -- the list of these options, after a Mandatory or not
-abbrev pub entries : Bool → List RawOption → List (Result Entry OptFault)
-entries marked [] = at_end marked
-entries marked (raw ∷ rest) = entry_then (part_of raw.kind) marked raw (λ next. entries next rest)
+abbrev pub marked_entries : Bool → List RawOption → List (Result Entry OptFault)
+marked_entries marked [] = at_end marked
+marked_entries marked (raw ∷ rest) = entry_then (part_of raw.kind) marked raw (λ next. marked_entries next rest)
 
 -- the list of an area, on a Data packet or on another
 abbrev pub options_of : List ℕ → Bool → List (Result Entry OptFault)
-options_of area on_data = entries false (counted_options on_data (raw_options 0 0 area))
+options_of area on_data = marked_entries false (counted_options on_data (raw_options 0 0 area))

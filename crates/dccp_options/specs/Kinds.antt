@@ -62,8 +62,8 @@ abbrev pub length_of : ℕ → ℕ → ℕ
 length_of kind size = if is_one_byte kind then 1 else size + 2
 
 -- the type stands in the table, with this length
-abbrev pub is_permitted : ℕ → ℕ → Bool
-is_permitted kind count =
+abbrev pub has_permitted_length : ℕ → ℕ → Bool
+has_permitted_length kind count =
     (kind == padding && count == 1)
     || (kind == mandatory && count == 1)
     || (kind == slow_receiver && count == 1)
@@ -82,7 +82,7 @@ is_permitted kind count =
 -- an option is understood where the table has it with its length; Init Cookie and what is a CCID's own are not (own)
 abbrev pub is_understood : ℕ → ℕ → Bool
 is_understood kind size =
-    is_permitted kind (length_of kind size) && (not (kind == init_cookie) && not (is_ccid_specific kind))
+    has_permitted_length kind (length_of kind size) && (not (kind == init_cookie) && not (is_ccid_specific kind))
 
 -- the types that Data packets ignore: Mandatory, Change and Confirm, Init Cookie, Ack Vector, Data Dropped and Elapsed Time
 abbrev pub is_ignored_on_data : ℕ → Bool

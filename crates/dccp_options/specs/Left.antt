@@ -5,19 +5,19 @@ use Rattle.dccp_options.specs.declared.option.OptFault.{OptFault}
 use Rattle.dccp_options.specs.declared.cursor.RawOpt.{RawOpt}
 use Rattle.dccp_options.specs.declared.cursor.Cursor.{Cursor}
 use Rattle.dccp_options.specs.declared.joined.JoinedBytes.{JoinedBytes}
-use Rattle.dccp_options.specs.Grammar.{Entry, RawOption, raw_options, counted_options, entries}
+use Rattle.dccp_options.specs.Grammar.{Entry, RawOption, raw_options, counted_options, marked_entries}
 use Rattle.dccp_options.specs.Vectors.{vector_bytes}
 
 -- an option without its borrow
 abbrev pub raw_of : RawOpt → RawOption
 raw_of raw = record { place = raw.place; kind = raw.kind; body = raw.body.now }
 
-abbrev pub entry_of : Opt → Entry
-entry_of option =
+abbrev pub entry_of_option : Opt → Entry
+entry_of_option option =
     record { place = option.place; mandatory = option.mandatory; kind = option.kind; body = option.body.now }
 
 abbrev pub item_of : Result Opt OptFault → Result Entry OptFault
-item_of (Ok option) = Ok (entry_of option)
+item_of (Ok option) = Ok (entry_of_option option)
 item_of (Err fault) = Err fault
 
 -- the options that a cursor has left, as they stand
@@ -30,7 +30,7 @@ counted_left cursor = counted_options cursor.on_data (raws_left cursor)
 
 -- the list that it has left, after a Mandatory or not
 abbrev pub entries_left : Bool → Cursor → List (Result Entry OptFault)
-entries_left marked cursor = entries marked (counted_left cursor)
+entries_left marked cursor = marked_entries marked (counted_left cursor)
 
 -- the bytes of Ack Vectors that are left
 abbrev pub bytes_left : JoinedBytes → List ℕ

@@ -17,14 +17,14 @@ abbrev pub is_ack_vector : ℕ → Bool
 is_ack_vector kind = kind == ack_vector_0 || kind == ack_vector_1
 
 -- the vector that an item of the list is, if it is one
-abbrev pub vector_of : Result Entry OptFault → List (List ℕ)
-vector_of (Err _) = []
-vector_of (Ok entry) = if is_ack_vector entry.kind then entry.body ∷ [] else []
+abbrev pub vector_in : Result Entry OptFault → List (List ℕ)
+vector_in (Err _) = []
+vector_in (Ok entry) = if is_ack_vector entry.kind then entry.body ∷ [] else []
 
 -- the Ack Vectors of a packet, in their order
 abbrev pub ack_vectors : List (Result Entry OptFault) → List (List ℕ)
 ack_vectors [] = []
-ack_vectors (item ∷ rest) = vector_of item ++ ack_vectors rest
+ack_vectors (item ∷ rest) = vector_in item ++ ack_vectors rest
 
 -- several vectors of a packet continue each other (RFC 4340, section 11.4)
 abbrev pub vector_bytes : List (Result Entry OptFault) → List ℕ

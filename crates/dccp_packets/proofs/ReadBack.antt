@@ -11,7 +11,7 @@ use Rattle.dccp_packets.specs.declared.header.Number.TheVariants.{Long, Short}
 use Rattle.dccp_packets.specs.declared.header.Kind.{Kind}
 use Rattle.dccp_packets.specs.declared.header.Kind.TheVariants.{Request, Response, Data, Ack, DataAck, CloseReq, Close, Reset, Sync, SyncAck}
 use Rattle.dccp_packets.specs.declared.header.Header.{Header}
-use Rattle.dccp_packets.specs.Grammar.{NumberFits, KindFits, Fits, type_of, code_of, is_long, has_form, has_forms, is_valid, packet_type, header_length, number_at, data_offset_bytes, number_in, kind_of, header_of, decoded, number_bytes, kind_bytes, common_bytes, header_bytes, padded, spelling}
+use Rattle.dccp_packets.specs.Grammar.{NumberFits, KindFits, HeaderFits, type_of, code_of, is_long, has_form, has_forms, is_valid, packet_type, header_length, number_at, data_offset_bytes, number_in, kind_of, header_of, decoded, number_bytes, kind_bytes, common_bytes, header_bytes, padded, spelling}
 use Rattle.dccp_packets.specs.Widths.{number_in_width, kind_in_widths, in_widths, HasDetail}
 use Rattle.dccp_packets.proofs.Pieces.{same_response, same_reset, same_header, same_parts, decoded_ok}
 use Rattle.dccp_packets.proofs.Lengths.{forms_of_valid, detail_of_fits, length-header_bytes, shortest, offset_in_words}
@@ -158,11 +158,11 @@ kind-kept (Sync ack) fits = ap Sync (mod-eq_of_lt fits)
 kind-kept (SyncAck ack) fits = ap SyncAck (mod-eq_of_lt fits)
 
 -- a header whose fields fit is itself in the widths
-pub header-kept : (h : Header) → Fits h → in_widths h ≡ h
+pub header-kept : (h : Header) → HeaderFits h → in_widths h ≡ h
 header-kept h fits =
     same_header (mod-eq_of_lt fits.from) (mod-eq_of_lt fits.to) refl refl (mod-eq_of_lt fits.checksum) (number-kept h.number fits.number) (kind-kept h.kind fits.kind)
 
-pub reads_back : (h : Header) (o d : List ℕ) → Fits h → IsTrue (is_valid h) → header_length h + length (padded o) ≤ 1020
+pub reads_back : (h : Header) (o d : List ℕ) → HeaderFits h → IsTrue (is_valid h) → header_length h + length (padded o) ≤ 1020
     → decoded (spelling h o d) ≡ Ok (record { header = h; options = padded o; payload = d })
 reads_back h o d fits valid room =
     reads_in_widths h o d (detail_of_fits h.kind fits.kind) valid room ∙ ap Ok (same_parts (header-kept h fits) refl refl)

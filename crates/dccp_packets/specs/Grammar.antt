@@ -113,7 +113,7 @@ KindFits (Reset ack code detail) = (ack < 2 ^ 48) × (code < 2 ^ 8) × (length d
 KindFits (Sync ack) = ack < 2 ^ 48
 KindFits (SyncAck ack) = ack < 2 ^ 48
 
-pub record Fits (h : Header) : Type 0 where
+pub record HeaderFits (h : Header) : Type 0 where
   pub from : h.from < 2 ^ 16
   pub to : h.to < 2 ^ 16
   pub checksum : h.checksum < 2 ^ 16

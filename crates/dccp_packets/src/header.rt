@@ -1,6 +1,6 @@
 //! The fields that a packet's header carries, without their places on the wire.
 ghost use Rattle.std.specs.Prelude.{◌≡◌, ◌<◌, ◌^◌, length};
-ghost use Rattle.dccp_packets.specs.Grammar.{type_of, code_of, fixed_length, has_form, packet_type, is_long, has_forms, is_valid, header_length, NumberFits, KindFits, Fits};
+ghost use Rattle.dccp_packets.specs.Grammar.{type_of, code_of, fixed_length, has_form, packet_type, is_long, has_forms, is_valid, header_length, NumberFits, KindFits, HeaderFits};
 
 use crate::fields::NIBBLE;
 use seq_circle::{Seq24, Seq48};
@@ -257,7 +257,7 @@ impl Header {
     }
 
     pub(crate) fn known_to_fit(&self)
-        ensures { Fits self.now }
+        ensures { HeaderFits self.now }
     {
         short_fits(self.from);
         short_fits(self.to);

@@ -2,7 +2,7 @@
 ghost use Rattle.std.specs.Prelude.{◌≡◌, ℕ, ◌+◌, ◌<◌, ◌≤◌, ◌↔◌, false, List, length, IsTrue};
 ghost use Rattle.dccp_packets.specs.declared.header.Header.{Header};
 ghost use Rattle.dccp_packets.specs.declared.header.PacketType.{PacketType};
-ghost use Rattle.dccp_packets.specs.Grammar.{type_code, type_of, data_offset_bytes, fixed_length, has_long_numbers, has_form, decoded, spelling, padded, header_length, is_valid, Fits};
+ghost use Rattle.dccp_packets.specs.Grammar.{type_code, type_of, data_offset_bytes, fixed_length, has_long_numbers, has_form, decoded, spelling, padded, header_length, is_valid, HeaderFits};
 ghost use Rattle.dccp_packets.specs.Table.{IsPacket, AreBytes, HasZeros};
 ghost use Rattle.dccp_packets.specs.Widths.{in_widths, HasDetail};
 
@@ -11,7 +11,7 @@ use crate::Malformed;
 /// What is spelled is read again: the header, the options filled with zeros up to four bytes, and the data, for every
 /// type and form of numbers (RFC 4340, section 5).
 pub fn what_is_spelled_is_read()
-    ensures { (h : Header) (options payload : List ℕ) → Fits h → IsTrue (is_valid h) → header_length h + length (padded options) ≤ 1020
+    ensures { (h : Header) (options payload : List ℕ) → HeaderFits h → IsTrue (is_valid h) → header_length h + length (padded options) ≤ 1020
         → decoded (spelling h options payload) ≡ Ok (record { header = h; options = padded options; payload = payload }) }
 {}
 
@@ -21,7 +21,7 @@ pub fn what_is_spelled_is_read()
 pub fn what_is_spelled_is_read_in_widths()
     ensures read { (h : Header) (options payload : List ℕ) → HasDetail h.kind → IsTrue (is_valid h) → header_length h + length (padded options) ≤ 1020
         → decoded (spelling h options payload) ≡ Ok (record { header = in_widths h; options = padded options; payload = payload }) }
-    ensures kept { (h : Header) → Fits h → in_widths h ≡ h }
+    ensures kept { (h : Header) → HeaderFits h → in_widths h ≡ h }
 {}
 
 /// Reading finds exactly the packets of the table of RFC 4340, section 5: what is read is in it, and what is in it is

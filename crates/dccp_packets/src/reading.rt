@@ -1,6 +1,6 @@
 //! Reading packets.
 ghost use Rattle.std.specs.Prelude.{◌≡◌, ◌<◌, ◌≤◌, length, MatchResult, IfOk, IsTrue};
-ghost use Rattle.dccp_packets.specs.Grammar.{decoded, is_valid, Fits};
+ghost use Rattle.dccp_packets.specs.Grammar.{decoded, is_valid, HeaderFits};
 
 use crate::{Header, PacketType, fields};
 
@@ -40,7 +40,7 @@ pub fn decode(bytes: &[u8]) -> Result<Packet<'_>, Malformed>
         (λ p. decoded bytes.now ≡ Ok (record { header = p.header; options = p.options.now; payload = p.payload.now }))
         (λ e. decoded bytes.now ≡ Err e) }
     ensures valid { IfOk result (λ p. IsTrue (is_valid p.header)) }
-    ensures fits { IfOk result (λ p. Fits p.header) }
+    ensures fits { IfOk result (λ p. HeaderFits p.header) }
     ensures options_fit { IfOk result (λ p. length p.options.now ≤ 1008) }
 {
     if bytes.len() < SHORTEST {

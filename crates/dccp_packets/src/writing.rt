@@ -1,7 +1,7 @@
 //! Writing packets.
 ghost use Rattle.std.specs.Prelude.{◌≡◌, ◌+◌, ◌*◌, ◌/◌, ◌%◌, ◌-◌, ◌^◌, ◌<◌, ◌≤◌, ◌↔◌, ◌∷◌, [], ◌++◌, length, replicate, IsTrue, IsErr, OnOk, OnErr};
 ghost use Rattle.byteorder.specs.Endian.{big_bytes};
-ghost use Rattle.dccp_packets.specs.Grammar.{is_valid, Fits, decoded, header_length, type_byte, number_bytes, long_ack_bytes, ack_bytes, kind_bytes, common_bytes, header_bytes, padded, spelling};
+ghost use Rattle.dccp_packets.specs.Grammar.{is_valid, HeaderFits, decoded, header_length, type_byte, number_bytes, long_ack_bytes, ack_bytes, kind_bytes, common_bytes, header_bytes, padded, spelling};
 
 use crate::fields::{NIBBLE, WORD, X};
 use crate::header::detail_has_three;
@@ -162,7 +162,7 @@ fn put_kind(kind: &Kind, out: &mut Frame)
 
 fn put_header(header: &Header, words: u8, out: &mut Frame)
     requires valid { IsTrue (is_valid header.now) }
-    requires fits { Fits header.now }
+    requires fits { HeaderFits header.now }
     requires empty { out.old ≡ [] }
     ensures value { out.new ≡ header_bytes header.now words }
     ensures long { length out.new ≡ header_length header.now }

@@ -27,10 +27,10 @@ is_open_or_later phases.Closing = true
 is_open_or_later phases.TimeWait = true
 
 -- the types that open a connection
-abbrev pub is_opening : PacketType → Bool
-is_opening types.Request = true
-is_opening types.Response = true
-is_opening _ = false
+abbrev pub is_opening_type : PacketType → Bool
+is_opening_type types.Request = true
+is_opening_type types.Response = true
+is_opening_type _ = false
 
 -- data comes before the client has acknowledged the Response
 abbrev pub is_early_data : Phase → PacketType → Bool
@@ -41,5 +41,5 @@ is_early_data _ _ = false
 abbrev pub unexpected : Role → Phase → PacketType → Bool → Bool
 unexpected role phase kind from_osr =
     is_for_the_other_role role kind
-    || (is_open_or_later phase && is_opening kind && from_osr)
+    || (is_open_or_later phase && is_opening_type kind && from_osr)
     || is_early_data phase kind

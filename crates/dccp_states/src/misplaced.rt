@@ -1,6 +1,6 @@
 //! The packet types that are out of place.
 ghost use Rattle.std.specs.Prelude.{◌≡◌};
-ghost use Rattle.dccp_states.specs.Unexpected.{is_for_the_other_role, is_open_or_later, is_opening, is_early_data, unexpected};
+ghost use Rattle.dccp_states.specs.Unexpected.{is_for_the_other_role, is_open_or_later, is_opening_type, is_early_data, unexpected};
 
 use crate::{Phase, Role};
 use dccp_packets::PacketType;
@@ -27,8 +27,8 @@ fn is_open_or_later(phase: Phase) -> bool
 }
 
 // Tells whether packets of this type open a connection.
-fn is_opening(kind: PacketType) -> bool
-    ensures { result ≡ is_opening kind }
+fn is_opening_type(kind: PacketType) -> bool
+    ensures { result ≡ is_opening_type kind }
 {
     matches!(kind, PacketType::Request | PacketType::Response)
 }
@@ -40,6 +40,6 @@ pub fn unexpected(role: Role, phase: Phase, kind: PacketType, from_osr: bool) ->
     ensures { result ≡ unexpected role phase kind from_osr }
 {
     is_for_the_other_role(role, kind)
-        || (is_open_or_later(phase) && is_opening(kind) && from_osr)
+        || (is_open_or_later(phase) && is_opening_type(kind) && from_osr)
         || matches!((phase, kind), (Phase::Respond, PacketType::Data))
 }

@@ -37,10 +37,10 @@ impl OneAtATime {
 }
 
 impl Congestion for OneAtATime {
-    ghost use Rattle.congestion_trait.specs.Kind.{kind_of, kind_is_lawful};
+    ghost use Rattle.congestion_trait.specs.Kind.{control_by_rules, kind_is_lawful};
     ghost use Rattle.dccp_uses.specs.OneAtATime.{one_at_a_time};
 
-    ghost control = { kind_of one_at_a_time };
+    ghost control = { control_by_rules one_at_a_time };
 
     ghost lawful = { kind_is_lawful one_at_a_time };
 

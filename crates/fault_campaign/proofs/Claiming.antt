@@ -4,11 +4,11 @@ use Rattle.std.proofs.lemmas.List.Elements.{All-head, All-tail}
 use Rattle.atomic_table.specs.Seated.{TableId}
 use Rattle.seq_circle.specs.declared.memory.NoMemory.{NoMemory}
 use Rattle.campaign_claims.specs.Numbers.{AreOnceBelow, sum_below}
-use Rattle.campaign_claims.specs.Views.{Held, held, with_number, with_none}
+use Rattle.campaign_claims.specs.Views.{Held, held, with_claimed, with_none}
 use Rattle.campaign_claims.specs.declared.rule.View.{View}
 use Rattle.fault_campaign.specs.Reports.{nothing, plus, size}
-use Rattle.fault_campaign.specs.Seeded.{report_of}
-use Rattle.fault_campaign.specs.Totals.{CanWork, HaveWorked, IsWhole, reported_of, totals}
+use Rattle.fault_campaign.specs.Seeded.{seeded_report}
+use Rattle.fault_campaign.specs.Totals.{CanWork, HaveWorked, IsWholeReport, claimed_report, totals}
 use Rattle.fault_campaign.specs.declared.report.Report.{Report}
 use Rattle.fault_campaign.specs.declared.workers.Job.{Job}
 use Rattle.fault_campaign.proofs.Fields.{all-once, none, one-more, size-of}
@@ -23,13 +23,13 @@ pub record IsClaiming (job : Job) (claims : TableId) (view : View) (now : Held) 
   pub drawn : now.view.drawn ≡ length now.view.numbers
   pub rising : (k : ℕ) → All (λ x. x < k) now.view.numbers → length now.view.numbers ≤ k
   pub most : length now.view.numbers ≤ view.limit
-  pub sum : report ≡ reported_of job.first job.events now.view.numbers
+  pub sum : report ≡ claimed_report job.first job.events now.view.numbers
 
 -- each report of this job counts so much at most
-pub each-size : (job : Job) → 1 ≤ job.events → job.events ≤ 4096 → (seed : ℕ) → size (report_of seed job.events) ≤ 20499
+pub each-size : (job : Job) → 1 ≤ job.events → job.events ≤ 4096 → (seed : ℕ) → size (seeded_report seed job.events) ≤ 20499
 each-size job some most seed = omega (arith, report-size seed job.events some)
 
-pub sum-size : (job : Job) (numbers : List ℕ) → 1 ≤ job.events → job.events ≤ 4096 → length numbers ≤ 1600000 → size (reported_of job.first job.events numbers) < 2 ^ 62
+pub sum-size : (job : Job) (numbers : List ℕ) → 1 ≤ job.events → job.events ≤ 4096 → length numbers ≤ 1600000 → size (claimed_report job.first job.events numbers) < 2 ^ 62
 sum-size job numbers some most few = omega (arith, size-of job.first job.events (each-size job some most) numbers)
 
 pub at-start : (job : Job) (claims : TableId) (view : View) (now : Held) → CanWork 1 job view → now.claims ≡ claims → now.view ≡ view → IsClaiming job claims view now nothing
@@ -42,7 +42,7 @@ at-start job claims view now can same is =
       drawn = ap (λ (v : View). v.drawn) is ∙ can.undrawn ∙ ap length (sym numbers);
       rising = λ k all. omega (arith, ap length numbers);
       most = omega (arith, ap length numbers);
-      sum = none job.first job.events ∙ ap (reported_of job.first job.events) (sym numbers);
+      sum = none job.first job.events ∙ ap (claimed_report job.first job.events) (sym numbers);
     } where
       numbers : now.view.numbers ≡ []
       numbers = ap (λ (v : View). v.numbers) is ∙ can.none
@@ -52,8 +52,8 @@ above-last [] index k all = All-head (λ x. x < k) index [] all
 above-last (y ∷ numbers) index k all = above-last numbers index k (All-tail (λ x. x < k) y (numbers ++ index ∷ []) all)
 
 pub one-turn : (job : Job) (claims : TableId) (view : View) (now next : Held) (report after one : Report) (index : ℕ) → IsClaiming job claims view now report
-    → next ≡ held now.claims (with_number now.view index) → index < now.view.limit → All (λ x. x < index) now.view.numbers
-    → one ≡ report_of (job.first + index) job.events → after ≡ plus report one → IsClaiming job claims view next after
+    → next ≡ held now.claims (with_claimed now.view index) → index < now.view.limit → All (λ x. x < index) now.view.numbers
+    → one ≡ seeded_report (job.first + index) job.events → after ≡ plus report one → IsClaiming job claims view next after
 one-turn job claims view now next report after one index before is below greater ran added =
     subst (λ (h : Held). IsClaiming job claims view h after) (sym is)
     (record {
@@ -64,14 +64,14 @@ one-turn job claims view now next report after one index before is below greater
       drawn = omega (arith, before.drawn, longer);
       rising = λ k all. let over = above-last now.view.numbers index k all in let low = before.rising index greater in omega (arith, longer);
       most = let low = before.rising index greater in omega (arith, longer, before.limit);
-      sum = added ∙ ap (plus report) ran ∙ ap (λ (r : Report). plus r (report_of (job.first + index) job.events)) before.sum ∙ one-more job.first job.events now.view.numbers index;
+      sum = added ∙ ap (plus report) ran ∙ ap (λ (r : Report). plus r (seeded_report (job.first + index) job.events)) before.sum ∙ one-more job.first job.events now.view.numbers index;
     }) where
       longer : length (now.view.numbers ++ index ∷ []) ≡ length now.view.numbers + 1
       longer = length-append now.view.numbers (index ∷ [])
 
 -- and the sum fits
 pub fits : (job : Job) (claims : TableId) (view : View) (now : Held) (report one : Report) (index : ℕ) → IsClaiming job claims view now report
-    → one ≡ report_of (job.first + index) job.events → size report + size one < 2 ^ 64
+    → one ≡ seeded_report (job.first + index) job.events → size report + size one < 2 ^ 64
 fits job claims view now report one index before ran =
     let few : length now.view.numbers ≤ 1600000 = omega (arith, before.most, before.can.few) in
     let mine : size report < 2 ^ 62 = subst (λ (x : Report). size x < 2 ^ 62) (sym before.sum) (sum-size job now.view.numbers before.can.some before.can.most few) in
@@ -91,7 +91,7 @@ in-vain job claims view now last report before is =
     })
 
 pub out-of-memory : (job : Job) (claims : TableId) (view : View) (now last : Held) (report : Report) (index : ℕ) (lacks : NoMemory) → IsClaiming job claims view now report
-    → last ≡ held now.claims (with_number now.view index) → index < now.view.limit → All (λ x. x < index) now.view.numbers → HaveWorked 1 job claims view last (Err lacks)
+    → last ≡ held now.claims (with_claimed now.view index) → index < now.view.limit → All (λ x. x < index) now.view.numbers → HaveWorked 1 job claims view last (Err lacks)
 out-of-memory job claims view now last report index lacks before is below greater =
     subst (λ (h : Held). HaveWorked 1 job claims view h (Err lacks)) (sym is)
     (record {
@@ -113,7 +113,7 @@ small workers job claims view now (Err lacks) most some few have = tt
 pub all-seeds : ((f : ℕ → ℕ) (m : ℕ) (numbers : List ℕ) → AreOnceBelow m numbers → sum_by f numbers ≡ sum_below f m)
     → ((limit drawn : ℕ) (numbers : List ℕ) → AreOnceBelow (min limit drawn) numbers → length numbers < drawn → AreOnceBelow limit numbers)
     → (job : Job) (seeds word : ℕ) (view : View) (report : Result Report NoMemory) → view.limit ≡ seeds → word ≡ view.drawn
-    → AreOnceBelow (min view.limit word) view.numbers → IfOk report (IsWhole job view) → IfOk report (λ r. r ≡ totals job.first seeds job.events)
+    → AreOnceBelow (min view.limit word) view.numbers → IfOk report (IsWholeReport job view) → IfOk report (λ r. r ≡ totals job.first seeds job.events)
 all-seeds sums vain job seeds word view (Ok r) limit drawn once whole =
     let each = subst (λ (d : ℕ). AreOnceBelow (min view.limit d) view.numbers) drawn once in
     let below = subst (λ (m : ℕ). AreOnceBelow m view.numbers) limit (vain view.limit view.drawn view.numbers each whole.in_vain) in

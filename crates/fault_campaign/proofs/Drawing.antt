@@ -8,7 +8,7 @@ use Rattle.std.proofs.lemmas.Option.{slice_get_cases}
 use Rattle.ccid_two.specs.Kinds.{Both, kinds_control}
 use Rattle.dccp_endpoint.specs.declared.calls.Timer.TheVariants as timer
 use Rattle.two_ends.specs.Controlled.{Controlled, congestion_of, controls, happens_to, said_by}
-use Rattle.two_ends.specs.World.{HalfStep, WorldState, WorldStep, Happening, Calls, Delivers, Said, actor, arrives, half_of, half_steps, happening_of, is_full, other, takes_place, unless_full, with_half}
+use Rattle.two_ends.specs.World.{HalfStep, WorldState, WorldStep, Happening, Calls, Delivers, Said, actor, delivers_frame, half_of, half_steps, happening_of, is_full, other, takes_place, unless_full, with_half}
 use Rattle.two_ends.specs.declared.event.Event.{Event}
 use Rattle.two_ends.specs.declared.event.Event.TheVariants as event
 use Rattle.two_ends.specs.declared.event.Side.{Side}
@@ -16,8 +16,8 @@ use Rattle.two_ends.specs.declared.event.Side.TheVariants.{Client, Server}
 use Rattle.two_ends.specs.declared.event.WorldFault.{WorldFault}
 use Rattle.two_ends.specs.declared.event.WorldFault.TheVariants as fault
 use Rattle.two_ends.specs.declared.frames.SentFrame.{SentFrame}
-use Rattle.fault_campaign.specs.Draws.{behind, delivery, drawn, ending, event_of, generator, index_of, preference, word}
-use Rattle.fault_campaign.specs.Seeded.{Running, begun, next_event, seeded}
+use Rattle.fault_campaign.specs.Draws.{behind_word, drawn, drawn_delivery, drawn_index, ending, event_numbered, generator, preference, word}
+use Rattle.fault_campaign.specs.Seeded.{Running, begun_run, next_event, seeded}
 use Rattle.fault_campaign.proofs.Short.{IsShort, after-so-many}
 
 abbrev IsRoomy : WorldState → Type 0
@@ -40,13 +40,13 @@ unless_full-happens w acting step room = by (is_full (half_of w acting)) refl wh
   by false full = refl
 
 arrives-happens : (w : WorldState) (from : Side) (index : ℕ) → IsRoomy w → index < length (half_of w from).frames
-    → Happens (arrives w from (slice_get (half_of w from).frames index))
+    → Happens (delivers_frame w from (slice_get (half_of w from).frames index))
 arrives-happens w from index room below = by (slice_get_cases (half_of w from).frames index).1 where
   by : ((x : SentFrame) × (index < length (half_of w from).frames) × (slice_get (half_of w from).frames index ≡ Some x) × (get_or (half_of w from).frames index x ≡ x))
       ⊎ ((length (half_of w from).frames ≤ index) × (slice_get (half_of w from).frames index ≡ None))
-      → Happens (arrives w from (slice_get (half_of w from).frames index))
+      → Happens (delivers_frame w from (slice_get (half_of w from).frames index))
   by (inl there) =
-      subst (λ (found : Option SentFrame). Happens (arrives w from found)) (sym there.2)
+      subst (λ (found : Option SentFrame). Happens (delivers_frame w from found)) (sym there.2)
       (unless_full-happens w (other from) _ room)
   by (inr past) = absurd (omega (arith, past.0))
 
@@ -61,7 +61,7 @@ controls-happens w acting (Err fault) ok = ok
 minus-below : (n m : ℕ) → 0 < n → n - 1 - m < n
 minus-below n m some = omega arith
 
-index-below : (b n : ℕ) → 0 < n → index_of b n < n
+index-below : (b n : ℕ) → 0 < n → drawn_index b n < n
 index-below b n some = by (b / 256 % 16 == 0) where
   by : (any : Bool) → (if any then b / 4096 % n else n - 1 - b % min n 8) < n
   by true = mod_below (b / 4096) n some
@@ -75,10 +75,10 @@ module _ (w : WorldState) (said : Said) where
   either true one another can also = can
   either false one another can also = also
 
-  delivery-can : (from : Side) (b : ℕ) → Can (delivery from (length (half_of w from).frames) b)
+  delivery-can : (from : Side) (b : ℕ) → Can (drawn_delivery from (length (half_of w from).frames) b)
   delivery-can from b = by (length (half_of w from).frames == 0) refl where
     by : (none : Bool) → (length (half_of w from).frames == 0) ≡ none
-        → Can (if none then event.Timer Client timer.Request else event.Deliver from (index_of b (length (half_of w from).frames)))
+        → Can (if none then event.Timer Client timer.Request else event.Deliver from (drawn_index b (length (half_of w from).frames)))
     by true none = tt
     by false none =
         let some : 0 < length (half_of w from).frames = grind (arith, nat_tests) in
@@ -92,7 +92,7 @@ module _ (w : WorldState) (said : Said) where
   ending-can : (which : ℕ) → Can (ending which)
   ending-can which = either (which == 0) _ _ tt (either (which == 1) _ _ tt (either (which == 2) _ _ tt (either (which == 3) _ _ tt tt)))
 
-  event_of-can : (kind b : ℕ) → Can (event_of kind b (length (half_of w Client).frames) (length (half_of w Server).frames))
+  event_of-can : (kind b : ℕ) → Can (event_numbered kind b (length (half_of w Client).frames) (length (half_of w Server).frames))
   event_of-can kind b =
       either (nat_le kind 11) _ _ (delivery-can Client b)
       (either (nat_le kind 23) _ _ (delivery-can Server b)
@@ -118,8 +118,8 @@ roomy : (n : ℕ) (run : Running) → n < 2 ^ 47 - 1 → IsShort n run → IsRoo
 roomy n run few short Client = omega (arith, short.clients)
 roomy n run few short Server = omega (arith, short.servers)
 
-pub open-happens : (seed : ℕ) → IsOk (happens_to kinds_control (begun (generator seed)).world event.Open)
-unfolding begun
+pub open-happens : (seed : ℕ) → IsOk (happens_to kinds_control (begun_run (generator seed)).world event.Open)
+unfolding begun_run
 open-happens seed = refl
 
 pub next-happens : (seed events : ℕ) → events < 2 ^ 47 - 1 → IsOk (happens_to kinds_control (seeded seed events).world (next_event (seeded seed events)))
@@ -127,4 +127,4 @@ next-happens seed events few =
     let run = seeded seed events in
     let short : IsShort (events - 1 + 1) run = after-so-many seed events in
     happens run.world (next_event run) (roomy (events - 1 + 1) run (omega arith) short)
-    (drawn-can run.world.world (said_by kinds_control (congestion_of run.world (actor (next_event run)))) (word run.words) (word (behind run.words)))
+    (drawn-can run.world.world (said_by kinds_control (congestion_of run.world (actor (next_event run)))) (word run.words) (word (behind_word run.words)))

@@ -3,8 +3,8 @@ use Rattle.std.proofs.Common.{◌≡◌, refl, sym, ℕ, ◌+◌, ◌*◌, ◌�
 use Rattle.std.proofs.lemmas.List.Sums.{sum_by-cons, sum_by_push}
 use Rattle.campaign_claims.specs.Numbers.{sum_below}
 use Rattle.fault_campaign.specs.Reports.{nothing, of_fields, plus, size}
-use Rattle.fault_campaign.specs.Seeded.{report_of}
-use Rattle.fault_campaign.specs.Totals.{field_at, reported_of, totals}
+use Rattle.fault_campaign.specs.Seeded.{seeded_report}
+use Rattle.fault_campaign.specs.Totals.{claimed_report, field_at, totals}
 use Rattle.fault_campaign.specs.declared.report.Report.{Report}
 
 -- reports whose fields are the same are the same
@@ -26,20 +26,20 @@ same f g each =
     )
 
 module _ (first events : ℕ) where
-  pub none : nothing ≡ reported_of first events []
+  pub none : nothing ≡ claimed_report first events []
   none = refl
 
-  pub one-more : (numbers : List ℕ) (k : ℕ) → plus (reported_of first events numbers) (report_of (first + k) events) ≡ reported_of first events (numbers ++ k ∷ [])
+  pub one-more : (numbers : List ℕ) (k : ℕ) → plus (claimed_report first events numbers) (seeded_report (first + k) events) ≡ claimed_report first events (numbers ++ k ∷ [])
   one-more numbers k =
       same (λ field. sum_by (field_at first events field) numbers + field_at first events field k) (λ field. sum_by (field_at first events field) (numbers ++ k ∷ []))
       (λ field. sym (sum_by_push (field_at first events field) numbers k))
 
   -- numbers that are those below m, each once
-  pub all-once : (numbers : List ℕ) (m : ℕ) → ((f : ℕ → ℕ) → sum_by f numbers ≡ sum_below f m) → reported_of first events numbers ≡ totals first m events
+  pub all-once : (numbers : List ℕ) (m : ℕ) → ((f : ℕ → ℕ) → sum_by f numbers ≡ sum_below f m) → claimed_report first events numbers ≡ totals first m events
   all-once numbers m sums =
       same (λ field. sum_by (field_at first events field) numbers) (λ field. sum_below (field_at first events field) m) (λ field. sums (field_at first events field))
 
-  pub size-of : ((seed : ℕ) → size (report_of seed events) ≤ 20499) → (numbers : List ℕ) → size (reported_of first events numbers) ≤ length numbers * 20499
+  pub size-of : ((seed : ℕ) → size (seeded_report seed events) ≤ 20499) → (numbers : List ℕ) → size (claimed_report first events numbers) ≤ length numbers * 20499
   size-of each [] = omega arith
   size-of each (k ∷ ks) =
       let rest = size-of each ks in

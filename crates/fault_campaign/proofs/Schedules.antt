@@ -14,8 +14,8 @@ use Rattle.two_ends.specs.Safe.{Safe}
 use Rattle.two_ends.specs.declared.event.Event.{Event}
 use Rattle.two_ends.specs.declared.event.Event.TheVariants.{Open}
 use Rattle.two_ends.specs.declared.event.WorldFault.{WorldFault}
-use Rattle.fault_campaign.specs.Draws.{behind, behind_two, generator, initial_number, word}
-use Rattle.fault_campaign.specs.Seeded.{Running, after_event, begun, events_of, goes_on, goes_on_for, next_event, next_events, opened, played, seeded, usual_from}
+use Rattle.fault_campaign.specs.Draws.{behind_two, behind_word, generator, initial_number, word}
+use Rattle.fault_campaign.specs.Seeded.{Running, after_event, begun_run, goes_on, goes_on_for, next_event, next_events, opened_run, played, seeded, seeded_events, usual_from}
 
 after-world : (run : Running) (result : Result (ControlledStep Both) WorldFault) → (after_event run result).world ≡ controlled_after run.world result
 after-world run (Ok step) = refl
@@ -31,17 +31,17 @@ rest-plays (suc n) run =
     rest-plays n (goes_on run)
     ∙ ap (λ (w : Controlled Both). plays kinds_control w (next_events n (goes_on run))) (played-world (record run { words = behind_two run.words }) (next_event run))
 
-pub schedule : (seed events : ℕ) → (seeded seed events).world ≡ plays kinds_control (begun (generator seed)).world (events_of seed events)
+pub schedule : (seed events : ℕ) → (seeded seed events).world ≡ plays kinds_control (begun_run (generator seed)).world (seeded_events seed events)
 schedule seed events =
-    rest-plays (events - 1) (opened seed)
-    ∙ ap (λ (w : Controlled Both). plays kinds_control w (next_events (events - 1) (opened seed))) (played-world (begun (generator seed)) Open)
+    rest-plays (events - 1) (opened_run seed)
+    ∙ ap (λ (w : Controlled Both). plays kinds_control w (next_events (events - 1) (opened_run seed))) (played-world (begun_run (generator seed)) Open)
 
 rest-many : (n : ℕ) (run : Running) → length (next_events n run) ≡ n
 rest-many zero run = refl
 rest-many (suc n) run = ap suc (rest-many n (goes_on run))
 
-pub many : (seed events : ℕ) → 1 ≤ events → length (events_of seed events) ≡ events
-many seed events some = omega (arith, rest-many (events - 1) (opened seed))
+pub many : (seed events : ℕ) → 1 ≤ events → length (seeded_events seed events) ≡ events
+many seed events some = omega (arith, rest-many (events - 1) (opened_run seed))
 
 -- a word is below 2^32
 word-fits : (g : Lcg) → word g < 2 ^ 32
@@ -57,7 +57,7 @@ joined-fits : (high low : ℕ) → low < 2 ^ 32 → high % 65536 * 2 ^ 32 + low 
 joined-fits high low fits = omega arith
 
 number-fits : (g : Lcg) → initial_number g < 2 ^ 48
-number-fits g = joined-fits (word g) (word (behind g)) (word-fits (behind g))
+number-fits g = joined-fits (word g) (word (behind_word g)) (word-fits (behind_word g))
 
 client-fits : (number : ℕ) → number < 2 ^ 48 → Fits (usual_from role.Client number)
 client-fits number fits = record { own_port = lit< tt; peer_port = lit< tt; service = lit< tt; iss = fits; lists = usual_are_lists }
@@ -70,12 +70,12 @@ AlwaysSafe =
     (client server : Config) (for_client for_server : Both) (events : List Event) → client.role ≡ role.Client → server.role ≡ role.Server → Fits client
     → Fits server → Safe kinds_control (plays kinds_control (begins_with kinds_control client server for_client for_server) events)
 
-begun-safe : AlwaysSafe → (g : Lcg) (events : List Event) → Safe kinds_control (plays kinds_control (begun g).world events)
-unfolding begun
+begun-safe : AlwaysSafe → (g : Lcg) (events : List Event) → Safe kinds_control (plays kinds_control (begun_run g).world events)
+unfolding begun_run
 begun-safe always g events =
     always (usual_from role.Client (initial_number g)) (usual_from role.Server (initial_number (behind_two g))) at_first at_first events refl refl
     (client-fits _ (number-fits g)) (server-fits _ (number-fits (behind_two g)))
 
 pub safe : AlwaysSafe → (seed events : ℕ) → Safe kinds_control (seeded seed events).world
 safe always seed events =
-    subst (Safe kinds_control) (sym (schedule seed events)) (begun-safe always (generator seed) (events_of seed events))
+    subst (Safe kinds_control) (sym (schedule seed events)) (begun-safe always (generator seed) (seeded_events seed events))

@@ -3,13 +3,13 @@ use Rattle.std.proofs.Common.{◌≡◌, ℕ, zero, suc, ◌+◌, ◌-◌, ◌*�
 use Rattle.std.specs.Prelude.{slice_get}
 use Rattle.rand_pcg.specs.Lcg.{Lcg}
 use Rattle.ccid_two.specs.Kinds.{kinds_control}
-use Rattle.dccp_endpoint.specs.Inputs.{Input, stepped}
+use Rattle.dccp_endpoint.specs.Inputs.{Input, end_stepped}
 use Rattle.dccp_endpoint.specs.Inputs as input
 use Rattle.dccp_endpoint.specs.End.{floor_of}
 use Rattle.dccp_endpoint.specs.declared.outcome.Outcome.{Outcome}
 use Rattle.dccp_endpoint.specs.declared.outcome.Outcome.TheVariants.{Took, Dropped, Synced, WasReset, SentReset}
 use Rattle.two_ends.specs.Controlled.{congestion_of, controls, said_by}
-use Rattle.two_ends.specs.World.{Half, HalfStep, WorldState, WorldStep, Happening, Calls, Delivers, actor, arrives, as_sent, half_of, half_steps, happens, happening_of, is_full, other, takes_place, unless_full, with_half, world_after}
+use Rattle.two_ends.specs.World.{Half, HalfStep, WorldState, WorldStep, Happening, Calls, Delivers, actor, delivers_frame, as_sent, half_of, half_steps, happens, happening_of, is_full, other, takes_place, unless_full, with_half, world_after}
 use Rattle.two_ends.specs.declared.event.Event.{Event}
 use Rattle.two_ends.specs.declared.event.Event.TheVariants.{Open}
 use Rattle.two_ends.specs.declared.event.Seen.{Seen}
@@ -22,8 +22,8 @@ use Rattle.two_ends.specs.declared.frames.SentFrame.{SentFrame}
 use Rattle.feature_lists.specs.declared.features.Feature.{Feature}
 use Rattle.feature_lists.specs.declared.features.Feature.TheVariants as feature
 use Rattle.fault_campaign.specs.Draws.{behind_two, generator}
-use Rattle.fault_campaign.specs.Reports.{is_settled, one_if, settled_at, settles, size, with_outcome, with_seen}
-use Rattle.fault_campaign.specs.Seeded.{Running, after_event, begun, frames_of, goes_on, goes_on_for, next_event, opened, played, report_of, reported, seeded}
+use Rattle.fault_campaign.specs.Reports.{is_settled, one_if_settled, settled_at, settles, size, with_outcome, with_seen}
+use Rattle.fault_campaign.specs.Seeded.{Running, after_event, begun_run, frames_of, goes_on, goes_on_for, next_event, opened_run, played, run_report, seeded, seeded_report}
 use Rattle.fault_campaign.specs.declared.report.Report.{Report}
 
 -- so much at most is there after n events
@@ -52,8 +52,8 @@ as_sent-length processed floor (Some bytes) = omega arith
 
 one-frame : (half : Half) (given : Input) → length (half_steps half given).half.frames ≤ length half.frames + 1
 one-frame half given =
-    let sent = as_sent (length (half_steps half given).half.processed) (floor_of (stepped half.end given).after) (stepped half.end given).frame in
-    let few : length sent ≤ 1 = as_sent-length _ _ (stepped half.end given).frame in
+    let sent = as_sent (length (half_steps half given).half.processed) (floor_of (end_stepped half.end given).after) (end_stepped half.end given).frame in
+    let few : length sent ≤ 1 = as_sent-length _ _ (end_stepped half.end given).frame in
     let both : length (half.frames ++ sent) ≡ length half.frames + length sent = length-append half.frames sent in
     omega arith
 
@@ -74,7 +74,7 @@ unless_full-grows w acting step few = by (is_full (half_of w acting)) where
   by true side = omega arith
   by false side = half-grows w acting step.half few side
 
-arrives-grows : (w : WorldState) (from : Side) (frame : Option SentFrame) → Grows w (arrives w from frame)
+arrives-grows : (w : WorldState) (from : Side) (frame : Option SentFrame) → Grows w (delivers_frame w from frame)
 arrives-grows w from None side = omega arith
 arrives-grows w from (Some frame) side =
     unless_full-grows w (other from) (half_steps (half_of w (other from)) (input.Arrives frame.bytes)) (one-frame (half_of w (other from)) (input.Arrives frame.bytes)) side
@@ -98,11 +98,11 @@ after-one n run event short =
     after-event n run (actor event) (happens run.world.world event (said_by kinds_control (congestion_of run.world (actor event))))
     (happening-grows run.world.world (happening_of event (said_by kinds_control (congestion_of run.world (actor event))))) short
 
-pub at-first : (g : Lcg) → IsShort 0 (begun g)
-unfolding begun
+pub at-first : (g : Lcg) → IsShort 0 (begun_run g)
+unfolding begun_run
 at-first g = record { counted = omega arith; clients = omega arith; servers = omega arith }
 
-pub after-open : (seed : ℕ) → IsShort 1 (opened seed)
+pub after-open : (seed : ℕ) → IsShort 1 (opened_run seed)
 after-open seed = after-one 0 _ Open (at-first (generator seed))
 
 pub after-next : (n : ℕ) (run : Running) → IsShort n run → IsShort (n + 1) (goes_on run)
@@ -115,9 +115,9 @@ after-more zero n m run all short =
 after-more (suc more) n m run all short = after-more more (n + 1) m (goes_on run) (omega arith) (after-next n run short)
 
 pub after-so-many : (seed events : ℕ) → IsShort (events - 1 + 1) (seeded seed events)
-after-so-many seed events = after-more (events - 1) 1 (events - 1 + 1) (opened seed) (omega arith) (after-open seed)
+after-so-many seed events = after-more (events - 1) 1 (events - 1 + 1) (opened_run seed) (omega arith) (after-open seed)
 
-one_if-few : (b : Bool) → one_if b ≤ 1
+one_if-few : (b : Bool) → one_if_settled b ≤ 1
 one_if-few true = omega arith
 one_if-few false = omega arith
 
@@ -138,13 +138,13 @@ settled-few w side =
       few : (f : Feature) → settles w side f ≤ 1
       few f = one_if-few (is_settled w (record { feature = f; location = side }))
 
-reported-size : (events : ℕ) (run : Running) → IsShort events run → size (reported run events) ≤ 5 * events + 19
+reported-size : (events : ℕ) (run : Running) → IsShort events run → size (run_report run events) ≤ 5 * events + 19
 reported-size events run short =
     let clients = settled-few run.world.world Client in
     let servers = settled-few run.world.world Server in
     omega (arith, short.counted, short.clients, short.servers)
 
-pub report-size : (seed events : ℕ) → 1 ≤ events → size (report_of seed events) ≤ 5 * events + 19
-unfolding report_of
+pub report-size : (seed events : ℕ) → 1 ≤ events → size (seeded_report seed events) ≤ 5 * events + 19
+unfolding seeded_report
 report-size seed events some =
-    reported-size events (seeded seed events) (after-more (events - 1) 1 events (opened seed) (omega arith) (after-open seed))
+    reported-size events (seeded seed events) (after-more (events - 1) 1 events (opened_run seed) (omega arith) (after-open seed))

@@ -21,24 +21,24 @@ generator seed = pcg32_of_seed (pcg32_seed 16 seed)
 unfoldable pub word : Lcg → ℕ
 word g = (pcg32 g).0
 
-unfoldable pub behind : Lcg → Lcg
-behind g = (pcg32 g).1
+unfoldable pub behind_word : Lcg → Lcg
+behind_word g = (pcg32 g).1
 
 -- behind two words
 abbrev pub behind_two : Lcg → Lcg
-behind_two g = behind (behind g)
+behind_two g = behind_word (behind_word g)
 
 -- an initial sequence number: the last 16 bits of a word, and the next word
 abbrev pub initial_number : Lcg → ℕ
-initial_number g = word g % 65536 * 2 ^ 32 + word (behind g)
+initial_number g = word g % 65536 * 2 ^ 32 + word (behind_word g)
 
 -- which of n frames is delivered: at times any, mostly one of the last eight
-abbrev pub index_of : ℕ → ℕ → ℕ
-index_of b n = if b / 256 % 16 == 0 then b / 4096 % n else n - 1 - b % min n 8
+abbrev pub drawn_index : ℕ → ℕ → ℕ
+drawn_index b n = if b / 256 % 16 == 0 then b / 4096 % n else n - 1 - b % min n 8
 
 -- a frame of this side arrives; where there is none, the client's timer runs out
-abbrev pub delivery : Side → ℕ → ℕ → Event
-delivery from n b = if n == 0 then event.Timer Client timer.Request else event.Deliver from (index_of b n)
+abbrev pub drawn_delivery : Side → ℕ → ℕ → Event
+drawn_delivery from n b = if n == 0 then event.Timer Client timer.Request else event.Deliver from (drawn_index b n)
 
 abbrev pub sending : Side → ℕ → Event
 sending side b = event.Send side (big_bytes 4 b)
@@ -56,8 +56,8 @@ preference side which rest =
     else event.Prefer side AckRatio Here ((1 + rest % 4) ∷ [])
 
 -- by a number below 6
-abbrev pub timer_of : ℕ → Timer
-timer_of which =
+abbrev pub drawn_timer : ℕ → Timer
+drawn_timer which =
     if which == 0 then timer.Request
     else if which == 1 then timer.Ack
     else if which == 2 then timer.Negotiate
@@ -75,19 +75,19 @@ ending which =
     else event.Timer Client timer.Negotiate
 
 -- the event of a number below 32 and a word, where the client has sent so many frames, and the server so many
-abbrev pub event_of : ℕ → ℕ → ℕ → ℕ → Event
-event_of kind b clients servers =
-    if nat_le kind 11 then delivery Client clients b
-    else if nat_le kind 23 then delivery Server servers b
+abbrev pub event_numbered : ℕ → ℕ → ℕ → ℕ → Event
+event_numbered kind b clients servers =
+    if nat_le kind 11 then drawn_delivery Client clients b
+    else if nat_le kind 23 then drawn_delivery Server servers b
     else if kind == 24 then sending Client b
     else if kind == 25 then sending Server b
     else if kind == 26 then preference Client (b % 8) (b / 8)
     else if kind == 27 then preference Server (b % 8) (b / 8)
-    else if kind == 28 then event.Timer Client (timer_of (b % 6))
-    else if kind == 29 then event.Timer Server (timer_of (b % 6))
+    else if kind == 28 then event.Timer Client (drawn_timer (b % 6))
+    else if kind == 29 then event.Timer Server (drawn_timer (b % 6))
     else if kind == 30 then ending (b % 512)
     else event.Timer Server timer.Negotiate
 
 -- the event of two words
 unfoldable pub drawn : ℕ → ℕ → ℕ → ℕ → Event
-drawn a b clients servers = event_of (a % 32) b clients servers
+drawn a b clients servers = event_numbered (a % 32) b clients servers

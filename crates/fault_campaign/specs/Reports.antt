@@ -10,7 +10,7 @@ use Rattle.two_ends.specs.declared.event.Seen.{Seen}
 use Rattle.two_ends.specs.declared.event.Seen.TheVariants.{Called, Fired, Received}
 use Rattle.two_ends.specs.declared.event.Side.{Side}
 use Rattle.two_ends.specs.declared.event.Side.TheVariants.{Client, Server}
-use Rattle.two_ends.specs.Pairs.{Pair, held_at}
+use Rattle.two_ends.specs.Pairs.{FeatureAt, held_at}
 use Rattle.two_ends.specs.World.{WorldState}
 use Rattle.fault_campaign.specs.declared.report.Report.{Report}
 
@@ -66,15 +66,15 @@ is_stable Stable = true
 is_stable Changing = false
 is_stable Unstable = false
 
-abbrev pub is_settled : WorldState → Pair → Bool
+abbrev pub is_settled : WorldState → FeatureAt → Bool
 is_settled w pair = is_stable (held_at w pair Client).stand && is_stable (held_at w pair Server).stand
 
-abbrev pub one_if : Bool → ℕ
-one_if true = 1
-one_if false = 0
+abbrev pub one_if_settled : Bool → ℕ
+one_if_settled true = 1
+one_if_settled false = 0
 
 abbrev pub settles : WorldState → Side → Feature → ℕ
-settles w side feature = one_if (is_settled w (record { feature = feature; location = side }))
+settles w side feature = one_if_settled (is_settled w (record { feature = feature; location = side }))
 
 -- how many features of a side are settled, and of both
 abbrev pub settled_at : WorldState → Side → ℕ

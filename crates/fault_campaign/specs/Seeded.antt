@@ -14,7 +14,7 @@ use Rattle.two_ends.specs.declared.event.Event.TheVariants.{Open}
 use Rattle.two_ends.specs.declared.event.Side.{Side}
 use Rattle.two_ends.specs.declared.event.Side.TheVariants.{Client, Server}
 use Rattle.two_ends.specs.declared.event.WorldFault.{WorldFault}
-use Rattle.fault_campaign.specs.Draws.{generator, word, behind, behind_two, initial_number, drawn}
+use Rattle.fault_campaign.specs.Draws.{generator, word, behind_word, behind_two, initial_number, drawn}
 use Rattle.fault_campaign.specs.Reports.{nothing, with_seen, settled_of}
 use Rattle.fault_campaign.specs.declared.report.Report.{Report}
 
@@ -29,8 +29,8 @@ abbrev pub usual_from : Role → ℕ → Config
 usual_from role number = record (usual role) { iss = number }
 
 -- the client's number is drawn first
-unfoldable pub begun : Lcg → Running
-begun g =
+unfoldable pub begun_run : Lcg → Running
+begun_run g =
     record {
       words = behind_two (behind_two g);
       world = begins_with kinds_control (usual_from role.Client (initial_number g)) (usual_from role.Server (initial_number (behind_two g))) at_first at_first;
@@ -50,7 +50,7 @@ played run event = after_event run (happens_to kinds_control run.world event)
 
 -- one event more, drawn from two words
 abbrev pub next_event : Running → Event
-next_event run = drawn (word run.words) (word (behind run.words)) (frames_of run Client) (frames_of run Server)
+next_event run = drawn (word run.words) (word (behind_word run.words)) (frames_of run Client) (frames_of run Server)
 
 abbrev pub goes_on : Running → Running
 goes_on run = played (record run { words = behind_two run.words }) (next_event run)
@@ -60,24 +60,24 @@ goes_on_for zero run = run
 goes_on_for (suc n) run = goes_on_for n (goes_on run)
 
 -- the first event opens the connection
-abbrev pub opened : ℕ → Running
-opened seed = played (begun (generator seed)) Open
+abbrev pub opened_run : ℕ → Running
+opened_run seed = played (begun_run (generator seed)) Open
 
 -- The run of a seed with so many events.
 abbrev pub seeded : ℕ → ℕ → Running
-seeded seed events = goes_on_for (events - 1) (opened seed)
+seeded seed events = goes_on_for (events - 1) (opened_run seed)
 
 -- its events, as a schedule
 abbrev pub next_events : ℕ → Running → List Event
 next_events zero run = []
 next_events (suc n) run = next_event run ∷ next_events n (goes_on run)
 
-abbrev pub events_of : ℕ → ℕ → List Event
-events_of seed events = Open ∷ next_events (events - 1) (opened seed)
+abbrev pub seeded_events : ℕ → ℕ → List Event
+seeded_events seed events = Open ∷ next_events (events - 1) (opened_run seed)
 
 -- what is reported of a run
-abbrev pub reported : Running → ℕ → Report
-reported run events =
+abbrev pub run_report : Running → ℕ → Report
+run_report run events =
     record run.report {
       seeds = 1;
       events = events;
@@ -86,5 +86,5 @@ reported run events =
       settled = settled_of run.world.world;
     }
 
-unfoldable pub report_of : ℕ → ℕ → Report
-report_of seed events = reported (seeded seed events) events
+unfoldable pub seeded_report : ℕ → ℕ → Report
+seeded_report seed events = run_report (seeded seed events) events

@@ -6,24 +6,24 @@ use Rattle.campaign_claims.specs.Numbers.{sum_below}
 use Rattle.campaign_claims.specs.Views.{Held}
 use Rattle.campaign_claims.specs.declared.rule.View.{View}
 use Rattle.fault_campaign.specs.Reports.{of_fields, plus}
-use Rattle.fault_campaign.specs.Seeded.{report_of}
+use Rattle.fault_campaign.specs.Seeded.{seeded_report}
 use Rattle.fault_campaign.specs.declared.report.Report.{Report}
 use Rattle.fault_campaign.specs.declared.workers.Job.{Job}
 
 -- one field of the seed behind the first by so many
 abbrev pub field_at : ℕ → ℕ → (Report → ℕ) → ℕ → ℕ
-field_at first events field index = field (report_of (first + index) events)
+field_at first events field index = field (seeded_report (first + index) events)
 
 -- the seeds from the first on
 abbrev pub totals : ℕ → ℕ → ℕ → Report
 totals first seeds events = of_fields (λ field. sum_below (field_at first events field) seeds)
 
 -- those that were claimed by these numbers
-abbrev pub reported_of : ℕ → ℕ → List ℕ → Report
-reported_of first events numbers = of_fields (λ field. sum_by (field_at first events field) numbers)
+abbrev pub claimed_report : ℕ → ℕ → List ℕ → Report
+claimed_report first events numbers = of_fields (λ field. sum_by (field_at first events field) numbers)
 
 -- the number is the last of these
-pub record IsLast (numbers : List ℕ) (index : ℕ) : Type 0 where
+pub record IsLastNumber (numbers : List ℕ) (index : ℕ) : Type 0 where
   pub before : List ℕ
   pub last : numbers ≡ before ++ index ∷ []
 
@@ -47,8 +47,8 @@ pub record CanWork (workers : ℕ) (job : Job) (view : View) : Type 0 where
   pub most : job.events ≤ 4096
 
 -- What they end with: all seeds of their numbers were run, and a claim was in vain.
-pub record IsWhole (job : Job) (view : View) (report : Report) : Type 0 where
-  pub sum : report ≡ reported_of job.first job.events view.numbers
+pub record IsWholeReport (job : Job) (view : View) (report : Report) : Type 0 where
+  pub sum : report ≡ claimed_report job.first job.events view.numbers
   pub in_vain : length view.numbers < view.drawn
 
 pub record HaveWorked (workers : ℕ) (job : Job) (claims : TableId) (view : View) (now : Held) (report : Result Report NoMemory) : Type 0 where
@@ -56,7 +56,7 @@ pub record HaveWorked (workers : ℕ) (job : Job) (claims : TableId) (view : Vie
   pub share : now.view.share ≡ view.share
   pub limit : now.view.limit ≡ view.limit
   pub few : length now.view.numbers ≤ workers * 100000
-  pub whole : IfOk report (IsWhole job now.view)
+  pub whole : IfOk report (IsWholeReport job now.view)
 
 -- two reports in one, where there are both
 abbrev pub both_reports : Result Report NoMemory → Result Report NoMemory → Result Report NoMemory

@@ -1,7 +1,7 @@
 //! What two words of the generator make happen.
 ghost use Rattle.std.specs.Prelude.{◌≡◌, ◌<◌, ◌≤◌, length};
 ghost use Rattle.two_ends.specs.declared.event.Event.{Event};
-ghost use Rattle.fault_campaign.specs.Draws.{behind, behind_two, ending, generator, index_of, initial_number, preference, sending, timer_of, word};
+ghost use Rattle.fault_campaign.specs.Draws.{behind_two, behind_word, drawn_index, drawn_timer, ending, generator, initial_number, preference, sending, word};
 
 use dccp_endpoint::Timer;
 use feature_lists::{Feature, Place};
@@ -20,10 +20,10 @@ pub(crate) fn generator(seed: u64) -> Pcg32
 }
 
 /// Its next word.
-#[tactic(auto, unfolding(crate::specs::Draws::word, crate::specs::Draws::behind))]
+#[tactic(auto, unfolding(crate::specs::Draws::word, crate::specs::Draws::behind_word))]
 pub(crate) fn next_word(words: &mut Pcg32) -> u32
     ensures value { result ≡ word words.old }
-    ensures rest { words.new ≡ behind words.old }
+    ensures rest { words.new ≡ behind_word words.old }
 {
     words.next_word()
 }
@@ -42,9 +42,9 @@ pub(crate) fn initial_number(words: &mut Pcg32) -> Seq48
 }
 
 /// Which of so many frames arrives: at times any, mostly one of the last eight.
-pub(crate) fn index_of(b: u64, frames: u64) -> u64
+pub(crate) fn drawn_index(b: u64, frames: u64) -> u64
     requires { 0 < frames }
-    ensures { result ≡ index_of b frames }
+    ensures { result ≡ drawn_index b frames }
 {
     if b / 256 % 16 == 0 {
         b / 4096 % frames
@@ -102,8 +102,8 @@ fn prefer(side: Side, feature: Feature, place: Place, numbers: &[u64]) -> Event
 }
 
 /// A timer, by a number below 6.
-pub(crate) fn timer_of(which: u32) -> Timer
-    ensures { result ≡ timer_of which }
+pub(crate) fn drawn_timer(which: u32) -> Timer
+    ensures { result ≡ drawn_timer which }
 {
     match which {
         0 => Timer::Request,

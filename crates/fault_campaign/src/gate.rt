@@ -1,5 +1,5 @@
 //! What workers wait for before they run a seed.
-ghost use Rattle.fault_campaign.specs.Totals.{IsLast};
+ghost use Rattle.fault_campaign.specs.Totals.{IsLastNumber};
 
 use campaign_claims::Claimer;
 
@@ -7,7 +7,7 @@ use campaign_claims::Claimer;
 pub trait Gate {
     /// A worker begins with the seed of this index: the last number that its claimer drew.
     fn begin(&self, claimer: &Claimer, index: u64)
-        requires { IsLast claimer.now.view.numbers index };
+        requires { IsLastNumber claimer.now.view.numbers index };
 }
 
 /// The gate that lets everybody through.

@@ -1,13 +1,13 @@
 //! The run of a seed.
 ghost use Rattle.std.specs.Prelude.{◌≡◌, ◌^◌, ◌<◌, ◌≤◌, IfOk, OnOk};
 ghost use Rattle.fault_campaign.specs.Reports.{is_settled, is_stable, settled_at, settles, size};
-ghost use Rattle.fault_campaign.specs.Draws.{behind, behind_two, delivery, drawn, ending, preference, sending, word};
-ghost use Rattle.fault_campaign.specs.Seeded.{begun, frames_of, goes_on, played, report_of, reported, usual_from};
+ghost use Rattle.fault_campaign.specs.Draws.{behind_two, behind_word, drawn, drawn_delivery, ending, preference, sending, word};
+ghost use Rattle.fault_campaign.specs.Seeded.{begun_run, frames_of, goes_on, played, run_report, seeded_report, usual_from};
 ghost use Rattle.two_ends.specs.Pairs.{place_at};
 
 use crate::Report;
 use crate::draws::{
-    ending, generator, index_of, initial_number, next_word, preference, sending, timer_of,
+    drawn_index, drawn_timer, ending, generator, initial_number, next_word, preference, sending,
 };
 use ccid_two::Kinds;
 use dccp_endpoint::{Config, Feature, Place, Role, Stand, Timer};
@@ -35,9 +35,9 @@ impl Model for Run {
 }
 
 impl Run {
-    #[tactic(auto, unfolding(crate::specs::Seeded::begun))]
+    #[tactic(auto, unfolding(crate::specs::Seeded::begun_run))]
     fn new(alloc: Global, mut words: Pcg32) -> Result<Run, NoMemory>
-        ensures value { IfOk result (λ run. run ≡ begun words) }
+        ensures value { IfOk result (λ run. run ≡ begun_run words) }
     {
         let client = usual_from(Role::Client, initial_number(&mut words));
         let server = usual_from(Role::Server, initial_number(&mut words));
@@ -74,7 +74,7 @@ impl Run {
     // The next two words.
     fn next_words(&mut self) -> (u32, u32)
         ensures first { result.0 ≡ word self.old.words }
-        ensures second { result.1 ≡ word (behind self.old.words) }
+        ensures second { result.1 ≡ word (behind_word self.old.words) }
         ensures rest { self.new ≡ record self.old { words = behind_two self.old.words } }
     {
         let a = next_word(&mut self.words);
@@ -104,8 +104,8 @@ impl Run {
             25 => self.send(Side::Server, b),
             26 => self.prefer(Side::Client, b % 8, b / 8),
             27 => self.prefer(Side::Server, b % 8, b / 8),
-            28 => self.fire(Side::Client, timer_of(b % 6)),
-            29 => self.fire(Side::Server, timer_of(b % 6)),
+            28 => self.fire(Side::Client, drawn_timer(b % 6)),
+            29 => self.fire(Side::Server, drawn_timer(b % 6)),
             30 => self.end(b % 512),
             _ => self.fire(Side::Server, Timer::Negotiate),
         }
@@ -114,13 +114,13 @@ impl Run {
     // A frame of this side arrives; where there is none, the client's timer runs out.
     fn deliver(&mut self, from: Side, b: u32) -> Result<(), NoMemory>
         requires { size self.old.report < 2 ^ 62 }
-        ensures { OnOk result (self.new ≡ played self.old (delivery from (frames_of self.old from) b)) }
+        ensures { OnOk result (self.new ≡ played self.old (drawn_delivery from (frames_of self.old from) b)) }
     {
         let frames = self.frames(from);
         if frames == 0 {
             return self.fire(Side::Client, Timer::Request);
         }
-        let index = index_of(u64::from(b), frames);
+        let index = drawn_index(u64::from(b), frames);
         self.play(&Event::Deliver { from, index })
     }
 
@@ -153,7 +153,7 @@ impl Run {
     }
 
     fn report(&self, events: u32) -> Report
-        ensures { result ≡ reported self.now events }
+        ensures { result ≡ run_report self.now events }
     {
         Report {
             seeds: 1,
@@ -238,10 +238,10 @@ fn settled_at(world: &World<Kinds>, location: Side) -> u64
 /// numbers that are drawn; the first event opens the connection, and all others are drawn: most deliver one of the frames that were sent
 /// last, or at times an older one; others send data, prefer other values, let timers run out, or end the connection. The two ends take
 /// their memory once; each event takes that of a frame.
-#[tactic(auto, unfolding(crate::specs::Seeded::report_of))]
+#[tactic(auto, unfolding(crate::specs::Seeded::seeded_report))]
 pub fn run_seed(alloc: Global, seed: u64, events: u32) -> Result<Report, NoMemory>
     requires events { 1 ≤ events × events ≤ 4096 }
-    ensures value { IfOk result (λ report. report ≡ report_of seed events) }
+    ensures value { IfOk result (λ report. report ≡ seeded_report seed events) }
 {
     let mut run = Run::new(alloc, generator(seed))?;
     run.play(&Event::Open)?;

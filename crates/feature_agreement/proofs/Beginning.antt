@@ -12,8 +12,8 @@ use Rattle.feature_machine.specs.declared.row.Row.{Row}
 use Rattle.feature_machine.specs.Rows as machine
 use Rattle.feature_machine.specs.Rows.{row_step, row_line, Proposed, Confirmed, Preferred, Offered, Sending, Prefers, Offers, proposal, confirmation, sent_anew}
 use Rattle.feature_agreement.specs.View.{Carried}
-use Rattle.feature_agreement.specs.Moves.{fresh}
-use Rattle.feature_agreement.specs.Counts.{number_of, count_of, IsNumber}
+use Rattle.feature_agreement.specs.Moves.{new_side}
+use Rattle.seq_circle.specs.Counts.{number_of, count_of, IsNumber}
 use Rattle.feature_agreement.specs.Rows.{side_of, entries_of, row_pair, IsBegun, sending_row}
 use Rattle.feature_agreement.proofs.Order.{count_of-number_of}
 
@@ -135,6 +135,6 @@ start_begun iss row stable unopened = record {
 }
 
 pub starts_fresh : (iss : ℕ) (row : Row) → row.stand ≡ Stable → row.opened ≡ None → row.value ≡ initial_of row.feature
-    → side_of iss row 0 [] ≡ fresh (row_pair row).initial (entries_of row.active)
+    → side_of iss row 0 [] ≡ new_side (row_pair row).initial (entries_of row.active)
 starts_fresh iss row stable unopened value =
-    rw (stable, unopened, value) (ap (λ initial. fresh initial (entries_of row.active)) (sym (pair_starts row)))
+    rw (stable, unopened, value) (ap (λ initial. new_side initial (entries_of row.active)) (sym (pair_starts row)))

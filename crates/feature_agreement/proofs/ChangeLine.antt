@@ -9,10 +9,10 @@ use Rattle.feature_machine.specs.declared.judging.Proposal.{Proposal}
 use Rattle.feature_machine.specs.declared.judging.Proposal.TheVariants as p
 use Rattle.feature_machine.specs.declared.row.Row.{Row}
 use Rattle.feature_machine.specs.Rows.{row_line, Proposed, is_server_priority, width, entries, reconciled_by, confirm_body, holding, proposal, shared_or_not, list_proposal, tells_value}
-use Rattle.feature_machine.specs.Sound.{IsSound}
+use Rattle.feature_machine.specs.Sound.{IsSoundRow}
 use Rattle.feature_agreement.specs.View.{Carried, carried_at, with_frame}
 use Rattle.feature_agreement.specs.View.Carried.{Change, Confirm}
-use Rattle.feature_agreement.specs.Moves.{answered}
+use Rattle.feature_agreement.specs.Moves.{answering_side}
 use Rattle.feature_agreement.specs.Moves.Move.{Passes, Answers}
 use Rattle.feature_agreement.specs.Moves.Moves.{Done, Next}
 use Rattle.feature_agreement.specs.Rows.{RowMoves, side_of, entries_of, row_pair, rule_at, change_in, proposed_by, confirm_in, with_answer, after_change}
@@ -39,7 +39,7 @@ module _ (iss greatest count : ℕ) (row : Row) (there frames : List Carried) (n
       → RowMoves row there (side_of iss row greatest frames) (side_of iss (holding row value) count (with_frame frames reply))
   answers wish value reply carried value_is reply_is = rw (reply_is, value_is)
       (let before = side_of iss row greatest frames in
-      let after = answered before count (unwrap_or (rule_at row.role (row_pair row) (entries_of row.active) wish) row.value) in
+      let after = answering_side before count (unwrap_or (rule_at row.role (row_pair row) (entries_of row.active) wish) row.value) in
       Next before after after (Answers count wish newer carried) (Done after))
 
   -- a Confirm of this value answers the wish
@@ -81,7 +81,7 @@ module _ (iss greatest count : ℕ) (row : Row) (there frames : List Carried) (n
     change_line Changing (p.Told value) mandatory is = confirms value is
 
   -- what a valid list proposes
-  list_proposes : IsSound row → is_server_priority row ≡ true → (body : List ℕ) → (list_proposal row body ≡ p.Invalid → ⊥)
+  list_proposes : IsSoundRow row → is_server_priority row ≡ true → (body : List ℕ) → (list_proposal row body ≡ p.Invalid → ⊥)
       → Proposes body (list_proposal row body)
   list_proposes sound priority [] valid = absurd (valid refl)
   list_proposes sound priority (value ∷ rest) valid =
@@ -97,7 +97,7 @@ module _ (iss greatest count : ℕ) (row : Row) (there frames : List Carried) (n
       by_found (Some shared) is = (rw (agreed, is), list_said row count shared sound priority)
 
   -- what a value that is told proposes
-  told_proposes : IsSound row → is_server_priority row ≡ false → (body : List ℕ) → tells_value row body ≡ true
+  told_proposes : IsSoundRow row → is_server_priority row ≡ false → (body : List ℕ) → tells_value row body ≡ true
       → Proposes (big_number (width row) body ∷ []) (p.Told (big_number (width row) body))
   told_proposes sound priority body tells =
       let is : IsTold row body = told row body priority tells in (
@@ -105,7 +105,7 @@ module _ (iss greatest count : ℕ) (row : Row) (there frames : List Carried) (n
         told_said row count (big_number (width row) body) sound priority is.remote is.fits,
       )
 
-  proposes : IsSound row → (body : List ℕ) → (proposal row body ≡ p.Invalid → ⊥)
+  proposes : IsSoundRow row → (body : List ℕ) → (proposal row body ≡ p.Invalid → ⊥)
       → Proposes (proposed_by (is_server_priority row) (width row) body) (proposal row body)
   proposes sound body valid = by_rule (is_server_priority row) refl valid
     where
@@ -122,7 +122,7 @@ module _ (iss greatest count : ℕ) (row : Row) (there frames : List Carried) (n
       by_rule true is valid = list_proposes sound is body valid
       by_rule false is valid = by_told (tells_value row body) refl is valid
 
-  pub change_moves : (body : List ℕ) (mandatory : Bool) → IsSound row → carried_at there count ≡ change_in row.feature body
+  pub change_moves : (body : List ℕ) (mandatory : Bool) → IsSoundRow row → carried_at there count ≡ change_in row.feature body
       → (proposal row body ≡ p.Invalid → ⊥)
       → RowMoves row there (side_of iss row greatest frames) (after_change iss row count frames body mandatory)
   change_moves body mandatory sound carried valid =

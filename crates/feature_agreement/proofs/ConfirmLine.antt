@@ -9,15 +9,15 @@ use Rattle.feature_machine.specs.declared.judging.Confirmation.{Confirmation}
 use Rattle.feature_machine.specs.declared.judging.Confirmation.TheVariants as c
 use Rattle.feature_machine.specs.declared.row.Row.{Row}
 use Rattle.feature_machine.specs.Rows.{row_line, Confirmed, is_server_priority, width, entries, reconciled_by, confirmation, timely_confirmation, list_confirmation, listed_confirmation, number_confirmation, answers_opening, is_number}
-use Rattle.feature_machine.specs.Sound.{IsSound}
+use Rattle.feature_machine.specs.Sound.{IsSoundRow}
 use Rattle.seq_circle.specs.Circle.{is_before}
 use Rattle.feature_agreement.specs.View.{Carried, carried_at}
 use Rattle.feature_agreement.specs.View.Carried.{Confirm}
-use Rattle.feature_agreement.specs.Moves.{answered, settled}
+use Rattle.feature_agreement.specs.Moves.{answering_side, settled_side}
 use Rattle.feature_agreement.specs.Moves.Move.{Settles}
 use Rattle.feature_agreement.specs.Moves.Moves.{Done, Next}
-use Rattle.feature_agreement.specs.Counts.{count_of, IsNumber}
-use Rattle.feature_agreement.specs.Rows.{RowMoves, side_of, entries_of, row_pair, rule_at, confirm_in, confirmed_by, opened_count, is_whole, is_whole_by, IsBegun, after_confirm}
+use Rattle.seq_circle.specs.Counts.{count_of, IsNumber}
+use Rattle.feature_agreement.specs.Rows.{RowMoves, side_of, entries_of, row_pair, rule_at, confirm_in, confirmed_by, opened_count, is_whole_confirm, is_whole_by, IsBegun, after_confirm}
 use Rattle.feature_agreement.proofs.Order.{not_before}
 use Rattle.feature_agreement.proofs.RowFacts.{entries-entries_of, rule-reconciled_by, rule-own_value, number_here, number_entries}
 use Rattle.feature_agreement.proofs.ChangeLine.{confirm_there, passes}
@@ -32,7 +32,7 @@ module _ (iss greatest count : ℕ) (row : Row) (there frames : List Carried) (n
       → RowMoves row there (side_of iss row greatest frames) (side_of iss (record row { value = value; stand = Stable }) count frames)
   settles acknowledged value wish carried changing early value_is =
       let before = side_of iss row greatest frames in
-      let after = settled before count value in
+      let after = settled_side before count value in
       Next before after after (Settles count acknowledged value wish newer carried changing early value_is) (Done after)
 
   -- a Confirm that settles the row at this value
@@ -84,7 +84,7 @@ module _ (iss greatest count : ℕ) (row : Row) (there frames : List Carried) (n
           not_before iss ack number is (numbers number refl) later
 
   -- what a Confirm with a list says
-  list_confirms : IsSound row → is_server_priority row ≡ true → (acknowledged value first : ℕ) (rest : List ℕ)
+  list_confirms : IsSoundRow row → is_server_priority row ≡ true → (acknowledged value first : ℕ) (rest : List ℕ)
       → carried_at there count ≡ Confirm acknowledged value (first ∷ rest) → opened_count iss row.opened ≤ acknowledged
       → Confirms acknowledged (first ∷ rest) (list_confirmation row value (first ∷ rest))
   list_confirms sound priority acknowledged value first rest carried early =
@@ -110,7 +110,7 @@ module _ (iss greatest count : ℕ) (row : Row) (there frames : List Carried) (n
       by_found None is = by_held is (value == row.value) refl
 
   -- what a Confirm with a number says
-  number_confirms : IsSound row → is_server_priority row ≡ false → (acknowledged : ℕ) (body : List ℕ)
+  number_confirms : IsSoundRow row → is_server_priority row ≡ false → (acknowledged : ℕ) (body : List ℕ)
       → carried_at there count ≡ Confirm acknowledged (big_number (width row) body) [] → opened_count iss row.opened ≤ acknowledged
       → Confirms acknowledged [] (number_confirmation row body)
   number_confirms sound priority acknowledged body carried early =
@@ -126,8 +126,8 @@ module _ (iss greatest count : ℕ) (row : Row) (there frames : List Carried) (n
       by_number false told = tt
 
   -- what a whole Confirm says that comes in time
-  timely_confirms : IsSound row → (acknowledged : ℕ) (body : List ℕ) → carried_at there count ≡ confirm_in row.feature acknowledged body
-      → is_whole row.feature body ≡ true → opened_count iss row.opened ≤ acknowledged
+  timely_confirms : IsSoundRow row → (acknowledged : ℕ) (body : List ℕ) → carried_at there count ≡ confirm_in row.feature acknowledged body
+      → is_whole_confirm row.feature body ≡ true → opened_count iss row.opened ≤ acknowledged
       → (wish : List ℕ) × Confirms acknowledged wish (timely_confirmation row body)
   timely_confirms sound acknowledged body carried whole early = by_rule (is_server_priority row) refl body carried whole
     where
@@ -141,8 +141,8 @@ module _ (iss greatest count : ℕ) (row : Row) (there frames : List Carried) (n
       by_rule false is [] carries has = absurd (true≢false (sym has))
       by_rule false is (byte ∷ bytes) carries has = ([], rw is (number_confirms sound is acknowledged (byte ∷ bytes) carries early))
 
-  confirms : IsSound row → IsBegun iss row → (body : List ℕ) (ack : ℕ) → IsNumber iss ack
-      → carried_at there count ≡ confirm_in row.feature (count_of iss ack) body → is_whole row.feature body ≡ true
+  confirms : IsSoundRow row → IsBegun iss row → (body : List ℕ) (ack : ℕ) → IsNumber iss ack
+      → carried_at there count ≡ confirm_in row.feature (count_of iss ack) body → is_whole_confirm row.feature body ≡ true
       → (wish : List ℕ) × Confirms (count_of iss ack) wish (confirmation row body (Some ack))
   confirms sound begun body ack is carried whole = by_time (answers_opening row.opened (Some ack)) refl
     where
@@ -151,8 +151,8 @@ module _ (iss greatest count : ℕ) (row : Row) (there frames : List Carried) (n
       by_time true answers = timely_confirms sound (count_of iss ack) body carried whole (early_enough ack begun is answers)
       by_time false answers = ([], tt)
 
-  pub confirm_moves : (body : List ℕ) (ack : ℕ) → IsSound row → IsBegun iss row → IsNumber iss ack
-      → carried_at there count ≡ confirm_in row.feature (count_of iss ack) body → is_whole row.feature body ≡ true
+  pub confirm_moves : (body : List ℕ) (ack : ℕ) → IsSoundRow row → IsBegun iss row → IsNumber iss ack
+      → carried_at there count ≡ confirm_in row.feature (count_of iss ack) body → is_whole_confirm row.feature body ≡ true
       → RowMoves row there (side_of iss row greatest frames) (after_confirm iss row count frames body ack)
   confirm_moves body ack sound begun is carried whole =
       let said = confirms sound begun body ack is carried whole in

@@ -2,7 +2,7 @@
 use Rattle.std.proofs.Common.{◌≡◌, ℕ, ◌<◌, ◌≤◌, inl, List, [], ◌∷◌, ap, sym, ◌∙◌, arith}
 use Rattle.std.proofs.Math.Logic.{∥∥₁_elim}
 use Rattle.std.proofs.Props.{props}
-use Rattle.feature_agreement.specs.View.{Side, carried_at}
+use Rattle.feature_agreement.specs.View.{FeatureSide, carried_at}
 use Rattle.feature_agreement.specs.View.Carried.{Change, Confirm}
 use Rattle.feature_machine.specs.declared.stands.Stand.TheVariants.{Stable}
 use Rattle.feature_agreement.specs.Moves.{IsReachable, own_value, at_server, at_client}
@@ -12,7 +12,7 @@ use Rattle.feature_agreement.proofs.Frames.{frame_in, change_seen}
 use Rattle.feature_agreement.proofs.Located.{Located, server_located, client_located, client_kept, single_value}
 use Rattle.feature_agreement.proofs.Steps.{reached_keeps}
 
-module _ (location remote : Side) (kept : Kept own_value location remote) (facts : Located location remote) where
+module _ (location remote : FeatureSide) (kept : Kept own_value location remote) (facts : Located location remote) where
   remote_stable : remote.stand ≡ Stable
   remote_stable = kept.peers.unopened_stable facts.remote_unopened
 
@@ -64,12 +64,12 @@ module _ (location remote : Side) (kept : Kept own_value location remote) (facts
     settled = settled;
   }
 
-pub server_confirmed : (initial : ℕ) (server client : Side) → IsReachable (at_server initial) server client → IsConfirmed server client
+pub server_confirmed : (initial : ℕ) (server client : FeatureSide) → IsReachable (at_server initial) server client → IsConfirmed server client
 server_confirmed initial server client reachable =
     ∥∥₁_elim reachable (hlevel props) (λ reached. confirmed_by_remote server client (reached_keeps (at_server initial) server client reached)
     (server_located initial server client reached))
 
-pub client_confirmed : (initial : ℕ) (server client : Side) → IsReachable (at_client initial) server client → IsConfirmed client server
+pub client_confirmed : (initial : ℕ) (server client : FeatureSide) → IsReachable (at_client initial) server client → IsConfirmed client server
 client_confirmed initial server client reachable =
     ∥∥₁_elim reachable (hlevel props) (λ reached. confirmed_by_remote client server (client_kept initial server client reached)
     (client_located initial server client reached))

@@ -1,7 +1,7 @@
 -- What holds of two sides after every move. No fact says that something exists, so that search alone proves most steps.
 use Rattle.std.proofs.Common.{◌≡◌, ℕ, ◌<◌, ◌≤◌, true, ◌⊎◌, List, [], length}
 use Rattle.std.specs.Prelude.{Some, is_some, unwrap_or}
-use Rattle.feature_agreement.specs.View.{Carried, Side, carried_at, has_change, last_wish}
+use Rattle.feature_agreement.specs.View.{Carried, FeatureSide, carried_at, has_change, last_wish}
 use Rattle.feature_machine.specs.declared.stands.Stand.TheVariants.{Stable}
 use Rattle.feature_agreement.specs.View.Carried.{Nothing, Change, Confirm}
 use Rattle.feature_agreement.specs.Moves.{Rule, swapped}
@@ -13,7 +13,7 @@ changed (Change wish) = wish
 changed (Confirm acknowledged value wish) = []
 
 -- what holds of one side by itself
-pub record Own (side : Side) : Type 0 where
+pub record Own (side : FeatureSide) : Type 0 where
   pub opened_in : side.opened ≤ length side.frames
   -- a row that never opened is STABLE, and sent no Change
   pub unopened_stable : side.opened ≡ 0 → side.stand ≡ Stable
@@ -27,7 +27,7 @@ pub record Own (side : Side) : Type 0 where
   pub last_active : (wish : List ℕ) → last_wish side.frames ≡ Some wish → wish ≡ side.active
 
 -- what holds of a side towards its peer
-pub record Towards (rule : Rule) (side peer : Side) : Type 0 where
+pub record Towards (rule : Rule) (side peer : FeatureSide) : Type 0 where
   pub greatest_in : side.greatest ≤ length peer.frames
   -- a Confirm acknowledges a frame that was taken, and that is a Change
   pub confirms_taken : (count acknowledged value : ℕ) (wish : List ℕ)
@@ -50,12 +50,12 @@ pub record Towards (rule : Rule) (side peer : Side) : Type 0 where
   pub wish_opened : is_some (last_wish side.frames) ≡ true → (0 < side.opened) ⊎ (0 < peer.opened)
 
 -- what holds where both rows are STABLE: the values are equal, and what the rule says of the active wishes once a row opened
-pub record Settled (rule : Rule) (side peer : Side) : Type 0 where
+pub record Settled (rule : Rule) (side peer : FeatureSide) : Type 0 where
   pub equal : side.stand ≡ Stable → peer.stand ≡ Stable → side.value ≡ peer.value
   pub ruled : side.stand ≡ Stable → peer.stand ≡ Stable → (0 < side.opened) ⊎ (0 < peer.opened)
       → unwrap_or (rule side.active peer.active) side.value ≡ side.value
 
-pub record Kept (rule : Rule) (side peer : Side) : Type 0 where
+pub record Kept (rule : Rule) (side peer : FeatureSide) : Type 0 where
   pub own : Own side
   pub peers : Own peer
   pub out : Towards rule side peer

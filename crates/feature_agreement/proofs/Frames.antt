@@ -4,7 +4,7 @@ use Rattle.std.specs.Prelude.{Option, Some, None, is_some}
 use Rattle.std.specs.Option.{option_or}
 use Rattle.std.proofs.lemmas.Grind.{common_steps}
 use Rattle.std.proofs.lemmas.List.Folds.{list_any-append}
-use Rattle.feature_agreement.specs.View.{Carried, carried_at, with_frame, wish_of, change_of, is_change, has_change, last_wish, last_change}
+use Rattle.feature_agreement.specs.View.{Carried, carried_at, with_frame, wish_carried, change_of, carries_change, has_change, last_wish, last_change}
 use Rattle.feature_agreement.specs.View.Carried.{Nothing}
 
 apart : (a b : ℕ) → (a < b) ⊎ (b ≤ a)
@@ -35,11 +35,11 @@ option_or-option_or None second third = refl
 option_or-option_or (Some wish) second third = refl
 
 pub last_wish-with_frame : (frames : List Carried) (frame : Carried)
-    → last_wish (with_frame frames frame) ≡ option_or (wish_of frame) (last_wish frames)
-last_wish-with_frame [] frame = sym (option_or_none (wish_of frame))
+    → last_wish (with_frame frames frame) ≡ option_or (wish_carried frame) (last_wish frames)
+last_wish-with_frame [] frame = sym (option_or_none (wish_carried frame))
 last_wish-with_frame (first ∷ frames) frame =
-    ap (λ later. option_or later (wish_of first)) (last_wish-with_frame frames frame)
-    ∙ option_or-option_or (wish_of frame) (last_wish frames) (wish_of first)
+    ap (λ later. option_or later (wish_carried first)) (last_wish-with_frame frames frame)
+    ∙ option_or-option_or (wish_carried frame) (last_wish frames) (wish_carried first)
 
 pub last_change-with_frame : (frames : List Carried) (frame : Carried)
     → last_change (with_frame frames frame) ≡ option_or (change_of frame) (last_change frames)
@@ -49,21 +49,21 @@ last_change-with_frame (first ∷ frames) frame =
     ∙ option_or-option_or (change_of frame) (last_change frames) (change_of first)
 
 pub has_change-with_frame : (frames : List Carried) (frame : Carried)
-    → has_change (with_frame frames frame) ≡ (has_change frames || is_change frame)
+    → has_change (with_frame frames frame) ≡ (has_change frames || carries_change frame)
 has_change-with_frame frames frame = grind (arith, list_any-append)
 
 -- a frame with a wish is seen in the last wish
 pub wish_seen : (frames : List Carried) (count : ℕ)
-    → (wish_of (carried_at frames count) ≡ None) ⊎ (is_some (last_wish frames) ≡ true)
+    → (wish_carried (carried_at frames count) ≡ None) ⊎ (is_some (last_wish frames) ≡ true)
 wish_seen [] zero = inl refl
 wish_seen [] (suc count) = inl refl
 wish_seen (frame ∷ frames) zero = inl refl
-wish_seen (frame ∷ frames) (suc zero) = here (last_wish frames) (wish_of frame)
+wish_seen (frame ∷ frames) (suc zero) = here (last_wish frames) (wish_carried frame)
   where
     here : (later own : Option (List ℕ)) → (own ≡ None) ⊎ (is_some (option_or later own) ≡ true)
     here later own = grind arith
 wish_seen (frame ∷ frames) (suc (suc count)) =
-    there (wish_of (get_or frames count Nothing)) (last_wish frames) (wish_of frame) (wish_seen frames (suc count))
+    there (wish_carried (get_or frames count Nothing)) (last_wish frames) (wish_carried frame) (wish_seen frames (suc count))
   where
     there : (one later own : Option (List ℕ)) → (one ≡ None) ⊎ (is_some later ≡ true)
         → (one ≡ None) ⊎ (is_some (option_or later own) ≡ true)
@@ -71,16 +71,16 @@ wish_seen (frame ∷ frames) (suc (suc count)) =
 
 -- a frame with a Change is seen
 pub change_seen : (frames : List Carried) (count : ℕ)
-    → (is_change (carried_at frames count) ≡ false) ⊎ (has_change frames ≡ true)
+    → (carries_change (carried_at frames count) ≡ false) ⊎ (has_change frames ≡ true)
 change_seen [] zero = inl refl
 change_seen [] (suc count) = inl refl
 change_seen (frame ∷ frames) zero = inl refl
-change_seen (frame ∷ frames) (suc zero) = here (has_change frames) (is_change frame)
+change_seen (frame ∷ frames) (suc zero) = here (has_change frames) (carries_change frame)
   where
     here : (later own : Bool) → (own ≡ false) ⊎ ((own || later) ≡ true)
     here later own = grind arith
 change_seen (frame ∷ frames) (suc (suc count)) =
-    there (is_change (get_or frames count Nothing)) (has_change frames) (is_change frame) (change_seen frames (suc count))
+    there (carries_change (get_or frames count Nothing)) (has_change frames) (carries_change frame) (change_seen frames (suc count))
   where
     there : (one later own : Bool) → (one ≡ false) ⊎ (later ≡ true) → (one ≡ false) ⊎ ((own || later) ≡ true)
     there one later own seen = grind arith

@@ -5,11 +5,11 @@ use Rattle.std.specs.Option.{option_or}
 use Rattle.std.proofs.lemmas.Bool.{and_parts}
 use Rattle.feature_lists.specs.Features.{described}
 use Rattle.feature_lists.specs.declared.features.Feature.{Feature}
-use Rattle.feature_agreement.specs.View.{Carried, with_frame, wish_of, last_wish, is_listed, are_listed, list_of, last_list}
+use Rattle.feature_agreement.specs.View.{Carried, with_frame, wish_carried, last_wish, is_listed, are_listed, list_of, last_list}
 use Rattle.feature_agreement.specs.View.Carried.{Nothing, Change, Confirm}
-use Rattle.feature_agreement.specs.Rows.{is_whole, is_whole_by, confirm_in, confirmed_by}
+use Rattle.feature_agreement.specs.Rows.{is_whole_confirm, is_whole_by, confirm_in, confirmed_by}
 
-list_is_wish : (frame : Carried) → is_listed frame ≡ true → list_of frame ≡ wish_of frame
+list_is_wish : (frame : Carried) → is_listed frame ≡ true → list_of frame ≡ wish_carried frame
 list_is_wish Nothing listed = refl
 list_is_wish (Change wish) listed = refl
 list_is_wish (Confirm acknowledged value []) listed = absurd (cc listed)
@@ -35,7 +35,7 @@ listed_with_frame frames frame = (
 )
 
 pub confirm_listed : (feature : Feature) (count : ℕ) (body : List ℕ) → (described feature).is_server_priority ≡ true
-    → is_whole feature body ≡ true → is_listed (confirm_in feature count body) ≡ true
+    → is_whole_confirm feature body ≡ true → is_listed (confirm_in feature count body) ≡ true
 confirm_listed feature count body priority whole = rw priority (by_body body (rw priority at whole))
   where
     by_body : (body : List ℕ) → is_whole_by true body ≡ true

@@ -10,13 +10,13 @@ use Rattle.feature_machine.specs.declared.offers.Offer.TheVariants as offer
 use Rattle.feature_machine.specs.declared.row.Row.{Row}
 use Rattle.feature_machine.specs.Rows as machine
 use Rattle.feature_machine.specs.Rows.{row_step, row_line, Preferred, Offered, Sending, Prefers, Offers, sent_anew}
-use Rattle.feature_machine.specs.Sound.{IsSound}
+use Rattle.feature_machine.specs.Sound.{IsSoundRow}
 use Rattle.feature_agreement.specs.View.{Carried, with_frame}
 use Rattle.feature_agreement.specs.View.Carried.{Nothing, Change}
-use Rattle.feature_agreement.specs.Moves.{waiting, opening, sent}
+use Rattle.feature_agreement.specs.Moves.{waiting, opening, sending_side}
 use Rattle.feature_agreement.specs.Moves.Move.{Waits, Opens, Sends, Sends_again}
 use Rattle.feature_agreement.specs.Moves.Moves.{Done, Next}
-use Rattle.feature_agreement.specs.Counts.{number_of, count_of}
+use Rattle.seq_circle.specs.Counts.{number_of, count_of}
 use Rattle.feature_agreement.specs.Rows.{RowMoves, side_of, entries_of, row_pair, opens_at, IsBegun, after_sending}
 use Rattle.feature_agreement.proofs.Order.{count_of-number_of}
 
@@ -26,11 +26,11 @@ wish_opens : (row : Row) (wish : Wanted) → is_wish row.feature row.place wish 
 wish_opens row wish is = grind arith
 
 -- what an offer opens with, and what is pending in UNSTABLE, are such wishes
-offered_opens : (row : Row) → IsSound row → (row.offer ≡ offer.Nothing → ⊥)
+offered_opens : (row : Row) → IsSoundRow row → (row.offer ≡ offer.Nothing → ⊥)
     → opens_at row.role (row_pair row) (entries_of row.active) ≡ true
 offered_opens row sound offers = grind arith
 
-pending_opens : (row : Row) → IsSound row → row.stand ≡ Unstable → opens_at row.role (row_pair row) (entries_of row.pending) ≡ true
+pending_opens : (row : Row) → IsSoundRow row → row.stand ≡ Unstable → opens_at row.role (row_pair row) (entries_of row.pending) ≡ true
 pending_opens row sound unstable = grind arith
 
 module _ (iss greatest : ℕ) (row : Row) (there frames : List Carried) where
@@ -54,7 +54,7 @@ module _ (iss greatest : ℕ) (row : Row) (there frames : List Carried) where
       → RowMoves row there (side_of iss row greatest frames) (side_of iss row greatest (with_frame frames (Change (entries_of row.active))))
   again busy =
       let before = side_of iss row greatest frames in
-      let after = sent before (Change (entries_of row.active)) in
+      let after = sending_side before (Change (entries_of row.active)) in
       Next before after after (Sends_again busy) (Done after)
 
   waits : (after : Row) → (row.stand ≡ Stable → ⊥) → after.stand ≡ Unstable → after.value ≡ row.value → after.opened ≡ row.opened
@@ -66,7 +66,7 @@ module _ (iss greatest : ℕ) (row : Row) (there frames : List Carried) where
   pub plain_moves : RowMoves row there (side_of iss row greatest frames) (side_of iss row greatest (with_frame frames Nothing))
   plain_moves =
       let before = side_of iss row greatest frames in
-      let after = sent before Nothing in
+      let after = sending_side before Nothing in
       Next before after after Sends (Done after)
 
   -- what the end prefers goes out at once where the row is STABLE
@@ -97,7 +97,7 @@ module _ (iss greatest : ℕ) (row : Row) (there frames : List Carried) where
       by_stand Unstable is = waits (record row { stand = Unstable; pending = Some wish }) busy refl refl refl refl
 
   -- the row's offer comes up
-  pub offer_moves : iss < 2 ^ 48 → length frames < 2 ^ 47 → IsSound row → (confirmed : Bool)
+  pub offer_moves : iss < 2 ^ 48 → length frames < 2 ^ 47 → IsSoundRow row → (confirmed : Bool)
       → (row_step row (Offers confirmed)).answer ≡ machine.Opens
       → RowMoves row there (side_of iss row greatest frames) (after_sending iss (row_step row (Offers confirmed)).row greatest frames)
   offer_moves fits few sound confirmed opened = by_stand row.stand confirmed row.offer refl opened
@@ -146,7 +146,7 @@ module _ (iss greatest : ℕ) (row : Row) (there frames : List Carried) where
       by_stand Unstable confirmed offered unopened = refl
 
   -- the row's Change goes out, again or with what is pending
-  pub send_moves : iss < 2 ^ 48 → length frames < 2 ^ 47 → IsSound row → IsBegun iss row → (row.stand ≡ Stable → ⊥)
+  pub send_moves : iss < 2 ^ 48 → length frames < 2 ^ 47 → IsSoundRow row → IsBegun iss row → (row.stand ≡ Stable → ⊥)
       → RowMoves row there (side_of iss row greatest frames) (after_sending iss row greatest frames)
   send_moves fits few sound begun busy = by_stand row.stand refl row.opened refl
     where

@@ -2,7 +2,7 @@
 use Rattle.std.proofs.Common.{◌≡◌, ℕ, ◌^◌, ◌<◌, ◌≤◌, false, arith}
 use Rattle.std.specs.Prelude.{IsTrue}
 use Rattle.seq_circle.specs.Circle.{is_before}
-use Rattle.feature_agreement.specs.Counts.{number_of, count_of, IsNumber}
+use Rattle.seq_circle.specs.Counts.{number_of, count_of, IsNumber}
 
 pub count_of-number_of : (iss count : ℕ) → iss < 2 ^ 48 → 1 ≤ count → count ≤ 2 ^ 47 → count_of iss (number_of iss count) ≡ count
 count_of-number_of iss count fits some few = omega arith

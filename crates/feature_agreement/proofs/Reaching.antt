@@ -1,17 +1,17 @@
 -- What the facts say of two sides that moves reach: they agree.
 use Rattle.std.proofs.Common.{◌≡◌, ℕ, ◌<◌, Bool, true, ◌⊎◌, List, arith}
 use Rattle.std.specs.Prelude.{Some, is_some, IsTrue}
-use Rattle.feature_agreement.specs.View.{Carried, Side, last_wish}
+use Rattle.feature_agreement.specs.View.{Carried, FeatureSide, last_wish}
 use Rattle.feature_machine.specs.declared.stands.Stand.TheVariants.{Stable}
 use Rattle.feature_agreement.specs.Moves.{Rule, swapped, Moves, Pair, Reached}
 use Rattle.feature_agreement.specs.Moves.Moves.{Done, Next}
 use Rattle.feature_agreement.specs.Moves.Reached.{Server_moves, Client_moves}
-use Rattle.feature_agreement.specs.Agreement.{was_negotiated, Agree}
+use Rattle.feature_agreement.specs.Agreement.{was_negotiated, SidesAgree}
 use Rattle.feature_agreement.proofs.Facts.{Kept}
 use Rattle.feature_agreement.proofs.Frames.{wish_seen}
 use Rattle.feature_agreement.proofs.Steps.{reached_keeps}
 
-module _ (rule : Rule) (side peer : Side) (facts : Kept rule side peer) where
+module _ (rule : Rule) (side peer : FeatureSide) (facts : Kept rule side peer) where
   negotiated_opened : IsTrue (was_negotiated side peer) → (0 < side.opened) ⊎ (0 < peer.opened)
   negotiated_opened negotiated = grind arith
 
@@ -25,7 +25,7 @@ module _ (rule : Rule) (side peer : Side) (facts : Kept rule side peer) where
       → last_wish peer.frames ≡ Some peers → (value : ℕ) → rule owns peers ≡ Some value → side.value ≡ value
   last_ruled stable peers_stable owns peers last peers_last value ruled = grind arith
 
-  pub kept_agree : Agree rule side peer
+  pub kept_agree : SidesAgree rule side peer
   kept_agree = record {
     equal = λ stable. facts.settled.equal stable.0 stable.1;
     both_sent = λ stable negotiated.
@@ -33,23 +33,23 @@ module _ (rule : Rule) (side peer : Side) (facts : Kept rule side peer) where
     reconciled = λ stable. last_ruled stable.0 stable.1;
   }
 
-pub reached_agree : (pair : Pair) (server client : Side) → Reached pair server client → Agree pair.rule server client
+pub reached_agree : (pair : Pair) (server client : FeatureSide) → Reached pair server client → SidesAgree pair.rule server client
 reached_agree pair server client reached = kept_agree pair.rule server client (reached_keeps pair server client reached)
 
 -- moves after moves
-pub joined : (rule : Rule) (opens : List ℕ → Bool) (there : List Carried) (before middle after : Side) → Moves rule opens there before middle
+pub joined : (rule : Rule) (opens : List ℕ → Bool) (there : List Carried) (before middle after : FeatureSide) → Moves rule opens there before middle
     → Moves rule opens there middle after → Moves rule opens there before after
 joined rule opens there _ _ after (Done _) rest = rest
 joined rule opens there before middle after (Next _ next _ move moves) rest =
     Next before next after move (joined rule opens there next middle after moves rest)
 
-pub server_reaches : (pair : Pair) (client server after : Side) → Moves pair.rule pair.server_opens client.frames server after
+pub server_reaches : (pair : Pair) (client server after : FeatureSide) → Moves pair.rule pair.server_opens client.frames server after
     → Reached pair server client → Reached pair after client
 server_reaches pair client server _ (Done _) reached = reached
 server_reaches pair client server _ (Next _ middle after move moves) reached =
     server_reaches pair client middle after moves (Server_moves server client middle reached move)
 
-pub client_reaches : (pair : Pair) (server client after : Side) → Moves (swapped pair.rule) pair.client_opens server.frames client after
+pub client_reaches : (pair : Pair) (server client after : FeatureSide) → Moves (swapped pair.rule) pair.client_opens server.frames client after
     → Reached pair server client → Reached pair server after
 client_reaches pair server client _ (Done _) reached = reached
 client_reaches pair server client _ (Next _ middle after move moves) reached =

@@ -9,12 +9,12 @@ use Rattle.feature_lists.specs.declared.features.Place.{Place}
 use Rattle.feature_lists.specs.declared.features.Place.TheVariants as place
 use Rattle.feature_machine.specs.declared.row.Row.{Row}
 use Rattle.feature_machine.specs.Rows.{is_server_priority, width, entries, reconciled_by, confirm_body, holding, tells_value, is_number}
-use Rattle.feature_machine.specs.Sound.{IsSound}
+use Rattle.feature_machine.specs.Sound.{IsSoundRow}
 use Rattle.feature_agreement.specs.View.Carried.{Confirm}
 use Rattle.feature_agreement.specs.Moves.{own_value}
 use Rattle.feature_agreement.specs.Rows.{entries_of, row_pair, rule_at, confirm_in}
 
-pub entries-entries_of : (row : Row) → IsSound row → is_server_priority row ≡ true → entries row.active ≡ entries_of row.active
+pub entries-entries_of : (row : Row) → IsSoundRow row → is_server_priority row ≡ true → entries row.active ≡ entries_of row.active
 entries-entries_of row sound priority = grind arith
 
 pub rule-reconciled_by : (row : Row) (own peers : List ℕ) → is_server_priority row ≡ true
@@ -30,7 +30,7 @@ pub rule-remote_value : (row : Row) (own peers : List ℕ) → is_server_priorit
 rule-remote_value row own peers priority remote = grind arith
 
 -- the Confirm of a row with a list carries the row's value and its list
-pub list_said : (row : Row) (count value : ℕ) → IsSound row → is_server_priority row ≡ true
+pub list_said : (row : Row) (count value : ℕ) → IsSoundRow row → is_server_priority row ≡ true
     → confirm_in row.feature count (confirm_body (holding row value)) ≡ Confirm count value (entries_of row.active)
 list_said row count value sound priority = grind (arith, entries-entries_of)
 
@@ -62,14 +62,14 @@ told row body priority tells =
       fits = permitted_fits row.feature row.place (big_number (width row) body) priority permitted;
     }
 
-pub remote_silent : (row : Row) → IsSound row → is_server_priority row ≡ false → row.place ≡ place.There → entries_of row.active ≡ []
+pub remote_silent : (row : Row) → IsSoundRow row → is_server_priority row ≡ false → row.place ≡ place.There → entries_of row.active ≡ []
 remote_silent row sound priority remote = grind arith
 
 pub reads_back : (width value : ℕ) → value < 256 ^ width → big_number width (big_bytes width value) ≡ value
 reads_back width value fits = rw append-nil at (big_number-reads_back width value [] fits)
 
 -- the Confirm of a told value carries it
-pub told_said : (row : Row) (count value : ℕ) → IsSound row → is_server_priority row ≡ false → row.place ≡ place.There → value < 256 ^ width row
+pub told_said : (row : Row) (count value : ℕ) → IsSoundRow row → is_server_priority row ≡ false → row.place ≡ place.There → value < 256 ^ width row
     → confirm_in row.feature count (confirm_body (holding row value)) ≡ Confirm count value (entries_of row.active)
 told_said row count value sound priority remote fits =
     let silent : entries_of row.active ≡ [] = remote_silent row sound priority remote in
@@ -77,7 +77,7 @@ told_said row count value sound priority remote fits =
     rw (priority, silent, same)
 
 -- a number is the wish of the location alone
-pub number_here : (row : Row) (value : ℕ) → IsSound row → is_server_priority row ≡ false → is_number row.active value ≡ true
+pub number_here : (row : Row) (value : ℕ) → IsSoundRow row → is_server_priority row ≡ false → is_number row.active value ≡ true
     → row.place ≡ place.Here
 number_here row value sound priority number = grind arith
 

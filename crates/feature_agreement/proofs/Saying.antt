@@ -18,9 +18,9 @@ use Rattle.feature_machine.specs.declared.judging.Proposal.TheVariants as p
 use Rattle.feature_machine.specs.declared.row.Row.{Row}
 use Rattle.feature_machine.specs.Rows as machine
 use Rattle.feature_machine.specs.Rows.{row_step, row_line, Proposed, is_server_priority, width, entries, reconciled_by, confirm_body, holding, proposal, shared_or_not, tells_value, is_there}
-use Rattle.feature_machine.specs.Sound.{IsSound}
+use Rattle.feature_machine.specs.Sound.{IsSoundRow}
 use Rattle.feature_agreement.specs.View.Carried.{Change}
-use Rattle.feature_agreement.specs.Rows.{entries_of, change_in, is_whole, is_whole_by, is_valid_by, is_valid_change, change_data, opposite}
+use Rattle.feature_agreement.specs.Rows.{entries_of, change_in, is_whole_confirm, is_whole_by, is_valid_by, is_valid_change, change_data, opposite}
 use Rattle.feature_agreement.proofs.RowFacts.{permitted_fits, reads_back}
 
 opposite_here : (at : Place) → opposite at ≡ place.Here → at ≡ place.There
@@ -108,7 +108,7 @@ change_valid row (wanted.Number number) is =
     told_valid row (big_bytes (width row) number) wish.told (number_tells row number wish)
 
 -- what a sound row confirms is whole
-filled_entries : (row : Row) → IsSound row → is_server_priority row ≡ true → 1 ≤ length (entries row.active)
+filled_entries : (row : Row) → IsSoundRow row → is_server_priority row ≡ true → 1 ≤ length (entries row.active)
 filled_entries row sound priority = grind arith
 
 whole_list : (value : ℕ) (list : List ℕ) → 1 ≤ length list → is_whole_by true (value ∷ list) ≡ true
@@ -122,7 +122,7 @@ whole_bytes (byte ∷ bytes) filled = refl
 some_width : (feature : Feature) → 1 ≤ (described feature).width
 some_width feature = grind arith
 
-whole_body : (row : Row) (value : ℕ) → IsSound row → is_whole row.feature (confirm_body (holding row value)) ≡ true
+whole_body : (row : Row) (value : ℕ) → IsSoundRow row → is_whole_confirm row.feature (confirm_body (holding row value)) ≡ true
 whole_body row value sound = by_rule (is_server_priority row) refl
   where
     by_rule : (priority : Bool) → is_server_priority row ≡ priority
@@ -134,16 +134,16 @@ whole_body row value sound = by_rule (is_server_priority row) refl
         whole_bytes (big_bytes (width row) value) (omega arith)
 
 -- the Confirm of a valid Change is whole
-pub confirm_whole : (row : Row) (body reply : List ℕ) (mandatory : Bool) → IsSound row → (proposal row body ≡ p.Invalid → ⊥)
-    → (row_step row (machine.Change body mandatory)).answer ≡ machine.Confirms reply → is_whole row.feature reply ≡ true
+pub confirm_whole : (row : Row) (body reply : List ℕ) (mandatory : Bool) → IsSoundRow row → (proposal row body ≡ p.Invalid → ⊥)
+    → (row_step row (machine.Change body mandatory)).answer ≡ machine.Confirms reply → is_whole_confirm row.feature reply ≡ true
 confirm_whole row body reply mandatory sound = by_line row.stand (proposal row body) mandatory
   where
-    said : (value : ℕ) → machine.Confirms (confirm_body (holding row value)) ≡ machine.Confirms reply → is_whole row.feature reply ≡ true
+    said : (value : ℕ) → machine.Confirms (confirm_body (holding row value)) ≡ machine.Confirms reply → is_whole_confirm row.feature reply ≡ true
     said value is =
-        subst (λ bytes. is_whole row.feature bytes ≡ true) (same_reply (confirm_body (holding row value)) reply is) (whole_body row value sound)
+        subst (λ bytes. is_whole_confirm row.feature bytes ≡ true) (same_reply (confirm_body (holding row value)) reply is) (whole_body row value sound)
 
     by_line : (stand : Stand) (proposed : Proposal) (mandatory : Bool) → (proposed ≡ p.Invalid → ⊥)
-        → (row_line row stand (Proposed proposed mandatory)).answer ≡ machine.Confirms reply → is_whole row.feature reply ≡ true
+        → (row_line row stand (Proposed proposed mandatory)).answer ≡ machine.Confirms reply → is_whole_confirm row.feature reply ≡ true
     by_line stand p.Invalid mandatory valid is = absurd (valid refl)
     by_line Unstable (p.Shared value) mandatory valid is = absurd (cc is)
     by_line Unstable p.Unshared mandatory valid is = absurd (cc is)

@@ -8,11 +8,11 @@ use Rattle.feature_machine.specs.declared.judging.Confirmation.{Confirmation}
 use Rattle.feature_machine.specs.declared.row.Row.{Row}
 use Rattle.feature_machine.specs.Rows as machine
 use Rattle.feature_machine.specs.Rows.{RowEvent, RowAnswer, Confirms, Ignored, Settled, Fatal, Opens, Waits, Quiet, Confirmed, Offers, row_line, row_step, confirmation}
-use Rattle.feature_machine.specs.Sound.{IsSound, IsSameRow}
+use Rattle.feature_machine.specs.Sound.{IsSoundRow, IsSameRow}
 use Rattle.feature_machine.specs.Turns.{row_turned}
 use Rattle.feature_machine.proofs.Soundness.{step_sound}
 use Rattle.feature_machine.proofs.Steps.{step_same}
-use Rattle.feature_agreement.specs.View.{Carried, Side, with_frame}
+use Rattle.feature_agreement.specs.View.{Carried, FeatureSide, with_frame}
 use Rattle.feature_agreement.specs.View.Carried.{Nothing}
 use Rattle.feature_agreement.specs.Packets.{IsHeardOf, confirm_of, reply_due, carried_reply, with_reply}
 use Rattle.feature_agreement.specs.Rows.{RowMoves, IsBegun, side_of, row_pair, rule_at, opens_at, with_answer, after_sending}
@@ -32,7 +32,7 @@ heard_same iss count row there (event ∷ []) heard = step_same row event
 heard_same iss count row there (first ∷ (second ∷ rest)) heard = absurd heard
 
 pub heard_sound : (iss count : ℕ) (row : Row) (there : List Carried) (events : List RowEvent) → IsHeardOf iss row there count events
-    → IsSound row → IsSound (row_turned row events)
+    → IsSoundRow row → IsSoundRow (row_turned row events)
 heard_sound iss count row there [] heard sound = sound
 heard_sound iss count row there (machine.Change body mandatory ∷ []) heard sound = step_sound row (machine.Change body mandatory) sound tt
 heard_sound iss count row there (machine.Confirm body (Some ack) ∷ []) heard sound =
@@ -69,7 +69,7 @@ answer_frames feature count Quiet frames = refl
 confirm_quiet : (row : Row) (stand : Stand) (confirms : Confirmation) → confirm_of (row_line row stand (Confirmed confirms)).answer ≡ None
 confirm_quiet row stand confirms = grind arith
 
-module _ (iss greatest count : ℕ) (row : Row) (there frames : List Carried) (newer : greatest < count) (sound : IsSound row)
+module _ (iss greatest count : ℕ) (row : Row) (there frames : List Carried) (newer : greatest < count) (sound : IsSoundRow row)
     (begun : IsBegun iss row) where
   -- the packet, with the Confirm that is due
   heard_moves : (events : List RowEvent) → IsHeardOf iss row there count events
@@ -101,7 +101,7 @@ module _ (iss greatest count : ℕ) (row : Row) (there frames : List Carried) (n
         (side_of iss (row_turned row events) count (with_reply row.feature count reply frames))) none (heard_moves events heard)
 
     -- then what the row after it does
-    then_does : (after : Side) → reply_due row events ≡ None
+    then_does : (after : FeatureSide) → reply_due row events ≡ None
         → RowMoves (row_turned row events) there (side_of iss (row_turned row events) count frames) after
         → RowMoves row there (side_of iss row greatest frames) after
     then_does after none moves =

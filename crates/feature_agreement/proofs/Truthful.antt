@@ -3,13 +3,13 @@ use Rattle.std.proofs.Common.{◌≡◌, ℕ, ◌<◌, ◌≤◌, Bool, true, Li
 use Rattle.std.specs.Prelude.{Some, unwrap_or, IsTrue}
 use Rattle.std.proofs.Math.Logic.{∥∥₁_elim}
 use Rattle.std.proofs.Props.{props}
-use Rattle.feature_agreement.specs.View.{Carried, Side, carried_at, with_frame, is_change}
+use Rattle.feature_agreement.specs.View.{Carried, FeatureSide, carried_at, with_frame, carries_change}
 use Rattle.feature_machine.specs.declared.stands.Stand.TheVariants.{Stable}
 use Rattle.feature_agreement.specs.View.Carried.{Nothing, Change, Confirm}
 use Rattle.feature_agreement.specs.Moves.{Rule, swapped, Move, Pair, Reached, IsReachable}
 use Rattle.feature_agreement.specs.Moves.Move.{Passes, Settles, Answers, Waits, Opens, Sends, Sends_again}
 use Rattle.feature_agreement.specs.Moves.Reached.{Starts, Server_moves, Client_moves}
-use Rattle.feature_agreement.specs.Facts.{IsTruthful}
+use Rattle.feature_agreement.specs.Facts.{SpeaksForItsRow}
 use Rattle.feature_agreement.proofs.Facts.{Kept, changed}
 use Rattle.feature_agreement.proofs.Frames.{frame_in, frame_cases, change_seen}
 use Rattle.feature_agreement.proofs.Steps.{turned, reached_keeps}
@@ -28,11 +28,11 @@ plain_rises frames facts = grind (arith, frame_in, frame_cases)
 change_rises : (frames : List Carried) (wish : List ℕ) → Rises frames → Rises (with_frame frames (Change wish))
 change_rises frames wish facts = grind (arith, frame_in, frame_cases)
 
-answer_rises : (rule : Rule) (side peer : Side) (count value : ℕ) → side.greatest < count → Kept rule side peer → Rises side.frames
+answer_rises : (rule : Rule) (side peer : FeatureSide) (count value : ℕ) → side.greatest < count → Kept rule side peer → Rises side.frames
     → Rises (with_frame side.frames (Confirm count value side.active))
 answer_rises rule side peer count value newer kept facts = grind (arith, frame_in, frame_cases)
 
-move_rises : (rule : Rule) (opens : List ℕ → Bool) (peer side after : Side) → Move rule opens peer.frames side after
+move_rises : (rule : Rule) (opens : List ℕ → Bool) (peer side after : FeatureSide) → Move rule opens peer.frames side after
     → Kept rule side peer → Rises side.frames → Rises after.frames
 move_rises rule opens peer side _ (Passes count newer sent_there) kept facts = facts
 move_rises rule opens peer side _ (Settles count acknowledged value wish newer carried changing answers ruled) kept facts = facts
@@ -43,27 +43,27 @@ move_rises rule opens peer side _ (Opens wish may) kept facts = change_rises sid
 move_rises rule opens peer side _ Sends kept facts = plain_rises side.frames facts
 move_rises rule opens peer side _ (Sends_again busy) kept facts = change_rises side.frames side.active facts
 
-server_rises : (pair : Pair) (server client : Side) → Reached pair server client → Rises server.frames
+server_rises : (pair : Pair) (server client : FeatureSide) → Reached pair server client → Rises server.frames
 server_rises pair _ _ (Starts servers clients) = nothing_rises
 server_rises pair _ _ (Server_moves server client after reached move) =
     move_rises pair.rule pair.server_opens client server after move (reached_keeps pair server client reached)
     (server_rises pair server client reached)
 server_rises pair _ _ (Client_moves server client after reached move) = server_rises pair server client reached
 
-client_rises : (pair : Pair) (server client : Side) → Reached pair server client → Rises client.frames
+client_rises : (pair : Pair) (server client : FeatureSide) → Reached pair server client → Rises client.frames
 client_rises pair _ _ (Starts servers clients) = nothing_rises
 client_rises pair _ _ (Server_moves server client after reached move) = client_rises pair server client reached
 client_rises pair _ _ (Client_moves server client after reached move) =
     move_rises (swapped pair.rule) pair.client_opens server client after move
     (turned pair.rule server client (reached_keeps pair server client reached)) (client_rises pair server client reached)
 
-module _ (rule : Rule) (side peer : Side) (kept : Kept rule side peer) where
+module _ (rule : Rule) (side peer : FeatureSide) (kept : Kept rule side peer) where
   taken : (count acknowledged value : ℕ) (wish : List ℕ) → carried_at side.frames count ≡ Confirm acknowledged value wish
-      → (acknowledged ≤ side.greatest) × IsTrue (is_change (carried_at peer.frames acknowledged))
+      → (acknowledged ≤ side.greatest) × IsTrue (carries_change (carried_at peer.frames acknowledged))
   taken count acknowledged value wish carried =
       (kept.out.confirms_taken count acknowledged value wish carried, is_one (carried_at peer.frames acknowledged) (kept.out.confirms_change count acknowledged value wish carried))
     where
-      is_one : (frame : Carried) → frame ≡ Change (changed frame) → is_change frame ≡ true
+      is_one : (frame : Carried) → frame ≡ Change (changed frame) → carries_change frame ≡ true
       is_one Nothing is = absurd (cc is)
       is_one (Change other) is = refl
       is_one (Confirm other held list) is = absurd (cc is)
@@ -85,7 +85,7 @@ module _ (rule : Rule) (side peer : Side) (kept : Kept rule side peer) where
   takable count acknowledged value wish carried newer answers unless =
       let opened = peer_opened count acknowledged value wish carried in grind (arith, frame_in)
 
-  truthful : Rises side.frames → IsTruthful rule side peer
+  truthful : Rises side.frames → SpeaksForItsRow rule side peer
   truthful facts = record {
     changes_active = kept.own.changes_active;
     confirms_active = kept.own.confirms_active;
@@ -96,12 +96,12 @@ module _ (rule : Rule) (side peer : Side) (kept : Kept rule side peer) where
     takable = takable;
   }
 
-pub server_truthful : (pair : Pair) (server client : Side) → IsReachable pair server client → IsTruthful pair.rule server client
+pub server_truthful : (pair : Pair) (server client : FeatureSide) → IsReachable pair server client → SpeaksForItsRow pair.rule server client
 server_truthful pair server client reachable =
     ∥∥₁_elim reachable (hlevel props) (λ reached. truthful pair.rule server client (reached_keeps pair server client reached)
     (server_rises pair server client reached))
 
-pub client_truthful : (pair : Pair) (server client : Side) → IsReachable pair server client → IsTruthful (swapped pair.rule) client server
+pub client_truthful : (pair : Pair) (server client : FeatureSide) → IsReachable pair server client → SpeaksForItsRow (swapped pair.rule) client server
 client_truthful pair server client reachable =
     ∥∥₁_elim reachable (hlevel props) (λ reached. truthful (swapped pair.rule) client server
     (turned pair.rule server client (reached_keeps pair server client reached)) (client_rises pair server client reached))

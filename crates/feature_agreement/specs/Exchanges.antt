@@ -1,6 +1,6 @@
 -- Two runs of a pair of rows, to show that moves lead somewhere: both rows end in STABLE, with what the rule says (own).
 use Rattle.std.specs.Prelude.{ℕ, List, [], ◌∷◌, unwrap_or}
-use Rattle.feature_agreement.specs.View.{Side}
+use Rattle.feature_agreement.specs.View.{FeatureSide}
 use Rattle.feature_machine.specs.declared.stands.Stand.TheVariants.{Stable}
 use Rattle.feature_agreement.specs.View.Carried.{Change, Confirm}
 use Rattle.feature_agreement.specs.Moves.{Pair}
@@ -10,7 +10,7 @@ abbrev pub exchanged : Pair → List ℕ → List ℕ → ℕ
 exchanged pair servers clients = unwrap_or (pair.rule servers clients) pair.initial
 
 -- the client's Change, the server's Confirm of it: the server's side
-abbrev pub server_asked : Pair → List ℕ → List ℕ → Side
+abbrev pub server_asked : Pair → List ℕ → List ℕ → FeatureSide
 server_asked pair servers clients =
     record {
       frames = Confirm 1 (exchanged pair servers clients) servers ∷ [];
@@ -22,7 +22,7 @@ server_asked pair servers clients =
     }
 
 -- and the client's
-abbrev pub client_asking : Pair → List ℕ → List ℕ → Side
+abbrev pub client_asking : Pair → List ℕ → List ℕ → FeatureSide
 client_asking pair servers clients =
     record {
       frames = Change clients ∷ [];
@@ -34,7 +34,7 @@ client_asking pair servers clients =
     }
 
 -- Changes of both that cross, each confirmed by the other's second frame: the server's side
-abbrev pub server_crossing : Pair → List ℕ → List ℕ → Side
+abbrev pub server_crossing : Pair → List ℕ → List ℕ → FeatureSide
 server_crossing pair servers clients =
     record {
       frames = Change servers ∷ (Confirm 1 (exchanged pair servers clients) servers ∷ []);
@@ -46,7 +46,7 @@ server_crossing pair servers clients =
     }
 
 -- and the client's
-abbrev pub client_crossing : Pair → List ℕ → List ℕ → Side
+abbrev pub client_crossing : Pair → List ℕ → List ℕ → FeatureSide
 client_crossing pair servers clients =
     record {
       frames = Change clients ∷ (Confirm 1 (exchanged pair servers clients) clients ∷ []);

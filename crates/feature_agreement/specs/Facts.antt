@@ -1,11 +1,11 @@
 -- What holds of a side towards its peer, whatever moves both made (own).
 use Rattle.std.specs.Prelude.{◌≡◌, ℕ, ◌<◌, ◌≤◌, List, [], ◌∷◌, Some, IsTrue}
 use Rattle.feature_machine.specs.declared.stands.Stand.TheVariants.{Stable}
-use Rattle.feature_agreement.specs.View.{Side, carried_at, is_change}
+use Rattle.feature_agreement.specs.View.{FeatureSide, carried_at, carries_change}
 use Rattle.feature_agreement.specs.View.Carried.{Change, Confirm}
 use Rattle.feature_agreement.specs.Moves.{Rule}
 
-pub record IsTruthful (rule : Rule) (side peer : Side) : Type 0 where
+pub record SpeaksForItsRow (rule : Rule) (side peer : FeatureSide) : Type 0 where
   -- from its last opening on, its Changes carry its active wish, and its Confirms after that do; if it never opened, all do
   pub changes_active : (count : ℕ) (wish : List ℕ) → carried_at side.frames count ≡ Change wish → side.opened ≤ count
       → wish ≡ side.active
@@ -15,7 +15,7 @@ pub record IsTruthful (rule : Rule) (side peer : Side) : Type 0 where
   -- its value
   pub confirms_taken : (count acknowledged value : ℕ) (wish : List ℕ)
       → carried_at side.frames count ≡ Confirm acknowledged value wish
-      → (acknowledged ≤ side.greatest) × IsTrue (is_change (carried_at peer.frames acknowledged))
+      → (acknowledged ≤ side.greatest) × IsTrue (carries_change (carried_at peer.frames acknowledged))
   pub confirms_ruled : (count acknowledged value agreed : ℕ) (wish other : List ℕ)
       → carried_at side.frames count ≡ Confirm acknowledged value wish → carried_at peer.frames acknowledged ≡ Change other
       → rule wish other ≡ Some agreed → value ≡ agreed
@@ -32,7 +32,7 @@ pub record IsTruthful (rule : Rule) (side peer : Side) : Type 0 where
       → (count < side.opened → side.stand ≡ Stable) → (wish ≡ side.active) × (value ≡ side.value)
 
 -- The same of a feature that is not negotiable: what the remote row confirms is what the location told.
-pub record IsConfirmed (location remote : Side) : Type 0 where
+pub record IsConfirmed (location remote : FeatureSide) : Type 0 where
   pub remote_stable : remote.stand ≡ Stable
   -- a Confirm has the value of the Change that it acknowledges
   pub told : (count acknowledged value : ℕ) (wish : List ℕ) → carried_at remote.frames count ≡ Confirm acknowledged value wish

@@ -1,7 +1,7 @@
 -- What one step of one side may do to its row and its frames, and which pairs of sides such steps reach (own). The moves
 -- allow more than a row does where that costs nothing: a row opens from any stand, and answers a Change in any.
 use Rattle.std.specs.Prelude.{◌≡◌, ℕ, ◌+◌, ◌<◌, ◌≤◌, Bool, true, false, Option, None, Some, List, [], ◌∷◌, length, unwrap_or}
-use Rattle.feature_agreement.specs.View.{Carried, Side, carried_at, with_frame}
+use Rattle.feature_agreement.specs.View.{Carried, FeatureSide, carried_at, with_frame}
 use Rattle.feature_machine.specs.declared.stands.Stand.TheVariants.{Stable, Changing, Unstable}
 use Rattle.feature_agreement.specs.View.Carried.{Nothing, Change, Confirm}
 
@@ -14,24 +14,24 @@ abbrev pub swapped : Rule → Rule
 swapped rule own peers = rule peers own
 
 -- a frame of the peer is taken, and nothing of the feature from it: it carries none, or what is ignored or refused
-abbrev pub passed : Side → ℕ → Side
-passed side count = record side { greatest = count }
+abbrev pub passing_side : FeatureSide → ℕ → FeatureSide
+passing_side side count = record side { greatest = count }
 
 -- a Confirm of the peer is taken, and the row settles
-abbrev pub settled : Side → ℕ → ℕ → Side
-settled side count value = record side { greatest = count; stand = Stable; value = value }
+abbrev pub settled_side : FeatureSide → ℕ → ℕ → FeatureSide
+settled_side side count value = record side { greatest = count; stand = Stable; value = value }
 
 -- a Change of the peer is taken, and a frame of the same step confirms it
-abbrev pub answered : Side → ℕ → ℕ → Side
-answered side count value =
+abbrev pub answering_side : FeatureSide → ℕ → ℕ → FeatureSide
+answering_side side count value =
     record side { frames = with_frame side.frames (Confirm count value side.active); greatest = count; value = value }
 
 -- a new wish waits for the next sending of the row's Change
-abbrev pub waiting : Side → Side
+abbrev pub waiting : FeatureSide → FeatureSide
 waiting side = record side { stand = Unstable }
 
 -- the row opens with a wish: a frame carries its first Change
-abbrev pub opening : Side → List ℕ → Side
+abbrev pub opening : FeatureSide → List ℕ → FeatureSide
 opening side wish =
     record side {
       frames = with_frame side.frames (Change wish);
@@ -41,26 +41,26 @@ opening side wish =
     }
 
 -- a frame is sent
-abbrev pub sent : Side → Carried → Side
-sent side frame = record side { frames = with_frame side.frames frame }
+abbrev pub sending_side : FeatureSide → Carried → FeatureSide
+sending_side side frame = record side { frames = with_frame side.frames frame }
 
 -- What a step of a side makes of it. Of its peer it sees the frames alone. `opens` tells the wishes that its row may open with.
-pub data Move (rule : Rule) (opens : List ℕ → Bool) (there : List Carried) (side : Side) : Side → Type 0 where
-  Passes : (count : ℕ) → side.greatest < count → count ≤ length there → Move rule opens there side (passed side count)
+pub data Move (rule : Rule) (opens : List ℕ → Bool) (there : List Carried) (side : FeatureSide) : FeatureSide → Type 0 where
+  Passes : (count : ℕ) → side.greatest < count → count ≤ length there → Move rule opens there side (passing_side side count)
   Settles : (count acknowledged value : ℕ) (wish : List ℕ) → side.greatest < count
       → carried_at there count ≡ Confirm acknowledged value wish → side.stand ≡ Changing → side.opened ≤ acknowledged
-      → value ≡ unwrap_or (rule side.active wish) side.value → Move rule opens there side (settled side count value)
+      → value ≡ unwrap_or (rule side.active wish) side.value → Move rule opens there side (settled_side side count value)
   Answers : (count : ℕ) (wish : List ℕ) → side.greatest < count → carried_at there count ≡ Change wish
-      → Move rule opens there side (answered side count (unwrap_or (rule side.active wish) side.value))
+      → Move rule opens there side (answering_side side count (unwrap_or (rule side.active wish) side.value))
   Waits : (side.stand ≡ Stable → ⊥) → Move rule opens there side (waiting side)
   Opens : (wish : List ℕ) → opens wish ≡ true → Move rule opens there side (opening side wish)
-  Sends : Move rule opens there side (sent side Nothing)
-  Sends_again : (side.stand ≡ Stable → ⊥) → Move rule opens there side (sent side (Change side.active))
+  Sends : Move rule opens there side (sending_side side Nothing)
+  Sends_again : (side.stand ≡ Stable → ⊥) → Move rule opens there side (sending_side side (Change side.active))
 
 -- what one step of a side does to one feature: some moves after each other
-pub data Moves (rule : Rule) (opens : List ℕ → Bool) (there : List Carried) : Side → Side → Type 0 where
-  Done : (side : Side) → Moves rule opens there side side
-  Next : (before middle after : Side) → Move rule opens there before middle → Moves rule opens there middle after
+pub data Moves (rule : Rule) (opens : List ℕ → Bool) (there : List Carried) : FeatureSide → FeatureSide → Type 0 where
+  Done : (side : FeatureSide) → Moves rule opens there side side
+  Next : (before middle after : FeatureSide) → Move rule opens there before middle → Moves rule opens there middle after
       → Moves rule opens there before after
 
 -- what is fixed for a feature at one end: the value before any negotiation, the rule with the server's wish first, and the
@@ -72,20 +72,20 @@ pub record Pair : Type 0 where
   pub client_opens : List ℕ → Bool
 
 -- a side before its first step, with its configured wish
-abbrev pub fresh : ℕ → List ℕ → Side
-fresh initial configured =
+abbrev pub new_side : ℕ → List ℕ → FeatureSide
+new_side initial configured =
     record { frames = []; greatest = 0; opened = 0; stand = Stable; active = configured; value = initial }
 
 -- the server's side and the client's, from any two configurations by moves of either in any order
-pub data Reached (pair : Pair) : Side → Side → Type 0 where
-  Starts : (servers clients : List ℕ) → Reached pair (fresh pair.initial servers) (fresh pair.initial clients)
-  Server_moves : (server client after : Side) → Reached pair server client
+pub data Reached (pair : Pair) : FeatureSide → FeatureSide → Type 0 where
+  Starts : (servers clients : List ℕ) → Reached pair (new_side pair.initial servers) (new_side pair.initial clients)
+  Server_moves : (server client after : FeatureSide) → Reached pair server client
       → Move pair.rule pair.server_opens client.frames server after → Reached pair after client
-  Client_moves : (server client after : Side) → Reached pair server client
+  Client_moves : (server client after : FeatureSide) → Reached pair server client
       → Move (swapped pair.rule) pair.client_opens server.frames client after → Reached pair server after
 
 -- some moves lead there
-abbrev pub IsReachable : Pair → Side → Side → Type 0
+abbrev pub IsReachable : Pair → FeatureSide → FeatureSide → Type 0
 IsReachable pair server client = ∥ Reached pair server client ∥₁
 
 abbrev pub any_wish : List ℕ → Bool

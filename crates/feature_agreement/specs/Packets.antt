@@ -6,8 +6,8 @@ use Rattle.feature_machine.specs.Rows as machine
 use Rattle.feature_machine.specs.Rows.{RowEvent, RowAnswer, Confirms, Ignored, Settled, Fatal, Opens, Waits, Quiet, row_step}
 use Rattle.feature_agreement.specs.View.{Carried, carried_at, with_frame}
 use Rattle.feature_agreement.specs.View.Carried.{Nothing}
-use Rattle.feature_agreement.specs.Counts.{count_of, IsNumber}
-use Rattle.feature_agreement.specs.Rows.{change_in, confirm_in, is_valid_change, is_whole, opposite}
+use Rattle.seq_circle.specs.Counts.{count_of, IsNumber}
+use Rattle.feature_agreement.specs.Rows.{change_in, confirm_in, is_valid_change, is_whole_confirm, opposite}
 
 -- What the row hears of the peer's frame with this count: nothing, whatever the frame carries; or the frame's Change, which is valid;
 -- or its Confirm, which is whole and acknowledges a frame of this end.
@@ -16,7 +16,7 @@ IsHeardOf iss row there count [] = count ≤ length there
 IsHeardOf iss row there count (machine.Change body mandatory ∷ []) =
     (carried_at there count ≡ change_in row.feature body) × IsTrue (is_valid_change row.feature (opposite row.place) body)
 IsHeardOf iss row there count (machine.Confirm body (Some ack) ∷ []) =
-    IsNumber iss ack × (carried_at there count ≡ confirm_in row.feature (count_of iss ack) body) × IsTrue (is_whole row.feature body)
+    IsNumber iss ack × (carried_at there count ≡ confirm_in row.feature (count_of iss ack) body) × IsTrue (is_whole_confirm row.feature body)
 IsHeardOf iss row there count (machine.Confirm body None ∷ []) = ⊥
 IsHeardOf iss row there count (machine.Prefers wish ∷ []) = ⊥
 IsHeardOf iss row there count (machine.Offers confirmed ∷ []) = ⊥

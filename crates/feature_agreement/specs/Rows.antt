@@ -14,10 +14,10 @@ use Rattle.feature_machine.specs.declared.stands.Stand.TheVariants.{Changing}
 use Rattle.feature_machine.specs.declared.row.Row.{Row}
 use Rattle.feature_machine.specs.Rows as machine
 use Rattle.feature_machine.specs.Rows.{RowAnswer, Confirms, Ignored, Settled, Fatal, Opens, Waits, Quiet, row_step}
-use Rattle.feature_agreement.specs.View.{Carried, Side, with_frame}
+use Rattle.feature_agreement.specs.View.{Carried, FeatureSide, with_frame}
 use Rattle.feature_agreement.specs.View.Carried.{Change, Confirm}
 use Rattle.feature_agreement.specs.Moves.{Rule, swapped, Pair, Moves, negotiable, at_server, at_client}
-use Rattle.feature_agreement.specs.Counts.{number_of, count_of, IsNumber}
+use Rattle.seq_circle.specs.Counts.{number_of, count_of, IsNumber}
 
 -- the end where a feature is located, for an end that sees it at this place
 abbrev pub location_of : Role2 → Place → Role2
@@ -50,7 +50,7 @@ abbrev pub row_pair : Row → Pair
 row_pair row = pair_of row.feature (location_of row.role row.place)
 
 -- what a step may do to the side of a row
-abbrev pub RowMoves : Row → List Carried → Side → Side → Type 0
+abbrev pub RowMoves : Row → List Carried → FeatureSide → FeatureSide → Type 0
 RowMoves row there before after = Moves (rule_at row.role (row_pair row)) (opens_at row.role (row_pair row)) there before after
 
 -- a wish as a list: a number is a list of one
@@ -65,7 +65,7 @@ opened_count iss None = 0
 opened_count iss (Some number) = count_of iss number
 
 -- the row as a side, with what else the side has: the first number of its end, the greatest count taken, and its frames
-abbrev pub side_of : ℕ → Row → ℕ → List Carried → Side
+abbrev pub side_of : ℕ → Row → ℕ → List Carried → FeatureSide
 side_of iss row greatest frames =
     record {
       frames = frames;
@@ -125,8 +125,8 @@ is_whole_by true (value ∷ (first ∷ list)) = true
 is_whole_by false [] = false
 is_whole_by false (byte ∷ bytes) = true
 
-abbrev pub is_whole : Feature → List ℕ → Bool
-is_whole feature body = is_whole_by (described feature).is_server_priority body
+abbrev pub is_whole_confirm : Feature → List ℕ → Bool
+is_whole_confirm feature body = is_whole_by (described feature).is_server_priority body
 
 -- the frames of a side once a Change was answered: a Confirm is on a frame of the same step
 abbrev pub with_answer : Feature → ℕ → RowAnswer → List Carried → List Carried
@@ -140,13 +140,13 @@ with_answer feature acknowledged Quiet frames = frames
 
 -- The side once a Change with these data was taken, from the peer's frame with this count: where a Confirm is due, it is on
 -- a frame of the same step.
-abbrev pub after_change : ℕ → Row → ℕ → List Carried → List ℕ → Bool → Side
+abbrev pub after_change : ℕ → Row → ℕ → List Carried → List ℕ → Bool → FeatureSide
 after_change iss row count frames body mandatory =
     let step = row_step row (machine.Change body mandatory) in
     side_of iss step.row count (with_answer row.feature count step.answer frames)
 
 -- the side once a Confirm with these data was taken, from the frame with this count, that acknowledges this number
-abbrev pub after_confirm : ℕ → Row → ℕ → List Carried → List ℕ → ℕ → Side
+abbrev pub after_confirm : ℕ → Row → ℕ → List Carried → List ℕ → ℕ → FeatureSide
 after_confirm iss row count frames body ack = side_of iss (row_step row (machine.Confirm body (Some ack))).row count frames
 
 -- the row once its next frame, with its Change, was sent
@@ -154,7 +154,7 @@ abbrev pub sending_row : ℕ → Row → List Carried → Row
 sending_row iss row frames = (row_step row (machine.Sends (number_of iss (length frames + 1)))).row
 
 -- and its side
-abbrev pub after_sending : ℕ → Row → ℕ → List Carried → Side
+abbrev pub after_sending : ℕ → Row → ℕ → List Carried → FeatureSide
 after_sending iss row greatest frames =
     let after = sending_row iss row frames in
     side_of iss after greatest (with_frame frames (Change (entries_of after.active)))

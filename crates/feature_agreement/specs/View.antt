@@ -14,7 +14,7 @@ pub data Carried : Type 0 where
   Confirm : (acknowledged value : ℕ) (wish : List ℕ) → Carried
 
 -- one side of the pair: what it sent and took, and its row
-pub record Side : Type 0 where
+pub record FeatureSide : Type 0 where
   -- what its numbered frames carry, oldest first
   pub frames : List Carried
   -- the count of the peer's frame with the greatest number that it took (GSR)
@@ -34,10 +34,10 @@ carried_at frames count = slice_index_or (Nothing ∷ frames) count Nothing
 abbrev pub with_frame : List Carried → Carried → List Carried
 with_frame frames frame = frames ++ frame ∷ []
 
-abbrev pub is_change : Carried → Bool
-is_change Nothing = false
-is_change (Change wish) = true
-is_change (Confirm acknowledged value wish) = false
+abbrev pub carries_change : Carried → Bool
+carries_change Nothing = false
+carries_change (Change wish) = true
+carries_change (Confirm acknowledged value wish) = false
 
 -- the wish that a Change carries
 abbrev pub change_of : Carried → Option (List ℕ)
@@ -46,14 +46,14 @@ change_of (Change wish) = Some wish
 change_of (Confirm acknowledged value wish) = None
 
 -- the wish that a Change or a Confirm carries
-abbrev pub wish_of : Carried → Option (List ℕ)
-wish_of Nothing = None
-wish_of (Change wish) = Some wish
-wish_of (Confirm acknowledged value wish) = Some wish
+abbrev pub wish_carried : Carried → Option (List ℕ)
+wish_carried Nothing = None
+wish_carried (Change wish) = Some wish
+wish_carried (Confirm acknowledged value wish) = Some wish
 
 -- some frame carries a Change
 abbrev pub has_change : List Carried → Bool
-has_change frames = list_any is_change frames
+has_change frames = list_any carries_change frames
 
 -- the wish in the last frame with a Change
 abbrev pub last_change : List Carried → Option (List ℕ)
@@ -63,7 +63,7 @@ last_change (frame ∷ frames) = option_or (last_change frames) (change_of frame
 -- the wish in the last frame with a Change or a Confirm
 abbrev pub last_wish : List Carried → Option (List ℕ)
 last_wish [] = None
-last_wish (frame ∷ frames) = option_or (last_wish frames) (wish_of frame)
+last_wish (frame ∷ frames) = option_or (last_wish frames) (wish_carried frame)
 
 -- a frame's Confirm, if it has one, has a list
 abbrev pub is_listed : Carried → Bool

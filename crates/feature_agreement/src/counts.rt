@@ -1,7 +1,7 @@
 //! What ties the counts of frames to their numbers.
 ghost use Rattle.std.specs.Prelude.{◌≡◌, ℕ, ◌^◌, ◌<◌, ◌≤◌, ◌↔◌, IsTrue};
 ghost use Rattle.seq_circle.specs.Circle.{is_before};
-ghost use Rattle.feature_agreement.specs.Counts.{number_of, count_of, IsNumber};
+ghost use Rattle.seq_circle.specs.Counts.{number_of, count_of, IsNumber};
 
 /// Among the first 2^47 frames of a side, numbers and counts determine each other, and a number is before another exactly
 /// where its count is less (RFC 4340, section 3.1).

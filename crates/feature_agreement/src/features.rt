@@ -7,8 +7,8 @@ ghost use Rattle.feature_machine.specs.declared.row.Row.{Row};
 ghost use Rattle.feature_machine.specs.declared.stands.Role2.{Role2};
 ghost use Rattle.feature_machine.specs.declared.stands.Role2.TheVariants.{Server, Client};
 ghost use Rattle.feature_machine.specs.Sound.{IsSameRow};
-ghost use Rattle.feature_agreement.specs.View.{Carried, Side};
-ghost use Rattle.feature_agreement.specs.Moves.{fresh, Reached, IsReachable};
+ghost use Rattle.feature_agreement.specs.View.{Carried, FeatureSide};
+ghost use Rattle.feature_agreement.specs.Moves.{new_side, Reached, IsReachable};
 ghost use Rattle.feature_agreement.specs.Rows.{RowMoves, pair_of, row_pair, location_of, opposite};
 ghost use Rattle.feature_agreement.specs.EachFeature.{AgreesOn, IsGivenFor};
 
@@ -16,21 +16,21 @@ ghost use Rattle.feature_agreement.specs.EachFeature.{AgreesOn, IsGivenFor};
 /// reconciliation of the last lists sent where these share one (RFC 4340, section 6.3.1), or what the location sent last
 /// (section 6.3.2). Each value was given to its row.
 pub fn every_feature_agrees()
-    ensures agree { (feature : Feature) (location : Role2) (server client : Side)
+    ensures agree { (feature : Feature) (location : Role2) (server client : FeatureSide)
         → IsReachable (pair_of feature location) server client → AgreesOn feature location server client }
-    ensures given { (feature : Feature) (location : Role2) (server client : Side)
+    ensures given { (feature : Feature) (location : Role2) (server client : FeatureSide)
         → IsReachable (pair_of feature location) server client → ∥ IsGivenFor feature location server client ∥₁ }
 {}
 
 /// What the moves of a row lead to is reachable, at the server and at the client. A row's role, feature and place alone tell
 /// its pair, and the two ends' rows of a feature are of one.
 pub fn row_steps_stay_reachable()
-    ensures server_step { (row : Row) (server client after : Side) → row.role ≡ Server → RowMoves row client.frames server after
+    ensures server_step { (row : Row) (server client after : FeatureSide) → row.role ≡ Server → RowMoves row client.frames server after
         → IsReachable (row_pair row) server client → IsReachable (row_pair row) after client }
-    ensures client_step { (row : Row) (server client after : Side) → row.role ≡ Client → RowMoves row server.frames client after
+    ensures client_step { (row : Row) (server client after : FeatureSide) → row.role ≡ Client → RowMoves row server.frames client after
         → IsReachable (row_pair row) server client → IsReachable (row_pair row) server after }
     ensures same_pair { (old new : Row) → IsSameRow old new → row_pair new ≡ row_pair old }
-    ensures same_moves { (old new : Row) (there : List Carried) (before after : Side) → IsSameRow old new
+    ensures same_moves { (old new : Row) (there : List Carried) (before after : FeatureSide) → IsSameRow old new
         → RowMoves new there before after → RowMoves old there before after }
     ensures one_pair { (feature : Feature) (place : Place)
         → pair_of feature (location_of Server place) ≡ pair_of feature (location_of Client (opposite place)) }
@@ -39,18 +39,18 @@ pub fn row_steps_stay_reachable()
 /// The same for a reader who keeps the moves that lead to two sides, and not just that there are some: then the origin of each value
 /// comes out itself, with the frames that it has.
 pub fn values_were_given()
-    ensures agree { (feature : Feature) (location : Role2) (server client : Side)
+    ensures agree { (feature : Feature) (location : Role2) (server client : FeatureSide)
         → Reached (pair_of feature location) server client → AgreesOn feature location server client }
-    ensures given { (feature : Feature) (location : Role2) (server client : Side)
+    ensures given { (feature : Feature) (location : Role2) (server client : FeatureSide)
         → Reached (pair_of feature location) server client → IsGivenFor feature location server client }
 {}
 
 /// The moves of a row lead on from what was reached, at the server and at the client, and any two configurations are reached.
 pub fn row_steps_reach()
     ensures start { (feature : Feature) (location : Role2) (servers clients : List ℕ)
-        → Reached (pair_of feature location) (fresh (initial_of feature) servers) (fresh (initial_of feature) clients) }
-    ensures server_step { (row : Row) (server client after : Side) → row.role ≡ Server → RowMoves row client.frames server after
+        → Reached (pair_of feature location) (new_side (initial_of feature) servers) (new_side (initial_of feature) clients) }
+    ensures server_step { (row : Row) (server client after : FeatureSide) → row.role ≡ Server → RowMoves row client.frames server after
         → Reached (row_pair row) server client → Reached (row_pair row) after client }
-    ensures client_step { (row : Row) (server client after : Side) → row.role ≡ Client → RowMoves row server.frames client after
+    ensures client_step { (row : Row) (server client after : FeatureSide) → row.role ≡ Client → RowMoves row server.frames client after
         → Reached (row_pair row) server client → Reached (row_pair row) server after }
 {}

@@ -1,21 +1,21 @@
 //! The laws on a feature's two sides.
 ghost use Rattle.std.specs.Prelude.{ℕ, Bool, List, IsTrue};
-ghost use Rattle.feature_agreement.specs.View.{Carried, Side};
-ghost use Rattle.feature_agreement.specs.Moves.{Rule, Pair, Moves, swapped, fresh, IsReachable, at_server, at_client};
+ghost use Rattle.feature_agreement.specs.View.{Carried, FeatureSide};
+ghost use Rattle.feature_agreement.specs.Moves.{Rule, Pair, Moves, swapped, new_side, IsReachable, at_server, at_client};
 ghost use Rattle.feature_agreement.specs.Exchanges.{server_asked, client_asking, server_crossing, client_crossing};
-ghost use Rattle.feature_agreement.specs.Facts.{IsTruthful, IsConfirmed};
-ghost use Rattle.feature_agreement.specs.Agreement.{Agree, Given, AgreeByLocation, GivenByLocation};
+ghost use Rattle.feature_agreement.specs.Facts.{SpeaksForItsRow, IsConfirmed};
+ghost use Rattle.feature_agreement.specs.Agreement.{SidesAgree, SidesAreGiven, AgreeByLocation, GivenByLocation};
 
 /// Two sides are reachable at the start, whatever was configured, and after each step of either that is a list of moves.
 pub fn steps_stay_reachable()
-    ensures joined { (rule : Rule) (opens : List ℕ → Bool) (there : List Carried) (before middle after : Side)
+    ensures joined { (rule : Rule) (opens : List ℕ → Bool) (there : List Carried) (before middle after : FeatureSide)
         → Moves rule opens there before middle → Moves rule opens there middle after → Moves rule opens there before after }
     ensures start { (pair : Pair) (servers clients : List ℕ)
-        → IsReachable pair (fresh pair.initial servers) (fresh pair.initial clients) }
-    ensures server_step { (pair : Pair) (server client after : Side)
+        → IsReachable pair (new_side pair.initial servers) (new_side pair.initial clients) }
+    ensures server_step { (pair : Pair) (server client after : FeatureSide)
         → Moves pair.rule pair.server_opens client.frames server after
         → IsReachable pair server client → IsReachable pair after client }
-    ensures client_step { (pair : Pair) (server client after : Side)
+    ensures client_step { (pair : Pair) (server client after : FeatureSide)
         → Moves (swapped pair.rule) pair.client_opens server.frames client after
         → IsReachable pair server client → IsReachable pair server after }
 {}
@@ -23,35 +23,35 @@ pub fn steps_stay_reachable()
 /// Two sides that moves can reach agree, for each rule that both apply to the server's wish and the client's (RFC 4340,
 /// section 6.3.1, has one). Whatever their stands, each value was given to its row.
 pub fn reachable_sides_agree()
-    ensures agree { (pair : Pair) (server client : Side)
-        → IsReachable pair server client → Agree pair.rule server client }
-    ensures given { (pair : Pair) (server client : Side)
-        → IsReachable pair server client → ∥ Given pair.initial pair.rule server client ∥₁ }
+    ensures agree { (pair : Pair) (server client : FeatureSide)
+        → IsReachable pair server client → SidesAgree pair.rule server client }
+    ensures given { (pair : Pair) (server client : FeatureSide)
+        → IsReachable pair server client → ∥ SidesAreGiven pair.initial pair.rule server client ∥₁ }
 {}
 
 /// Why they agree: what a side's frames say is true of what it holds, towards its peer, at the server and at the client.
 pub fn reachable_sides_are_truthful()
-    ensures servers { (pair : Pair) (server client : Side) → IsReachable pair server client → IsTruthful pair.rule server client }
-    ensures clients { (pair : Pair) (server client : Side) → IsReachable pair server client → IsTruthful (swapped pair.rule) client server }
+    ensures servers { (pair : Pair) (server client : FeatureSide) → IsReachable pair server client → SpeaksForItsRow pair.rule server client }
+    ensures clients { (pair : Pair) (server client : FeatureSide) → IsReachable pair server client → SpeaksForItsRow (swapped pair.rule) client server }
 {}
 
 /// The agreement of a feature that is not negotiable (RFC 4340, section 6.3.2): its value is the one that the end where it is
 /// located sent last.
 pub fn location_decides()
-    ensures agree_at_server { (initial : ℕ) (server client : Side)
+    ensures agree_at_server { (initial : ℕ) (server client : FeatureSide)
         → IsReachable (at_server initial) server client → AgreeByLocation server client }
-    ensures agree_at_client { (initial : ℕ) (server client : Side)
+    ensures agree_at_client { (initial : ℕ) (server client : FeatureSide)
         → IsReachable (at_client initial) server client → AgreeByLocation client server }
-    ensures given_at_server { (initial : ℕ) (server client : Side)
+    ensures given_at_server { (initial : ℕ) (server client : FeatureSide)
         → IsReachable (at_server initial) server client → ∥ GivenByLocation initial server client ∥₁ }
-    ensures given_at_client { (initial : ℕ) (server client : Side)
+    ensures given_at_client { (initial : ℕ) (server client : FeatureSide)
         → IsReachable (at_client initial) server client → ∥ GivenByLocation initial client server ∥₁ }
 {}
 
 /// And why: what the remote row confirms is what the location told, and its present value once it answers the last opening.
 pub fn remote_rows_confirm_what_was_told()
-    ensures at_server { (initial : ℕ) (server client : Side) → IsReachable (at_server initial) server client → IsConfirmed server client }
-    ensures at_client { (initial : ℕ) (server client : Side) → IsReachable (at_client initial) server client → IsConfirmed client server }
+    ensures at_server { (initial : ℕ) (server client : FeatureSide) → IsReachable (at_server initial) server client → IsConfirmed server client }
+    ensures at_client { (initial : ℕ) (server client : FeatureSide) → IsReachable (at_client initial) server client → IsConfirmed client server }
 {}
 
 /// Rows do settle: by a Change and its Confirm, and by two Changes that cross, each confirmed. Both rows then are STABLE,

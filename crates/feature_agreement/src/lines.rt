@@ -10,18 +10,18 @@ ghost use Rattle.feature_machine.specs.declared.row.Row.{Row};
 ghost use Rattle.feature_machine.specs.declared.stands.Stand.TheVariants.{Stable};
 ghost use Rattle.feature_machine.specs.Rows as machine;
 ghost use Rattle.feature_machine.specs.Rows.{row_step, proposal, Prefers, Offers, Opens, Confirms};
-ghost use Rattle.feature_machine.specs.Sound.{IsSound};
+ghost use Rattle.feature_machine.specs.Sound.{IsSoundRow};
 ghost use Rattle.feature_agreement.specs.View.{Carried, carried_at, with_frame, last_wish, is_listed, are_listed, last_list};
 ghost use Rattle.feature_agreement.specs.View.Carried.{Nothing, Change};
-ghost use Rattle.feature_agreement.specs.Moves.{fresh};
-ghost use Rattle.feature_agreement.specs.Counts.{count_of, IsNumber};
-ghost use Rattle.feature_agreement.specs.Rows.{RowMoves, IsBegun, row_pair, entries_of, side_of, change_in, confirm_in, is_whole, is_valid_change, after_change, after_confirm, after_sending, sending_row, change_data, opposite};
+ghost use Rattle.feature_agreement.specs.Moves.{new_side};
+ghost use Rattle.seq_circle.specs.Counts.{count_of, IsNumber};
+ghost use Rattle.feature_agreement.specs.Rows.{RowMoves, IsBegun, row_pair, entries_of, side_of, change_in, confirm_in, is_whole_confirm, is_valid_change, after_change, after_confirm, after_sending, sending_row, change_data, opposite};
 
 /// A Change of the feature is taken from a newest packet: a valid one is one move, whatever the row answers, and so is a frame
 /// of which nothing of the feature is taken.
 pub fn taking_a_change_is_a_move()
     ensures change { (iss greatest count : ℕ) (row : Row) (there frames : List Carried) (body : List ℕ) (mandatory : Bool)
-        → greatest < count → IsSound row → carried_at there count ≡ change_in row.feature body → proposal row body ≢ Invalid
+        → greatest < count → IsSoundRow row → carried_at there count ≡ change_in row.feature body → proposal row body ≢ Invalid
         → RowMoves row there (side_of iss row greatest frames) (after_change iss row count frames body mandatory) }
     ensures nothing { (iss greatest count : ℕ) (row : Row) (there frames : List Carried)
         → greatest < count → count ≤ length there
@@ -32,8 +32,8 @@ pub fn taking_a_change_is_a_move()
 /// whatever the row makes of it.
 pub fn taking_a_confirm_is_a_move()
     ensures { (iss greatest count : ℕ) (row : Row) (there frames : List Carried) (body : List ℕ) (ack : ℕ)
-        → greatest < count → IsSound row → IsBegun iss row → IsNumber iss ack
-        → carried_at there count ≡ confirm_in row.feature (count_of iss ack) body → IsTrue (is_whole row.feature body)
+        → greatest < count → IsSoundRow row → IsBegun iss row → IsNumber iss ack
+        → carried_at there count ≡ confirm_in row.feature (count_of iss ack) body → IsTrue (is_whole_confirm row.feature body)
         → RowMoves row there (side_of iss row greatest frames) (after_confirm iss row count frames body ack) }
 {}
 
@@ -50,7 +50,7 @@ pub fn preferring_is_a_move()
 /// An offer that opens the row is one move together with its frame; one that does not changes nothing that is seen.
 pub fn offering_is_a_move()
     ensures opens { (iss greatest : ℕ) (row : Row) (there frames : List Carried) (confirmed : Bool)
-        → iss < 2 ^ 48 → length frames < 2 ^ 47 → IsSound row → (row_step row (Offers confirmed)).answer ≡ Opens
+        → iss < 2 ^ 48 → length frames < 2 ^ 47 → IsSoundRow row → (row_step row (Offers confirmed)).answer ≡ Opens
         → RowMoves row there (side_of iss row greatest frames)
         (after_sending iss (row_step row (Offers confirmed)).row greatest frames) }
     ensures drops { (iss greatest : ℕ) (row : Row) (frames : List Carried) (confirmed : Bool)
@@ -61,7 +61,7 @@ pub fn offering_is_a_move()
 /// A frame with the row's Change, while the row is due, is one move; so is a frame that carries nothing of the feature.
 pub fn sending_is_a_move()
     ensures due { (iss greatest : ℕ) (row : Row) (there frames : List Carried)
-        → iss < 2 ^ 48 → length frames < 2 ^ 47 → IsSound row → IsBegun iss row → row.stand ≢ Stable
+        → iss < 2 ^ 48 → length frames < 2 ^ 47 → IsSoundRow row → IsBegun iss row → row.stand ≢ Stable
         → RowMoves row there (side_of iss row greatest frames) (after_sending iss row greatest frames) }
     ensures nothing { (iss greatest : ℕ) (row : Row) (there frames : List Carried)
         → RowMoves row there (side_of iss row greatest frames) (side_of iss row greatest (with_frame frames Nothing)) }
@@ -71,7 +71,7 @@ pub fn sending_is_a_move()
 /// end's frames.
 pub fn rows_stay_begun()
     ensures fresh { (iss : ℕ) (row : Row) → row.stand ≡ Stable → row.opened ≡ None → row.value ≡ initial_of row.feature
-        → side_of iss row 0 [] ≡ fresh (row_pair row).initial (entries_of row.active) }
+        → side_of iss row 0 [] ≡ new_side (row_pair row).initial (entries_of row.active) }
     ensures start { (iss : ℕ) (row : Row) → row.stand ≡ Stable → row.opened ≡ None → IsBegun iss row }
     ensures change { (iss : ℕ) (row : Row) (body : List ℕ) (mandatory : Bool)
         → IsBegun iss row → IsBegun iss (row_step row (machine.Change body mandatory)).row }
@@ -97,8 +97,8 @@ pub fn what_rows_say_is_whole()
         → change_in feature (change_data feature wish) ≡ Change (entries_of (Some wish)) }
     ensures valid { (row : Row) (wish : Wanted) → IsTrue (is_wish row.feature (opposite row.place) wish)
         → proposal row (change_data row.feature wish) ≢ Invalid }
-    ensures whole { (row : Row) (body reply : List ℕ) (mandatory : Bool) → IsSound row → proposal row body ≢ Invalid
-        → (row_step row (machine.Change body mandatory)).answer ≡ Confirms reply → IsTrue (is_whole row.feature reply) }
+    ensures whole { (row : Row) (body reply : List ℕ) (mandatory : Bool) → IsSoundRow row → proposal row body ≢ Invalid
+        → (row_step row (machine.Change body mandatory)).answer ≡ Confirms reply → IsTrue (is_whole_confirm row.feature reply) }
 {}
 
 /// Whether a Change is valid is told by its data, by the feature and by where its sender sees it: the data made of a wish are, and
@@ -117,5 +117,5 @@ pub fn whole_confirms_have_lists()
     ensures more { (frames : List Carried) (frame : Carried)
         → IsTrue (are_listed (with_frame frames frame)) ↔ (IsTrue (are_listed frames) × IsTrue (is_listed frame)) }
     ensures confirm { (feature : Feature) (count : ℕ) (body : List ℕ) → IsTrue (described feature).is_server_priority
-        → IsTrue (is_whole feature body) → IsTrue (is_listed (confirm_in feature count body)) }
+        → IsTrue (is_whole_confirm feature body) → IsTrue (is_listed (confirm_in feature count body)) }
 {}

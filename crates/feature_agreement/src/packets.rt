@@ -1,7 +1,7 @@
 //! That a newest packet and the frame of the same step are moves of each row.
 ghost use Rattle.std.specs.Prelude.{◌≡◌, ◌≢◌, ℕ, ◌^◌, ◌<◌, Bool, None, List, length};
 ghost use Rattle.feature_machine.specs.Rows.{RowEvent, Offers, Opens, row_step};
-ghost use Rattle.feature_machine.specs.Sound.{IsSound, IsSameRow};
+ghost use Rattle.feature_machine.specs.Sound.{IsSoundRow, IsSameRow};
 ghost use Rattle.feature_machine.specs.Turns.{row_turned};
 ghost use Rattle.feature_machine.specs.declared.row.Row.{Row};
 ghost use Rattle.feature_machine.specs.declared.stands.Stand.TheVariants.{Stable};
@@ -17,20 +17,20 @@ ghost use Rattle.feature_agreement.specs.Rows.{RowMoves, IsBegun, side_of, after
 /// has its Change.
 pub fn taking_a_packet_is_moves()
     ensures replied { (iss greatest count : ℕ) (row : Row) (there frames : List Carried) (events : List RowEvent)
-        → greatest < count → IsSound row → IsBegun iss row → IsHeardOf iss row there count events
+        → greatest < count → IsSoundRow row → IsBegun iss row → IsHeardOf iss row there count events
         → RowMoves row there (side_of iss row greatest frames)
         (side_of iss (row_turned row events) count (with_frame frames (carried_reply row.feature count (reply_due row events)))) }
     ensures silent { (iss greatest count : ℕ) (row : Row) (there frames : List Carried) (events : List RowEvent)
-        → greatest < count → IsSound row → IsBegun iss row → IsHeardOf iss row there count events → reply_due row events ≡ None
+        → greatest < count → IsSoundRow row → IsBegun iss row → IsHeardOf iss row there count events → reply_due row events ≡ None
         → RowMoves row there (side_of iss row greatest frames) (side_of iss (row_turned row events) count frames) }
     ensures asks { (iss greatest count : ℕ) (row : Row) (there frames : List Carried) (events : List RowEvent)
         → iss < 2 ^ 48 → length frames < 2 ^ 47
-        → greatest < count → IsSound row → IsBegun iss row → IsHeardOf iss row there count events → reply_due row events ≡ None
+        → greatest < count → IsSoundRow row → IsBegun iss row → IsHeardOf iss row there count events → reply_due row events ≡ None
         → (row_turned row events).stand ≢ Stable
         → RowMoves row there (side_of iss row greatest frames) (after_sending iss (row_turned row events) count frames) }
     ensures offers { (iss greatest count : ℕ) (row : Row) (there frames : List Carried) (events : List RowEvent) (confirmed : Bool)
         → iss < 2 ^ 48 → length frames < 2 ^ 47
-        → greatest < count → IsSound row → IsBegun iss row → IsHeardOf iss row there count events → reply_due row events ≡ None
+        → greatest < count → IsSoundRow row → IsBegun iss row → IsHeardOf iss row there count events → reply_due row events ≡ None
         → (row_step (row_turned row events) (Offers confirmed)).answer ≡ Opens
         → RowMoves row there (side_of iss row greatest frames)
         (after_sending iss (row_step (row_turned row events) (Offers confirmed)).row count frames) }
@@ -41,7 +41,7 @@ pub fn hearing_keeps_a_row()
     ensures same { (iss count : ℕ) (row : Row) (there : List Carried) (events : List RowEvent)
         → IsHeardOf iss row there count events → IsSameRow row (row_turned row events) }
     ensures sound { (iss count : ℕ) (row : Row) (there : List Carried) (events : List RowEvent)
-        → IsHeardOf iss row there count events → IsSound row → IsSound (row_turned row events) }
+        → IsHeardOf iss row there count events → IsSoundRow row → IsSoundRow (row_turned row events) }
     ensures begun { (iss count : ℕ) (row : Row) (there : List Carried) (events : List RowEvent)
         → IsHeardOf iss row there count events → IsBegun iss row → IsBegun iss (row_turned row events) }
 {}

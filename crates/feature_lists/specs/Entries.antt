@@ -2,13 +2,13 @@
 use Rattle.std.specs.Prelude.{◌≡◌, ℕ, ◌≤◌, List, length, take}
 use Rattle.std.proofs.Common.{ap, ◌∙◌, sym, subst}
 use Rattle.std.proofs.lemmas.List.{length-take-le}
-use Rattle.feature_lists.specs.Preferences.{padded, IsKept}
+use Rattle.feature_lists.specs.Preferences.{filled_to_eight, PrefsInvariant}
 use Rattle.feature_lists.specs.declared.prefs.Prefs.TheInside.{Inside}
 
 abbrev pub kept_as : List ℕ → ℕ → Inside
 kept_as entries len = record { entries = entries; len = len }
 
-pub kept_back : (a : Inside) → IsKept a.entries a.len → kept_as (padded (take a.len a.entries)) (length (take a.len a.entries)) ≡ a
+pub kept_back : (a : Inside) → PrefsInvariant a.entries a.len → kept_as (filled_to_eight (take a.len a.entries)) (length (take a.len a.entries)) ≡ a
 kept_back a h =
     let inside : a.len ≤ length a.entries = subst (λ n. a.len ≤ n) (sym h.size) h.few in
     ap (λ entries. kept_as entries (length (take a.len a.entries))) h.zeros ∙ ap (λ len. kept_as a.entries len) (length-take-le a.len a.entries inside)

@@ -74,8 +74,8 @@ described f.MinCsCov = server_priority 8 0 (from_to 0 15) (from_to 0 15) (0 ∷ 
 described f.CheckDataChecksum = server_priority 9 0 (one_of (0 ∷ [])) (one_of (0 ∷ [])) (0 ∷ []) (0 ∷ []) false
 
 -- the feature's number
-abbrev pub number_of : Feature → ℕ
-number_of feature = (described feature).number
+abbrev pub feature_number : Feature → ℕ
+feature_number feature = (described feature).number
 
 -- the value before any negotiation
 abbrev pub initial_of : Feature → ℕ

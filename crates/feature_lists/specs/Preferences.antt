@@ -9,13 +9,13 @@ pub record IsPreferences (list : List ℕ) : Type 0 where
   pub distinct : is_distinct list ≡ true
 
 -- a list's entries, and zeros behind them up to eight places
-abbrev pub padded : List ℕ → List ℕ
-padded list = list ++ replicate (8 - length list) 0
+abbrev pub filled_to_eight : List ℕ → List ℕ
+filled_to_eight list = list ++ replicate (8 - length list) 0
 
 -- the eight bytes and the count of a preference list
-pub record IsKept (entries : List ℕ) (len : ℕ) : Type 0 where
+pub record PrefsInvariant (entries : List ℕ) (len : ℕ) : Type 0 where
   pub size : length entries ≡ 8
   pub some : 1 ≤ len
   pub few : len ≤ 8
-  pub zeros : padded (take len entries) ≡ entries
+  pub zeros : filled_to_eight (take len entries) ≡ entries
   pub distinct : is_distinct (take len entries) ≡ true

@@ -1,6 +1,6 @@
 //! The features and where they stand.
 ghost use Rattle.std.specs.Prelude.{◌≡◌, ℕ, ◌+◌, ◌<◌, ◌≤◌, IsSome, IfSome, ◌↔◌};
-ghost use Rattle.feature_lists.specs.Features.{described, number_of, feature_numbered, initial_of, is_permitted, usual_values};
+ghost use Rattle.feature_lists.specs.Features.{described, feature_number, feature_numbered, initial_of, is_permitted, usual_values};
 
 // What Sequence Window may be: Wmin and Wmax of RFC 4340, section 7.5.2, 2^46 - 1 being the second.
 const NARROWEST_WINDOW: u64 = 32;
@@ -57,7 +57,7 @@ impl Feature {
     pub fn of(n: u8) -> Option<Feature>
         ensures value { result ≡ feature_numbered n }
         ensures known { IsSome result ↔ ((1 ≤ n) × (n ≤ 9)) }
-        ensures number { IfSome result (λ feature. number_of feature ≡ n) }
+        ensures number { IfSome result (λ feature. feature_number feature ≡ n) }
     {
         match n {
             1 => Some(Feature::Ccid),
@@ -75,7 +75,7 @@ impl Feature {
 
     /// The feature's number, from 1 to 9 (RFC 4340, section 6.4).
     pub fn number(self) -> u8
-        ensures value { result ≡ number_of self }
+        ensures value { result ≡ feature_number self }
         ensures found { feature_numbered result ≡ Some self }
     {
         match self {

@@ -1,6 +1,6 @@
 //! What reconciliation and wishes mean, apart from how they are found.
 ghost use Rattle.std.specs.Prelude.{◌≡◌, ℕ, ◌-◌, List, length, slice_get, ◌↔◌, Some, None, Ok, true};
-ghost use Rattle.feature_lists.specs.Features.{number_of, feature_numbered};
+ghost use Rattle.feature_lists.specs.Features.{feature_number, feature_numbered};
 ghost use Rattle.feature_lists.specs.declared.features.TheConstants.Feature.{ALL};
 ghost use Rattle.feature_lists.specs.Lists.{reconciled, IsFirstShared, SharesNothing};
 ghost use Rattle.feature_lists.specs.Wishes.{is_allowed, IsAllowed, is_wish, wish_of};
@@ -30,8 +30,8 @@ pub fn wishes_are_given()
 /// A number names at most one feature, and each feature is found by its number. `Feature::ALL` has the nine in the order of
 /// their numbers.
 pub fn numbers_name_features()
-    ensures found { (feature : Feature) → feature_numbered (number_of feature) ≡ Some feature }
-    ensures number { (number : ℕ) (feature : Feature) → feature_numbered number ≡ Some feature → number_of feature ≡ number }
+    ensures found { (feature : Feature) → feature_numbered (feature_number feature) ≡ Some feature }
+    ensures number { (number : ℕ) (feature : Feature) → feature_numbered number ≡ Some feature → feature_number feature ≡ number }
     ensures size { length ALL ≡ 9 }
-    ensures order { (feature : Feature) → slice_get ALL (number_of feature - 1) ≡ Some feature }
+    ensures order { (feature : Feature) → slice_get ALL (feature_number feature - 1) ≡ Some feature }
 {}

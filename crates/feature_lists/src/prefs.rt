@@ -2,7 +2,7 @@
 ghost use Rattle.std.specs.Prelude.{◌≡◌, ℕ, ◌<◌, ◌≤◌, length, true, IsTrue, nat_lt};
 ghost use Rattle.std.specs.List.{list_all};
 ghost use Rattle.feature_lists.specs.Lists.{is_distinct};
-ghost use Rattle.feature_lists.specs.Preferences.{padded, IsPreferences};
+ghost use Rattle.feature_lists.specs.Preferences.{filled_to_eight, IsPreferences};
 
 use std::marker::Model;
 
@@ -23,14 +23,14 @@ impl Model for Prefs {
 
     ghost Value = { List ℕ };
 
-    ghost use Rattle.feature_lists.specs.Preferences.{padded, IsKept};
+    ghost use Rattle.feature_lists.specs.Preferences.{filled_to_eight, PrefsInvariant};
     ghost use Rattle.feature_lists.specs.Entries.{kept_back};
 
     ghost view = { λ p. take p.len p.entries };
 
-    ghost invariant = { λ p. IsKept p.entries p.len };
+    ghost invariant = { λ p. PrefsInvariant p.entries p.len };
 
-    ghost inverse = { λ list. record { entries = padded list; len = length list } };
+    ghost inverse = { λ list. record { entries = filled_to_eight list; len = length list } };
 
     ghost inverse_ok = { kept_back };
 }
@@ -63,7 +63,7 @@ impl Prefs {
 fn entries_of(values: &[u64]) -> [u8; 8]
     requires few { length values.now ≤ 8 }
     requires bytes { list_all (λ value. nat_lt value 256) values.now ≡ true }
-    ensures { result ≡ padded values.now }
+    ensures { result ≡ filled_to_eight values.now }
 {
     let mut entries = [0; MOST_ENTRIES];
     for (place, value) in values.iter().enumerate() {

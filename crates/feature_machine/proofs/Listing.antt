@@ -9,13 +9,13 @@ use Rattle.feature_lists.specs.declared.features.Place.{Place}
 use Rattle.feature_lists.specs.declared.features.Place.TheVariants as located
 use Rattle.feature_machine.specs.declared.stands.Role2.{Role2}
 use Rattle.feature_machine.specs.declared.offers.Listed.{Listed}
-use Rattle.feature_machine.specs.Lists.{index_of, usual_listed, usual_lists, listed_at, unoffered, without_offers, IsListed, IsLists}
+use Rattle.feature_machine.specs.Lists.{index_of, usual_listed, usual_lists, listed_at, unoffered, without_offers, IsListedFor, IsLists}
 use Rattle.feature_machine.specs.Negotiating.{first_row, first_rows, IsNegotiation}
 use Rattle.feature_lists.specs.Features.{initial_of, is_permitted}
 use Rattle.feature_machine.specs.Sound.{IsRowOf, is_active}
 use Rattle.feature_machine.proofs.Places.{index_below}
 
-usual_is_listed : (feature : Feature) (place : Place) → IsListed feature place (listed_at usual_lists feature place)
+usual_is_listed : (feature : Feature) (place : Place) → IsListedFor feature place (listed_at usual_lists feature place)
 usual_is_listed f.Ccid located.Here = record { feature_is = refl; place_is = refl; wish = refl; offer = λ ours. refl }
 usual_is_listed f.Ccid located.There = record { feature_is = refl; place_is = refl; wish = refl; offer = λ ours. refl }
 usual_is_listed f.ShortSeqnos located.Here = record { feature_is = refl; place_is = refl; wish = refl; offer = λ ours. refl }
@@ -38,7 +38,7 @@ usual_is_listed f.CheckDataChecksum located.There = record { feature_is = refl; 
 pub usual_are_lists : IsLists usual_lists
 usual_are_lists = record { size = refl; each = usual_is_listed }
 
-unoffered_is_listed : (feature : Feature) (place : Place) (listed : Listed) → IsListed feature place listed → IsListed feature place (unoffered listed)
+unoffered_is_listed : (feature : Feature) (place : Place) (listed : Listed) → IsListedFor feature place listed → IsListedFor feature place (unoffered listed)
 unoffered_is_listed feature place listed its = record { feature_is = its.feature_is; place_is = its.place_is; wish = its.wish; offer = λ ours. refl }
 
 pub without_offers_are_lists : (lists : List Listed) → IsLists lists → IsLists (without_offers lists)
@@ -47,7 +47,7 @@ without_offers_are_lists lists its =
       size = length-map lists unoffered ∙ its.size;
       each = λ feature place.
           let inside : index_of feature place < length lists = (let n = index_below feature place in let size = its.size in omega arith) in
-          subst (λ listed. IsListed feature place listed)
+          subst (λ listed. IsListedFor feature place listed)
           (sym (get_or-map unoffered lists (index_of feature place) (usual_listed f.Ccid located.Here) (usual_listed f.Ccid located.Here) inside))
           (unoffered_is_listed feature place (listed_at lists feature place) (its.each feature place));
     }
@@ -56,7 +56,7 @@ or_true : (a b : Bool) → a ≡ true → (a || b) ≡ true
 or_true true b h = refl
 or_true false b h = cc
 
-first_is_row : (r : Role2) (feature : Feature) (place : Place) (listed : Listed) → IsListed feature place listed → IsRowOf feature place (first_row r listed)
+first_is_row : (r : Role2) (feature : Feature) (place : Place) (listed : Listed) → IsListedFor feature place listed → IsRowOf feature place (first_row r listed)
 first_is_row r feature place listed its =
     let initial : (initial_of listed.feature == initial_of listed.feature) ≡ true = eq-eqb (initial_of listed.feature) (initial_of listed.feature) refl in
     record {

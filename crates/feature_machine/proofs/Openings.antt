@@ -9,13 +9,13 @@ use Rattle.feature_machine.specs.declared.judging.Proposal.{Proposal}
 use Rattle.feature_machine.specs.declared.judging.Proposal.TheVariants as p
 use Rattle.feature_machine.specs.declared.judging.Confirmation.{Confirmation}
 use Rattle.feature_machine.specs.declared.judging.Confirmation.TheVariants as c
-use Rattle.feature_machine.specs.Rows.{RowEvent, Change, Confirm, Prefers, Offers, Sends, Heard, Proposed, Confirmed, Preferred, Offered, Sending, Settled, Opens, row_line, row_step, holding, proposal, confirmation, timely_confirmation, answers_opening}
-use Rattle.feature_machine.specs.Sound.{IsItsConfirm, IsSending}
+use Rattle.feature_machine.specs.Rows.{RowEvent, Change, Confirm, Prefers, Offers, Sends, TableEvent, Proposed, Confirmed, Preferred, Offered, Sending, Settled, Opens, row_line, row_step, holding, proposal, confirmation, timely_confirmation, answers_opening}
+use Rattle.feature_machine.specs.Sound.{IsItsConfirm, IsSendsEvent}
 
-pub line_opens : (row : Row) (s : Stand) (h : Heard) → (row_line row s h).answer ≡ Opens → (row_line row s h).row.opened ≡ None
+pub line_opens : (row : Row) (s : Stand) (h : TableEvent) → (row_line row s h).answer ≡ Opens → (row_line row s h).row.opened ≡ None
 line_opens row s h opens = grind arith
 
-pub line_settles : (row : Row) (s : Stand) (h : Heard) → (row_line row s h).answer ≡ Settled → (row_line row s h).row.opened ≡ row.opened
+pub line_settles : (row : Row) (s : Stand) (h : TableEvent) → (row_line row s h).answer ≡ Settled → (row_line row s h).row.opened ≡ row.opened
 line_settles row s h settles = grind arith
 
 -- all but a sending and an opening leave the number
@@ -34,7 +34,7 @@ offered_keeps : (row : Row) (s : Stand) (confirmed : Bool) (offered : Offer) →
     → (row_line row s (Offered confirmed offered)).row.opened ≡ row.opened
 offered_keeps row s confirmed offered quiet = grind arith
 
-pub step_keeps : (row : Row) (event : RowEvent) → (row_step row event).answer ≢ Opens → (IsSending event → ⊥)
+pub step_keeps : (row : Row) (event : RowEvent) → (row_step row event).answer ≢ Opens → (IsSendsEvent event → ⊥)
     → (row_step row event).row.opened ≡ row.opened
 step_keeps row (Change body mandatory) quiet other = proposed_keeps row row.stand (proposal row body) mandatory
 step_keeps row (Confirm body ack) quiet other = confirmed_keeps row row.stand (confirmation row body ack)

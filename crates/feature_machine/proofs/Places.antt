@@ -1,7 +1,7 @@
 -- Rows by their places.
 use Rattle.std.proofs.Common.{◌≡◌, ◌<◌, ◌≤◌, ◌==◌, true, false, List, length, Some, refl, sym, ap, ◌∙◌, subst, arith, get_or-set_other, get_or-set_same, length-set, eqb-true}
 use Rattle.std.proofs.lemmas.Bool.{eqb-false}
-use Rattle.feature_lists.specs.Features.{number_of, feature_numbered}
+use Rattle.feature_lists.specs.Features.{feature_number, feature_numbered}
 use Rattle.feature_lists.specs.declared.features.Feature.{Feature}
 use Rattle.feature_lists.specs.declared.features.Feature.TheVariants as f
 use Rattle.feature_lists.specs.declared.features.Place.{Place}
@@ -11,7 +11,7 @@ use Rattle.feature_machine.specs.Lists.{index_of}
 use Rattle.feature_machine.specs.Negotiating.{row_at, put, OthersStay, IsNegotiation}
 use Rattle.feature_machine.specs.Sound.{IsRowOf}
 
-number_below : (feature : Feature) → number_of feature ≤ 9
+number_below : (feature : Feature) → feature_number feature ≤ 9
 number_below f.Ccid = omega arith
 number_below f.ShortSeqnos = omega arith
 number_below f.SequenceWindow = omega arith
@@ -23,11 +23,11 @@ number_below f.MinCsCov = omega arith
 number_below f.CheckDataChecksum = omega arith
 
 pub index_below : (feature : Feature) (place : Place) → index_of feature place < 18
-index_below feature located.Here = let n : number_of feature ≤ 9 = number_below feature in omega arith
-index_below feature located.There = let n : number_of feature ≤ 9 = number_below feature in omega arith
+index_below feature located.Here = let n : feature_number feature ≤ 9 = number_below feature in omega arith
+index_below feature located.There = let n : feature_number feature ≤ 9 = number_below feature in omega arith
 
 -- a number finds its feature
-pub numbered : (feature : Feature) → feature_numbered (number_of feature) ≡ Some feature
+pub numbered : (feature : Feature) → feature_numbered (feature_number feature) ≡ Some feature
 numbered f.Ccid = refl
 numbered f.ShortSeqnos = refl
 numbered f.SequenceWindow = refl
@@ -38,7 +38,7 @@ numbered f.SendNdpCount = refl
 numbered f.MinCsCov = refl
 numbered f.CheckDataChecksum = refl
 
-number_above : (feature : Feature) → 1 ≤ number_of feature
+number_above : (feature : Feature) → 1 ≤ feature_number feature
 number_above f.Ccid = omega arith
 number_above f.ShortSeqnos = omega arith
 number_above f.SequenceWindow = omega arith
@@ -49,8 +49,8 @@ number_above f.SendNdpCount = omega arith
 number_above f.MinCsCov = omega arith
 number_above f.CheckDataChecksum = omega arith
 
-pub same_feature : (a b : Feature) → number_of a ≡ number_of b → a ≡ b
-same_feature a b e = let found : feature_numbered (number_of a) ≡ feature_numbered (number_of b) = ap feature_numbered e in cc (found, numbered a, numbered b)
+pub same_feature : (a b : Feature) → feature_number a ≡ feature_number b → a ≡ b
+same_feature a b e = let found : feature_numbered (feature_number a) ≡ feature_numbered (feature_number b) = ap feature_numbered e in cc (found, numbered a, numbered b)
 
 -- one place, one row
 pub same_place : (a b : Feature) (here there : Place) → index_of a here ≡ index_of b there → here ≡ there
@@ -59,7 +59,7 @@ same_place a b located.There located.There e = refl
 same_place a b located.Here located.There e = absurd (omega arith)
 same_place a b located.There located.Here e = absurd (omega arith)
 
-pub same_number : (a b : Feature) (here there : Place) → index_of a here ≡ index_of b there → number_of a ≡ number_of b
+pub same_number : (a b : Feature) (here there : Place) → index_of a here ≡ index_of b there → feature_number a ≡ feature_number b
 same_number a b located.Here located.Here e = let one = number_above a in let other = number_above b in omega arith
 same_number a b located.There located.There e = let one = number_above a in let other = number_above b in omega arith
 same_number a b located.Here located.There e = absurd (omega arith)

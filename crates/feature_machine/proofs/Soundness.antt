@@ -23,8 +23,8 @@ use Rattle.feature_machine.specs.declared.offers.Offer.TheVariants as offer
 use Rattle.feature_machine.specs.declared.row.Row.{Row}
 use Rattle.feature_machine.specs.declared.judging.Proposal.TheVariants as p
 use Rattle.feature_machine.specs.declared.judging.Confirmation.TheVariants as c
-use Rattle.feature_machine.specs.Rows.{is_there, says, Fatal, Heard, Proposed, Confirmed, Preferred, Offered, Sending, tells_value, width, is_server_priority, is_number, answers_opening, confirmation, timely_confirmation, list_confirmation, listed_confirmation, is_acceptable, number_confirmation, holding, settled, opened_with, without_offer, RowEvent, Change, Confirm, Prefers, Offers, Sends, entries, reconciled_by, proposal, list_proposal, shared_or_not, row_step, row_line, heard}
-use Rattle.feature_machine.specs.Sound.{is_lawful, is_active, is_pending, IsLawfulProposal, IsSound, IsLawful}
+use Rattle.feature_machine.specs.Rows.{is_there, says, Fatal, TableEvent, Proposed, Confirmed, Preferred, Offered, Sending, tells_value, width, is_server_priority, is_number, answers_opening, confirmation, timely_confirmation, list_confirmation, listed_confirmation, is_acceptable, number_confirmation, holding, settled, opened_with, without_offer, RowEvent, Change, Confirm, Prefers, Offers, Sends, entries, reconciled_by, proposal, list_proposal, shared_or_not, row_step, row_line, heard}
+use Rattle.feature_machine.specs.Sound.{is_lawful, is_active, is_pending, IsLawfulProposal, IsSoundRow, IsEventFor}
 
 -- a lawful value of a server-priority feature is a byte
 pub lawful_byte : (feature : Feature) (place : Place) (value : ℕ) → (described feature).is_server_priority ≡ true → is_lawful feature place value ≡ true → value < 256
@@ -93,7 +93,7 @@ reconciled_own role.Server own peers value h =
 reconciled_own role.Client own peers value h = (find_passing (has_entry own) peers value h).passes
 
 -- what an event carries is lawful for the row
-abbrev IsLawfulHeard : Row → Heard → Type 0
+abbrev IsLawfulHeard : Row → TableEvent → Type 0
 IsLawfulHeard row (Proposed proposal _) = IsLawfulProposal row proposal
 IsLawfulHeard row (Confirmed (c.Shared value)) = is_lawful row.feature row.place value ≡ true
 IsLawfulHeard row (Confirmed (c.Alone value)) = is_lawful row.feature row.place value ≡ true
@@ -122,14 +122,14 @@ pending_active : (feature : Feature) (place : Place) (wish : Option Wanted) → 
 pending_active feature place None h = cc
 pending_active feature place (Some wish) h = h
 
-pending_at : (row : Row) (s : Stand) → row.stand ≡ s → IsSound row → is_pending row.feature row.place s row.pending ≡ true
+pending_at : (row : Row) (s : Stand) → row.stand ≡ s → IsSoundRow row → is_pending row.feature row.place s row.pending ≡ true
 pending_at row s e sound = subst (λ t. is_pending row.feature row.place t row.pending ≡ true) e sound.pending
 
-holding_sound : (row : Row) (value : ℕ) → IsSound row → is_lawful row.feature row.place value ≡ true → IsSound (holding row value)
+holding_sound : (row : Row) (value : ℕ) → IsSoundRow row → is_lawful row.feature row.place value ≡ true → IsSoundRow (holding row value)
 holding_sound row value sound lawful =
     record { value = lawful; active = sound.active; pending = sound.pending; quiet = λ ours. record { stand = (sound.quiet ours).stand; offer = (sound.quiet ours).offer } }
 
-settled_sound : (row : Row) (value : ℕ) → row.stand ≡ stand.Changing → IsSound row → is_lawful row.feature row.place value ≡ true → IsSound (settled row value).row
+settled_sound : (row : Row) (value : ℕ) → row.stand ≡ stand.Changing → IsSoundRow row → is_lawful row.feature row.place value ≡ true → IsSoundRow (settled row value).row
 settled_sound row value e sound lawful =
     record {
       value = lawful;
@@ -138,8 +138,8 @@ settled_sound row value e sound lawful =
       quiet = λ ours. record { stand = refl; offer = (sound.quiet ours).offer };
     }
 
-opened_sound : (row : Row) (wish : Option Wanted) (mandatory : Bool) → row.stand ≡ stand.Stable → IsSound row → is_active row.feature row.place wish ≡ true
-    → (is_ours row.feature row.place ≡ false → ⊥) → IsSound (opened_with row wish mandatory).row
+opened_sound : (row : Row) (wish : Option Wanted) (mandatory : Bool) → row.stand ≡ stand.Stable → IsSoundRow row → is_active row.feature row.place wish ≡ true
+    → (is_ours row.feature row.place ≡ false → ⊥) → IsSoundRow (opened_with row wish mandatory).row
 opened_sound row wish mandatory e sound active ours =
     record {
       value = sound.value;
@@ -148,21 +148,21 @@ opened_sound row wish mandatory e sound active ours =
       quiet = λ not_ours. absurd (ours not_ours);
     }
 
-without_offer_sound : (row : Row) → IsSound row → IsSound (without_offer row)
+without_offer_sound : (row : Row) → IsSoundRow row → IsSoundRow (without_offer row)
 without_offer_sound row sound =
     record { value = sound.value; active = sound.active; pending = sound.pending; quiet = λ ours. record { stand = (sound.quiet ours).stand; offer = refl } }
 
 ours_of : (row : Row) (wish : Wanted) → is_wish row.feature row.place wish ≡ true → is_ours row.feature row.place ≡ false → ⊥
 ours_of row wish h not_ours = let ours : is_ours row.feature row.place ≡ true = wish_ours row.feature row.place wish h in cc
 
-asks : (row : Row) (s : Stand) → row.stand ≡ s → (s ≡ stand.Stable → ⊥) → IsSound row → is_ours row.feature row.place ≡ false → ⊥
+asks : (row : Row) (s : Stand) → row.stand ≡ s → (s ≡ stand.Stable → ⊥) → IsSoundRow row → is_ours row.feature row.place ≡ false → ⊥
 asks row s e other sound not_ours = let stable : row.stand ≡ stand.Stable = (sound.quiet not_ours).stand in other (cc)
 
 pub if_both : {A : Type 0} (P : A → Type 0) (b : Bool) (x y : A) → (b ≡ true → P x) → (b ≡ false → P y) → P (if b then x else y)
 if_both P true x y p q = p refl
 if_both P false x y p q = q refl
 
-line_sound : (row : Row) (s : Stand) (h : Heard) → row.stand ≡ s → IsSound row → IsLawfulHeard row h → IsSound (row_line row s h).row
+line_sound : (row : Row) (s : Stand) (h : TableEvent) → row.stand ≡ s → IsSoundRow row → IsLawfulHeard row h → IsSoundRow (row_line row s h).row
 line_sound row s (Proposed p.Invalid false) e sound lawful = sound
 line_sound row s (Proposed p.Invalid true) e sound lawful = sound
 line_sound row stand.Unstable (Proposed (p.Shared value) m) e sound lawful = sound
@@ -180,7 +180,7 @@ line_sound row stand.Stable (Confirmed k) e sound lawful = sound
 line_sound row stand.Unstable (Confirmed k) e sound lawful = sound
 line_sound row stand.Changing (Confirmed c.Late) e sound lawful = sound
 line_sound row stand.Changing (Confirmed c.Empty) e sound lawful =
-    if_both (λ step. IsSound step.row) (described row.feature).is_required (says row (Fatal 5)) (settled row row.value) (λ required. sound)
+    if_both (λ step. IsSoundRow step.row) (described row.feature).is_required (says row (Fatal 5)) (settled row row.value) (λ required. sound)
     (λ other. settled_sound row row.value e sound sound.value)
 line_sound row stand.Changing (Confirmed (c.Shared value)) e sound lawful = settled_sound row value e sound lawful
 line_sound row stand.Changing (Confirmed c.Held) e sound lawful = settled_sound row row.value e sound sound.value
@@ -220,17 +220,17 @@ shared_lawful row (Some value) h = h value refl
 shared_lawful row None h = tt
 
 -- what the two lists settle on is lawful
-pub agreed_lawful : (row : Row) → IsSound row → (peers : List ℕ) (value : ℕ) → reconciled_by row.role (entries row.active) peers ≡ Some value → is_lawful row.feature row.place value ≡ true
+pub agreed_lawful : (row : Row) → IsSoundRow row → (peers : List ℕ) (value : ℕ) → reconciled_by row.role (entries row.active) peers ≡ Some value → is_lawful row.feature row.place value ≡ true
 agreed_lawful row sound peers value h =
     permitted_lawful row.feature row.place value
     (entry_permitted row.feature row.place row.active value sound.active (reconciled_own row.role (entries row.active) peers value h))
 
-pub list_proposal_lawful : (row : Row) (body : List ℕ) → IsSound row → IsLawfulProposal row (list_proposal row body)
+pub list_proposal_lawful : (row : Row) (body : List ℕ) → IsSoundRow row → IsLawfulProposal row (list_proposal row body)
 list_proposal_lawful row [] sound = tt
 list_proposal_lawful row (value ∷ rest) sound =
     shared_lawful row (reconciled_by row.role (entries row.active) (value ∷ rest)) (agreed_lawful row sound (value ∷ rest))
 
-pub proposal_lawful : (row : Row) (body : List ℕ) → IsSound row → IsLawfulProposal row (proposal row body)
+pub proposal_lawful : (row : Row) (body : List ℕ) → IsSoundRow row → IsLawfulProposal row (proposal row body)
 proposal_lawful row body sound =
     if_both (λ k. IsLawfulProposal row k) (is_server_priority row) (list_proposal row body)
     (if tells_value row body then p.Told (big_number (width row) body) else p.Invalid)
@@ -247,14 +247,14 @@ number_lawful feature place (Some (wanted.Number number)) value a h =
     let permitted = (and_parts (not (described feature).is_server_priority && is_ours feature place) (is_permitted feature place number) a).1 in
     subst (λ v. is_lawful feature place v ≡ true) (eqb-true number value h) (permitted_lawful feature place number permitted)
 
-acceptable_lawful : (row : Row) (value : ℕ) → IsSound row → is_acceptable row value ≡ true → is_lawful row.feature row.place value ≡ true
+acceptable_lawful : (row : Row) (value : ℕ) → IsSoundRow row → is_acceptable row value ≡ true → is_lawful row.feature row.place value ≡ true
 acceptable_lawful row value sound h =
     elim (has_entry (entries row.active) value) as (λ b. has_entry (entries row.active) value ≡ b → is_lawful row.feature row.place value ≡ true) [
       | true ↦ λ entry. permitted_lawful row.feature row.place value (entry_permitted row.feature row.place row.active value sound.active entry)
       | false ↦ λ none. subst (λ v. is_lawful row.feature row.place v ≡ true) (sym (eqb-true value row.value (cc (h, none)))) sound.value
     ] refl
 
-listed_lawful : (row : Row) (value : ℕ) (agreed : Option ℕ) → IsSound row → ((v : ℕ) → agreed ≡ Some v → is_lawful row.feature row.place v ≡ true)
+listed_lawful : (row : Row) (value : ℕ) (agreed : Option ℕ) → IsSoundRow row → ((v : ℕ) → agreed ≡ Some v → is_lawful row.feature row.place v ≡ true)
     → IsLawfulHeard row (Confirmed (listed_confirmation row value agreed))
 listed_lawful row value (Some agreed) sound h =
     if_both (λ k. IsLawfulHeard row (Confirmed k)) (agreed == value) (c.Shared value) c.Wrong
@@ -262,13 +262,13 @@ listed_lawful row value (Some agreed) sound h =
 listed_lawful row value None sound h =
     if_both (λ k. IsLawfulHeard row (Confirmed k)) (value == row.value) c.Held c.Wrong (λ same. tt) (λ other. tt)
 
-list_confirmation_lawful : (row : Row) (value : ℕ) (list : List ℕ) → IsSound row → IsLawfulHeard row (Confirmed (list_confirmation row value list))
+list_confirmation_lawful : (row : Row) (value : ℕ) (list : List ℕ) → IsSoundRow row → IsLawfulHeard row (Confirmed (list_confirmation row value list))
 list_confirmation_lawful row value [] sound =
     if_both (λ k. IsLawfulHeard row (Confirmed k)) (is_acceptable row value) (c.Alone value) c.Wrong (acceptable_lawful row value sound) (λ other. tt)
 list_confirmation_lawful row value (first ∷ rest) sound =
     listed_lawful row value (reconciled_by row.role (entries row.active) (first ∷ rest)) sound (agreed_lawful row sound (first ∷ rest))
 
-timely_lawful : (row : Row) (body : List ℕ) → IsSound row → IsLawfulHeard row (Confirmed (timely_confirmation row body))
+timely_lawful : (row : Row) (body : List ℕ) → IsSoundRow row → IsLawfulHeard row (Confirmed (timely_confirmation row body))
 timely_lawful row [] sound = tt
 timely_lawful row (value ∷ rest) sound =
     if_both (λ k. IsLawfulHeard row (Confirmed k)) (is_server_priority row) (list_confirmation row value rest) (number_confirmation row (value ∷ rest))
@@ -279,11 +279,11 @@ timely_lawful row (value ∷ rest) sound =
     (and_parts (length (value ∷ rest) == width row) (is_number row.active (big_number (width row) (value ∷ rest))) active).1)
     (λ other. tt))
 
-confirmation_lawful : (row : Row) (body : List ℕ) (ack : Option ℕ) → IsSound row → IsLawfulHeard row (Confirmed (confirmation row body ack))
+confirmation_lawful : (row : Row) (body : List ℕ) (ack : Option ℕ) → IsSoundRow row → IsLawfulHeard row (Confirmed (confirmation row body ack))
 confirmation_lawful row body ack sound =
     if_both (λ k. IsLawfulHeard row (Confirmed k)) (answers_opening row.opened ack) (timely_confirmation row body) c.Late (λ timely. timely_lawful row body sound) (λ late. tt)
 
-heard_lawful : (row : Row) (event : RowEvent) → IsSound row → IsLawful row event → IsLawfulHeard row (heard row event)
+heard_lawful : (row : Row) (event : RowEvent) → IsSoundRow row → IsEventFor row event → IsLawfulHeard row (heard row event)
 heard_lawful row (Change body mandatory) sound lawful = proposal_lawful row body sound
 heard_lawful row (Confirm body ack) sound lawful = confirmation_lawful row body ack sound
 heard_lawful row (Prefers wish) sound lawful = lawful
@@ -291,5 +291,5 @@ heard_lawful row (Offers confirmed) sound lawful = refl
 heard_lawful row (Sends number) sound lawful = tt
 
 -- each step of a sound row leaves a sound row
-pub step_sound : (row : Row) (event : RowEvent) → IsSound row → IsLawful row event → IsSound (row_step row event).row
+pub step_sound : (row : Row) (event : RowEvent) → IsSoundRow row → IsEventFor row event → IsSoundRow (row_step row event).row
 step_sound row event sound lawful = line_sound row row.stand (heard row event) refl sound (heard_lawful row event sound lawful)

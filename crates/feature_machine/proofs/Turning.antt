@@ -15,7 +15,7 @@ use Rattle.feature_machine.specs.declared.stands.Role2.{Role2}
 use Rattle.feature_machine.specs.Lists.{index_of, usual_listed, listed_at, list_put, IsLists}
 use Rattle.feature_machine.specs.Negotiating.{first_row, first_rows, row_at, stepped, IsNegotiation, AreRowsOf}
 use Rattle.feature_machine.specs.Rows.{RowEvent, Change, Confirm, Prefers, Offers, Sends, row_step}
-use Rattle.feature_machine.specs.Sound.{IsRowOf, IsLawful}
+use Rattle.feature_machine.specs.Sound.{IsRowOf, IsEventFor}
 use Rattle.feature_machine.specs.Turns.{Turn, turned, row_turned, is_turn_of, events_of, IsLawfulFor, AreLawful}
 use Rattle.feature_machine.proofs.Listing.{first_are_rows}
 use Rattle.feature_machine.proofs.Places.{index_below, same_feature, same_number, same_place, put_there, put_others}
@@ -66,7 +66,7 @@ turned-row feature place (first ∷ rest) rows size =
 
 -- what is a wish for a feature at a place is one for its row
 lawful_at : (feature : Feature) (place : Place) (event : RowEvent) (row : Row) → IsRowOf feature place row → IsLawfulFor feature place event
-    → IsLawful row event
+    → IsEventFor row event
 lawful_at feature place (Change body mandatory) row its lawful = tt
 lawful_at feature place (Confirm body ack) row its lawful = tt
 lawful_at feature place (Prefers wish) row its lawful =
@@ -85,7 +85,7 @@ turned-sound rows (first ∷ rest) sound lawful =
     (All-tail (λ given. IsLawfulFor given.feature given.place given.event) first rest lawful)
 
 pub stepped-role : (role : Role2) (rows : List Row) (feature : Feature) (place : Place) (event : RowEvent) → AreRowsOf role rows
-    → IsLawful (row_at rows feature place) event → AreRowsOf role (stepped rows feature place event).rows
+    → IsEventFor (row_at rows feature place) event → AreRowsOf role (stepped rows feature place event).rows
 stepped-role role rows feature place event its lawful = record {
   sound = stepped_negotiation rows feature place event its.sound lawful;
   roles = λ other there. by_row other there (index_of feature place == index_of other there) refl;

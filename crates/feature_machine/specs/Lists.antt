@@ -1,6 +1,6 @@
 -- The wishes and offers that an end starts with (own).
 use Rattle.std.specs.Prelude.{◌≡◌, ℕ, ◌+◌, ◌-◌, ◌*◌, Bool, true, false, List, [], ◌∷◌, length, map, Some, slice_index_or, slice_set}
-use Rattle.feature_lists.specs.Features.{number_of}
+use Rattle.feature_lists.specs.Features.{feature_number}
 use Rattle.feature_lists.specs.Wishes.{is_ours, usual_of}
 use Rattle.feature_lists.specs.declared.features.Feature.{Feature}
 use Rattle.feature_lists.specs.declared.features.Feature.TheVariants as f
@@ -14,8 +14,8 @@ use Rattle.feature_machine.specs.Sound.{is_active}
 
 -- the place of a row among the eighteen: by features, here before there
 abbrev pub index_of : Feature → Place → ℕ
-index_of feature located.Here = 2 * (number_of feature - 1)
-index_of feature located.There = 2 * (number_of feature - 1) + 1
+index_of feature located.Here = 2 * (feature_number feature - 1)
+index_of feature located.There = 2 * (feature_number feature - 1) + 1
 
 -- what an end that was told nothing offers
 abbrev pub usual_offer : Feature → Place → Offer
@@ -76,7 +76,7 @@ abbrev pub without_offers : List Listed → List Listed
 without_offers lists = map unoffered lists
 
 -- what every row's entry keeps
-pub record IsListed (feature : Feature) (place : Place) (listed : Listed) : Type 0 where
+pub record IsListedFor (feature : Feature) (place : Place) (listed : Listed) : Type 0 where
   pub feature_is : listed.feature ≡ feature
   pub place_is : listed.place ≡ place
   pub wish : is_active feature place listed.wish ≡ true
@@ -85,4 +85,4 @@ pub record IsListed (feature : Feature) (place : Place) (listed : Listed) : Type
 -- there is one for each row
 pub record IsLists (lists : List Listed) : Type 0 where
   pub size : length lists ≡ 18
-  pub each : (feature : Feature) (place : Place) → IsListed feature place (listed_at lists feature place)
+  pub each : (feature : Feature) (place : Place) → IsListedFor feature place (listed_at lists feature place)

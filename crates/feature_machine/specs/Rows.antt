@@ -131,14 +131,14 @@ abbrev pub confirmation : Row → List ℕ → Option ℕ → Confirmation
 confirmation row body ack = if answers_opening row.opened ack then timely_confirmation row body else c.Late
 
 -- an event as the table has it
-pub data Heard : Type 0 where
-  Proposed : (proposal : Proposal) (mandatory : Bool) → Heard
-  Confirmed : (confirmation : Confirmation) → Heard
-  Preferred : (wish : Wanted) → Heard
-  Offered : (confirmed : Bool) (offer : Offer) → Heard
-  Sending : (number : ℕ) (opened : Option ℕ) → Heard
+pub data TableEvent : Type 0 where
+  Proposed : (proposal : Proposal) (mandatory : Bool) → TableEvent
+  Confirmed : (confirmation : Confirmation) → TableEvent
+  Preferred : (wish : Wanted) → TableEvent
+  Offered : (confirmed : Bool) (offer : Offer) → TableEvent
+  Sending : (number : ℕ) (opened : Option ℕ) → TableEvent
 
-abbrev pub heard : Row → RowEvent → Heard
+abbrev pub heard : Row → RowEvent → TableEvent
 heard row (Change body mandatory) = Proposed (proposal row body) mandatory
 heard row (Confirm body ack) = Confirmed (confirmation row body ack)
 heard row (Prefers wish) = Preferred wish
@@ -173,7 +173,7 @@ sent_anew row number =
 
 -- The negotiation table, a line a row, in its order; the first line that matches applies. The lines on offers and on a
 -- row that is STABLE and has nothing to send stand last.
-abbrev pub row_line : Row → Stand → Heard → RowStep
+abbrev pub row_line : Row → Stand → TableEvent → RowStep
 row_line row _ (Proposed p.Invalid false) = says row (Confirms [])
 row_line row _ (Proposed p.Invalid true) = says row (Fatal 6)
 row_line row stand.Unstable (Proposed _ _) = says row Ignored

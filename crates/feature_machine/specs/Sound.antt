@@ -34,7 +34,7 @@ pub record NeverAsks (row : Row) : Type 0 where
   pub stand : row.stand ≡ stand.Stable
   pub offer : row.offer ≡ offer.Nothing
 
-pub record IsSound (row : Row) : Type 0 where
+pub record IsSoundRow (row : Row) : Type 0 where
   pub value : is_lawful row.feature row.place row.value ≡ true
   pub active : is_active row.feature row.place row.active ≡ true
   pub pending : is_pending row.feature row.place row.stand row.pending ≡ true
@@ -47,9 +47,9 @@ IsLawfulProposal row (p.Told value) = is_lawful row.feature row.place value ≡ 
 IsLawfulProposal row _ = Unit {0}
 
 -- what an end wants is a wish for the row
-abbrev pub IsLawful : Row → RowEvent → Type 0
-IsLawful row (Prefers wish) = is_wish row.feature row.place wish ≡ true
-IsLawful row _ = Unit {0}
+abbrev pub IsEventFor : Row → RowEvent → Type 0
+IsEventFor row (Prefers wish) = is_wish row.feature row.place wish ≡ true
+IsEventFor row _ = Unit {0}
 
 -- the event is a Confirm that acknowledges the packet of the row's last opening, or a later one
 abbrev pub IsItsConfirm : Row → RowEvent → Type 0
@@ -57,15 +57,15 @@ IsItsConfirm row (Confirm body ack) = answers_opening row.opened ack ≡ true
 IsItsConfirm row _ = ⊥
 
 -- the event is the sending of the row's Change
-abbrev pub IsSending : RowEvent → Type 0
-IsSending (Sends number) = Unit {0}
-IsSending _ = ⊥
+abbrev pub IsSendsEvent : RowEvent → Type 0
+IsSendsEvent (Sends number) = Unit {0}
+IsSendsEvent _ = ⊥
 
 -- a row of this feature at this place
 pub record IsRowOf (feature : Feature) (place : Place) (row : Row) : Type 0 where
   pub feature_is : row.feature ≡ feature
   pub place_is : row.place ≡ place
-  pub sound : IsSound row
+  pub sound : IsSoundRow row
 
 -- which row it is stays
 pub record IsSameRow (old new : Row) : Type 0 where

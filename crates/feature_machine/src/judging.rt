@@ -4,7 +4,7 @@ ghost use Rattle.byteorder.specs.Endian.{big_number};
 ghost use Rattle.feature_lists.specs.Features.{described};
 ghost use Rattle.feature_lists.specs.Lists.{has_entry};
 ghost use Rattle.feature_machine.specs.Rows.{entries, is_number, reconciled_by, tells_value, proposal, list_proposal, confirmation, timely_confirmation, is_acceptable, list_confirmation, listed_confirmation, number_confirmation, answers_opening};
-ghost use Rattle.feature_machine.specs.Sound.{IsSound, IsLawfulProposal};
+ghost use Rattle.feature_machine.specs.Sound.{IsSoundRow, IsLawfulProposal};
 
 use crate::Role2;
 use crate::row::Row;
@@ -99,7 +99,7 @@ impl Row {
 
     // What a Change with this data behind the feature number is to the row.
     pub(crate) fn proposal(&self, body: &[u8]) -> Proposal
-        requires { IsSound self.now }
+        requires { IsSoundRow self.now }
         ensures value { result ≡ proposal self.now body.now }
         ensures lawful { IsLawfulProposal self.now result }
     {

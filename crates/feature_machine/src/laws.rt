@@ -7,7 +7,7 @@ ghost use Rattle.feature_lists.specs.declared.features.Place.{Place};
 ghost use Rattle.feature_machine.specs.Lists.{index_of};
 ghost use Rattle.feature_machine.specs.Negotiating.{row_at, put, stepped, OthersStay, IsNegotiation};
 ghost use Rattle.feature_machine.specs.Rows.{RowEvent, Change, Confirm, Sends, Settled, Ignored, Fatal, Opens, row_step, says, proposal, confirmation, reconciled_by};
-ghost use Rattle.feature_machine.specs.Sound.{IsSound, IsLawful, IsItsConfirm, IsSending, IsSameRow, IsRefusal};
+ghost use Rattle.feature_machine.specs.Sound.{IsSoundRow, IsEventFor, IsItsConfirm, IsSendsEvent, IsSameRow, IsRefusal};
 ghost use Rattle.feature_machine.specs.declared.judging.Confirmation.TheVariants.{Empty, Wrong};
 ghost use Rattle.feature_machine.specs.declared.judging.Proposal.TheVariants.{Invalid, Unshared};
 ghost use Rattle.feature_machine.specs.declared.row.Row.{Row};
@@ -16,14 +16,14 @@ ghost use Rattle.feature_machine.specs.declared.stands.Stand.TheVariants.{Stable
 
 /// A row's value is always the initial one or a permitted one, whatever the peer sends, and so it fits the bytes of its feature.
 pub fn values_are_lawful()
-    ensures steps { (row : Row) (event : RowEvent) → IsSound row → IsLawful row event → IsSound (row_step row event).row }
-    ensures fits { (row : Row) → IsSound row → row.value < 256 ^ (described row.feature).width }
+    ensures steps { (row : Row) (event : RowEvent) → IsSoundRow row → IsEventFor row event → IsSoundRow (row_step row event).row }
+    ensures fits { (row : Row) → IsSoundRow row → row.value < 256 ^ (described row.feature).width }
 {}
 
 /// So the eighteen rows stay sound, each in its place, whatever happens to one of them.
 pub fn rows_stay_sound()
     ensures { (rows : List Row) (feature : Feature) (place : Place) (event : RowEvent) → IsNegotiation rows
-        → IsLawful (row_at rows feature place) event → IsNegotiation (stepped rows feature place event).rows }
+        → IsEventFor (row_at rows feature place) event → IsNegotiation (stepped rows feature place event).rows }
 {}
 
 /// A row in CHANGING passes over a Confirm without an acknowledgement number, one that acknowledges a packet from before its last
@@ -59,7 +59,7 @@ pub fn causes_of_resets()
 pub fn openings_keep_their_number()
     ensures opens { (row : Row) (event : RowEvent) → (row_step row event).answer ≡ Opens → (row_step row event).row.opened ≡ None }
     ensures settles { (row : Row) (event : RowEvent) → (row_step row event).answer ≡ Settled → (row_step row event).row.opened ≡ row.opened }
-    ensures keeps { (row : Row) (event : RowEvent) → (row_step row event).answer ≢ Opens → ¬ IsSending event
+    ensures keeps { (row : Row) (event : RowEvent) → (row_step row event).answer ≢ Opens → ¬ IsSendsEvent event
         → (row_step row event).row.opened ≡ row.opened }
     ensures first { (row : Row) (number : ℕ) → row.stand ≡ Changing → row.opened ≡ None
         → (row_step row (Sends number)).row.opened ≡ Some number }

@@ -4,7 +4,7 @@ ghost use Rattle.feature_lists.specs.Wishes.{is_allowed, is_ours, is_wish, wish_
 ghost use Rattle.feature_lists.specs.declared.features.Feature.{Feature};
 ghost use Rattle.feature_lists.specs.declared.features.Place.{Place};
 ghost use Rattle.feature_lists.specs.declared.wishes.PreferFault.TheVariants.{BadList, NotOurs};
-ghost use Rattle.feature_machine.specs.Lists.{usual_listed, usual_offer, usual_lists, listed_at, list_put, with_wish, with_offer, without_offers, offer_of, IsListed, IsLists};
+ghost use Rattle.feature_machine.specs.Lists.{usual_listed, usual_offer, usual_lists, listed_at, list_put, with_wish, with_offer, without_offers, offer_of, IsListedFor, IsLists};
 
 use crate::negotiation::index_of;
 use crate::offers::{Listed, Offer};
@@ -108,7 +108,7 @@ impl Lists {
     // What is listed for a row.
     pub(crate) fn at(&self, feature: Feature, place: Place) -> Listed
         ensures value { result ≡ listed_at self.now feature place }
-        ensures its { IsListed feature place result }
+        ensures its { IsListedFor feature place result }
         ensures lists { IsLists self.now }
     {
         self.listed[index_of(feature, place)]
@@ -123,7 +123,7 @@ impl Lists {
     }
 
     fn put(&mut self, feature: Feature, place: Place, listed: Listed)
-        requires { IsListed feature place listed }
+        requires { IsListedFor feature place listed }
         ensures { self.new ≡ list_put self.old feature place listed }
     {
         self.listed[index_of(feature, place)] = listed;

@@ -1,6 +1,6 @@
 //! The eighteen rows of an end.
 ghost use Rattle.std.specs.Prelude.{◌≡◌, ◌≢◌, ◌↔◌, ◌⊎◌, ◌<◌, ℕ, true, false, IsNone, IfSome, length, slice_get, Some};
-ghost use Rattle.feature_lists.specs.Features.{described, number_of};
+ghost use Rattle.feature_lists.specs.Features.{described, feature_number};
 ghost use Rattle.feature_lists.specs.Wishes.{is_ours, is_wish};
 ghost use Rattle.feature_lists.specs.declared.features.Feature.{Feature};
 ghost use Rattle.feature_lists.specs.declared.features.Place.{Place};
@@ -186,7 +186,7 @@ impl Negotiation {
         ensures answer { shown result ≡ answered left feature (changes self.old left feature body.now mandatory).answer }
         ensures ignored { shown result ≡ Ignoring → self.new ≡ self.old }
         ensures fatal { shown result ≡ Failing → self.new ≡ self.old }
-        ensures others { (other : Feature) (there : Place) → (number_of other ≢ feature) ⊎ (there ≢ place_of left)
+        ensures others { (other : Feature) (there : Place) → (feature_number other ≢ feature) ⊎ (there ≢ place_of left)
             → row_at self.new other there ≡ row_at self.old other there }
     {
         let Some(known) = Feature::of(feature) else {
@@ -225,7 +225,7 @@ impl Negotiation {
         ensures settling { result ≡ settling_of (confirmed self.old left feature body.now ack).answer }
         ensures ignored { result ≡ Settling.Ignored → self.new ≡ self.old }
         ensures fatal { result ≡ Settling.Fatal → self.new ≡ self.old }
-        ensures others { (other : Feature) (there : Place) → (number_of other ≢ feature) ⊎ (there ≢ place_of left)
+        ensures others { (other : Feature) (there : Place) → (feature_number other ≢ feature) ⊎ (there ≢ place_of left)
             → row_at self.new other there ≡ row_at self.old other there }
     {
         match Feature::of(feature) {

@@ -18,7 +18,7 @@ ghost use Rattle.feature_lists.specs.Wishes.{is_wish};
 ghost use Rattle.feature_machine.specs.Rows.{row_step, Change, Confirm, Prefers, Offers, Sends, confirm_body};
 ghost use Rattle.feature_machine.specs.Answers.{reply_of, settling_of, opening_of, is_opening};
 ghost use Rattle.feature_machine.specs.Negotiating.{first_row, is_due};
-ghost use Rattle.feature_machine.specs.Sound.{IsSound, is_lawful};
+ghost use Rattle.feature_machine.specs.Sound.{IsSoundRow, is_lawful};
 ghost use Rattle.feature_machine.specs.declared.stands.Stand.TheVariants.{Stable};
 
 use crate::judging::{Confirmation, Proposal};
@@ -129,7 +129,7 @@ impl Row {
 
     // A Change comes.
     pub(crate) fn change(&mut self, body: &[u8], mandatory: bool) -> Reply
-        requires { IsSound self.old }
+        requires { IsSoundRow self.old }
         ensures row { self.new ≡ (row_step self.old (Change body.now mandatory)).row }
         ensures reply { reply_of result ≡ (row_step self.old (Change body.now mandatory)).answer }
     {

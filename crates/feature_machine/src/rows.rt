@@ -5,7 +5,7 @@ ghost use Rattle.feature_lists.specs.declared.features.Place.{Place};
 ghost use Rattle.feature_machine.specs.Lists.{listed_at, list_put, index_of, IsLists};
 ghost use Rattle.feature_machine.specs.Negotiating.{first_row, first_rows, row_at, stepped, is_due, due_keys, every_place, IsNegotiation, AreRowsOf};
 ghost use Rattle.feature_machine.specs.Rows.{RowEvent};
-ghost use Rattle.feature_machine.specs.Sound.{IsLawful};
+ghost use Rattle.feature_machine.specs.Sound.{IsEventFor};
 ghost use Rattle.feature_machine.specs.Turns.{Turn, turned, row_turned, events_of, AreLawful};
 ghost use Rattle.feature_machine.specs.declared.offers.Listed.{Listed};
 ghost use Rattle.feature_machine.specs.declared.row.Row.{Row};
@@ -21,7 +21,7 @@ pub fn rows_begin_fresh()
 pub fn rows_keep_their_role()
     ensures first { (role : Role2) (lists : List Listed) → IsLists lists → AreRowsOf role (first_rows role lists) }
     ensures stepped { (role : Role2) (rows : List Row) (feature : Feature) (place : Place) (event : RowEvent) → AreRowsOf role rows
-        → IsLawful (row_at rows feature place) event → AreRowsOf role (stepped rows feature place event).rows }
+        → IsEventFor (row_at rows feature place) event → AreRowsOf role (stepped rows feature place event).rows }
 {}
 
 /// What happens to rows, in order, happens to each by itself: after turns a row is what its own events make of it, in their order.

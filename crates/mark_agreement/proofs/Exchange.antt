@@ -1,26 +1,26 @@
 -- The exchange, move by move.
 use Rattle.std.proofs.Common.{◌≡◌, ℕ, ◌==◌, ◌⊎◌, inr, true, refl, subst, arith}
 use Rattle.mark_agreement.specs.View.{frame_at}
-use Rattle.mark_agreement.specs.Moves.{fresh, IsReportedBy, Reached}
-use Rattle.mark_agreement.specs.Moves.Move.{Begins, Joins, Raises, Hears, Acks, Sends}
-use Rattle.mark_agreement.specs.Moves.Reached.{Starts, Server_moves, Client_moves}
-use Rattle.mark_agreement.specs.Exchange.{client_asking, server_asked, server_answering, client_answered, client_acking, server_acked, server_telling, client_told, client_learning, client_exchanged, server_heard, server_exchanged}
+use Rattle.mark_agreement.specs.Moves.{unmoved_side, IsReportedBy, ReachedByMarks}
+use Rattle.mark_agreement.specs.Moves.MarkMove.{Begins, Joins, Raises, Hears, Acks, Sends}
+use Rattle.mark_agreement.specs.Moves.ReachedByMarks.{Starts, Server_moves, Client_moves}
+use Rattle.mark_agreement.specs.Exchange.{client_requesting, server_requested, server_answering, client_answered, client_acking, server_acked, server_telling, client_told, client_learning, client_exchanged, server_heard, server_exchanged}
 
-asked : Reached server_asked client_asking
-asked = Server_moves fresh client_asking server_asked (Client_moves fresh fresh client_asking Starts (Sends 0)) (Begins 1 refl refl (omega arith) (omega arith))
+asked : ReachedByMarks server_requested client_requesting
+asked = Server_moves unmoved_side client_requesting server_requested (Client_moves unmoved_side unmoved_side client_requesting Starts (Sends 0)) (Begins 1 refl refl (omega arith) (omega arith))
 
-answered : Reached server_answering client_answered
+answered : ReachedByMarks server_answering client_answered
 answered =
-    Client_moves server_answering client_asking client_answered
-    (Server_moves server_asked client_asking server_answering asked (Sends 1)) (Begins 1 refl refl (omega arith) (omega arith))
+    Client_moves server_answering client_requesting client_answered
+    (Server_moves server_requested client_requesting server_answering asked (Sends 1)) (Begins 1 refl refl (omega arith) (omega arith))
 
-acked : Reached server_acked client_acking
+acked : ReachedByMarks server_acked client_acking
 acked =
     Server_moves server_answering client_acking server_acked
     (Client_moves server_answering client_answered client_acking answered (Acks true true (omega arith) refl))
     (Joins 2 (omega arith) refl (omega arith) (omega arith) refl)
 
-was_told : Reached server_telling client_told
+was_told : ReachedByMarks server_telling client_told
 was_told =
     Client_moves server_telling client_acking client_told
     (Server_moves server_acked client_acking server_telling acked (Acks true true (omega arith) refl))
@@ -35,13 +35,13 @@ reports_two = record { carries = refl; from_floor = omega arith; up_to = omega a
 reports : (n : ℕ) → (n == 2) ≡ true → (client_told.reported n ≡ true) ⊎ IsReportedBy (frame_at server_telling.frames 2) n
 reports n is = inr (subst (λ m. IsReportedBy (frame_at server_telling.frames 2) m) (two n is) reports_two)
 
-learned : Reached server_telling client_exchanged
+learned : ReachedByMarks server_telling client_exchanged
 learned =
     Client_moves server_telling client_learning client_exchanged
     (Client_moves server_telling client_told client_learning was_told (Hears 2 (λ n. n == 2) reports))
     (Acks true true (omega arith) refl)
 
-pub exchanged : Reached server_exchanged client_exchanged
+pub exchanged : ReachedByMarks server_exchanged client_exchanged
 exchanged =
     Server_moves server_heard client_exchanged server_exchanged
     (Server_moves server_telling client_exchanged server_heard learned (Joins 3 (omega arith) refl (omega arith) (omega arith) refl))

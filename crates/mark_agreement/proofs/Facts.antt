@@ -1,10 +1,10 @@
 -- What holds of two sides after every move, beside the facts that are laws. No fact says that something exists, and of the peer each
 -- sees no more than it needs, so that search alone proves most steps.
 use Rattle.std.proofs.Common.{◌≡◌, ℕ, ◌<◌, ◌≤◌, true, List, length}
-use Rattle.mark_agreement.specs.View.{Side, frame_at, processed_at}
+use Rattle.mark_agreement.specs.View.{MarkSide, frame_at, processed_at}
 
 -- the vectors of a side
-pub record IsTelling (side : Side) : Type 0 where
+pub record IsTelling (side : MarkSide) : Type 0 where
   -- a side's floor never falls, and what it processed grows
   pub floors_low : (k : ℕ) → (frame_at side.frames k).floor ≤ side.floor
   pub processed_few : (k : ℕ) → (frame_at side.frames k).processed ≤ length side.processed

@@ -2,7 +2,7 @@
 -- `processed_at`.
 use Rattle.std.proofs.Common.{◌≡◌, ℕ, suc, ◌<◌, ◌≤◌, ◌⊎◌, List, [], ◌∷◌, ◌++◌, length, arith}
 use Rattle.std.proofs.lemmas.Grind.{common_steps}
-use Rattle.mark_agreement.specs.View.{Frame, no_frame, frame_at, with_frame, processed_at}
+use Rattle.mark_agreement.specs.View.{Frame, no_frame, frame_at, frames_with, processed_at}
 
 pub apart : (a b : ℕ) → (a < b) ⊎ (b ≤ a)
 apart a b = grind arith
@@ -13,9 +13,9 @@ frame_in frames count = grind (arith, common_steps, apart)
 
 -- the frames before, the new one, and none
 pub frame_cases : (frames : List Frame) (frame : Frame) (count : ℕ)
-    → ((frame_at (with_frame frames frame) count ≡ frame_at frames count) × (count ≤ length frames))
-    ⊎ (((frame_at (with_frame frames frame) count ≡ frame) × (count ≡ suc (length frames)))
-    ⊎ ((frame_at (with_frame frames frame) count ≡ no_frame) × (length frames < count)))
+    → ((frame_at (frames_with frames frame) count ≡ frame_at frames count) × (count ≤ length frames))
+    ⊎ (((frame_at (frames_with frames frame) count ≡ frame) × (count ≡ suc (length frames)))
+    ⊎ ((frame_at (frames_with frames frame) count ≡ no_frame) × (length frames < count)))
 frame_cases frames frame count = grind (arith, common_steps, apart)
 
 -- what was processed before, and the new one

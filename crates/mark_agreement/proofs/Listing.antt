@@ -1,7 +1,7 @@
 -- The places are those of the list of what was processed, and a further frame joins at its end.
 use Rattle.std.proofs.Common.{◌≡◌, ℕ, List, [], ◌∷◌, ◌++◌, length, arith, length-append}
 use Rattle.mark_agreement.specs.View.{placed_with}
-use Rattle.mark_agreement.specs.Moves.{fresh}
+use Rattle.mark_agreement.specs.Moves.{unmoved_side}
 use Rattle.mark_agreement.proofs.Facts.{IsListed}
 use Rattle.mark_agreement.proofs.Frames.{processed_before, processed_last}
 
@@ -9,5 +9,5 @@ module _ (processed : List ℕ) (place : ℕ → ℕ) (count : ℕ) (listed : Is
   pub joined_listed : IsListed (processed ++ count ∷ []) (placed_with place (length processed) count)
   joined_listed = grind (arith, length-append, processed_before, processed_last)
 
-pub fresh_listed : IsListed fresh.processed fresh.place
+pub fresh_listed : IsListed unmoved_side.processed unmoved_side.place
 fresh_listed = grind arith

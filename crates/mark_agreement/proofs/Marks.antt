@@ -1,20 +1,20 @@
 -- Each move of a side keeps the facts on its numbers, marks and acknowledgements, and one frame more keeps those of its peer.
 use Rattle.std.proofs.Common.{◌≡◌, ℕ, ◌+◌, ◌<◌, ◌≤◌, ◌⊎◌, Bool, true, false, List, [], length, arith, length-append}
-use Rattle.mark_agreement.specs.View.{Frame, Side, frame_at, with_frame}
-use Rattle.mark_agreement.specs.Moves.{begun, begun_shut, joined, passed, shut, ended, raised, told, ack_frame, other_frame, sent, fresh}
-use Rattle.mark_agreement.specs.Facts.{IsSound, IsHeeded}
+use Rattle.mark_agreement.specs.View.{Frame, MarkSide, frame_at, frames_with}
+use Rattle.mark_agreement.specs.Moves.{with_first_frame, begun_shut, with_processed, passed, shut, closed_side, with_floor, told, ack_frame, other_frame, with_sent_frame, unmoved_side}
+use Rattle.mark_agreement.specs.Facts.{AreSoundNumbers, IsHeeded}
 use Rattle.mark_agreement.proofs.Frames.{frame_in, frame_cases}
 
-module _ (side : Side) (there : List Frame) (sound : IsSound side there) (heeded : IsHeeded side there) where
+module _ (side : MarkSide) (there : List Frame) (sound : AreSoundNumbers side there) (heeded : IsHeeded side there) where
   -- the first frame
   module _ (count : ℕ) (unheard : side.first ≡ 0) (some : 1 ≤ count) (there_is : count ≤ length there) where
-    pub begin_sound : IsSound (begun side count) there
+    pub begin_sound : AreSoundNumbers (with_first_frame side count) there
     begin_sound = grind (arith, length-append)
 
-    pub begin_heeded : IsHeeded (begun side count) there
+    pub begin_heeded : IsHeeded (with_first_frame side count) there
     begin_heeded = grind arith
 
-    pub begin_shut_sound : IsSound (begun_shut side count) there
+    pub begin_shut_sound : AreSoundNumbers (begun_shut side count) there
     begin_shut_sound = grind arith
 
     pub begin_shut_heeded : IsHeeded (begun_shut side count) there
@@ -29,13 +29,13 @@ module _ (side : Side) (there : List Frame) (sound : IsSound side there) (heeded
 
   -- a later one
   module _ (count : ℕ) (heard : 0 < side.first) (there_is : count ≤ length there) where
-    pub join_sound : side.floor ≤ count → side.marked count ≡ false → IsSound (joined side count) there
+    pub join_sound : side.floor ≤ count → side.marked count ≡ false → AreSoundNumbers (with_processed side count) there
     join_sound above new = grind (arith, length-append)
 
-    pub join_heeded : side.closed ≡ false → side.floor ≤ count → side.marked count ≡ false → IsHeeded (joined side count) there
+    pub join_heeded : side.closed ≡ false → side.floor ≤ count → side.marked count ≡ false → IsHeeded (with_processed side count) there
     join_heeded live above new = grind arith
 
-    pub pass_sound : IsSound (passed side count) there
+    pub pass_sound : AreSoundNumbers (passed side count) there
     pass_sound = grind arith
 
     pub repeat_heeded : side.closed ≡ false → (count < side.floor) ⊎ (side.marked count ≡ true) → IsHeeded (passed side count) there
@@ -44,28 +44,28 @@ module _ (side : Side) (there : List Frame) (sound : IsSound side there) (heeded
     pub refuse_heeded : side.closed ≡ false → (frame_at there count).is_ack ≡ false → IsHeeded (passed side count) there
     refuse_heeded live other = grind arith
 
-    pub shut_sound : IsSound (shut side count) there
+    pub shut_sound : AreSoundNumbers (shut side count) there
     shut_sound = grind arith
 
     pub shut_heeded : IsHeeded (shut side count) there
     shut_heeded = grind arith
 
-  pub end_sound : IsSound (ended side) there
+  pub end_sound : AreSoundNumbers (closed_side side) there
   end_sound = grind arith
 
-  pub end_heeded : IsHeeded (ended side) there
+  pub end_heeded : IsHeeded (closed_side side) there
   end_heeded = grind arith
 
   -- the floor rises above what one of its Acks acknowledged
   module _ (own : ℕ) (heard : 0 < side.first) (is_ack : (frame_at side.frames own).is_ack ≡ true) where
-    pub raise_sound : IsSound (raised side ((frame_at side.frames own).acknowledged + 1)) there
+    pub raise_sound : AreSoundNumbers (with_floor side ((frame_at side.frames own).acknowledged + 1)) there
     raise_sound = grind arith
 
-    pub raise_heeded : IsHeeded (raised side ((frame_at side.frames own).acknowledged + 1)) there
+    pub raise_heeded : IsHeeded (with_floor side ((frame_at side.frames own).acknowledged + 1)) there
     raise_heeded = grind arith
 
   -- what it believes received has changed
-  pub told_sound : (reported : ℕ → Bool) → IsSound (told side reported) there
+  pub told_sound : (reported : ℕ → Bool) → AreSoundNumbers (told side reported) there
   told_sound reported = grind arith
 
   pub told_heeded : (reported : ℕ → Bool) → IsHeeded (told side reported) there
@@ -73,27 +73,27 @@ module _ (side : Side) (there : List Frame) (sound : IsSound side there) (heeded
 
   -- a frame is sent
   module _ (has_vector is_whole : Bool) (heard : 0 < side.first) (live : side.closed ≡ false) where
-    pub ack_sound : IsSound (sent side (ack_frame side has_vector is_whole)) there
+    pub ack_sound : AreSoundNumbers (with_sent_frame side (ack_frame side has_vector is_whole)) there
     ack_sound = grind (arith, frame_cases)
 
-    pub ack_heeded : IsHeeded (sent side (ack_frame side has_vector is_whole)) there
+    pub ack_heeded : IsHeeded (with_sent_frame side (ack_frame side has_vector is_whole)) there
     ack_heeded = grind (arith, frame_cases)
 
-  pub send_sound : (acknowledged : ℕ) → IsSound (sent side (other_frame side acknowledged)) there
+  pub send_sound : (acknowledged : ℕ) → AreSoundNumbers (with_sent_frame side (other_frame side acknowledged)) there
   send_sound acknowledged = grind (arith, frame_cases)
 
-  pub send_heeded : (acknowledged : ℕ) → IsHeeded (sent side (other_frame side acknowledged)) there
+  pub send_heeded : (acknowledged : ℕ) → IsHeeded (with_sent_frame side (other_frame side acknowledged)) there
   send_heeded acknowledged = grind (arith, frame_cases)
 
   -- the peer has sent one more
-  pub grown_sound : (frame : Frame) → IsSound side (with_frame there frame)
+  pub grown_sound : (frame : Frame) → AreSoundNumbers side (frames_with there frame)
   grown_sound frame = grind (arith, length-append)
 
-  pub grown_heeded : (frame : Frame) → IsHeeded side (with_frame there frame)
+  pub grown_heeded : (frame : Frame) → IsHeeded side (frames_with there frame)
   grown_heeded frame = grind (arith, frame_cases)
 
-pub fresh_sound : IsSound fresh []
+pub fresh_sound : AreSoundNumbers unmoved_side []
 fresh_sound = grind (arith, frame_in)
 
-pub fresh_heeded : IsHeeded fresh []
+pub fresh_heeded : IsHeeded unmoved_side []
 fresh_heeded = grind (arith, frame_in)

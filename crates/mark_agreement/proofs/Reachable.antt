@@ -1,36 +1,36 @@
 -- The laws for two sides of which only that moves reach them is known, and not which.
 use Rattle.std.proofs.Math.Logic.{∥∥₁_elim, ∥∥₁_map}
 use Rattle.std.proofs.Props.{props}
-use Rattle.mark_agreement.specs.View.{Side}
-use Rattle.mark_agreement.specs.Moves.{Moves, fresh, IsReachable}
-use Rattle.mark_agreement.specs.Moves.Reached.{Starts}
-use Rattle.mark_agreement.specs.Facts.{IsSound, IsHeeded}
-use Rattle.mark_agreement.specs.Laws.{ArePlaces, IsOnce, IsTruthful, IsTold, IsToldAlone, IsHeard}
+use Rattle.mark_agreement.specs.View.{MarkSide}
+use Rattle.mark_agreement.specs.Moves.{MarkMoves, unmoved_side, AreReachable}
+use Rattle.mark_agreement.specs.Moves.ReachedByMarks.{Starts}
+use Rattle.mark_agreement.specs.Facts.{AreSoundNumbers, IsHeeded}
+use Rattle.mark_agreement.specs.Laws.{ArePlaces, ProcessesOnce, IsTruthful, IsTold, IsToldAlone, IsHeard}
 use Rattle.mark_agreement.specs.Exchange.{server_exchanged, client_exchanged}
 use Rattle.mark_agreement.proofs.Told.{far_alone}
 use Rattle.mark_agreement.proofs.Exchange.{exchanged}
 use Rattle.mark_agreement.proofs.Steps.{reached_keeps}
 use Rattle.mark_agreement.proofs.Reaching.{places_are, is_once, is_truthful, server_reaches, client_reaches}
 
-pub start_is_reachable : IsReachable fresh fresh
+pub start_is_reachable : AreReachable unmoved_side unmoved_side
 start_is_reachable = ∣ Starts ∣₁
 
-pub reachable_after_server : (server client after : Side) → Moves client.frames server after → IsReachable server client
-    → IsReachable after client
+pub reachable_after_server : (server client after : MarkSide) → MarkMoves client.frames server after → AreReachable server client
+    → AreReachable after client
 reachable_after_server server client after moves reachable = ∥∥₁_map reachable (server_reaches client server after moves)
 
-pub reachable_after_client : (server client after : Side) → Moves server.frames client after → IsReachable server client
-    → IsReachable server after
+pub reachable_after_client : (server client after : MarkSide) → MarkMoves server.frames client after → AreReachable server client
+    → AreReachable server after
 reachable_after_client server client after moves reachable = ∥∥₁_map reachable (client_reaches server client after moves)
 
-pub exchange_is_reachable : IsReachable server_exchanged client_exchanged
+pub exchange_is_reachable : AreReachable server_exchanged client_exchanged
 exchange_is_reachable = ∣ exchanged ∣₁
 
-module _ (server client : Side) (reachable : IsReachable server client) where
-  pub servers_once : IsOnce server client.frames
+module _ (server client : MarkSide) (reachable : AreReachable server client) where
+  pub servers_once : ProcessesOnce server client.frames
   servers_once = ∥∥₁_elim reachable (hlevel props) (λ reached. is_once server client (reached_keeps server client reached).here)
 
-  pub clients_once : IsOnce client server.frames
+  pub clients_once : ProcessesOnce client server.frames
   clients_once = ∥∥₁_elim reachable (hlevel props) (λ reached. is_once client server (reached_keeps server client reached).there)
 
   pub servers_places : ArePlaces server
@@ -63,10 +63,10 @@ module _ (server client : Side) (reachable : IsReachable server client) where
   pub clients_heard : IsHeard client server
   clients_heard = ∥∥₁_elim reachable (hlevel props) (λ reached. (reached_keeps server client reached).there.reported)
 
-  pub servers_sound : IsSound server client.frames
+  pub servers_sound : AreSoundNumbers server client.frames
   servers_sound = ∥∥₁_elim reachable (hlevel props) (λ reached. (reached_keeps server client reached).here.sound)
 
-  pub clients_sound : IsSound client server.frames
+  pub clients_sound : AreSoundNumbers client server.frames
   clients_sound = ∥∥₁_elim reachable (hlevel props) (λ reached. (reached_keeps server client reached).there.sound)
 
   pub servers_heeded : IsHeeded server client.frames

@@ -1,13 +1,13 @@
 -- What the facts say of two sides that moves reach.
 use Rattle.std.proofs.Common.{◌≡◌, ℕ, suc, ◌<◌, ◌≤◌, List, length, slice_index, ap, sym, ◌∙◌, arith}
-use Rattle.mark_agreement.specs.View.{Frame, Side}
-use Rattle.mark_agreement.specs.Moves.{Moves, Reached}
-use Rattle.mark_agreement.specs.Moves.Moves.{Done, Next}
-use Rattle.mark_agreement.specs.Moves.Reached.{Server_moves, Client_moves}
-use Rattle.mark_agreement.specs.Laws.{ArePlaces, IsOnce, IsTruthful}
+use Rattle.mark_agreement.specs.View.{Frame, MarkSide}
+use Rattle.mark_agreement.specs.Moves.{MarkMoves, ReachedByMarks}
+use Rattle.mark_agreement.specs.Moves.MarkMoves.{Done, Next}
+use Rattle.mark_agreement.specs.Moves.ReachedByMarks.{Server_moves, Client_moves}
+use Rattle.mark_agreement.specs.Laws.{ArePlaces, IsTruthful, ProcessesOnce}
 use Rattle.mark_agreement.proofs.Steps.{Towards}
 
-module _ (side peer : Side) (facts : Towards side peer.frames peer.place) where
+module _ (side peer : MarkSide) (facts : Towards side peer.frames peer.place) where
   pub places_are : ArePlaces side
   places_are =
       record {
@@ -33,7 +33,7 @@ module _ (side peer : Side) (facts : Towards side peer.frames peer.place) where
       let greatest = facts.sound.greatest_sent in
       (facts.sound.processed_some (slice_index side.processed i) done, omega arith)
 
-  pub is_once : IsOnce side peer.frames
+  pub is_once : ProcessesOnce side peer.frames
   is_once = record { distinct = distinct; sent = sent_there }
 
   pub is_truthful : IsTruthful side
@@ -47,17 +47,17 @@ module _ (side peer : Side) (facts : Towards side peer.frames peer.place) where
       }
 
 -- moves after moves
-pub joined : (there : List Frame) (before middle after : Side) → Moves there before middle → Moves there middle after
-    → Moves there before after
+pub joined : (there : List Frame) (before middle after : MarkSide) → MarkMoves there before middle → MarkMoves there middle after
+    → MarkMoves there before after
 joined there _ _ after (Done _) rest = rest
 joined there before middle after (Next _ next _ move moves) rest = Next before next after move (joined there next middle after moves rest)
 
-pub server_reaches : (client server after : Side) → Moves client.frames server after → Reached server client → Reached after client
+pub server_reaches : (client server after : MarkSide) → MarkMoves client.frames server after → ReachedByMarks server client → ReachedByMarks after client
 server_reaches client server _ (Done _) reached = reached
 server_reaches client server _ (Next _ middle after move moves) reached =
     server_reaches client middle after moves (Server_moves server client middle reached move)
 
-pub client_reaches : (server client after : Side) → Moves server.frames client after → Reached server client → Reached server after
+pub client_reaches : (server client after : MarkSide) → MarkMoves server.frames client after → ReachedByMarks server client → ReachedByMarks server after
 client_reaches server client _ (Done _) reached = reached
 client_reaches server client _ (Next _ middle after move moves) reached =
     client_reaches server middle after moves (Client_moves server client middle reached move)

@@ -7,7 +7,7 @@ use Rattle.run_list.specs.declared.answers.Marked.TheVariants.{New}
 use Rattle.run_list.specs.MarkedSet.{MarkedSet, IsSound, has, is_from, answer_to, marked, raised, empty_from}
 use Rattle.run_list.proofs.Sets.{has-marked, has-raised, new_parts, sound-marked, sound-raised}
 use Rattle.run_list.proofs.Floors.{marked-count, raised-count}
-use Rattle.mark_agreement.specs.View.{Side, floor_with}
+use Rattle.mark_agreement.specs.View.{MarkSide, floor_with}
 use Rattle.mark_agreement.specs.Moves as moves
 use Rattle.mark_agreement.specs.Sets.{AreMarks, IsMarked}
 
@@ -27,7 +27,7 @@ inside : (floor count m : ℕ) (known : Bool) → floor ≤ count
     → ((m == count) || (nat_le (floor_with floor count) m && known)) ≡ (nat_le (floor_with floor count) m && ((m == count) || known))
 inside floor count m known above = grind arith
 
-module _ (iss : ℕ) (set : MarkedSet) (side : Side) (are : IsMarked iss set side) (n : ℕ) (some : 1 ≤ n) (early : n ≤ 2 ^ 47) where
+module _ (iss : ℕ) (set : MarkedSet) (side : MarkSide) (are : IsMarked iss set side) (n : ℕ) (some : 1 ≤ n) (early : n ≤ 2 ^ 47) where
   from_floor : is_from set.floor (number_of iss n) ≡ nat_le side.floor n
   from_floor =
       ap (λ floor. is_from floor (number_of iss n)) are.floor_is ∙ from-counts iss side.floor n are.iss_fits are.floor_some are.floor_early some early
@@ -73,7 +73,7 @@ module _ (iss : ℕ) (set : MarkedSet) (side : Side) (are : IsMarked iss set sid
         ∙ ap (λ is_there. (m == n) || (nat_le (floor_with side.floor n) m && is_there)) (are.marks_are m others_some others_early)
         ∙ inside side.floor n m (side.marked m) (new_by_counts new).0
 
-    pub joined_are : IsMarked iss (marked set (number_of iss n)) (moves.joined side n)
+    pub joined_are : IsMarked iss (marked set (number_of iss n)) (moves.with_processed side n)
     joined_are =
         record {
           iss_fits = are.iss_fits;
@@ -97,7 +97,7 @@ module _ (iss : ℕ) (set : MarkedSet) (side : Side) (are : IsMarked iss set sid
       ∙ from-counts iss (max side.floor n) m are.iss_fits (omega (arith, are.floor_some)) (omega (arith, are.floor_early)) others_some others_early)
       ∙ ap (λ is_there. nat_le (max side.floor n) m && is_there) (are.marks_are m others_some others_early)
 
-  pub raised_are : IsMarked iss (raised set (number_of iss n)) (moves.raised side n)
+  pub raised_are : IsMarked iss (raised set (number_of iss n)) (moves.with_floor side n)
   raised_are =
       record {
         iss_fits = are.iss_fits;
@@ -109,7 +109,7 @@ module _ (iss : ℕ) (set : MarkedSet) (side : Side) (are : IsMarked iss set sid
       }
 
 -- a set that begins at a number
-pub begun_shut_are : (iss : ℕ) (side : Side) (n : ℕ) → iss < 2 ^ 48 → 1 ≤ n → n ≤ 2 ^ 47
+pub begun_shut_are : (iss : ℕ) (side : MarkSide) (n : ℕ) → iss < 2 ^ 48 → 1 ≤ n → n ≤ 2 ^ 47
     → IsMarked iss (empty_from (number_of iss n)) (moves.begun_shut side n)
 begun_shut_are iss side n fits some early =
     record {
@@ -121,8 +121,8 @@ begun_shut_are iss side n fits some early =
       marks_are = λ m others_some others_early. refl;
     }
 
-pub begun_are : (iss : ℕ) (side : Side) (n : ℕ) → iss < 2 ^ 48 → 1 ≤ n → n ≤ 2 ^ 47
-    → IsMarked iss (marked (empty_from (number_of iss n)) (number_of iss n)) (moves.begun side n)
+pub begun_are : (iss : ℕ) (side : MarkSide) (n : ℕ) → iss < 2 ^ 48 → 1 ≤ n → n ≤ 2 ^ 47
+    → IsMarked iss (marked (empty_from (number_of iss n)) (number_of iss n)) (moves.with_first_frame side n)
 begun_are iss side n fits some early =
     let empty = begun_shut_are iss side n fits some early in
     let new = counts_are_new iss (empty_from (number_of iss n)) (moves.begun_shut side n) empty n some early (omega arith, refl) in

@@ -1,10 +1,10 @@
 -- Every move keeps the facts. `side` moves, `peer` does not; `turned` exchanges them.
 use Rattle.std.proofs.Common.{◌≡◌, ℕ, ◌+◌, ◌<◌, ◌≤◌, ◌⊎◌, inl, inr, Bool, true, false, List, length, sym, subst, arith}
-use Rattle.mark_agreement.specs.View.{Frame, Side, frame_at, with_frame, placed_with}
-use Rattle.mark_agreement.specs.Moves.{begun, begun_shut, joined, passed, shut, ended, raised, told, ack_frame, other_frame, sent, fresh, IsReportedBy, Move, Reached}
-use Rattle.mark_agreement.specs.Moves.Move.{Begins, Begins_shut, Joins, Repeats, Refuses, Shuts, Ends, Raises, Hears, Acks, Sends}
-use Rattle.mark_agreement.specs.Moves.Reached.{Starts, Server_moves, Client_moves}
-use Rattle.mark_agreement.specs.Facts.{IsSound, IsHeeded}
+use Rattle.mark_agreement.specs.View.{Frame, MarkSide, frame_at, frames_with, placed_with}
+use Rattle.mark_agreement.specs.Moves.{with_first_frame, begun_shut, with_processed, passed, shut, closed_side, with_floor, told, ack_frame, other_frame, with_sent_frame, unmoved_side, IsReportedBy, MarkMove, ReachedByMarks}
+use Rattle.mark_agreement.specs.Moves.MarkMove.{Begins, Begins_shut, Joins, Repeats, Refuses, Shuts, Ends, Raises, Hears, Acks, Sends}
+use Rattle.mark_agreement.specs.Moves.ReachedByMarks.{Starts, Server_moves, Client_moves}
+use Rattle.mark_agreement.specs.Facts.{AreSoundNumbers, IsHeeded}
 use Rattle.mark_agreement.proofs.Facts.{IsListed, IsTelling}
 use Rattle.mark_agreement.proofs.Marks as marks
 use Rattle.mark_agreement.proofs.Listing.{joined_listed, fresh_listed}
@@ -12,23 +12,23 @@ use Rattle.mark_agreement.proofs.Vectors as vectors
 use Rattle.mark_agreement.proofs.Told.{AreSettled, more_heard, more_sent, placed_still, join_settled, raise_settled}
 
 -- what holds of one side towards its peer, of which it needs the frames and what was processed
-pub record Towards (side : Side) (there : List Frame) (heard : ℕ → ℕ) : Type 0 where
-  pub sound : IsSound side there
+pub record Towards (side : MarkSide) (there : List Frame) (heard : ℕ → ℕ) : Type 0 where
+  pub sound : AreSoundNumbers side there
   pub heeded : IsHeeded side there
   pub listed : IsListed side.processed side.place
   pub telling : IsTelling side
   pub settled : AreSettled side.first side.floor side.frames side.place heard
   pub reported : (n : ℕ) → side.reported n ≡ true → 0 < heard n
 
-pub record Kept (side peer : Side) : Type 0 where
+pub record Kept (side peer : MarkSide) : Type 0 where
   pub here : Towards side peer.frames peer.place
   pub there : Towards peer side.frames side.place
 
-pub turned : (side peer : Side) → Kept side peer → Kept peer side
+pub turned : (side peer : MarkSide) → Kept side peer → Kept peer side
 turned side peer facts = record { here = facts.there; there = facts.here }
 
 -- the side has processed one more
-more_done : (peer : Side) (there : List Frame) (heard later : ℕ → ℕ) → ((m : ℕ) → 0 < heard m → 0 < later m)
+more_done : (peer : MarkSide) (there : List Frame) (heard later : ℕ → ℕ) → ((m : ℕ) → 0 < heard m → 0 < later m)
     → Towards peer there heard → Towards peer there later
 more_done peer there heard later grows facts =
     record {
@@ -41,8 +41,8 @@ more_done peer there heard later grows facts =
     }
 
 -- the side has sent one more
-more_frames : (peer : Side) (there : List Frame) (heard : ℕ → ℕ) (frame : Frame) → Towards peer there heard
-    → Towards peer (with_frame there frame) heard
+more_frames : (peer : MarkSide) (there : List Frame) (heard : ℕ → ℕ) (frame : Frame) → Towards peer there heard
+    → Towards peer (frames_with there frame) heard
 more_frames peer there heard frame facts =
     record {
       sound = marks.grown_sound peer there facts.sound facts.heeded frame;
@@ -56,8 +56,8 @@ more_frames peer there heard frame facts =
 none_between : (count n : ℕ) → count ≤ n → n < count → ⊥
 none_between count n from below = omega arith
 
-module _ (side peer : Side) (facts : Kept side peer) where
-  begin_keeps : (count : ℕ) → side.first ≡ 0 → 1 ≤ count → count ≤ length peer.frames → Kept (begun side count) peer
+module _ (side peer : MarkSide) (facts : Kept side peer) where
+  begin_keeps : (count : ℕ) → side.first ≡ 0 → 1 ≤ count → count ≤ length peer.frames → Kept (with_first_frame side count) peer
   begin_keeps count unheard some sent_there =
       record {
         here = record {
@@ -88,7 +88,7 @@ module _ (side peer : Side) (facts : Kept side peer) where
       }
 
   join_keeps : (count : ℕ) → 0 < side.first → side.closed ≡ false → count ≤ length peer.frames → side.floor ≤ count
-      → side.marked count ≡ false → Kept (joined side count) peer
+      → side.marked count ≡ false → Kept (with_processed side count) peer
   join_keeps count heard live sent_there above new =
       record {
         here = record {
@@ -134,7 +134,7 @@ module _ (side peer : Side) (facts : Kept side peer) where
         there = facts.there;
       }
 
-  end_keeps : Kept (ended side) peer
+  end_keeps : Kept (closed_side side) peer
   end_keeps =
       record {
         here = record {
@@ -150,7 +150,7 @@ module _ (side peer : Side) (facts : Kept side peer) where
 
   raise_keeps : (count own : ℕ) → 0 < side.first → (frame_at peer.frames count).is_ack ≡ true
       → (frame_at peer.frames count).acknowledged ≡ own → (frame_at side.frames own).has_vector ≡ true
-      → (frame_at side.frames own).is_whole ≡ true → Kept (raised side ((frame_at side.frames own).acknowledged + 1)) peer
+      → (frame_at side.frames own).is_whole ≡ true → Kept (with_floor side ((frame_at side.frames own).acknowledged + 1)) peer
   raise_keeps count own heard acks is_own vector whole =
       let is_ack : (frame_at side.frames own).is_ack ≡ true = facts.here.telling.vectors_acks own vector in
       let done : 0 < peer.place own =
@@ -188,7 +188,7 @@ module _ (side peer : Side) (facts : Kept side peer) where
       }
 
   ack_keeps : (has_vector is_whole : Bool) → 0 < side.first → side.closed ≡ false
-      → Kept (sent side (ack_frame side has_vector is_whole)) peer
+      → Kept (with_sent_frame side (ack_frame side has_vector is_whole)) peer
   ack_keeps has_vector is_whole heard live =
       record {
         here = record {
@@ -203,7 +203,7 @@ module _ (side peer : Side) (facts : Kept side peer) where
         there = more_frames peer side.frames side.place (ack_frame side has_vector is_whole) facts.there;
       }
 
-  send_keeps : (acknowledged : ℕ) → Kept (sent side (other_frame side acknowledged)) peer
+  send_keeps : (acknowledged : ℕ) → Kept (with_sent_frame side (other_frame side acknowledged)) peer
   send_keeps acknowledged =
       record {
         here = record {
@@ -218,7 +218,7 @@ module _ (side peer : Side) (facts : Kept side peer) where
         there = more_frames peer side.frames side.place (other_frame side acknowledged) facts.there;
       }
 
-pub move_keeps : (side peer after : Side) → Move peer.frames side after → Kept side peer → Kept after peer
+pub move_keeps : (side peer after : MarkSide) → MarkMove peer.frames side after → Kept side peer → Kept after peer
 move_keeps side peer _ (Begins count unheard live some sent_there) facts = begin_keeps side peer facts count unheard some sent_there
 move_keeps side peer _ (Begins_shut count unheard some sent_there) facts = begin_shut_keeps side peer facts count unheard some sent_there
 move_keeps side peer _ (Joins count heard live sent_there above new) facts =
@@ -243,7 +243,7 @@ not_below_zero n below = omega arith
 not_both : false ≡ true → ⊥
 not_both is = cc
 
-fresh_towards : Towards fresh fresh.frames fresh.place
+fresh_towards : Towards unmoved_side unmoved_side.frames unmoved_side.place
 fresh_towards =
     record {
       sound = marks.fresh_sound;
@@ -254,7 +254,7 @@ fresh_towards =
       reported = λ n is. absurd (not_both is);
     }
 
-pub reached_keeps : (server client : Side) → Reached server client → Kept server client
+pub reached_keeps : (server client : MarkSide) → ReachedByMarks server client → Kept server client
 reached_keeps _ _ Starts = record { here = fresh_towards; there = fresh_towards }
 reached_keeps _ _ (Server_moves server client after reached move) =
     move_keeps server client after move (reached_keeps server client reached)

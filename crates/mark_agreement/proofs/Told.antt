@@ -1,33 +1,33 @@
 -- What is below a side's floor is settled, and stays so.
 use Rattle.std.proofs.Common.{◌≡◌, ℕ, ◌+◌, ◌<◌, ◌≤◌, ◌⊎◌, inl, inr, true, false, List, ap, sym, ◌∙◌, subst, max, arith}
-use Rattle.mark_agreement.specs.View.{Frame, Side, frame_at, with_frame, floor_with, placed_with}
-use Rattle.mark_agreement.specs.Laws.{IsFarBelow, IsSettled}
-use Rattle.mark_agreement.specs.Laws.IsSettled.{Far, WasTold}
+use Rattle.mark_agreement.specs.View.{Frame, MarkSide, frame_at, frames_with, floor_with, placed_with}
+use Rattle.mark_agreement.specs.Laws.{IsAccountedFor, IsFarBelow}
+use Rattle.mark_agreement.specs.Laws.IsAccountedFor.{Far, WasTold}
 use Rattle.mark_agreement.proofs.Frames.{apart, frame_cases, frame_in}
 
 -- every count from the first up to the floor is settled, with the reason
 abbrev pub AreSettled : ℕ → ℕ → List Frame → (ℕ → ℕ) → (ℕ → ℕ) → Type 0
-AreSettled first floor frames place heard = (n : ℕ) → 0 < first → first ≤ n → n < floor → IsSettled frames place heard n
+AreSettled first floor frames place heard = (n : ℕ) → 0 < first → first ≤ n → n < floor → IsAccountedFor frames place heard n
 
 -- a reason outlives more frames, more that the side processed, and more that the peer did
 pub more_placed : (frames : List Frame) (place heard later : ℕ → ℕ) (n : ℕ) → ((m : ℕ) → 0 < place m → 0 < later m)
-    → IsSettled frames place heard n → IsSettled frames later heard n
+    → IsAccountedFor frames place heard n → IsAccountedFor frames later heard n
 more_placed frames place heard later n grows (Far far) =
     Far (record { processed = far.processed; is_processed = grows far.processed far.is_processed; far = far.far })
 more_placed frames place heard later n grows (WasTold k vector whole low high done) = WasTold k vector whole low high done
 
 pub more_heard : (frames : List Frame) (place heard later : ℕ → ℕ) (n : ℕ) → ((m : ℕ) → 0 < heard m → 0 < later m)
-    → IsSettled frames place heard n → IsSettled frames place later n
+    → IsAccountedFor frames place heard n → IsAccountedFor frames place later n
 more_heard frames place heard later n grows (Far far) = Far far
 more_heard frames place heard later n grows (WasTold k vector whole low high done) = WasTold k vector whole low high (grows k done)
 
 -- a frame with a vector stays where it is
 stays : (frames : List Frame) (frame : Frame) (k : ℕ) → (frame_at frames k).has_vector ≡ true
-    → frame_at (with_frame frames frame) k ≡ frame_at frames k
+    → frame_at (frames_with frames frame) k ≡ frame_at frames k
 stays frames frame k vector = grind (arith, frame_cases, frame_in)
 
-pub more_sent : (frames : List Frame) (frame : Frame) (place heard : ℕ → ℕ) (n : ℕ) → IsSettled frames place heard n
-    → IsSettled (with_frame frames frame) place heard n
+pub more_sent : (frames : List Frame) (frame : Frame) (place heard : ℕ → ℕ) (n : ℕ) → IsAccountedFor frames place heard n
+    → IsAccountedFor (frames_with frames frame) place heard n
 more_sent frames frame place heard n (Far far) = Far far
 more_sent frames frame place heard n (WasTold k vector whole low high done) =
     let same = stays frames frame k vector in
@@ -48,17 +48,17 @@ below_old_or_new : (floor to n : ℕ) → n < max floor to → (n < floor) ⊎ (
 below_old_or_new floor to n below = grind (arith, apart)
 
 -- the floor rises by the 2,047
-pub join_settled : (side : Side) (count : ℕ) (heard : ℕ → ℕ) (many : ℕ) → AreSettled side.first side.floor side.frames side.place heard
+pub join_settled : (side : MarkSide) (count : ℕ) (heard : ℕ → ℕ) (many : ℕ) → AreSettled side.first side.floor side.frames side.place heard
     → AreSettled side.first (floor_with side.floor count) side.frames (placed_with side.place many count) heard
 join_settled side count heard many settled n some from below = either (below_old_or_far side.floor count n below)
   where
-    either : (n < side.floor) ⊎ (n + 2047 < count) → IsSettled side.frames (placed_with side.place many count) heard n
+    either : (n < side.floor) ⊎ (n + 2047 < count) → IsAccountedFor side.frames (placed_with side.place many count) heard n
     either (inl old) =
         more_placed side.frames side.place heard (placed_with side.place many count) n (placed_still side.place many count) (settled n some from old)
     either (inr far) = Far (record { processed = count; is_processed = placed_here side.place many count; far = far })
 
 -- the floor rises above what a whole vector told of, whose frame the peer processed
-pub raise_settled : (side : Side) (heard : ℕ → ℕ) (own : ℕ) → (frame_at side.frames own).has_vector ≡ true
+pub raise_settled : (side : MarkSide) (heard : ℕ → ℕ) (own : ℕ) → (frame_at side.frames own).has_vector ≡ true
     → (frame_at side.frames own).is_whole ≡ true → (frame_at side.frames own).floor ≤ side.floor → 0 < heard own
     → AreSettled side.first side.floor side.frames side.place heard
     → AreSettled side.first (max side.floor ((frame_at side.frames own).acknowledged + 1)) side.frames side.place heard
@@ -66,13 +66,13 @@ raise_settled side heard own vector whole low done settled n some from below =
     either (below_old_or_new side.floor ((frame_at side.frames own).acknowledged + 1) n below)
   where
     either : (n < side.floor) ⊎ ((side.floor ≤ n) × (n < (frame_at side.frames own).acknowledged + 1))
-        → IsSettled side.frames side.place heard n
+        → IsAccountedFor side.frames side.place heard n
     either (inl old) = settled n some from old
     either (inr new) = WasTold own vector whole (omega arith) (omega arith) done
 
 -- of a side that sent no vector, by the 2,047 alone
 pub far_alone : (frames : List Frame) (place heard : ℕ → ℕ) (n : ℕ) → ((k : ℕ) → (frame_at frames k).has_vector ≡ false)
-    → IsSettled frames place heard n → IsFarBelow place n
+    → IsAccountedFor frames place heard n → IsFarBelow place n
 far_alone frames place heard n silent (Far far) = far
 far_alone frames place heard n silent (WasTold k vector whole low high done) = absurd (both (sym vector ∙ silent k))
   where

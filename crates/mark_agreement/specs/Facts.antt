@@ -1,9 +1,9 @@
 -- Why the laws hold: what each side knows of its peer's frames, after every move (own). Of the peer it needs the frames alone.
 use Rattle.std.specs.Prelude.{◌≡◌, ℕ, ◌+◌, ◌<◌, ◌≤◌, true, false, List, length}
-use Rattle.mark_agreement.specs.View.{Frame, Side, frame_at}
+use Rattle.mark_agreement.specs.View.{Frame, MarkSide, frame_at}
 
 -- the numbers and the marks of a side
-pub record IsSound (side : Side) (there : List Frame) : Type 0 where
+pub record AreSoundNumbers (side : MarkSide) (there : List Frame) : Type 0 where
   pub first_taken : side.first ≤ side.greatest
   pub greatest_sent : side.greatest ≤ length there
   -- before the first frame was taken: nothing was, and no Ack went out
@@ -23,7 +23,7 @@ pub record IsSound (side : Side) (there : List Frame) : Type 0 where
   pub floor_below : side.floor ≤ side.greatest + 1
 
 -- the acknowledgements of a side
-pub record IsHeeded (side : Side) (there : List Frame) : Type 0 where
+pub record IsHeeded (side : MarkSide) (there : List Frame) : Type 0 where
   -- what an Ack or DataAck acknowledges was taken
   pub acknowledged_first : (k : ℕ) → (frame_at side.frames k).is_ack ≡ true → side.first ≤ (frame_at side.frames k).acknowledged
   pub acknowledged_taken : (k : ℕ) → (frame_at side.frames k).is_ack ≡ true

@@ -2,7 +2,7 @@
 use Rattle.std.specs.Prelude.{◌≡◌, ℕ, ◌^◌, ◌<◌, ◌≤◌, Bool}
 use Rattle.seq_circle.specs.Counts.{number_of}
 use Rattle.run_list.specs.MarkedSet.{MarkedSet, IsSound, has}
-use Rattle.mark_agreement.specs.View.{Side}
+use Rattle.mark_agreement.specs.View.{MarkSide}
 
 -- Its floor has the number of the marks' floor, and of the peer's first 2^47 packets it has the numbers of those that are marked.
 pub record AreMarks (iss : ℕ) (set : MarkedSet) (floor : ℕ) (marked : ℕ → Bool) : Type 0 where
@@ -14,5 +14,5 @@ pub record AreMarks (iss : ℕ) (set : MarkedSet) (floor : ℕ) (marked : ℕ �
   pub marks_are : (n : ℕ) → 1 ≤ n → n ≤ 2 ^ 47 → has set.numbers (number_of iss n) ≡ marked n
 
 -- the set is the side's
-abbrev pub IsMarked : ℕ → MarkedSet → Side → Type 0
+abbrev pub IsMarked : ℕ → MarkedSet → MarkSide → Type 0
 IsMarked iss set side = AreMarks iss set side.floor side.marked

@@ -19,7 +19,7 @@ pub record Frame : Type 0 where
   pub says : ℕ → Bool
 
 -- one side of the pair: what it sent, and what it took of its peer's frames, by their counts
-pub record Side : Type 0 where
+pub record MarkSide : Type 0 where
   -- its numbered frames, oldest first
   pub frames : List Frame
   -- the first frame that it took (ISR), and the greatest (GSR); 0 before that
@@ -47,8 +47,8 @@ abbrev pub frame_at : List Frame → ℕ → Frame
 frame_at frames count = slice_index_or (no_frame ∷ frames) count no_frame
 
 -- one frame more
-abbrev pub with_frame : List Frame → Frame → List Frame
-with_frame frames frame = frames ++ frame ∷ []
+abbrev pub frames_with : List Frame → Frame → List Frame
+frames_with frames frame = frames ++ frame ∷ []
 
 -- the frame that was processed at this place, from 1 on
 abbrev pub processed_at : List ℕ → ℕ → ℕ

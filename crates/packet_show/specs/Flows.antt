@@ -6,12 +6,12 @@ use Rattle.dccp_sum.specs.declared.pseudo_header.Pseudo.{Pseudo}
 use Rattle.dccp_sum.specs.declared.pseudo_header.Pseudo.TheVariants.{V4, V6}
 
 -- one end: its address as a number, and its port
-abbrev pub End : Type 0
-End = ℕ × ℕ
+abbrev pub AddressAndPort : Type 0
+AddressAndPort = ℕ × ℕ
 
 -- the version of IP, and both ends, the lesser first
 abbrev pub Flow : Type 0
-Flow = ℕ × End × End
+Flow = ℕ × AddressAndPort × AddressAndPort
 
 -- the version of IP of two addresses
 abbrev pub version_of : Pseudo → ℕ
@@ -19,40 +19,40 @@ version_of (V4 from to) = 4
 version_of (V6 from to) = 6
 
 -- the ends that a packet goes from and to
-abbrev pub from_end : Pseudo → ℕ → End
+abbrev pub from_end : Pseudo → ℕ → AddressAndPort
 from_end (V4 from to) port = (big_number 4 from, port)
 from_end (V6 from to) port = (big_number 16 from, port)
 
-abbrev pub to_end : Pseudo → ℕ → End
+abbrev pub to_end : Pseudo → ℕ → AddressAndPort
 to_end (V4 from to) port = (big_number 4 to, port)
 to_end (V6 from to) port = (big_number 16 to, port)
 
 -- ends have an order: by address, then by port
-abbrev pub is_before : End → End → Bool
-is_before a b = nat_lt a.0 b.0 || (a.0 == b.0 && nat_lt a.1 b.1)
+abbrev pub is_lesser_end : AddressAndPort → AddressAndPort → Bool
+is_lesser_end a b = nat_lt a.0 b.0 || (a.0 == b.0 && nat_lt a.1 b.1)
 
 -- the flow between two ends, whichever sends
-abbrev pub flow_between : ℕ → End → End → Flow
-flow_between version a b = if is_before b a then (version, b, a) else (version, a, b)
+abbrev pub flow_between : ℕ → AddressAndPort → AddressAndPort → Flow
+flow_between version a b = if is_lesser_end b a then (version, b, a) else (version, a, b)
 
 -- the flow of a packet between these addresses and ports
 abbrev pub flow_of : Pseudo → ℕ → ℕ → Flow
 flow_of pseudo from to = flow_between (version_of pseudo) (from_end pseudo from) (to_end pseudo to)
 
-abbrev pub same_end : End → End → Bool
+abbrev pub same_end : AddressAndPort → AddressAndPort → Bool
 same_end a b = a.0 == b.0 && a.1 == b.1
 
 abbrev pub same_flow : Flow → Flow → Bool
 same_flow a b = a.0 == b.0 && (same_end a.1 b.1 && same_end a.2 b.2)
 
 -- the number of the flow at this place, from 1; a new one has the next number
-abbrev pub number_at : Option ℕ → List Flow → ℕ
-number_at (Some place) seen = place + 1
-number_at None seen = length seen + 1
+abbrev pub flow_number_at : Option ℕ → List Flow → ℕ
+flow_number_at (Some place) seen = place + 1
+flow_number_at None seen = length seen + 1
 
 -- the flow's number, where these flows were seen
-abbrev pub number_of : Flow → List Flow → ℕ
-number_of flow seen = number_at (position (same_flow flow) seen) seen
+abbrev pub flow_number : Flow → List Flow → ℕ
+flow_number flow seen = flow_number_at (position (same_flow flow) seen) seen
 
 -- the flows that were seen once this one was seen too
 abbrev pub with_flow : Flow → List Flow → List Flow

@@ -1,18 +1,17 @@
 -- The line of a record, and what is skipped (own).
 use Rattle.std.specs.Prelude.{◌≡◌, ℕ, Bool, true, false, if◌then◌else◌, List, [], ◌++◌, length, codes, decimal, Option, Some, None, Result, Ok, Err}
-use Rattle.dccp_packets.specs.declared.header.Kind.{Kind}
-use Rattle.dccp_packets.specs.declared.header.Kind.TheVariants as kinds
 use Rattle.dccp_packets.specs.declared.header.Header.{Header}
 use Rattle.dccp_packets.specs.declared.reading.Malformed.{Malformed}
 use Rattle.dccp_packets.specs.declared.reading.Packet.{Packet}
 use Rattle.dccp_packets.specs.Grammar.{Parts, decoded, packet_type}
+use Rattle.dccp_packets.specs.Kinds.{is_data}
 use Rattle.dccp_options.specs.Grammar.{options_of}
 use Rattle.dccp_sum.specs.Checksum.{checked}
-use Rattle.capture_reader.specs.Records.{Entry}
+use Rattle.capture_reader.specs.Records.{RecordParts}
 use Rattle.packet_show.specs.declared.flows.Shown.{Shown}
 use Rattle.packet_show.specs.declared.flows.Shown.TheVariants.{Line, Skipped}
-use Rattle.packet_show.specs.Network.{Carried, carried}
-use Rattle.packet_show.specs.Flows.{Flow, flow_of, number_of, with_flow}
+use Rattle.packet_show.specs.Network.{DatagramParts, carried}
+use Rattle.packet_show.specs.Flows.{Flow, flow_number, flow_of, with_flow}
 use Rattle.packet_show.specs.Names.{type_name, malformed_name, sum_name}
 use Rattle.packet_show.specs.Text.{fraction_text, from_text, to_text, number_text, kind_text, options_text}
 
@@ -33,12 +32,12 @@ pub record Shows (showing : Showing) (old new : List ℕ) (seen : List Flow) (an
   pub answered : answer ≡ showing.shown
 
 -- a record's number and its time
-abbrev pub stamp_text : Entry → List ℕ
+abbrev pub stamp_text : RecordParts → List ℕ
 stamp_text entry =
     decimal entry.number ++ codes " " ++ decimal entry.seconds ++ codes "." ++ fraction_text entry.nanos entry.fraction
 
 -- the flow's number and both ends
-abbrev pub ends_text : Carried → Header → ℕ → List ℕ
+abbrev pub ends_text : DatagramParts → Header → ℕ → List ℕ
 ends_text there header flow =
     codes " flow " ++ decimal flow ++ codes " " ++ from_text there.pseudo ++ codes " " ++ decimal header.from
     ++ codes " > " ++ to_text there.pseudo ++ codes " " ++ decimal header.to
@@ -48,26 +47,21 @@ abbrev pub header_text : Header → List ℕ
 header_text header =
     codes " " ++ type_name (packet_type header.kind) ++ codes " seq " ++ number_text header.number ++ kind_text header.kind
 
--- on Data packets some options are ignored
-abbrev pub is_data : Kind → Bool
-is_data kinds.Data = true
-is_data kind = false
-
 -- the verdict on the checksum; it is unknown where bytes are missing
-abbrev pub sum_text : Carried → List ℕ
+abbrev pub sum_text : DatagramParts → List ℕ
 sum_text there = codes " sum " ++ (if there.whole then sum_name (checked there.pseudo there.bytes) else codes "unknown")
 
--- the options, how many bytes of data are there, and the checksum
-abbrev pub rest_text : Carried → Parts → List ℕ
+-- the options, of which some are ignored on Data packets, how many bytes of data are there, and the checksum
+abbrev pub rest_text : DatagramParts → Parts → List ℕ
 rest_text there packet =
-    options_text (options_of packet.options (is_data packet.header.kind)) ++ codes " data " ++ decimal (length packet.payload)
+    options_text (options_of packet.options (is_data (packet_type packet.header.kind))) ++ codes " data " ++ decimal (length packet.payload)
     ++ sum_text there ++ codes "\n"
 
-abbrev pub packet_line : Entry → Carried → Parts → ℕ → List ℕ
+abbrev pub packet_line : RecordParts → DatagramParts → Parts → ℕ → List ℕ
 packet_line entry there packet flow =
     stamp_text entry ++ ends_text there packet.header flow ++ header_text packet.header ++ rest_text there packet
 
-abbrev pub malformed_line : Entry → Malformed → List ℕ
+abbrev pub malformed_line : RecordParts → Malformed → List ℕ
 malformed_line entry why = stamp_text entry ++ codes " malform" ++ codes "ed " ++ malformed_name why ++ codes "\n"
 
 -- no line
@@ -75,24 +69,24 @@ abbrev pub skips : List Flow → Showing
 skips seen = record { text = []; shown = Skipped; flows = seen }
 
 -- a packet's line, which numbers its flow
-abbrev pub shows_packet : List Flow → Entry → Carried → Parts → Flow → Showing
+abbrev pub shows_packet : List Flow → RecordParts → DatagramParts → Parts → Flow → Showing
 shows_packet seen entry there packet flow =
-    record { text = packet_line entry there packet (number_of flow seen); shown = Line; flows = with_flow flow seen }
+    record { text = packet_line entry there packet (flow_number flow seen); shown = Line; flows = with_flow flow seen }
 
 -- a whole packet that is none has a line too, and no flow; where bytes are missing it is skipped
-abbrev pub shows_malformed : List Flow → Entry → Bool → Malformed → Showing
+abbrev pub shows_malformed : List Flow → RecordParts → Bool → Malformed → Showing
 shows_malformed seen entry true why = record { text = malformed_line entry why; shown = Line; flows = seen }
 shows_malformed seen entry false why = skips seen
 
-abbrev pub shows_decoded : List Flow → Entry → Carried → Result Parts Malformed → Showing
+abbrev pub shows_decoded : List Flow → RecordParts → DatagramParts → Result Parts Malformed → Showing
 shows_decoded seen entry there (Ok packet) =
     shows_packet seen entry there packet (flow_of there.pseudo packet.header.from packet.header.to)
 shows_decoded seen entry there (Err why) = shows_malformed seen entry there.whole why
 
-abbrev pub shows_carried : List Flow → Entry → Option Carried → Showing
+abbrev pub shows_carried : List Flow → RecordParts → Option DatagramParts → Showing
 shows_carried seen entry None = skips seen
 shows_carried seen entry (Some there) = shows_decoded seen entry there (decoded there.bytes)
 
 -- what a record comes to, where these flows were seen before
-abbrev pub shows : List Flow → Entry → Showing
+abbrev pub shows : List Flow → RecordParts → Showing
 shows seen entry = shows_carried seen entry (carried entry.link entry.bytes)

@@ -1,23 +1,19 @@
 -- Where a captured record carries DCCP: Ethernet, IPv4 (RFC 791, section 3.1) and IPv6 (RFC 8200, section 3).
 use Rattle.std.specs.Prelude.{ℕ, ◌+◌, ◌-◌, ◌*◌, ◌/◌, ◌%◌, Bool, ◌&&◌, ◌==◌, nat_le, nat_lt, if◌then◌else◌, List, length, take, drop, slice_index, Option, Some, None}
-use Rattle.byteorder.specs.Endian.{big_number}
 use Rattle.dccp_sum.specs.declared.pseudo_header.Pseudo.{Pseudo}
 use Rattle.dccp_sum.specs.declared.pseudo_header.Pseudo.TheVariants.{V4, V6}
 use Rattle.packet_show.specs.declared.network.Datagram.{Datagram}
+use Rattle.dccp_packets.specs.Grammar.{number_at}
 
 -- The addresses, the DCCP bytes that were captured, and whether these are all that the IP length leaves.
-pub record Carried : Type 0 where
+pub record DatagramParts : Type 0 where
   pub pseudo : Pseudo
   pub bytes : List ℕ
   pub whole : Bool
 
 -- the same, apart from where the bytes lie
-abbrev pub carried_by : Datagram → Carried
+abbrev pub carried_by : Datagram → DatagramParts
 carried_by d = record { pseudo = d.pseudo; bytes = d.bytes.now; whole = d.whole }
-
--- the number in some bytes from a place on, most significant first
-abbrev pub number_at : ℕ → ℕ → List ℕ → ℕ
-number_at place count bytes = big_number count (drop place bytes)
 
 -- some bytes from a place on
 abbrev pub bytes_at : ℕ → ℕ → List ℕ → List ℕ
@@ -48,14 +44,14 @@ is_v4 bytes =
     && slice_index bytes 9 == 33
 
 -- the DCCP packet behind an IPv4 header
-abbrev pub behind_v4 : List ℕ → Carried
+abbrev pub behind_v4 : List ℕ → DatagramParts
 behind_v4 bytes = record {
   pseudo = V4 (bytes_at 12 4 bytes) (bytes_at 16 4 bytes);
   bytes = bytes_at (v4_header bytes) (v4_total bytes - v4_header bytes) bytes;
   whole = nat_le (v4_total bytes) (length bytes);
 }
 
-abbrev pub in_v4 : List ℕ → Option Carried
+abbrev pub in_v4 : List ℕ → Option DatagramParts
 in_v4 bytes = if is_v4 bytes then Some (behind_v4 bytes) else None
 
 -- the payload length of an IPv6 packet
@@ -67,27 +63,27 @@ abbrev pub is_v6 : List ℕ → Bool
 is_v6 bytes = nat_le 40 (length bytes) && version bytes == 6 && slice_index bytes 6 == 33
 
 -- the DCCP packet behind an IPv6 header
-abbrev pub behind_v6 : List ℕ → Carried
+abbrev pub behind_v6 : List ℕ → DatagramParts
 behind_v6 bytes = record {
   pseudo = V6 (bytes_at 8 16 bytes) (bytes_at 24 16 bytes);
   bytes = bytes_at 40 (v6_payload bytes) bytes;
   whole = nat_le (40 + v6_payload bytes) (length bytes);
 }
 
-abbrev pub in_v6 : List ℕ → Option Carried
+abbrev pub in_v6 : List ℕ → Option DatagramParts
 in_v6 bytes = if is_v6 bytes then Some (behind_v6 bytes) else None
 
 -- IP of the version that it says
-abbrev pub in_ip : List ℕ → Option Carried
+abbrev pub in_ip : List ℕ → Option DatagramParts
 in_ip bytes = if is_v4 bytes then in_v4 bytes else in_v6 bytes
 
 -- Ethernet: 14 bytes, the last two of which are 0800 for IPv4 or 86dd for IPv6
-abbrev pub in_frame : ℕ → List ℕ → Option Carried
+abbrev pub in_frame : ℕ → List ℕ → Option DatagramParts
 in_frame kind bytes = if kind == 2048 then in_v4 bytes else if kind == 34525 then in_v6 bytes else None
 
-abbrev pub in_ethernet : List ℕ → Option Carried
+abbrev pub in_ethernet : List ℕ → Option DatagramParts
 in_ethernet bytes = if nat_lt (length bytes) 14 then None else in_frame (number_at 12 2 bytes) (drop 14 bytes)
 
 -- DCCP in a record of this link type: 1 is Ethernet, 101 begins with IP
-abbrev pub carried : ℕ → List ℕ → Option Carried
+abbrev pub carried : ℕ → List ℕ → Option DatagramParts
 carried link bytes = if link == 1 then in_ethernet bytes else if link == 101 then in_ip bytes else None

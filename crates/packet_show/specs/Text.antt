@@ -18,9 +18,9 @@ abbrev pub byte_text : ℕ → List ℕ
 byte_text byte = encode_lower (byte ∷ [])
 
 -- bytes in lower-case hexadecimal, or a dash where there are none
-abbrev pub hex_text : List ℕ → List ℕ
-hex_text [] = codes "-"
-hex_text (byte ∷ bytes) = flat_map byte_text (byte ∷ bytes)
+abbrev pub hex_or_dash : List ℕ → List ℕ
+hex_or_dash [] = codes "-"
+hex_or_dash (byte ∷ bytes) = flat_map byte_text (byte ∷ bytes)
 
 -- zeros in front of a number's digits up to that many digits, at most nine; longer numbers stay whole
 abbrev pub zeros_before : ℕ → List ℕ → List ℕ
@@ -100,7 +100,7 @@ kind_text (SyncAck ack) = ack_text (Long ack)
 
 -- an option without a name of its own
 abbrev pub numbered_text : List ℕ → ℕ → List ℕ → List ℕ
-numbered_text name kind body = name ++ codes " " ++ decimal kind ++ codes " " ++ hex_text body
+numbered_text name kind body = name ++ codes " " ++ decimal kind ++ codes " " ++ hex_or_dash body
 
 -- a Change or Confirm by its feature; without a feature's number it has no name
 abbrev pub feature_text : ℕ → List ℕ → List ℕ
@@ -109,7 +109,7 @@ feature_text kind (feature ∷ rest) = numbered_text (option_name kind) feature 
 
 abbrev pub option_by_form : OptionForm → ℕ → List ℕ → List ℕ
 option_by_form forms.Bare kind body = option_name kind
-option_by_form forms.Data kind body = option_name kind ++ codes " " ++ hex_text body
+option_by_form forms.Data kind body = option_name kind ++ codes " " ++ hex_or_dash body
 option_by_form forms.Feature kind body = feature_text kind body
 option_by_form forms.Numbered kind body = numbered_text (option_name kind) kind body
 

@@ -3,7 +3,7 @@ ghost use Rattle.std.specs.Prelude.{◌≡◌, ◌≤◌, length, [], IfOk, OnOk
 ghost use Rattle.byteorder.specs.Endian.{big_number};
 ghost use Rattle.capture_reader.specs.Records.{entry_of};
 ghost use Rattle.packet_show.specs.Network.{carried_by};
-ghost use Rattle.packet_show.specs.Flows.{version_of, from_end, to_end, is_before, flow_between, flow_of, number_of, with_flow};
+ghost use Rattle.packet_show.specs.Flows.{version_of, from_end, to_end, is_lesser_end, flow_between, flow_of, flow_number, with_flow};
 ghost use Rattle.packet_show.specs.Lines.{shows, shows_packet, shows_malformed, parts_by, Shows};
 
 use crate::line::Line;
@@ -90,8 +90,8 @@ fn to_end(pseudo: &Pseudo, port: u16) -> End
     }
 }
 
-fn is_before(a: End, b: End) -> bool
-    ensures { result ≡ is_before a b }
+fn is_lesser_end(a: End, b: End) -> bool
+    ensures { result ≡ is_lesser_end a b }
 {
     a.0 < b.0 || (a.0 == b.0 && a.1 < b.1)
 }
@@ -99,7 +99,7 @@ fn is_before(a: End, b: End) -> bool
 fn flow_between(version: u8, a: End, b: End) -> Flow
     ensures { result ≡ flow_between version a b }
 {
-    if is_before(b, a) {
+    if is_lesser_end(b, a) {
         return (version, b, a);
     }
     (version, a, b)
@@ -135,8 +135,8 @@ impl Flows {
     }
 
     // The number of a flow, also of one that was not seen yet.
-    fn number_of(&self, flow: &Flow) -> u64
-        ensures { result ≡ number_of flow.now self.now }
+    fn flow_number(&self, flow: &Flow) -> u64
+        ensures { result ≡ flow_number flow.now self.now }
     {
         let count = self.seen.len();
         match self.seen.get_index_of(flow) {
@@ -173,7 +173,7 @@ impl Flows {
         ensures text_unchanged { OnErr result (to.new.items ≡ to.old.items) }
     {
         let flow = flow_of(&there.pseudo, packet.header.from, packet.header.to);
-        let number = self.number_of(&flow);
+        let number = self.flow_number(&flow);
         let mut line = Line::new(mem::replace(to, Vec::new(self.alloc)));
         if put_packet(&mut line, item, there, packet, number).is_err() || self.note(flow).is_err() {
             *to = line.cancel();

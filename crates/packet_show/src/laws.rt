@@ -1,8 +1,8 @@
 //! What the definitions say of flows.
 ghost use Rattle.std.specs.Prelude.{◌≡◌, ℕ};
-ghost use Rattle.packet_show.specs.Flows.{End, flow_between};
+ghost use Rattle.packet_show.specs.Flows.{AddressAndPort, flow_between};
 
 /// The flow between two ends is the same whichever sends.
 pub fn a_flow_has_both_directions()
-    ensures { (version : ℕ) (a b : End) → flow_between version a b ≡ flow_between version b a }
+    ensures { (version : ℕ) (a b : AddressAndPort) → flow_between version a b ≡ flow_between version b a }
 {}

@@ -1,6 +1,7 @@
 //! DCCP in captured records: Ethernet, IPv4 (RFC 791, section 3.1) and IPv6 (RFC 8200, section 3).
 ghost use Rattle.std.specs.Prelude.{◌≡◌, ◌+◌, ◌≤◌, length, take, drop, option_map, IfSome};
-ghost use Rattle.packet_show.specs.Network.{carried_by, bytes_at, version, v4_header, v4_total, is_unfragmented, is_v4, behind_v4, in_v4, v6_payload, is_v6, behind_v6, in_v6, in_ip, in_frame, in_ethernet, carried, number_at};
+ghost use Rattle.packet_show.specs.Network.{carried_by, bytes_at, version, v4_header, v4_total, is_unfragmented, is_v4, behind_v4, in_v4, v6_payload, is_v6, behind_v6, in_v6, in_ip, in_frame, in_ethernet, carried};
+ghost use Rattle.dccp_packets.specs.Grammar.{number_at};
 
 use byteorder::{BigEndian, ByteOrder};
 use dccp_sum::Pseudo;

@@ -1,6 +1,6 @@
 //! Numbers, addresses and bytes as text.
 ghost use Rattle.std.specs.Prelude.{◌≡◌, ◌≤◌, ◌++◌, decimal, flat_map, OnOk};
-ghost use Rattle.packet_show.specs.Text.{byte_text, hex_text, zeros_before, fraction_text, v4_text, group_text, without_zeros, groups_text, v6_text, from_text, to_text, number_text};
+ghost use Rattle.packet_show.specs.Text.{byte_text, hex_or_dash, zeros_before, fraction_text, v4_text, group_text, without_zeros, groups_text, v6_text, from_text, to_text, number_text};
 
 use crate::line::Line;
 use dccp_packets::Number;
@@ -39,7 +39,7 @@ fn put_digits(line: &mut Line, bytes: &[u8]) -> Result<(), NoMemory>
 /// Puts bytes in lower-case hexadecimal, or a dash where there are none.
 pub(crate) fn put_hex(line: &mut Line, bytes: &[u8]) -> Result<(), NoMemory>
     ensures before { line.new.before ≡ line.old.before }
-    ensures ok { OnOk result (line.new.line ≡ line.old.line ++ hex_text bytes.now) }
+    ensures ok { OnOk result (line.new.line ≡ line.old.line ++ hex_or_dash bytes.now) }
 {
     if bytes.is_empty() {
         return line.put(b"-");

@@ -4,7 +4,7 @@ ghost use Rattle.dccp_packets.specs.declared.header.Number.TheVariants.{Long};
 ghost use Rattle.capture_reader.specs.Records.{entry_of};
 ghost use Rattle.packet_show.specs.Network.{carried_by};
 ghost use Rattle.packet_show.specs.Text.{ack_text, service_text, code_text, kind_text};
-ghost use Rattle.packet_show.specs.Lines.{stamp_text, ends_text, header_text, is_data, sum_text, rest_text, packet_line, malformed_line, parts_by};
+ghost use Rattle.packet_show.specs.Lines.{stamp_text, ends_text, header_text, sum_text, rest_text, packet_line, malformed_line, parts_by};
 
 use crate::line::Line;
 use crate::names::{malformed_name, sum_name, type_name};
@@ -122,12 +122,6 @@ fn put_header(line: &mut Line, header: &Header) -> Result<(), NoMemory>
     put_kind(line, &header.kind)
 }
 
-fn is_data(kind: &Kind) -> bool
-    ensures { result ≡ is_data kind.now }
-{
-    matches!(kind, Kind::Data)
-}
-
 fn put_sum(line: &mut Line, there: &Datagram<'_>) -> Result<(), NoMemory>
     requires low { 8 ≤ length there.now.bytes.now }
     requires high { length there.now.bytes.now ≤ 65535 }
@@ -149,7 +143,11 @@ fn put_rest(line: &mut Line, there: &Datagram<'_>, packet: &Packet<'_>) -> Resul
     ensures before { line.new.before ≡ line.old.before }
     ensures ok { OnOk result (line.new.line ≡ line.old.line ++ rest_text (carried_by there.now) (parts_by packet.now)) }
 {
-    put_options(line, packet.options, is_data(&packet.header.kind))?;
+    put_options(
+        line,
+        packet.options,
+        packet.header.kind.packet_type().is_data(),
+    )?;
     line.put(b" data ")?;
     line.put_number(packet.payload.len() as u64)?;
     put_sum(line, there)?;

@@ -9,7 +9,7 @@ use Rattle.run_list.specs.declared.linked.Node.{Node}
 use Rattle.run_list.specs.MarkedSet.{is_from}
 use Rattle.run_list.specs.Stretches.{stretch}
 use Rattle.run_list.specs.Runs.{numbers_of, AreLaid, bound_below, bound_after}
-use Rattle.run_list.specs.Linked.{node_at, run_of, runs_at, runs_from, IsPath, times, IsParted, IsLinked, IsPlace, IsPlaceBelow}
+use Rattle.run_list.specs.Linked.{node_at, run_of, runs_at, runs_from, IsPath, times_listed, IsParted, IsLinked, IsPlace, IsPlaceBelow}
 use Rattle.run_list.proofs.Downs.{dropped-downwards}
 use Rattle.run_list.proofs.Laid.{numbers_of-append, laid_front, laid_back, bound_falls}
 use Rattle.run_list.proofs.Kept.{last_kept, laid_wider}
@@ -69,15 +69,15 @@ cut_parted nodes first free before at x l p h e =
     let new : List Node = set nodes before x in
     let new_size : length new ≡ 1024 = length-set nodes before x ∙ l.size in
     let all : length p.passed + length p.rest + length l.spare ≡ 1024 = place_all nodes first free before at l p in
-    let once : times before p.passed + times before p.rest + times before l.spare ≡ 1 = place_once nodes first free before at before l p h in
-    let there : 1 ≤ times before p.passed = times-last before p.passed h p.last in
-    let no_rest : times before p.rest ≡ 0 = omega arith in
-    let no_spare : times before l.spare ≡ 0 = omega arith in
+    let once : times_listed before p.passed + times_listed before p.rest + times_listed before l.spare ≡ 1 = place_once nodes first free before at before l p h in
+    let there : 1 ≤ times_listed before p.passed = times-last before p.passed h p.last in
+    let no_rest : times_listed before p.rest ≡ 0 = omega arith in
+    let no_spare : times_listed before l.spare ≡ 0 = omega arith in
     let parts : p.passed ≡ front p.passed ++ before ∷ [] = last-front before p.passed h p.last in
-    let counts : times before p.passed ≡ times before (front p.passed ++ before ∷ []) = ap (λ (js : List ℕ). times before js) parts in
-    let both : times before (front p.passed ++ before ∷ []) ≡ times before (front p.passed) + times before (before ∷ []) = times-append before (front p.passed) (before ∷ []) in
-    let self : times before (before ∷ []) ≡ 1 + times before [] = times-here before before [] refl in
-    let no_front : times before (front p.passed) ≡ 0 = omega arith in
+    let counts : times_listed before p.passed ≡ times_listed before (front p.passed ++ before ∷ []) = ap (λ (js : List ℕ). times_listed before js) parts in
+    let both : times_listed before (front p.passed ++ before ∷ []) ≡ times_listed before (front p.passed) + times_listed before (before ∷ []) = times-append before (front p.passed) (before ∷ []) in
+    let self : times_listed before (before ∷ []) ≡ 1 + times_listed before [] = times-here before before [] refl in
+    let no_front : times_listed before (front p.passed) ≡ 0 = omega arith in
     let P : ℕ → Type 0 = λ k. IsPath new first p.passed k in
     let used_path : IsPath new first p.passed 1024 =
     subst P e (path-redirect nodes before first at x p.passed (omega arith) h p.passed_path p.last (omega arith)) in (

@@ -3,7 +3,7 @@ use Rattle.std.proofs.Common.{◌≡◌, ℕ, ◌+◌, ◌-◌, ◌<◌, ◌≤�
 use Rattle.std.proofs.lemmas.Bool.{cases_eq}
 use Rattle.std.proofs.lemmas.Grind.{get_or-set_at}
 use Rattle.run_list.specs.declared.linked.Node.{Node}
-use Rattle.run_list.specs.Linked.{no_node, node_at, runs_from, IsPath, times, IsLinked}
+use Rattle.run_list.specs.Linked.{no_node, node_at, runs_from, IsPath, times_listed, IsLinked}
 use Rattle.run_list.proofs.Paths.{times-here, times-other, path-set, from-path}
 
 -- so many indices, from one up
@@ -11,22 +11,22 @@ abbrev pub upwards : ℕ → ℕ → List ℕ
 upwards zero at = []
 upwards (suc count) at = at ∷ upwards count (at + 1)
 
-times-below : (i count at : ℕ) → i < at → times i (upwards count at) ≡ 0
+times-below : (i count at : ℕ) → i < at → times_listed i (upwards count at) ≡ 0
 times-below i zero at h = refl
 times-below i (suc count) at h =
-    let ih : times i (upwards count (at + 1)) ≡ 0 = times-below i count (at + 1) (omega arith) in
+    let ih : times_listed i (upwards count (at + 1)) ≡ 0 = times-below i count (at + 1) (omega arith) in
     let one = times-other i at (upwards count (at + 1)) (λ e. absurd (omega arith)) in
     omega arith
 
-times-within : (i count at : ℕ) → at ≤ i → i < at + count → times i (upwards count at) ≡ 1
+times-within : (i count at : ℕ) → at ≤ i → i < at + count → times_listed i (upwards count at) ≡ 1
 times-within i zero at h k = absurd (omega arith)
 times-within i (suc count) at h k =
     elim (cases_eq i at) [
       | inl same ↦
-          let none : times i (upwards count (at + 1)) ≡ 0 = times-below i count (at + 1) (omega arith) in
+          let none : times_listed i (upwards count (at + 1)) ≡ 0 = times-below i count (at + 1) (omega arith) in
           let one = times-here i at (upwards count (at + 1)) same in omega arith
       | inr other ↦
-          let ih : times i (upwards count (at + 1)) ≡ 1 = times-within i count (at + 1) (omega arith) (omega arith) in
+          let ih : times_listed i (upwards count (at + 1)) ≡ 1 = times-within i count (at + 1) (omega arith) (omega arith) in
           let one = times-other i at (upwards count (at + 1)) other in omega arith
     ]
 
@@ -44,7 +44,7 @@ pub chain_more : (nodes : List Node) (free next : ℕ) (x : Node) → length nod
 chain_more nodes free next x s e h k p =
     let count : 1024 - next ≡ suc (1024 - free) = omega arith in
     let read : node_at (set nodes next x) next ≡ x = get_or-set_at nodes next next x no_node refl (omega arith) in
-    let none : times next (chain_up free) ≡ 0 = times-below next (1024 - free) free (omega arith) in
+    let none : times_listed next (chain_up free) ≡ 0 = times-below next (1024 - free) free (omega arith) in
     let tail : IsPath (set nodes next x) free (chain_up free) 1024 = path-set nodes next free 1024 x (chain_up free) none p in
     let P : ℕ → Type 0 = λ i. IsPath (set nodes next x) i (upwards (1024 - free) free) 1024 in
     let there : IsPath (set nodes next x) (node_at (set nodes next x) next).next (upwards (1024 - free) free) 1024 =
@@ -68,7 +68,7 @@ chain_linked nodes free s e p =
         size = s;
         used_path = refl;
         spare_path = p;
-        once = λ i h. (let one : times i (chain_up free) ≡ 1 = times-within i (1024 - free) free (omega arith) (omega arith) in omega arith);
+        once = λ i h. (let one : times_listed i (chain_up free) ≡ 1 = times-within i (1024 - free) free (omega arith) (omega arith) in omega arith);
         all = omega arith;
       },
       from-path nodes 1024 [] s (omega arith) refl,

@@ -8,7 +8,7 @@ use Rattle.run_list.specs.declared.linked.Node.{Node}
 use Rattle.run_list.specs.MarkedSet.{has}
 use Rattle.run_list.specs.Stretches.{stretch}
 use Rattle.run_list.specs.Runs.{numbers_of, AreLaid, bound_below, bound_after, Adds}
-use Rattle.run_list.specs.Linked.{no_node, node_at, run_of, runs_at, runs_from, IsPath, times, IsChained, IsParted, IsLinked, IsPlace, Points}
+use Rattle.run_list.specs.Linked.{no_node, node_at, run_of, runs_at, runs_from, IsPath, times_listed, IsChained, IsParted, IsLinked, IsPlace, Points}
 use Rattle.run_list.proofs.Downs.{inside-present}
 use Rattle.run_list.proofs.Laid.{adds_behind, adds_alone, laid_back, laid_front, laid_below, present_behind, bound_falls, room_for_runs}
 use Rattle.run_list.proofs.Paths.{times-here, times-append, times-cons, last_apart, path-append, one_path, path-end, path-fits, path-some, behind, path-head, runs-append, length-runs, from-path, path-set, runs-set, path-same, runs-edited}
@@ -37,11 +37,11 @@ rest_runs nodes first before at p s = let few = p.few in from-path nodes at p.re
 
 -- each index is once before the place, from it on, or among the free ones
 pub place_once : (nodes : List Node) (first free before at i : ℕ) (l : IsLinked nodes first free) (p : IsPlace nodes first before at) → i < 1024
-    → times i p.passed + times i p.rest + times i l.spare ≡ 1
+    → times_listed i p.passed + times_listed i p.rest + times_listed i l.spare ≡ 1
 place_once nodes first free before at i l p h =
-    let once : times i l.used + times i l.spare ≡ 1 = l.once i h in
-    let parts : times i l.used ≡ times i (p.passed ++ p.rest) = ap (λ (js : List ℕ). times i js) (linked_place nodes first free before at l p) in
-    let both : times i (p.passed ++ p.rest) ≡ times i p.passed + times i p.rest = times-append i p.passed p.rest in
+    let once : times_listed i l.used + times_listed i l.spare ≡ 1 = l.once i h in
+    let parts : times_listed i l.used ≡ times_listed i (p.passed ++ p.rest) = ap (λ (js : List ℕ). times_listed i js) (linked_place nodes first free before at l p) in
+    let both : times_listed i (p.passed ++ p.rest) ≡ times_listed i p.passed + times_listed i p.rest = times-append i p.passed p.rest in
     omega arith
 
 pub place_all : (nodes : List Node) (first free before at : ℕ) (l : IsLinked nodes first free) (p : IsPlace nodes first before at)
@@ -93,26 +93,26 @@ link_linked nodes new first new_first free before at x l p h e t =
     let follows : ℕ = (node_at nodes free).next in
     let head = path-head nodes free l.spare h l.spare_path in
     let size : length nodes ≡ 1024 = l.size in
-    let sums : (i : ℕ) → i < 1024 → times i p.passed + times i p.rest + (times i (free ∷ []) + times i spare) ≡ 1 = λ i k.
-    (let once : times i p.passed + times i p.rest + times i l.spare ≡ 1 = place_once nodes first free before at i l p k in
-    let one : times i l.spare ≡ times i (free ∷ spare) = ap (λ (js : List ℕ). times i js) head.0 in
-    let two : times i (free ∷ spare) ≡ times i (free ∷ []) + times i spare = times-cons i free spare in
+    let sums : (i : ℕ) → i < 1024 → times_listed i p.passed + times_listed i p.rest + (times_listed i (free ∷ []) + times_listed i spare) ≡ 1 = λ i k.
+    (let once : times_listed i p.passed + times_listed i p.rest + times_listed i l.spare ≡ 1 = place_once nodes first free before at i l p k in
+    let one : times_listed i l.spare ≡ times_listed i (free ∷ spare) = ap (λ (js : List ℕ). times_listed i js) head.0 in
+    let two : times_listed i (free ∷ spare) ≡ times_listed i (free ∷ []) + times_listed i spare = times-cons i free spare in
     omega arith) in
-    let self : times free (free ∷ []) ≡ 1 + times free [] = times-here free free [] refl in
+    let self : times_listed free (free ∷ []) ≡ 1 + times_listed free [] = times-here free free [] refl in
     let here = sums free h in
-    let no_passed : times free p.passed ≡ 0 = omega arith in
-    let no_rest : times free p.rest ≡ 0 = omega arith in
-    let no_spare : times free spare ≡ 0 = omega arith in
-    let few : (i : ℕ) → i < 1024 → times i p.passed ≤ 1 = λ i k. (let s = sums i k in omega arith) in
+    let no_passed : times_listed free p.passed ≡ 0 = omega arith in
+    let no_rest : times_listed free p.rest ≡ 0 = omega arith in
+    let no_spare : times_listed free spare ≡ 0 = omega arith in
+    let few : (i : ℕ) → i < 1024 → times_listed i p.passed ≤ 1 = λ i k. (let s = sums i k in omega arith) in
     let behind_passed : IsPath new new_first p.passed free =
     t.path p.passed at (path-set nodes free first at x p.passed no_passed p.passed_path) p.last few in
     let read : node_at mid free ≡ x = get_or-set_at nodes free free x no_node refl (omega arith) in
     let P : ℕ → Type 0 = λ k. IsPath mid k p.rest 1024 in
     let tail : IsPath mid (node_at mid free).next p.rest 1024 =
     subst P (sym (ap (λ (n : Node). n.next) read ∙ e)) (path-set nodes free at 1024 x p.rest no_rest p.rest_path) in
-    let apart : times before (free ∷ p.rest) ≡ 0 = last_apart mid before free 1024 p.passed (free ∷ p.rest) p.last (refl, h, tail)
-    (λ i k. (let s = sums i k in let c : times i (free ∷ p.rest) ≡ times i (free ∷ []) + times i p.rest = times-cons i free p.rest in omega arith)) in
-    let apart_spare : times before spare ≡ 0 = last_apart nodes before follows 1024 p.passed spare p.last head.1 (λ i k. (let s = sums i k in omega arith)) in
+    let apart : times_listed before (free ∷ p.rest) ≡ 0 = last_apart mid before free 1024 p.passed (free ∷ p.rest) p.last (refl, h, tail)
+    (λ i k. (let s = sums i k in let c : times_listed i (free ∷ p.rest) ≡ times_listed i (free ∷ []) + times_listed i p.rest = times-cons i free p.rest in omega arith)) in
+    let apart_spare : times_listed before spare ≡ 0 = last_apart nodes before follows 1024 p.passed spare p.last head.1 (λ i k. (let s = sums i k in omega arith)) in
     let used_path : IsPath new new_first (p.passed ++ free ∷ p.rest) 1024 =
     path-append new new_first free 1024 p.passed (free ∷ p.rest) behind_passed (t.others free 1024 (free ∷ p.rest) apart (refl, h, tail)) in
     let new_size : length new ≡ 1024 = t.size ∙ length-set nodes free x ∙ l.size in
@@ -125,8 +125,8 @@ link_linked nodes new first new_first free before at x l p h e t =
         size = new_size;
         used_path = used_path;
         spare_path = t.others follows 1024 spare apart_spare (path-set nodes free follows 1024 x spare no_spare head.1);
-        once = λ i k. (let s = sums i k in let c : times i (free ∷ p.rest) ≡ times i (free ∷ []) + times i p.rest = times-cons i free p.rest in
-            let d : times i (p.passed ++ free ∷ p.rest) ≡ times i p.passed + times i (free ∷ p.rest) = times-append i p.passed (free ∷ p.rest) in omega arith);
+        once = λ i k. (let s = sums i k in let c : times_listed i (free ∷ p.rest) ≡ times_listed i (free ∷ []) + times_listed i p.rest = times-cons i free p.rest in
+            let d : times_listed i (p.passed ++ free ∷ p.rest) ≡ times_listed i p.passed + times_listed i (free ∷ p.rest) = times-append i p.passed (free ∷ p.rest) in omega arith);
         all = omega arith;
       },
       from-path new new_first (p.passed ++ free ∷ p.rest) new_size (omega arith) used_path
@@ -135,12 +135,12 @@ link_linked nodes new first new_first free before at x l p h e t =
 
 -- the node at a place is in no other place
 pub place_head : (nodes : List Node) (first free before at i : ℕ) (l : IsLinked nodes first free) (p : IsPlace nodes first before at) → at < 1024 → i < 1024
-    → times i p.passed + times i (at ∷ []) + times i (behind p.rest) + times i l.spare ≡ 1
+    → times_listed i p.passed + times_listed i (at ∷ []) + times_listed i (behind p.rest) + times_listed i l.spare ≡ 1
 place_head nodes first free before at i l p h k =
     let head = path-head nodes at p.rest h p.rest_path in
-    let once : times i p.passed + times i p.rest + times i l.spare ≡ 1 = place_once nodes first free before at i l p k in
-    let one : times i p.rest ≡ times i (at ∷ behind p.rest) = ap (λ (js : List ℕ). times i js) head.0 in
-    let two : times i (at ∷ behind p.rest) ≡ times i (at ∷ []) + times i (behind p.rest) = times-cons i at (behind p.rest) in
+    let once : times_listed i p.passed + times_listed i p.rest + times_listed i l.spare ≡ 1 = place_once nodes first free before at i l p k in
+    let one : times_listed i p.rest ≡ times_listed i (at ∷ behind p.rest) = ap (λ (js : List ℕ). times_listed i js) head.0 in
+    let two : times_listed i (at ∷ behind p.rest) ≡ times_listed i (at ∷ []) + times_listed i (behind p.rest) = times-cons i at (behind p.rest) in
     omega arith
 
 -- the run at a place changes where it is
@@ -151,7 +151,7 @@ edit_linked nodes first free before at x l p h e =
     let size : length nodes ≡ 1024 = l.size in
     let all : length l.used + length l.spare ≡ 1024 = l.all in
     let head = path-head nodes at p.rest h p.rest_path in
-    let self : times at (at ∷ []) ≡ 1 + times at [] = times-here at at [] refl in
+    let self : times_listed at (at ∷ []) ≡ 1 + times_listed at [] = times-here at at [] refl in
     let once = place_head nodes first free before at at l p h h in
     let used_path : IsPath (set nodes at x) first l.used 1024 = path-same nodes at first 1024 x l.used (omega arith) e l.used_path in
     let new_size : length (set nodes at x) ≡ 1024 = length-set nodes at x ∙ l.size in
@@ -186,24 +186,24 @@ join_linked nodes first free before at next x y l p h e g d c =
     let head = path-head nodes at p.rest h p.rest_path in
     let Q : ℕ → Type 0 = λ k. IsPath nodes k (behind p.rest) 1024 in
     let second = path-head nodes next (behind p.rest) g (subst Q (sym e) head.1) in
-    let sums : (i : ℕ) → i < 1024 → times i p.passed + times i (at ∷ []) + (times i (next ∷ []) + times i rest) + times i l.spare ≡ 1 = λ i k.
+    let sums : (i : ℕ) → i < 1024 → times_listed i p.passed + times_listed i (at ∷ []) + (times_listed i (next ∷ []) + times_listed i rest) + times_listed i l.spare ≡ 1 = λ i k.
     (let once = place_head nodes first free before at i l p h k in
-    let one : times i (behind p.rest) ≡ times i (next ∷ rest) = ap (λ (js : List ℕ). times i js) second.0 in
-    let two : times i (next ∷ rest) ≡ times i (next ∷ []) + times i rest = times-cons i next rest in
+    let one : times_listed i (behind p.rest) ≡ times_listed i (next ∷ rest) = ap (λ (js : List ℕ). times_listed i js) second.0 in
+    let two : times_listed i (next ∷ rest) ≡ times_listed i (next ∷ []) + times_listed i rest = times-cons i next rest in
     omega arith) in
-    let self : times at (at ∷ []) ≡ 1 + times at [] = times-here at at [] refl in
-    let other : times next (next ∷ []) ≡ 1 + times next [] = times-here next next [] refl in
+    let self : times_listed at (at ∷ []) ≡ 1 + times_listed at [] = times-here at at [] refl in
+    let other : times_listed next (next ∷ []) ≡ 1 + times_listed next [] = times-here next next [] refl in
     let here = sums at h in
     let there = sums next g in
-    let cons : times next (at ∷ rest) ≡ times next (at ∷ []) + times next rest = times-cons next at rest in
-    let both : times next (p.passed ++ at ∷ rest) ≡ times next p.passed + times next (at ∷ rest) = times-append next p.passed (at ∷ rest) in
-    let free_of : times next (p.passed ++ at ∷ rest) ≡ 0 = omega arith in
-    let passed_next : times next p.passed ≡ 0 = omega arith in
-    let at_next : times next (at ∷ rest) ≡ 0 = omega arith in
-    let spare_next : times next l.spare ≡ 0 = omega arith in
-    let passed_at : times at p.passed ≡ 0 = omega arith in
-    let rest_at : times at rest ≡ 0 = omega arith in
-    let spare_at : times at l.spare ≡ 0 = omega arith in
+    let cons : times_listed next (at ∷ rest) ≡ times_listed next (at ∷ []) + times_listed next rest = times-cons next at rest in
+    let both : times_listed next (p.passed ++ at ∷ rest) ≡ times_listed next p.passed + times_listed next (at ∷ rest) = times-append next p.passed (at ∷ rest) in
+    let free_of : times_listed next (p.passed ++ at ∷ rest) ≡ 0 = omega arith in
+    let passed_next : times_listed next p.passed ≡ 0 = omega arith in
+    let at_next : times_listed next (at ∷ rest) ≡ 0 = omega arith in
+    let spare_next : times_listed next l.spare ≡ 0 = omega arith in
+    let passed_at : times_listed at p.passed ≡ 0 = omega arith in
+    let rest_at : times_listed at rest ≡ 0 = omega arith in
+    let spare_at : times_listed at l.spare ≡ 0 = omega arith in
     let read : node_at mid at ≡ x = get_or-set_at nodes at at x no_node refl (omega arith) in
     let read_next : node_at new next ≡ y = get_or-set_at mid next next y no_node refl (omega arith) in
     let P : ℕ → Type 0 = λ k. IsPath mid k rest 1024 in
@@ -226,9 +226,9 @@ join_linked nodes first free before at next x y l p h e g d c =
         used_path = used_path;
         spare_path = (refl, g, subst R (sym (ap (λ (n : Node). n.next) read_next ∙ c)) mid_spare);
         once = λ i k. (let s = sums i k in
-            let a : times i (next ∷ l.spare) ≡ times i (next ∷ []) + times i l.spare = times-cons i next l.spare in
-            let b : times i (at ∷ rest) ≡ times i (at ∷ []) + times i rest = times-cons i at rest in
-            let f : times i (p.passed ++ at ∷ rest) ≡ times i p.passed + times i (at ∷ rest) = times-append i p.passed (at ∷ rest) in omega arith);
+            let a : times_listed i (next ∷ l.spare) ≡ times_listed i (next ∷ []) + times_listed i l.spare = times-cons i next l.spare in
+            let b : times_listed i (at ∷ rest) ≡ times_listed i (at ∷ []) + times_listed i rest = times-cons i at rest in
+            let f : times_listed i (p.passed ++ at ∷ rest) ≡ times_listed i p.passed + times_listed i (at ∷ rest) = times-append i p.passed (at ∷ rest) in omega arith);
         all = omega arith;
       },
       from-path new first (p.passed ++ at ∷ rest) new_size (omega arith) used_path
@@ -245,16 +245,16 @@ parted_step nodes first free from x d h e =
     let new_size : length new ≡ 1024 = length-set nodes from x ∙ d.size in
     let loose : List ℕ = behind d.loose in
     let head = path-head nodes from d.loose h d.loose_path in
-    let sums : (i : ℕ) → i < 1024 → times i d.used + times i d.spare + (times i (from ∷ []) + times i loose) ≡ 1 = λ i k.
-    (let once : times i d.used + times i d.spare + times i d.loose ≡ 1 = d.once i k in
-    let one : times i d.loose ≡ times i (from ∷ loose) = ap (λ (js : List ℕ). times i js) head.0 in
-    let two : times i (from ∷ loose) ≡ times i (from ∷ []) + times i loose = times-cons i from loose in
+    let sums : (i : ℕ) → i < 1024 → times_listed i d.used + times_listed i d.spare + (times_listed i (from ∷ []) + times_listed i loose) ≡ 1 = λ i k.
+    (let once : times_listed i d.used + times_listed i d.spare + times_listed i d.loose ≡ 1 = d.once i k in
+    let one : times_listed i d.loose ≡ times_listed i (from ∷ loose) = ap (λ (js : List ℕ). times_listed i js) head.0 in
+    let two : times_listed i (from ∷ loose) ≡ times_listed i (from ∷ []) + times_listed i loose = times-cons i from loose in
     omega arith) in
-    let self : times from (from ∷ []) ≡ 1 + times from [] = times-here from from [] refl in
+    let self : times_listed from (from ∷ []) ≡ 1 + times_listed from [] = times-here from from [] refl in
     let here = sums from h in
-    let no_used : times from d.used ≡ 0 = omega arith in
-    let no_spare : times from d.spare ≡ 0 = omega arith in
-    let no_loose : times from loose ≡ 0 = omega arith in
+    let no_used : times_listed from d.used ≡ 0 = omega arith in
+    let no_spare : times_listed from d.spare ≡ 0 = omega arith in
+    let no_loose : times_listed from loose ≡ 0 = omega arith in
     let read : node_at new from ≡ x = get_or-set_at nodes from from x no_node refl (omega arith) in
     let R : ℕ → Type 0 = λ k. IsPath new k d.spare 1024 in
     let all : length d.used + length d.spare + length d.loose ≡ 1024 = d.all in
@@ -268,7 +268,7 @@ parted_step nodes first free from x d h e =
         used_path = used_path;
         spare_path = (refl, h, subst R (sym (ap (λ (n : Node). n.next) read ∙ e)) (path-set nodes from free 1024 x d.spare no_spare d.spare_path));
         loose_path = path-set nodes from (node_at nodes from).next 1024 x loose no_loose head.1;
-        once = λ i k. (let s = sums i k in let a : times i (from ∷ d.spare) ≡ times i (from ∷ []) + times i d.spare = times-cons i from d.spare in omega arith);
+        once = λ i k. (let s = sums i k in let a : times_listed i (from ∷ d.spare) ≡ times_listed i (from ∷ []) + times_listed i d.spare = times-cons i from d.spare in omega arith);
         all = omega arith;
       },
       from-path new first d.used new_size (omega arith) used_path ∙ runs-set nodes from x d.used no_used
@@ -303,7 +303,7 @@ parted_end nodes first free from d h =
       size = d.size;
       used_path = d.used_path;
       spare_path = d.spare_path;
-      once = λ i k. (let once = d.once i k in let no : times i d.loose ≡ 0 = ap (λ (js : List ℕ). times i js) none in omega arith);
+      once = λ i k. (let once = d.once i k in let no : times_listed i d.loose ≡ 0 = ap (λ (js : List ℕ). times_listed i js) none in omega arith);
       all = omega arith;
     }
 

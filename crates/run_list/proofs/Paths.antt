@@ -6,20 +6,20 @@ use Rattle.std.proofs.lemmas.List.{get_or-set_other, get_or_default, length-set}
 use Rattle.std.proofs.lemmas.Grind.{get_or-set_at}
 use Rattle.run_list.specs.declared.walking.Stretch.{Stretch}
 use Rattle.run_list.specs.declared.linked.Node.{Node}
-use Rattle.run_list.specs.Linked.{no_node, node_at, run_of, runs_at, IsPath, walked, runs_from, times, IsLast, Points}
+use Rattle.run_list.specs.Linked.{no_node, node_at, run_of, runs_at, IsPath, walked, runs_from, times_listed, IsLast, Points}
 
 -- what is read at an index is the node there
 pub read_at : (nodes : List Node) (i j : ℕ) (n : Node) → n ≡ get_or nodes i n → i ≡ j → i < length nodes → n ≡ node_at nodes j
 read_at nodes i j n e same h = e ∙ get_or_default nodes i n no_node h ∙ ap (λ (k : ℕ). node_at nodes k) same
 
 -- an index at the head of a list
-pub times-here : (i j : ℕ) (js : List ℕ) → i ≡ j → times i (j ∷ js) ≡ 1 + times i js
+pub times-here : (i j : ℕ) (js : List ℕ) → i ≡ j → times_listed i (j ∷ js) ≡ 1 + times_listed i js
 times-here i j js e = rw (eq-eqb i j e) refl
 
-pub times-other : (i j : ℕ) (js : List ℕ) → ((i ≡ j) → ⊥) → times i (j ∷ js) ≡ times i js
+pub times-other : (i j : ℕ) (js : List ℕ) → ((i ≡ j) → ⊥) → times_listed i (j ∷ js) ≡ times_listed i js
 times-other i j js e = rw (ne_eqb i j e) (omega arith)
 
-pub times-append : (i : ℕ) (xs ys : List ℕ) → times i (xs ++ ys) ≡ times i xs + times i ys
+pub times-append : (i : ℕ) (xs ys : List ℕ) → times_listed i (xs ++ ys) ≡ times_listed i xs + times_listed i ys
 times-append i [] ys = omega arith
 times-append i (x ∷ xs) ys =
     let ih = times-append i xs ys in
@@ -28,18 +28,18 @@ times-append i (x ∷ xs) ys =
       | inr other ↦ let one = times-other i x xs other in let two = times-other i x (xs ++ ys) other in omega arith
     ]
 
-pub times-cons : (i j : ℕ) (js : List ℕ) → times i (j ∷ js) ≡ times i (j ∷ []) + times i js
+pub times-cons : (i j : ℕ) (js : List ℕ) → times_listed i (j ∷ js) ≡ times_listed i (j ∷ []) + times_listed i js
 times-cons i j js = times-append i (j ∷ []) js
 
 -- what is not in a list is not at its head, nor behind it
-pub times-none : (i j : ℕ) (js : List ℕ) → times i (j ∷ js) ≡ 0 → ((j ≡ i) → ⊥) × (times i js ≡ 0)
+pub times-none : (i j : ℕ) (js : List ℕ) → times_listed i (j ∷ js) ≡ 0 → ((j ≡ i) → ⊥) × (times_listed i js ≡ 0)
 times-none i j js h =
     elim (cases_eq i j) [
       | inl same ↦ let one = times-here i j js same in absurd (omega arith)
       | inr other ↦ let one = times-other i j js other in (λ e. other (sym e), omega arith)
     ]
 
-pub times-last : (i : ℕ) (js : List ℕ) → i < 1024 → IsLast js i → 1 ≤ times i js
+pub times-last : (i : ℕ) (js : List ℕ) → i < 1024 → IsLast js i → 1 ≤ times_listed i js
 times-last i [] h k = absurd (omega arith)
 times-last i (j ∷ []) h k = let one = times-here i j [] k in omega arith
 times-last i (j ∷ l ∷ js) h k =
@@ -50,7 +50,7 @@ times-last i (j ∷ l ∷ js) h k =
     ]
 
 -- a path names nodes alone
-pub times-outside : (nodes : List Node) (i a b : ℕ) (js : List ℕ) → 1024 ≤ i → IsPath nodes a js b → times i js ≡ 0
+pub times-outside : (nodes : List Node) (i a b : ℕ) (js : List ℕ) → 1024 ≤ i → IsPath nodes a js b → times_listed i js ≡ 0
 times-outside nodes i a b [] h p = refl
 times-outside nodes i a b (j ∷ js) h p =
     let bound : j < 1024 = p.1 in
@@ -60,7 +60,7 @@ times-outside nodes i a b (j ∷ js) h p =
 
 -- the last one of a list is in no list that has none of its indices
 pub last_apart : (nodes : List Node) (i a b : ℕ) (passed js : List ℕ) → IsLast passed i → IsPath nodes a js b
-    → ((k : ℕ) → k < 1024 → times k passed + times k js ≤ 1) → times i js ≡ 0
+    → ((k : ℕ) → k < 1024 → times_listed k passed + times_listed k js ≤ 1) → times_listed i js ≡ 0
 last_apart nodes i a b passed js l p h =
     elim (cases_lt i 1024) [
       | inl lt ↦ let there = times-last i passed lt l in let most = h i lt in omega arith
@@ -159,7 +159,7 @@ pub from-path : (nodes : List Node) (a : ℕ) (xs : List ℕ) → length nodes �
 from-path nodes a xs s h p = walked-path nodes (length nodes) a xs (omega arith) p
 
 -- an edit of a node that is not on the path
-pub path-set : (nodes : List Node) (i a b : ℕ) (x : Node) (js : List ℕ) → times i js ≡ 0 → IsPath nodes a js b → IsPath (set nodes i x) a js b
+pub path-set : (nodes : List Node) (i a b : ℕ) (x : Node) (js : List ℕ) → times_listed i js ≡ 0 → IsPath nodes a js b → IsPath (set nodes i x) a js b
 path-set nodes i a b x [] h p = p
 path-set nodes i a b x (j ∷ js) h p =
     let apart = times-none i j js h in
@@ -168,7 +168,7 @@ path-set nodes i a b x (j ∷ js) h p =
     let P : Node → Type 0 = λ n. IsPath (set nodes i x) n.next js b in
     (p.0, p.1, subst P (sym same) ih)
 
-pub runs-set : (nodes : List Node) (i : ℕ) (x : Node) (js : List ℕ) → times i js ≡ 0 → runs_at (set nodes i x) js ≡ runs_at nodes js
+pub runs-set : (nodes : List Node) (i : ℕ) (x : Node) (js : List ℕ) → times_listed i js ≡ 0 → runs_at (set nodes i x) js ≡ runs_at nodes js
 runs-set nodes i x [] h = refl
 runs-set nodes i x (j ∷ js) h =
     let apart = times-none i j js h in
@@ -206,12 +206,12 @@ runs-same nodes i x (j ∷ js) h e =
 
 -- an edit of the last node of a path leads it elsewhere
 pub path-redirect : (nodes : List Node) (i a b : ℕ) (x : Node) (passed : List ℕ) → i < length nodes → i < 1024 → IsPath nodes a passed b → IsLast passed i
-    → times i passed ≤ 1 → IsPath (set nodes i x) a passed x.next
+    → times_listed i passed ≤ 1 → IsPath (set nodes i x) a passed x.next
 path-redirect nodes i a b x [] s h p l t = absurd (omega arith)
 path-redirect nodes i a b x (j ∷ []) s h p l t =
     (p.0, p.1, ap (λ (n : Node). n.next) (get_or-set_at nodes i j x no_node (sym l) s))
 path-redirect nodes i a b x (j ∷ k ∷ js) s h p l t =
-    let there : 1 ≤ times i (k ∷ js) = times-last i (k ∷ js) h l in
+    let there : 1 ≤ times_listed i (k ∷ js) = times-last i (k ∷ js) h l in
     elim (cases_eq i j) [
       | inl same ↦ let one = times-here i j (k ∷ js) same in absurd (omega arith)
       | inr other ↦
@@ -223,7 +223,7 @@ path-redirect nodes i a b x (j ∷ k ∷ js) s h p l t =
     ]
 
 -- an edit of one node among others
-pub runs-edited : (nodes : List Node) (i : ℕ) (x : Node) (passed rest : List ℕ) → i < length nodes → times i passed ≡ 0 → times i rest ≡ 0
+pub runs-edited : (nodes : List Node) (i : ℕ) (x : Node) (passed rest : List ℕ) → i < length nodes → times_listed i passed ≡ 0 → times_listed i rest ≡ 0
     → runs_at (set nodes i x) (passed ++ i ∷ rest) ≡ runs_at nodes passed ++ run_of x ∷ runs_at nodes rest
 runs-edited nodes i x passed rest s h k =
     let here : node_at (set nodes i x) i ≡ x = get_or-set_at nodes i i x no_node refl s in

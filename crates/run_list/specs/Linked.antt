@@ -38,9 +38,9 @@ abbrev pub runs_from : List Node → ℕ → List Stretch
 runs_from nodes at = walked (length nodes) nodes at
 
 -- how often the list has the index
-abbrev pub times : ℕ → List ℕ → ℕ
-times i [] = 0
-times i (j ∷ js) = (if i == j then 1 else 0) + times i js
+abbrev pub times_listed : ℕ → List ℕ → ℕ
+times_listed i [] = 0
+times_listed i (j ∷ js) = (if i == j then 1 else 0) + times_listed i js
 
 -- the last index of the list, and 1,024 where it has none
 abbrev pub IsLast : List ℕ → ℕ → Type 0
@@ -64,7 +64,7 @@ pub record IsParted (nodes : List Node) (first free from : ℕ) : Type 0 where
   pub used_path : IsPath nodes first used 1024
   pub spare_path : IsPath nodes free spare 1024
   pub loose_path : IsPath nodes from loose 1024
-  pub once : (i : ℕ) → i < 1024 → times i used + times i spare + times i loose ≡ 1
+  pub once : (i : ℕ) → i < 1024 → times_listed i used + times_listed i spare + times_listed i loose ≡ 1
   pub all : length used + length spare + length loose ≡ 1024
 
 -- each index is once in one of two chains: the used nodes and the free ones
@@ -74,7 +74,7 @@ pub record IsLinked (nodes : List Node) (first free : ℕ) : Type 0 where
   pub size : length nodes ≡ 1024
   pub used_path : IsPath nodes first used 1024
   pub spare_path : IsPath nodes free spare 1024
-  pub once : (i : ℕ) → i < 1024 → times i used + times i spare ≡ 1
+  pub once : (i : ℕ) → i < 1024 → times_listed i used + times_listed i spare ≡ 1
   pub all : length used + length spare ≡ 1024
 
 -- a place in the chain: the links lead from the first node to `at`, behind `before`, and from there on to no node
@@ -108,5 +108,5 @@ pub record Points (old new : List Node) (old_first new_first before to : ℕ) : 
   pub size : length new ≡ length old
   pub runs : (js : List ℕ) → runs_at new js ≡ runs_at old js
   pub path : (passed : List ℕ) (at : ℕ) → IsPath old old_first passed at → IsLast passed before
-      → ((i : ℕ) → i < 1024 → times i passed ≤ 1) → IsPath new new_first passed to
-  pub others : (from to : ℕ) (js : List ℕ) → times before js ≡ 0 → IsPath old from js to → IsPath new from js to
+      → ((i : ℕ) → i < 1024 → times_listed i passed ≤ 1) → IsPath new new_first passed to
+  pub others : (from to : ℕ) (js : List ℕ) → times_listed before js ≡ 0 → IsPath old from js to → IsPath new from js to

@@ -18,18 +18,18 @@ replayed [] set = set
 replayed (call ∷ calls) set = replayed calls (set_after call set)
 
 -- an answer counts where it is New
-abbrev pub counted : Marked → ℕ
-counted New = 1
-counted Again = 0
-counted BelowFloor = 0
+abbrev pub count_of_answer : Marked → ℕ
+count_of_answer New = 1
+count_of_answer Again = 0
+count_of_answer BelowFloor = 0
 
 -- a call counts where it is a mark whose answer is New
 abbrev pub new_by : RunCall → MarkedSet → ℕ
 new_by (Start first) set = 0
-new_by (Mark n) set = counted (answer_to set n)
+new_by (Mark n) set = count_of_answer (answer_to set n)
 new_by (Raise to) set = 0
 
 -- how many marks are New
-abbrev pub new_marks : List RunCall → MarkedSet → ℕ
-new_marks [] set = 0
-new_marks (call ∷ calls) set = new_by call set + new_marks calls (set_after call set)
+abbrev pub count_of_new : List RunCall → MarkedSet → ℕ
+count_of_new [] set = 0
+count_of_new (call ∷ calls) set = new_by call set + count_of_new calls (set_after call set)

@@ -1,7 +1,7 @@
 //! What every set of runs does, however it is kept, and a list of calls to one.
 ghost use Rattle.std.specs.Prelude.{◌≡◌, ◌≢◌, ◌+◌, ◌^◌, ◌<◌, ◌↔◌, IsTrue, length};
 ghost use Rattle.run_list.specs.MarkedSet.{MarkedSet, IsFrom, IsSound, has, empty_from, raised, marked, answer_to};
-ghost use Rattle.run_list.specs.Replay.{set_after, replayed, new_by, new_marks};
+ghost use Rattle.run_list.specs.Replay.{set_after, replayed, new_by, count_of_new};
 
 use crate::answers::Marked;
 use crate::list::RunList;
@@ -112,7 +112,7 @@ fn replay_call<R: Runs>(runs: &mut R, call: RunCall) -> u32
 pub fn replay_runs<R: Runs>(runs: &mut R, calls: &[RunCall]) -> u32
     requires few { length calls.now < 2 ^ 32 }
     ensures set { R.set runs.new ≡ replayed calls.now (R.set runs.old) }
-    ensures count { result ≡ new_marks calls.now (R.set runs.old) }
+    ensures count { result ≡ count_of_new calls.now (R.set runs.old) }
 {
     let mut new = 0;
     for call in calls {

@@ -20,11 +20,11 @@ use Rattle.schedule_text.specs.declared.line.LineWhy.{LineWhy}
 use Rattle.schedule_text.specs.declared.line.LineWhy.TheVariants as why
 use Rattle.schedule_text.specs.declared.names.Form.{Form}
 use Rattle.schedule_text.specs.declared.names.Form.TheVariants as form
-use Rattle.schedule_text.specs.Names.{form_of, side_of, place_of, timer_of}
+use Rattle.schedule_text.specs.Names.{form_named, side_named, place_named, timer_of}
 use Rattle.schedule_text.specs.Numbers.{number_below, indices, values_of, feature_of}
 use Rattle.schedule_text.specs.Digits.{flaw_of}
 use Rattle.schedule_text.specs.Words.{WordAt, WordsLeft, first_word, later, words_of}
-use Rattle.schedule_text.specs.Reading.{◌>>=◌, ◌>>◌, fault_at, present, needed, form_word, side_word, place_word, timer_word, number_word, feature_word, values_word, delivery, index_of, named, name_word, digits_or_flaw, digits_word, hex_word, mandatory_first, mandatory_word, none_left, ended, wished, offered, plain_line, iss_line, set_line, offer_line, open_line, deliver_line, send_line, prefer_line, timer_line, close_line, abort_line, line_of, read_words, first_other, text_or_other, clean, says_nothing, read_clean, read_line}
+use Rattle.schedule_text.specs.Reading.{◌>>=◌, ◌>>◌, fault_at, present, needed, form_word, side_word, place_word, timer_word, number_word, feature_word, values_word, delivery, frame_index, named, name_word, digits_or_flaw, digits_word, hex_word, mandatory_first, mandatory_word, none_left, ended, wished, offered, plain_line, iss_line, set_line, offer_line, open_line, deliver_line, send_line, prefer_line, timer_line, close_line, abort_line, line_of, read_words, first_other, text_or_other, clean, says_nothing, read_clean, read_line}
 use Rattle.schedule_text.specs.Faults.{first_or, unless, word_fault, a_side, a_place, a_timer, a_number, a_feature, some_values, name_cause, names_frame, a_name, bad_digit, digits_fault, some_bytes, maybe_first, maybe_mandatory, judges_of, nothing_more, words_fault, refused_wish, refused_set, refused_offer, end_fault, form_fault, spoken_fault, no_text, line_fault}
 
 -- the fault of a result, if it is one
@@ -80,10 +80,10 @@ needed-found word cause found x is =
     needed-some word cause found x (by-presence-ok (length word.text == 0) (fault_at word.column why.Missing) (needed word cause found) x is)
 
 side-fault : (left : WordsLeft) → fault_of (side_word (first_word left)) ≡ a_side left
-side-fault left = needed-word (first_word left) why.UnknownWord (side_of (first_word left).text)
+side-fault left = needed-word (first_word left) why.UnknownWord (side_named (first_word left).text)
 
 place-fault : (left : WordsLeft) → fault_of (place_word (first_word left)) ≡ a_place left
-place-fault left = needed-word (first_word left) why.UnknownWord (place_of (first_word left).text)
+place-fault left = needed-word (first_word left) why.UnknownWord (place_named (first_word left).text)
 
 timer-fault : (left : WordsLeft) → fault_of (timer_word (first_word left)) ≡ a_timer left
 timer-fault left = needed-word (first_word left) why.UnknownWord (timer_of (first_word left).text)
@@ -102,10 +102,10 @@ delivery-fault word from None = refl
 delivery-fault word from (Some index) = refl
 
 letter-fault : (word : WordAt) (index : List ℕ) (client server : Bool)
-    → fault_of (if client then delivery word Client (index_of index) else if server then delivery word Server (index_of index) else Err (fault_at word.column why.UnknownWord))
+    → fault_of (if client then delivery word Client (frame_index index) else if server then delivery word Server (frame_index index) else Err (fault_at word.column why.UnknownWord))
     ≡ unless ((client || server) && is_some (number_below indices index)) (fault_at word.column (if client || server then why.BadNumber else why.UnknownWord))
-letter-fault word index true server = delivery-fault word Client (index_of index)
-letter-fault word index false true = delivery-fault word Server (index_of index)
+letter-fault word index true server = delivery-fault word Client (frame_index index)
+letter-fault word index false true = delivery-fault word Server (frame_index index)
 letter-fault word index false false = refl
 
 named-fault : (word : WordAt) (text : List ℕ) → fault_of (named word text) ≡ unless (names_frame text) (fault_at word.column (name_cause text))
@@ -250,7 +250,7 @@ set-fault left =
     (then-fault (wished column (wish_of feature place values)) (Ok (line.Set side place feature values)) (refused_wish column (wish_of feature place values)) None (wished-fault column (wish_of feature place values)) refl
     ∙ first-none (refused_wish column (wish_of feature place values))
     ∙ sym (
-    ap (λ (p : Option Place). refused_set column p (feature_of (first_word third).text) (values_of (first_word fourth).text)) (needed-found (first_word second) why.UnknownWord (place_of (first_word second).text) place place_read)
+    ap (λ (p : Option Place). refused_set column p (feature_of (first_word third).text) (values_of (first_word fourth).text)) (needed-found (first_word second) why.UnknownWord (place_named (first_word second).text) place place_read)
     ∙ ap (λ (g : Option Feature). refused_set column (Some place) g (values_of (first_word fourth).text)) (needed-found (first_word third) why.BadNumber (feature_of (first_word third).text) feature feature_read)
     ∙ ap (λ (vs : Option (List ℕ)). refused_set column (Some place) (Some feature) vs) (needed-found (first_word fourth) why.BadNumber (values_of (first_word fourth).text) values values_read)
     ))))))
@@ -276,7 +276,7 @@ offer-fault left =
     (then-fault (offered column (is_ours feature place)) (Ok (line.Offer side place feature mandatory)) (unless (is_ours feature place) (fault_at column why.NotOurs)) None (offered-fault column (is_ours feature place)) refl
     ∙ first-none (unless (is_ours feature place) (fault_at column why.NotOurs))
     ∙ sym (
-    ap (λ (p : Option Place). refused_offer column p (feature_of (first_word third).text)) (needed-found (first_word second) why.UnknownWord (place_of (first_word second).text) place place_read)
+    ap (λ (p : Option Place). refused_offer column p (feature_of (first_word third).text)) (needed-found (first_word second) why.UnknownWord (place_named (first_word second).text) place place_read)
     ∙ ap (λ (g : Option Feature). refused_offer column (Some place) g) (needed-found (first_word third) why.BadNumber (feature_of (first_word third).text) feature feature_read)
     ))))))
     ∙ five-assoc (a_side left) (a_place second) (a_feature third) (maybe_mandatory fourth) (nothing_more fifth.words) own
@@ -300,10 +300,10 @@ line-of-fault form.Abort left = with-none (fault_of (abort_line left)) (words_fa
 spoken-fault : (left : WordsLeft) → fault_of (read_words left) ≡ spoken_fault left
 spoken-fault left =
     bind-fault (form_word (first_word left)) (λ which. line_of which (later left))
-    (word_fault why.UnknownWord (is_some (form_of (first_word left).text)) (first_word left)) (form_fault (form_of (first_word left).text) (later left))
-    (needed-word (first_word left) why.UnknownWord (form_of (first_word left).text)) (λ which read.
+    (word_fault why.UnknownWord (is_some (form_named (first_word left).text)) (first_word left)) (form_fault (form_named (first_word left).text) (later left))
+    (needed-word (first_word left) why.UnknownWord (form_named (first_word left).text)) (λ which read.
     line-of-fault which (later left)
-    ∙ ap (λ (f : Option Form). form_fault f (later left)) (sym (needed-found (first_word left) why.UnknownWord (form_of (first_word left).text) which read)))
+    ∙ ap (λ (f : Option Form). form_fault f (later left)) (sym (needed-found (first_word left) why.UnknownWord (form_named (first_word left).text) which read)))
 
 -- Whole lines
 

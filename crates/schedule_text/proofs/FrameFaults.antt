@@ -8,7 +8,7 @@ use Rattle.schedule_text.specs.Digits.{flaw_of, bytes_of}
 use Rattle.schedule_text.specs.Words.{WordAt, WordsLeft, first_word, later, words_of}
 use Rattle.schedule_text.specs.Reading.{◌>>◌, fault_at, digits_or_flaw, digits_word, ended, clean, says_nothing, first_other}
 use Rattle.schedule_text.specs.Faults.{first_or, digits_fault, nothing_more, no_text}
-use Rattle.schedule_text.specs.Frames.{frame_line, sized, frame_of, seals, read_digits, read_clean_frame, read_frame, size_fault, digits_line_fault, replayed_fault, frame_fault}
+use Rattle.schedule_text.specs.Frames.{frame_line, sized, frame_read, seals, read_digits, read_clean_frame, read_frame, size_fault, digits_line_fault, replayed_fault, frame_fault}
 use Rattle.schedule_text.proofs.FirstFaults.{fault_of, bind-fault, then-fault, first-assoc, by-presence-ok, digits-word-fault, end-fault, clean-fault, refused-is}
 
 sized-by : (seal : Bool) (column : ℕ) (bytes : List ℕ) (long short : Bool)
@@ -30,7 +30,7 @@ digits-bytes word bytes read =
     flawless word (flaw_of word.text) bytes
     (by-presence-ok (length word.text == 0) (fault_at word.column why.Missing) (digits_or_flaw word (flaw_of word.text)) bytes read)
 
-frame-of-fault : (seal : Bool) (left : WordsLeft) → fault_of (frame_of seal left) ≡ digits_line_fault seal left
+frame-of-fault : (seal : Bool) (left : WordsLeft) → fault_of (frame_read seal left) ≡ digits_line_fault seal left
 frame-of-fault seal left =
     let word = first_word left in
     let size = size_fault seal word.column (bytes_of word.text) in
@@ -40,7 +40,7 @@ frame-of-fault seal left =
     (sized-fault seal word.column bytes ∙ ap (size_fault seal word.column) (digits-bytes word bytes read)))
 
 seal-by : (seal : Bool) (left : WordsLeft)
-    → fault_of (if seal then frame_of true (later left) else frame_of false left) ≡ (if seal then digits_line_fault true (later left) else digits_line_fault false left)
+    → fault_of (if seal then frame_read true (later left) else frame_read false left) ≡ (if seal then digits_line_fault true (later left) else digits_line_fault false left)
 seal-by true left = frame-of-fault true (later left)
 seal-by false left = frame-of-fault false left
 

@@ -14,7 +14,7 @@ use Rattle.schedule_text.specs.Digits.{flaw_or_odd, flaw_of, bytes_of}
 use Rattle.schedule_text.specs.Words.{word_at_column}
 use Rattle.schedule_text.specs.Reading.{◌>>◌, digits_or_flaw, digits_word, hex_word}
 use Rattle.schedule_text.specs.Printing.{hex_text}
-use Rattle.schedule_text.specs.Range.{IsSendable}
+use Rattle.schedule_text.specs.Range.{FitsOneLine}
 use Rattle.schedule_text.proofs.WordTexts.{if-false, if-true, both-true, and-true, is_word_byte, is_word}
 use Rattle.schedule_text.proofs.ReadBack.{present-some}
 
@@ -101,7 +101,7 @@ pub hex-is-word : (bytes : List ℕ) → IsBytes bytes → is_word (hex_text byt
 hex-is-word [] are = refl
 hex-is-word (byte ∷ bytes) are = digits-all is_word_byte refl (byte ∷ bytes) are
 
-pub hex-length : (bytes : List ℕ) → IsSendable bytes → length (hex_text bytes) ≤ 4084
+pub hex-length : (bytes : List ℕ) → FitsOneLine bytes → length (hex_text bytes) ≤ 4084
 hex-length [] are = omega arith
 hex-length (byte ∷ bytes) are =
     let size = length-encode_with lower_digits (byte ∷ bytes) in

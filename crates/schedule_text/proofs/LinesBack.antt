@@ -5,7 +5,7 @@ use Rattle.std.specs.List.{list_all}
 use Rattle.std.proofs.lemmas.List.Elements.{All-head, All-tail}
 use Rattle.std.proofs.lemmas.List.Folds.{list_all-append}
 use Rattle.std.proofs.lemmas.Fmt.{length-decimal-le}
-use Rattle.feature_lists.specs.Features.{number_of}
+use Rattle.feature_lists.specs.Features.{feature_number}
 use Rattle.feature_lists.specs.Wishes.{is_ours, wish_of}
 use Rattle.feature_lists.specs.declared.features.Feature.{Feature}
 use Rattle.feature_lists.specs.declared.features.Place.{Place}
@@ -25,7 +25,7 @@ use Rattle.schedule_text.specs.Names.{side_name, place_name, timer_name}
 use Rattle.schedule_text.specs.Words.{word_at_column, placed, words_left}
 use Rattle.schedule_text.specs.Reading.{◌>>=◌, ◌>>◌, place_word, timer_word, number_word, feature_word, values_word, hex_word, wished, offered, iss_line, set_line, offer_line, send_line, prefer_line, timer_line, read_line}
 use Rattle.schedule_text.specs.Printing.{hex_text, values_text, frame_name, mandatory_words, line_words, joined, event_text}
-use Rattle.schedule_text.specs.Range.{AreValues, IsSendable, IsPrintable, IsSayable}
+use Rattle.schedule_text.specs.Range.{AreValues, FitsOneLine, IsPrintable, IsSayable}
 use Rattle.schedule_text.proofs.WordTexts.{and-true, is_word, is_word_byte, decimal-word, read-joined}
 use Rattle.schedule_text.proofs.ReadBack.{side-read, place-read, timer-read, number-word-read, number-of-small, feature-length, feature-word-read, values-word-read, name-word-read}
 use Rattle.schedule_text.proofs.HexBack.{hex-word-read, hex-is-word, hex-length}
@@ -98,8 +98,8 @@ values-length (value ∷ (next ∷ values)) below =
     let others = values-length (next ∷ values) (All-tail (λ v. v < 2 ^ 48) value (next ∷ values) below) in
     omega (arith, length-append (decimal value) (44 ∷ values_text (next ∷ values)))
 
-feature-is-word : (feature : Feature) → is_word (decimal (number_of feature)) ≡ true
-feature-is-word feature = decimal-word (number_of feature) (number-of-small feature)
+feature-is-word : (feature : Feature) → is_word (decimal (feature_number feature)) ≡ true
+feature-is-word feature = decimal-word (feature_number feature) (number-of-small feature)
 
 two-words : (a b : List ℕ) → is_word a ≡ true → is_word b ≡ true → list_all is_word (a ∷ (b ∷ [])) ≡ true
 two-words a b p q = and-true (is_word a) (is_word b && true) p (and-true (is_word b) true q refl)
@@ -124,37 +124,37 @@ wished-ok column (Ok wanted) is = refl
 wished-ok column (Err fault) is = cc is
 
 set-words : (column absent : ℕ) (side : Side) (place : Place) (feature : Feature) (values : List ℕ) → AreValues values → IsOk (wish_of feature place values)
-    → set_line (words_left (placed column (side_name side ∷ (place_name place ∷ (decimal (number_of feature) ∷ (values_text values ∷ []))))) absent)
+    → set_line (words_left (placed column (side_name side ∷ (place_name place ∷ (decimal (feature_number feature) ∷ (values_text values ∷ []))))) absent)
     ≡ Ok (line.Set side place feature values)
 set-words column absent side place feature values are wish =
     let second : ℕ = column + length (side_name side) + 1 in
     let third : ℕ = second + length (place_name place) + 1 in
-    let fourth : ℕ = third + length (decimal (number_of feature)) + 1 in
-    ap (λ (r : Result Side LineFault). r >>= (λ (s : Side). place_word (word_at_column second (place_name place)) >>= (λ (p : Place). feature_word (word_at_column third (decimal (number_of feature))) >>= (λ (g : Feature). values_word (word_at_column fourth (values_text values)) >>= (λ (vs : List ℕ). wished fourth (wish_of g p vs) >> Ok (line.Set s p g vs)))))) (side-read column side)
-    ∙ ap (λ (r : Result Place LineFault). r >>= (λ (p : Place). feature_word (word_at_column third (decimal (number_of feature))) >>= (λ (g : Feature). values_word (word_at_column fourth (values_text values)) >>= (λ (vs : List ℕ). wished fourth (wish_of g p vs) >> Ok (line.Set side p g vs))))) (place-read second place)
+    let fourth : ℕ = third + length (decimal (feature_number feature)) + 1 in
+    ap (λ (r : Result Side LineFault). r >>= (λ (s : Side). place_word (word_at_column second (place_name place)) >>= (λ (p : Place). feature_word (word_at_column third (decimal (feature_number feature))) >>= (λ (g : Feature). values_word (word_at_column fourth (values_text values)) >>= (λ (vs : List ℕ). wished fourth (wish_of g p vs) >> Ok (line.Set s p g vs)))))) (side-read column side)
+    ∙ ap (λ (r : Result Place LineFault). r >>= (λ (p : Place). feature_word (word_at_column third (decimal (feature_number feature))) >>= (λ (g : Feature). values_word (word_at_column fourth (values_text values)) >>= (λ (vs : List ℕ). wished fourth (wish_of g p vs) >> Ok (line.Set side p g vs))))) (place-read second place)
     ∙ ap (λ (r : Result Feature LineFault). r >>= (λ (g : Feature). values_word (word_at_column fourth (values_text values)) >>= (λ (vs : List ℕ). wished fourth (wish_of g place vs) >> Ok (line.Set side place g vs)))) (feature-word-read third feature)
     ∙ ap (λ (r : Result (List ℕ) LineFault). r >>= (λ (vs : List ℕ). wished fourth (wish_of feature place vs) >> Ok (line.Set side place feature vs))) (values-word-read fourth values are)
     ∙ ap (λ (r : Result (Unit {0}) LineFault). r >> Ok (line.Set side place feature values)) (wished-ok fourth (wish_of feature place values) wish)
 
 offer-words : (column absent : ℕ) (side : Side) (place : Place) (feature : Feature) (mandatory : Bool) → is_ours feature place ≡ true
-    → offer_line (words_left (placed column (side_name side ∷ (place_name place ∷ (decimal (number_of feature) ∷ mandatory_words mandatory)))) absent)
+    → offer_line (words_left (placed column (side_name side ∷ (place_name place ∷ (decimal (feature_number feature) ∷ mandatory_words mandatory)))) absent)
     ≡ Ok (line.Offer side place feature mandatory)
 offer-words column absent side place feature false ours =
     let second : ℕ = column + length (side_name side) + 1 in
     let third : ℕ = second + length (place_name place) + 1 in
-    ap (λ (r : Result Side LineFault). r >>= (λ (s : Side). place_word (word_at_column second (place_name place)) >>= (λ (p : Place). feature_word (word_at_column third (decimal (number_of feature))) >>= (λ (g : Feature). offered third (is_ours g p) >> Ok (line.Offer s p g false))))) (side-read column side)
-    ∙ ap (λ (r : Result Place LineFault). r >>= (λ (p : Place). feature_word (word_at_column third (decimal (number_of feature))) >>= (λ (g : Feature). offered third (is_ours g p) >> Ok (line.Offer side p g false)))) (place-read second place)
+    ap (λ (r : Result Side LineFault). r >>= (λ (s : Side). place_word (word_at_column second (place_name place)) >>= (λ (p : Place). feature_word (word_at_column third (decimal (feature_number feature))) >>= (λ (g : Feature). offered third (is_ours g p) >> Ok (line.Offer s p g false))))) (side-read column side)
+    ∙ ap (λ (r : Result Place LineFault). r >>= (λ (p : Place). feature_word (word_at_column third (decimal (feature_number feature))) >>= (λ (g : Feature). offered third (is_ours g p) >> Ok (line.Offer side p g false)))) (place-read second place)
     ∙ ap (λ (r : Result Feature LineFault). r >>= (λ (g : Feature). offered third (is_ours g place) >> Ok (line.Offer side place g false))) (feature-word-read third feature)
     ∙ ap (λ (test : Bool). offered third test >> Ok (line.Offer side place feature false)) ours
 offer-words column absent side place feature true ours =
     let second : ℕ = column + length (side_name side) + 1 in
     let third : ℕ = second + length (place_name place) + 1 in
-    ap (λ (r : Result Side LineFault). r >>= (λ (s : Side). place_word (word_at_column second (place_name place)) >>= (λ (p : Place). feature_word (word_at_column third (decimal (number_of feature))) >>= (λ (g : Feature). offered third (is_ours g p) >> Ok (line.Offer s p g true))))) (side-read column side)
-    ∙ ap (λ (r : Result Place LineFault). r >>= (λ (p : Place). feature_word (word_at_column third (decimal (number_of feature))) >>= (λ (g : Feature). offered third (is_ours g p) >> Ok (line.Offer side p g true)))) (place-read second place)
+    ap (λ (r : Result Side LineFault). r >>= (λ (s : Side). place_word (word_at_column second (place_name place)) >>= (λ (p : Place). feature_word (word_at_column third (decimal (feature_number feature))) >>= (λ (g : Feature). offered third (is_ours g p) >> Ok (line.Offer s p g true))))) (side-read column side)
+    ∙ ap (λ (r : Result Place LineFault). r >>= (λ (p : Place). feature_word (word_at_column third (decimal (feature_number feature))) >>= (λ (g : Feature). offered third (is_ours g p) >> Ok (line.Offer side p g true)))) (place-read second place)
     ∙ ap (λ (r : Result Feature LineFault). r >>= (λ (g : Feature). offered third (is_ours g place) >> Ok (line.Offer side place g true))) (feature-word-read third feature)
     ∙ ap (λ (test : Bool). offered third test >> Ok (line.Offer side place feature true)) ours
 
-send-words : (column absent : ℕ) (side : Side) (payload : List ℕ) → IsSendable payload
+send-words : (column absent : ℕ) (side : Side) (payload : List ℕ) → FitsOneLine payload
     → send_line (words_left (placed column (side_name side ∷ (hex_text payload ∷ []))) absent) ≡ Ok (line.Event (event.Send side payload))
 send-words column absent side payload are =
     let second : ℕ = column + length (side_name side) + 1 in
@@ -162,14 +162,14 @@ send-words column absent side payload are =
     ∙ ap (λ (r : Result (List ℕ) LineFault). r >>= (λ (bytes : List ℕ). Ok (line.Event (event.Send side bytes)))) (hex-word-read second payload are.bytes)
 
 prefer-words : (column absent : ℕ) (side : Side) (feature : Feature) (place : Place) (values : List ℕ) → AreValues values
-    → prefer_line (words_left (placed column (side_name side ∷ (place_name place ∷ (decimal (number_of feature) ∷ (values_text values ∷ []))))) absent)
+    → prefer_line (words_left (placed column (side_name side ∷ (place_name place ∷ (decimal (feature_number feature) ∷ (values_text values ∷ []))))) absent)
     ≡ Ok (line.Event (event.Prefer side feature place values))
 prefer-words column absent side feature place values are =
     let second : ℕ = column + length (side_name side) + 1 in
     let third : ℕ = second + length (place_name place) + 1 in
-    let fourth : ℕ = third + length (decimal (number_of feature)) + 1 in
-    ap (λ (r : Result Side LineFault). r >>= (λ (s : Side). place_word (word_at_column second (place_name place)) >>= (λ (p : Place). feature_word (word_at_column third (decimal (number_of feature))) >>= (λ (g : Feature). values_word (word_at_column fourth (values_text values)) >>= (λ (vs : List ℕ). Ok (line.Event (event.Prefer s g p vs))))))) (side-read column side)
-    ∙ ap (λ (r : Result Place LineFault). r >>= (λ (p : Place). feature_word (word_at_column third (decimal (number_of feature))) >>= (λ (g : Feature). values_word (word_at_column fourth (values_text values)) >>= (λ (vs : List ℕ). Ok (line.Event (event.Prefer side g p vs)))))) (place-read second place)
+    let fourth : ℕ = third + length (decimal (feature_number feature)) + 1 in
+    ap (λ (r : Result Side LineFault). r >>= (λ (s : Side). place_word (word_at_column second (place_name place)) >>= (λ (p : Place). feature_word (word_at_column third (decimal (feature_number feature))) >>= (λ (g : Feature). values_word (word_at_column fourth (values_text values)) >>= (λ (vs : List ℕ). Ok (line.Event (event.Prefer s g p vs))))))) (side-read column side)
+    ∙ ap (λ (r : Result Place LineFault). r >>= (λ (p : Place). feature_word (word_at_column third (decimal (feature_number feature))) >>= (λ (g : Feature). values_word (word_at_column fourth (values_text values)) >>= (λ (vs : List ℕ). Ok (line.Event (event.Prefer side g p vs)))))) (place-read second place)
     ∙ ap (λ (r : Result Feature LineFault). r >>= (λ (g : Feature). values_word (word_at_column fourth (values_text values)) >>= (λ (vs : List ℕ). Ok (line.Event (event.Prefer side g place vs))))) (feature-word-read third feature)
     ∙ ap (λ (r : Result (List ℕ) LineFault). r >>= (λ (vs : List ℕ). Ok (line.Event (event.Prefer side feature place vs)))) (values-word-read fourth values are)
 
@@ -200,8 +200,8 @@ event-read (event.Prefer side feature place values) are =
     let three = feature-length feature in
     let four = values-length values are.below in
     let few = are.few in
-    read-joined (codes "prefer") (side_name side ∷ (place_name place ∷ (decimal (number_of feature) ∷ (values_text values ∷ []))))
-    (four-words (side_name side) (place_name place) (decimal (number_of feature)) (values_text values) (side-is-word side) (place-is-word place) (feature-is-word feature) (values-are-word values are.below))
+    read-joined (codes "prefer") (side_name side ∷ (place_name place ∷ (decimal (feature_number feature) ∷ (values_text values ∷ []))))
+    (four-words (side_name side) (place_name place) (decimal (feature_number feature)) (values_text values) (side-is-word side) (place-is-word place) (feature-is-word feature) (values-are-word values are.below))
     (omega arith) refl
     ∙ prefer-words 8 (length (event_text (event.Prefer side feature place values)) + 2) side feature place values are
 event-read (event.Timer side which) is =
@@ -229,24 +229,24 @@ line-read (line.Set side place feature values) is =
     let three = feature-length feature in
     let four = values-length values are.below in
     let few = are.few in
-    read-joined (codes "set") (side_name side ∷ (place_name place ∷ (decimal (number_of feature) ∷ (values_text values ∷ []))))
-    (four-words (side_name side) (place_name place) (decimal (number_of feature)) (values_text values) (side-is-word side) (place-is-word place) (feature-is-word feature) (values-are-word values are.below))
+    read-joined (codes "set") (side_name side ∷ (place_name place ∷ (decimal (feature_number feature) ∷ (values_text values ∷ []))))
+    (four-words (side_name side) (place_name place) (decimal (feature_number feature)) (values_text values) (side-is-word side) (place-is-word place) (feature-is-word feature) (values-are-word values are.below))
     (omega arith) refl
     ∙ set-words 5 (length (joined (line_words (line.Set side place feature values))) + 2) side place feature values are is.1
 line-read (line.Offer side place feature false) ours =
     let one = side-length side in
     let two = place-length place in
     let three = feature-length feature in
-    read-joined (codes "offer") (side_name side ∷ (place_name place ∷ (decimal (number_of feature) ∷ [])))
-    (three-words (side_name side) (place_name place) (decimal (number_of feature)) (side-is-word side) (place-is-word place) (feature-is-word feature))
+    read-joined (codes "offer") (side_name side ∷ (place_name place ∷ (decimal (feature_number feature) ∷ [])))
+    (three-words (side_name side) (place_name place) (decimal (feature_number feature)) (side-is-word side) (place-is-word place) (feature-is-word feature))
     (omega arith) refl
     ∙ offer-words 7 (length (joined (line_words (line.Offer side place feature false))) + 2) side place feature false ours
 line-read (line.Offer side place feature true) ours =
     let one = side-length side in
     let two = place-length place in
     let three = feature-length feature in
-    read-joined (codes "offer") (side_name side ∷ (place_name place ∷ (decimal (number_of feature) ∷ (codes "mandatory" ∷ []))))
-    (four-words (side_name side) (place_name place) (decimal (number_of feature)) (codes "mandatory") (side-is-word side) (place-is-word place) (feature-is-word feature) refl)
+    read-joined (codes "offer") (side_name side ∷ (place_name place ∷ (decimal (feature_number feature) ∷ (codes "mandatory" ∷ []))))
+    (four-words (side_name side) (place_name place) (decimal (feature_number feature)) (codes "mandatory") (side-is-word side) (place-is-word place) (feature-is-word feature) refl)
     (omega arith) refl
     ∙ offer-words 7 (length (joined (line_words (line.Offer side place feature true))) + 2) side place feature true ours
 line-read (line.Event e) is = event-read e is

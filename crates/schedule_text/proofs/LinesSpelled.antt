@@ -6,7 +6,7 @@ use Rattle.std.specs.Str.{bytes_eq}
 use Rattle.std.specs.Cmp.Lexicographic.{bytes_decides}
 use Rattle.std.proofs.lemmas.Bool.Decides.{nat_tests}
 use Rattle.std.proofs.lemmas.List.Splits.{join_with_byte-slice_split}
-use Rattle.feature_lists.specs.Features.{number_of}
+use Rattle.feature_lists.specs.Features.{feature_number}
 use Rattle.feature_lists.specs.Wishes.{is_ours, wish_of}
 use Rattle.feature_lists.specs.declared.wishes.PreferFault.{PreferFault}
 use Rattle.feature_lists.specs.declared.wishes.Wanted.{Wanted}
@@ -20,7 +20,7 @@ use Rattle.schedule_text.specs.declared.line.LineWhy.TheVariants as why
 use Rattle.schedule_text.specs.declared.names.Form.{Form}
 use Rattle.schedule_text.specs.declared.names.Form.TheVariants as form
 use Rattle.schedule_text.specs.Names.{form_name, side_name, place_name, timer_name}
-use Rattle.schedule_text.specs.Words.{word_at_column, words_left, words_of, placed, pieces, first_word, later}
+use Rattle.schedule_text.specs.Words.{word_at_column, words_left, words_of, placed, parted_by, first_word, later}
 use Rattle.schedule_text.specs.Reading.{◌>>=◌, ◌>>◌, fault_at, form_word, side_word, place_word, timer_word, number_word, feature_word, values_word, name_word, hex_word, mandatory_word, ended, wished, offered, iss_line, set_line, offer_line, deliver_line, send_line, prefer_line, timer_line, close_line, abort_line, line_of, read_words, is_text, first_other, text_or_other, clean, says_nothing, read_clean, read_line}
 use Rattle.schedule_text.specs.Printing.{joined, frame_name, values_text, mandatory_words}
 use Rattle.schedule_text.specs.Forms.{SpellsBytes, IsLine}
@@ -98,7 +98,7 @@ set-line text column absent parts said words is =
     let place = place-spelled second two.word two.found two.read in
     let feature = feature-spelled third three.word three.found three.read in
     let values = values-spelled fourth four.word four.found four.read in
-    let are : parts ≡ side_name one.found ∷ (place_name two.found ∷ (decimal (number_of three.found) ∷ (values_text four.found ∷ []))) =
+    let are : parts ≡ side_name one.found ∷ (place_name two.found ∷ (decimal (feature_number three.found) ∷ (values_text four.found ∷ []))) =
     cc (one.parts_are, two.parts_are, three.parts_are, four.parts_are, last.0, side, place, feature, values.0) in
     subst (λ (s : Line). IsLine text s) same
     (words ∙ ap (λ (ps : List (List ℕ)). joined (form_name form.Set ∷ ps)) are, (values.1, wished-is at (wish_of three.found two.found four.found) own.0))
@@ -123,7 +123,7 @@ offer-line text column absent parts said words is =
     let side = side-spelled column one.word one.found one.read in
     let place = place-spelled second two.word two.found two.read in
     let feature = feature-spelled third three.word three.found three.read in
-    let are : parts ≡ side_name one.found ∷ (place_name two.found ∷ (decimal (number_of three.found) ∷ mandatory_words mark.0)) =
+    let are : parts ≡ side_name one.found ∷ (place_name two.found ∷ (decimal (feature_number three.found) ∷ mandatory_words mark.0)) =
     cc (one.parts_are, two.parts_are, three.parts_are, last.0, side, place, feature) in
     subst (λ (s : Line). IsLine text s) same
     (words ∙ ap (λ (ps : List (List ℕ)). joined (form_name form.Offer ∷ ps)) are, offered-is at (is_ours three.found two.found) own.0)
@@ -176,7 +176,7 @@ prefer-line text column absent parts said words is =
     let place = place-spelled second two.word two.found two.read in
     let feature = feature-spelled third three.word three.found three.read in
     let values = values-spelled fourth four.word four.found four.read in
-    let are : parts ≡ side_name one.found ∷ (place_name two.found ∷ (decimal (number_of three.found) ∷ (values_text four.found ∷ []))) =
+    let are : parts ≡ side_name one.found ∷ (place_name two.found ∷ (decimal (feature_number three.found) ∷ (values_text four.found ∷ []))) =
     cc (one.parts_are, two.parts_are, three.parts_are, four.parts_are, last.0, side, place, feature, values.0) in
     subst (λ (s : Line). IsLine text s) last.1 (words ∙ ap (λ (ps : List (List ℕ)). joined (form_name form.Prefer ∷ ps)) are, values.1)
 
@@ -231,9 +231,9 @@ form-line form.Abort text column absent parts said words short is = abort-line t
 words-line : (text : List ℕ) (said : Line) → length text ≤ 4096 → read_words (words_of text) ≡ Ok said → IsLine text said
 words-line text said short is =
     let absent = length text + 2 in
-    let first = step form_word (λ which left. line_of which left) said 1 absent (pieces 32 text) (λ x never. cc never) is in
+    let first = step form_word (λ which left. line_of which left) said 1 absent (parted_by 32 text) (λ x never. cc never) is in
     let name = form-spelled 1 first.word first.found first.read in
-    let are : pieces 32 text ≡ form_name first.found ∷ first.rest = cc (first.parts_are, name) in
+    let are : parted_by 32 text ≡ form_name first.found ∷ first.rest = cc (first.parts_are, name) in
     form-line first.found text (1 + length first.word + 1) absent first.rest said (sym (join_with_byte-slice_split 32 text) ∙ ap joined are) short first.more
 
 -- Clean lines

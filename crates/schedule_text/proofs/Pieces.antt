@@ -2,7 +2,7 @@
 use Rattle.std.proofs.lemmas.Grind.{common_steps}
 use Rattle.std.proofs.Common.{◌≡◌, refl, ap, ◌∙◌, ℕ, suc, ◌+◌, ◌-◌, ◌==◌, List, [], ◌∷◌, length, take, drop, Bool, true, false, cond, Some, None, arith}
 use Rattle.std.specs.List.{slice_split, onto_first, position_from}
-use Rattle.schedule_text.specs.Words.{pieces, placed, is_over}
+use Rattle.schedule_text.specs.Words.{parted_by, placed, is_over}
 
 -- an element parts a list: so many stand before it, and these pieces follow it
 record IsCut {X : Type 0} (p : X → Bool) (from : ℕ) (xs : List X) (place : ℕ) : Type 0 where
@@ -43,17 +43,17 @@ whole_from p from (x ∷ xs) none = whole_by p from x xs (p x) refl none (whole_
 
 -- a text is parted where the mark stands first
 pub parted : (mark : ℕ) (text : List ℕ) (place : ℕ) → position_from (λ byte. byte == mark) 0 text ≡ Some place
-    → pieces mark text ≡ take place text ∷ pieces mark (drop (place + 1) text)
+    → parted_by mark text ≡ take place text ∷ parted_by mark (drop (place + 1) text)
 parted mark text place found =
     let cut = cut_from (λ byte. byte == mark) 0 text place found in
     let at : cut.count ≡ place = (let at = cut.at in omega arith) in
     let behind : suc cut.count ≡ place + 1 = omega arith in
     cut.pieces
-    ∙ ap (λ (count : ℕ). take count text ∷ pieces mark (drop (suc cut.count) text)) at
-    ∙ ap (λ (count : ℕ). take place text ∷ pieces mark (drop count text)) behind
+    ∙ ap (λ (count : ℕ). take count text ∷ parted_by mark (drop (suc cut.count) text)) at
+    ∙ ap (λ (count : ℕ). take place text ∷ parted_by mark (drop count text)) behind
 
 -- and is whole where it stands nowhere
-pub not_parted : (mark : ℕ) (text : List ℕ) → position_from (λ byte. byte == mark) 0 text ≡ None → pieces mark text ≡ text ∷ []
+pub not_parted : (mark : ℕ) (text : List ℕ) → position_from (λ byte. byte == mark) 0 text ≡ None → parted_by mark text ≡ text ∷ []
 not_parted mark text none = whole_from (λ byte. byte == mark) 0 text none
 
 begun : {X : Type 0} (x : X) (parts : List (List X)) → (first : List X) × (others : List (List X)) × (onto_first x parts ≡ first ∷ others)
@@ -71,7 +71,7 @@ has_first p [] = ([], [], refl)
 has_first p (x ∷ xs) = begun_by p x xs (p x) refl
 
 -- a text that follows has a word
-pub some_left : (column : ℕ) (text : List ℕ) → is_over (placed column (pieces 32 text)) ≡ false
+pub some_left : (column : ℕ) (text : List ℕ) → is_over (placed column (parted_by 32 text)) ≡ false
 some_left column text = ap (λ (texts : List (List ℕ)). is_over (placed column texts)) (has_first (λ byte. byte == 32) text).2
 
 -- what follows a place, as a slice from there has it

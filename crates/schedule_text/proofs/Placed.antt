@@ -5,7 +5,7 @@ use Rattle.std.specs.List.{list_all, onto_first}
 use Rattle.std.proofs.lemmas.List.{append-nil}
 use Rattle.std.proofs.lemmas.List.Elements.{All-nil, All-cons}
 use Rattle.std.proofs.lemmas.List.Splits.{join_with_byte-slice_split}
-use Rattle.schedule_text.specs.Words.{WordAt, word_at_column, placed, pieces, words_of}
+use Rattle.schedule_text.specs.Words.{WordAt, word_at_column, placed, parted_by, words_of}
 use Rattle.schedule_text.specs.Printing.{joined}
 use Rattle.schedule_text.specs.Columns.{StandsIn, AreWordsOf}
 use Rattle.schedule_text.proofs.WordTexts.{both-true, and-true, lacks}
@@ -55,12 +55,12 @@ onto-lacks byte (part ∷ parts) other whole =
     let both = both-true (list_all (lacks 32) part) (list_all (list_all (lacks 32)) parts) whole in
     and-true (lacks 32 byte && list_all (lacks 32) part) (list_all (list_all (lacks 32)) parts) (and-true (lacks 32 byte) (list_all (lacks 32) part) other both.0) both.1
 
-lacks-by : (byte : ℕ) (rest : List ℕ) (test : Bool) → (byte == 32) ≡ test → list_all (list_all (lacks 32)) (pieces 32 rest) ≡ true
-    → list_all (list_all (lacks 32)) (cond test ([] ∷ pieces 32 rest) (onto_first byte (pieces 32 rest))) ≡ true
+lacks-by : (byte : ℕ) (rest : List ℕ) (test : Bool) → (byte == 32) ≡ test → list_all (list_all (lacks 32)) (parted_by 32 rest) ≡ true
+    → list_all (list_all (lacks 32)) (cond test ([] ∷ parted_by 32 rest) (onto_first byte (parted_by 32 rest))) ≡ true
 lacks-by byte rest true is whole = whole
-lacks-by byte rest false is whole = onto-lacks byte (pieces 32 rest) (ap not is) whole
+lacks-by byte rest false is whole = onto-lacks byte (parted_by 32 rest) (ap not is) whole
 
-parts-lack : (text : List ℕ) → list_all (list_all (lacks 32)) (pieces 32 text) ≡ true
+parts-lack : (text : List ℕ) → list_all (list_all (lacks 32)) (parted_by 32 text) ≡ true
 parts-lack [] = refl
 parts-lack (byte ∷ rest) = lacks-by byte rest (byte == 32) refl (parts-lack rest)
 
@@ -70,9 +70,9 @@ texts-of column (part ∷ parts) = ap (λ (texts : List (List ℕ)). part ∷ te
 
 pub words-placed : (line : List ℕ) → AreWordsOf line (words_of line)
 words-placed line = record {
-  parted = ap joined (texts-of 1 (pieces 32 line)) ∙ join_with_byte-slice_split 32 line;
+  parted = ap joined (texts-of 1 (parted_by 32 line)) ∙ join_with_byte-slice_split 32 line;
   columns =
-      subst (λ (text : List ℕ). All (StandsIn text) (placed 1 (pieces 32 line))) (join_with_byte-slice_split 32 line)
-      (all-stand [] 1 (pieces 32 line) refl (parts-lack line));
+      subst (λ (text : List ℕ). All (StandsIn text) (placed 1 (parted_by 32 line))) (join_with_byte-slice_split 32 line)
+      (all-stand [] 1 (parted_by 32 line) refl (parts-lack line));
   absent = refl;
 }

@@ -5,7 +5,7 @@ use Rattle.std.specs.List.{list_all, join_with_byte}
 use Rattle.std.proofs.lemmas.Bool.Decides.{nat_tests}
 use Rattle.std.proofs.lemmas.List.Elements.{All-head, All-tail}
 use Rattle.std.proofs.lemmas.Fmt.{decimal_nonempty, length-decimal-le}
-use Rattle.feature_lists.specs.Features.{number_of, feature_numbered}
+use Rattle.feature_lists.specs.Features.{feature_number, feature_numbered}
 use Rattle.feature_lists.specs.declared.features.Feature.{Feature}
 use Rattle.feature_lists.specs.declared.features.Feature.TheVariants as f
 use Rattle.feature_lists.specs.declared.features.Place.{Place}
@@ -18,8 +18,8 @@ use Rattle.dccp_endpoint.specs.declared.calls.Timer.TheVariants as timer
 use Rattle.schedule_text.specs.declared.line.LineFault.{LineFault}
 use Rattle.schedule_text.specs.declared.line.LineWhy.TheVariants as why
 use Rattle.schedule_text.specs.Names.{side_name, place_name, timer_name}
-use Rattle.schedule_text.specs.Numbers.{number_below, sequence_numbers, with_number, numbers_of, at_most_nine, values_of, feature_of}
-use Rattle.schedule_text.specs.Words.{word_at_column, pieces}
+use Rattle.schedule_text.specs.Numbers.{number_below, sequence_numbers, number_and_rest, numbers_read, at_most_nine, values_of, feature_of}
+use Rattle.schedule_text.specs.Words.{word_at_column, parted_by}
 use Rattle.schedule_text.specs.Reading.{◌>>◌, present, needed, side_word, place_word, timer_word, number_word, feature_word, values_word, delivery, named, name_word}
 use Rattle.schedule_text.specs.Printing.{values_text, frame_name}
 use Rattle.schedule_text.specs.Range.{AreValues}
@@ -57,7 +57,7 @@ number-word-read column n small =
     (present-some column (decimal n) (decimal_nonempty n (omega arith)))
     ∙ ap (needed (word_at_column column (decimal n)) why.BadNumber) (number-read (2 ^ 48) (omega arith) n small)
 
-feature-small : (feature : Feature) → number_of feature < 10
+feature-small : (feature : Feature) → feature_number feature < 10
 feature-small f.Ccid = omega arith
 feature-small f.ShortSeqnos = omega arith
 feature-small f.SequenceWindow = omega arith
@@ -68,7 +68,7 @@ feature-small f.SendNdpCount = omega arith
 feature-small f.MinCsCov = omega arith
 feature-small f.CheckDataChecksum = omega arith
 
-feature-back : (feature : Feature) → feature_numbered (number_of feature) ≡ Some feature
+feature-back : (feature : Feature) → feature_numbered (feature_number feature) ≡ Some feature
 feature-back f.Ccid = refl
 feature-back f.ShortSeqnos = refl
 feature-back f.SequenceWindow = refl
@@ -79,32 +79,32 @@ feature-back f.SendNdpCount = refl
 feature-back f.MinCsCov = refl
 feature-back f.CheckDataChecksum = refl
 
-pub feature-text-read : (feature : Feature) → feature_of (decimal (number_of feature)) ≡ Some feature
+pub feature-text-read : (feature : Feature) → feature_of (decimal (feature_number feature)) ≡ Some feature
 feature-text-read feature =
-    ap (option_and_then feature_numbered) (number-read 10 (omega arith) (number_of feature) (feature-small feature)) ∙ feature-back feature
+    ap (option_and_then feature_numbered) (number-read 10 (omega arith) (feature_number feature) (feature-small feature)) ∙ feature-back feature
 
-pub number-of-small : (feature : Feature) → number_of feature < 2 ^ 64
+pub number-of-small : (feature : Feature) → feature_number feature < 2 ^ 64
 number-of-small feature = let small = feature-small feature in omega arith
 
-pub feature-length : (feature : Feature) → length (decimal (number_of feature)) ≤ 1
+pub feature-length : (feature : Feature) → length (decimal (feature_number feature)) ≤ 1
 feature-length feature =
     let small = feature-small feature in
-    length-decimal-le 1 (number_of feature) (omega arith) (omega arith) (omega arith)
+    length-decimal-le 1 (feature_number feature) (omega arith) (omega arith) (omega arith)
 
-pub feature-word-read : (column : ℕ) (feature : Feature) → feature_word (word_at_column column (decimal (number_of feature))) ≡ Ok feature
+pub feature-word-read : (column : ℕ) (feature : Feature) → feature_word (word_at_column column (decimal (feature_number feature))) ≡ Ok feature
 feature-word-read column feature =
-    ap (λ (r : Result (Unit {0}) LineFault). r >> needed (word_at_column column (decimal (number_of feature))) why.BadNumber (feature_of (decimal (number_of feature))))
-    (present-some column (decimal (number_of feature)) (decimal_nonempty (number_of feature) (number-of-small feature)))
-    ∙ ap (needed (word_at_column column (decimal (number_of feature))) why.BadNumber) (feature-text-read feature)
+    ap (λ (r : Result (Unit {0}) LineFault). r >> needed (word_at_column column (decimal (feature_number feature))) why.BadNumber (feature_of (decimal (feature_number feature))))
+    (present-some column (decimal (feature_number feature)) (decimal_nonempty (feature_number feature) (number-of-small feature)))
+    ∙ ap (needed (word_at_column column (decimal (feature_number feature))) why.BadNumber) (feature-text-read feature)
 
 -- Lists of numbers
 
-numbers-read : (values : List ℕ) → All (λ value. value < 2 ^ 48) values → numbers_of (map decimal values) ≡ Some values
+numbers-read : (values : List ℕ) → All (λ value. value < 2 ^ 48) values → numbers_read (map decimal values) ≡ Some values
 numbers-read [] below = refl
 numbers-read (value ∷ values) below =
-    ap (option_and_then (λ (number : ℕ). with_number number (numbers_of (map decimal values))))
+    ap (option_and_then (λ (number : ℕ). number_and_rest number (numbers_read (map decimal values))))
     (number-read (2 ^ 48) (omega arith) value (All-head (λ v. v < 2 ^ 48) value values below))
-    ∙ ap (with_number value) (numbers-read values (All-tail (λ v. v < 2 ^ 48) value values below))
+    ∙ ap (number_and_rest value) (numbers-read values (All-tail (λ v. v < 2 ^ 48) value values below))
 
 values-lack : (values : List ℕ) → All (λ value. value < 2 ^ 48) values → list_all (list_all (lacks 44)) (map decimal values) ≡ true
 values-lack [] below = refl
@@ -113,7 +113,7 @@ values-lack (value ∷ values) below =
     and-true (list_all (lacks 44) (decimal value)) (list_all (list_all (lacks 44)) (map decimal values))
     (decimal-lacks value (omega arith)) (values-lack values (All-tail (λ v. v < 2 ^ 48) value values below))
 
-values-parts : (values : List ℕ) → 1 ≤ length values → All (λ value. value < 2 ^ 48) values → pieces 44 (values_text values) ≡ map decimal values
+values-parts : (values : List ℕ) → 1 ≤ length values → All (λ value. value < 2 ^ 48) values → parted_by 44 (values_text values) ≡ map decimal values
 values-parts [] some below = absurd (omega arith)
 values-parts (value ∷ values) some below = joined-parts 44 (decimal value) (map decimal values) (values-lack (value ∷ values) below)
 
@@ -121,7 +121,7 @@ pub values-read : (values : List ℕ) → AreValues values → values_of (values
 values-read values are =
     let few : length values ≤ 9 = are.few in
     let is : nat_le (length values) 9 ≡ true = grind (arith, nat_tests) in
-    ap (λ (parts : List (List ℕ)). option_and_then at_most_nine (numbers_of parts)) (values-parts values are.some are.below)
+    ap (λ (parts : List (List ℕ)). option_and_then at_most_nine (numbers_read parts)) (values-parts values are.some are.below)
     ∙ ap (option_and_then at_most_nine) (numbers-read values are.below)
     ∙ if-true (nat_le (length values) 9) (Some values) None is
 

@@ -10,7 +10,7 @@ use Rattle.std.specs.Cmp.Lexicographic.{bytes_decides}
 use Rattle.std.proofs.lemmas.Bool.Decides.{nat_tests}
 use Rattle.std.proofs.lemmas.List.Elements.{All-nil, All-cons}
 use Rattle.std.proofs.lemmas.List.Splits.{join_with_byte-slice_split}
-use Rattle.feature_lists.specs.Features.{number_of, feature_numbered}
+use Rattle.feature_lists.specs.Features.{feature_number, feature_numbered}
 use Rattle.feature_lists.specs.declared.features.Feature.{Feature}
 use Rattle.feature_lists.specs.declared.features.Feature.TheVariants as f
 use Rattle.feature_lists.specs.declared.features.Place.{Place}
@@ -25,10 +25,10 @@ use Rattle.schedule_text.specs.declared.line.LineFault.{LineFault}
 use Rattle.schedule_text.specs.declared.line.LineWhy.TheVariants as why
 use Rattle.schedule_text.specs.declared.names.Form.{Form}
 use Rattle.schedule_text.specs.declared.names.Form.TheVariants as form
-use Rattle.schedule_text.specs.Names.{form_name, form_of, side_name, side_of, place_name, place_of, timer_name, timer_of}
-use Rattle.schedule_text.specs.Numbers.{number_below, sequence_numbers, with_number, numbers_of, at_most_nine, values_of, feature_of}
-use Rattle.schedule_text.specs.Words.{WordAt, WordsLeft, word_at_column, words_left, placed, pieces, first_word, later}
-use Rattle.schedule_text.specs.Reading.{◌>>=◌, ◌>>◌, fault_at, form_word, side_word, place_word, timer_word, number_word, feature_word, values_word, delivery, index_of, named, name_word, ended}
+use Rattle.schedule_text.specs.Names.{form_name, form_named, side_name, side_named, place_name, place_named, timer_name, timer_of}
+use Rattle.schedule_text.specs.Numbers.{number_below, sequence_numbers, number_and_rest, numbers_read, at_most_nine, values_of, feature_of}
+use Rattle.schedule_text.specs.Words.{WordAt, WordsLeft, word_at_column, words_left, placed, parted_by, first_word, later}
+use Rattle.schedule_text.specs.Reading.{◌>>=◌, ◌>>◌, fault_at, form_word, side_word, place_word, timer_word, number_word, feature_word, values_word, delivery, frame_index, named, name_word, ended}
 use Rattle.schedule_text.specs.Printing.{values_text, frame_name}
 use Rattle.schedule_text.specs.Range.{AreValues}
 use Rattle.schedule_text.proofs.Numerals.{number-spelled}
@@ -81,12 +81,12 @@ spelled : {A : Type 0} (name : A → List ℕ) (text : List ℕ) (x y : A) (rest
     → (rest ≡ Some y → text ≡ name y) → text ≡ name y
 spelled name text x y rest is others = spelled-by name text x y rest (bytes_eq text (name x)) (λ equal. (bytes_decides text (name x)).0 equal) is others
 
-side-of-spelled : (text : List ℕ) (side : Side) → side_of text ≡ Some side → text ≡ side_name side
+side-of-spelled : (text : List ℕ) (side : Side) → side_named text ≡ Some side → text ≡ side_name side
 side-of-spelled text side is =
     spelled side_name text Client side (if bytes_eq text (side_name Server) then Some Server else None) is (λ is.
     spelled side_name text Server side None is (λ is. cc is))
 
-place-of-spelled : (text : List ℕ) (place : Place) → place_of text ≡ Some place → text ≡ place_name place
+place-of-spelled : (text : List ℕ) (place : Place) → place_named text ≡ Some place → text ≡ place_name place
 place-of-spelled text place is =
     spelled place_name text Here place (if bytes_eq text (place_name There) then Some There else None) is (λ is.
     spelled place_name text There place None is (λ is. cc is))
@@ -105,7 +105,7 @@ timer-of-spelled text which is =
     spelled timer_name text timer.Close which five is (λ is.
     spelled timer_name text timer.TimeWait which None is (λ is. cc is))))))
 
-form-of-spelled : (text : List ℕ) (which : Form) → form_of text ≡ Some which → text ≡ form_name which
+form-of-spelled : (text : List ℕ) (which : Form) → form_named text ≡ Some which → text ≡ form_name which
 form-of-spelled text which is =
     let ten : Option Form = if bytes_eq text (form_name form.Abort) then Some form.Abort else None in
     let nine : Option Form = if bytes_eq text (form_name form.Close) then Some form.Close else ten in
@@ -130,13 +130,13 @@ form-of-spelled text which is =
     spelled form_name text form.Abort which None is (λ is. cc is)))))))))))
 
 pub form-spelled : (column : ℕ) (text : List ℕ) (which : Form) → form_word (word_at_column column text) ≡ Ok which → text ≡ form_name which
-form-spelled column text which read = form-of-spelled text which (needed-found (word_at_column column text) why.UnknownWord (form_of text) which read)
+form-spelled column text which read = form-of-spelled text which (needed-found (word_at_column column text) why.UnknownWord (form_named text) which read)
 
 pub side-spelled : (column : ℕ) (text : List ℕ) (side : Side) → side_word (word_at_column column text) ≡ Ok side → text ≡ side_name side
-side-spelled column text side read = side-of-spelled text side (needed-found (word_at_column column text) why.UnknownWord (side_of text) side read)
+side-spelled column text side read = side-of-spelled text side (needed-found (word_at_column column text) why.UnknownWord (side_named text) side read)
 
 pub place-spelled : (column : ℕ) (text : List ℕ) (place : Place) → place_word (word_at_column column text) ≡ Ok place → text ≡ place_name place
-place-spelled column text place read = place-of-spelled text place (needed-found (word_at_column column text) why.UnknownWord (place_of text) place read)
+place-spelled column text place read = place-of-spelled text place (needed-found (word_at_column column text) why.UnknownWord (place_named text) place read)
 
 pub timer-spelled : (column : ℕ) (text : List ℕ) (which : Timer) → timer_word (word_at_column column text) ≡ Ok which → text ≡ timer_name which
 timer-spelled column text which read = timer-of-spelled text which (needed-found (word_at_column column text) why.UnknownWord (timer_of text) which read)
@@ -147,18 +147,18 @@ pub sequence-spelled : (column : ℕ) (text : List ℕ) (n : ℕ) → number_wor
 sequence-spelled column text n read =
     number-spelled (2 ^ 48) (omega arith) text n (needed-found (word_at_column column text) why.BadNumber (number_below sequence_numbers text) n read)
 
-numbered-by : (n number : ℕ) (x y : Feature) (rest : Option Feature) (test : Bool) → (test ≡ true → n ≡ number) → number ≡ number_of x
-    → (if test then Some x else rest) ≡ Some y → (rest ≡ Some y → n ≡ number_of y) → n ≡ number_of y
-numbered-by n number x y rest true means is_number is others = let same : x ≡ y = cc is in means refl ∙ is_number ∙ ap number_of same
+numbered-by : (n number : ℕ) (x y : Feature) (rest : Option Feature) (test : Bool) → (test ≡ true → n ≡ number) → number ≡ feature_number x
+    → (if test then Some x else rest) ≡ Some y → (rest ≡ Some y → n ≡ feature_number y) → n ≡ feature_number y
+numbered-by n number x y rest true means is_number is others = let same : x ≡ y = cc is in means refl ∙ is_number ∙ ap feature_number same
 numbered-by n number x y rest false means is_number is others = others is
 
 same-number : (n k : ℕ) → (n == k) ≡ true → n ≡ k
 same-number n k is = grind (arith, nat_tests)
 
-numbered : (n number : ℕ) (x y : Feature) (rest : Option Feature) → number ≡ number_of x → (if n == number then Some x else rest) ≡ Some y → (rest ≡ Some y → n ≡ number_of y) → n ≡ number_of y
+numbered : (n number : ℕ) (x y : Feature) (rest : Option Feature) → number ≡ feature_number x → (if n == number then Some x else rest) ≡ Some y → (rest ≡ Some y → n ≡ feature_number y) → n ≡ feature_number y
 numbered n number x y rest is_number is others = numbered-by n number x y rest (n == number) (same-number n number) is_number is others
 
-numbered-feature : (n : ℕ) (feature : Feature) → feature_numbered n ≡ Some feature → n ≡ number_of feature
+numbered-feature : (n : ℕ) (feature : Feature) → feature_numbered n ≡ Some feature → n ≡ feature_number feature
 numbered-feature n feature is =
     let eight : Option Feature = if n == 9 then Some f.CheckDataChecksum else None in
     let seven : Option Feature = if n == 8 then Some f.MinCsCov else eight in
@@ -182,14 +182,14 @@ and-then-some : {A B : Type 0} (o : Option A) (f : A → Option B) (y : B) → o
 and-then-some None f y is = cc is
 and-then-some (Some x) f y is = (x, refl, is)
 
-pub feature-spelled : (column : ℕ) (text : List ℕ) (feature : Feature) → feature_word (word_at_column column text) ≡ Ok feature → text ≡ decimal (number_of feature)
+pub feature-spelled : (column : ℕ) (text : List ℕ) (feature : Feature) → feature_word (word_at_column column text) ≡ Ok feature → text ≡ decimal (feature_number feature)
 feature-spelled column text feature read =
     let both = and-then-some (number_below 10 text) feature_numbered feature (needed-found (word_at_column column text) why.BadNumber (feature_of text) feature read) in
     (number-spelled 10 (omega arith) text both.0 both.1).0 ∙ ap decimal (numbered-feature both.0 feature both.2)
 
 -- Lists of numbers
 
-with-some : (number : ℕ) (others : Option (List ℕ)) (numbers : List ℕ) → with_number number others ≡ Some numbers → (rest : List ℕ) × (others ≡ Some rest) × (number ∷ rest ≡ numbers)
+with-some : (number : ℕ) (others : Option (List ℕ)) (numbers : List ℕ) → number_and_rest number others ≡ Some numbers → (rest : List ℕ) × (others ≡ Some rest) × (number ∷ rest ≡ numbers)
 with-some number None numbers is = cc is
 with-some number (Some rest) numbers is = (rest, refl, cc is)
 
@@ -197,13 +197,13 @@ record AreSpelled (parts : List (List ℕ)) (numbers : List ℕ) : Type 0 where
   pub texts : parts ≡ map decimal numbers
   pub below : All (λ value. value < 2 ^ 48) numbers
 
-numbers-spelled : (parts : List (List ℕ)) (numbers : List ℕ) → numbers_of parts ≡ Some numbers → AreSpelled parts numbers
+numbers-spelled : (parts : List (List ℕ)) (numbers : List ℕ) → numbers_read parts ≡ Some numbers → AreSpelled parts numbers
 numbers-spelled [] numbers is =
     let none : [] ≡ numbers = cc is in
     subst (λ (ns : List ℕ). AreSpelled [] ns) none (record { texts = refl; below = All-nil (λ v. v < 2 ^ 48) })
 numbers-spelled (part ∷ parts) numbers is =
-    let first = and-then-some (number_below sequence_numbers part) (λ (n : ℕ). with_number n (numbers_of parts)) numbers is in
-    let others = with-some first.0 (numbers_of parts) numbers first.2 in
+    let first = and-then-some (number_below sequence_numbers part) (λ (n : ℕ). number_and_rest n (numbers_read parts)) numbers is in
+    let others = with-some first.0 (numbers_read parts) numbers first.2 in
     let number = number-spelled (2 ^ 48) (omega arith) part first.0 first.1 in
     let rest = numbers-spelled parts others.0 others.1 in
     subst (λ (ns : List ℕ). AreSpelled (part ∷ parts) ns) others.2 (record {
@@ -224,10 +224,10 @@ some-values (value ∷ values) first others is = omega arith
 
 pub values-of-spelled : (text : List ℕ) (values : List ℕ) → values_of text ≡ Some values → (text ≡ values_text values) × AreValues values
 values-of-spelled text values is =
-    let both = and-then-some (numbers_of (pieces 44 text)) at_most_nine values is in
+    let both = and-then-some (numbers_read (parted_by 44 text)) at_most_nine values is in
     let nine = nine-by both.0 values (nat_le (length both.0) 9) (at-most (length both.0)) both.2 in
     let few : length values ≤ 9 = subst (λ (ns : List ℕ). length ns ≤ 9) nine.0 nine.1 in
-    let are = subst (λ (ns : List ℕ). AreSpelled (pieces 44 text) ns) nine.0 (numbers-spelled (pieces 44 text) both.0 both.1) in
+    let are = subst (λ (ns : List ℕ). AreSpelled (parted_by 44 text) ns) nine.0 (numbers-spelled (parted_by 44 text) both.0 both.1) in
     let begins = has_first (λ byte. byte == 44) text in (
       sym (join_with_byte-slice_split 44 text) ∙ ap (join_with_byte 44) are.texts,
       record {
@@ -249,7 +249,7 @@ pub record IsNamed (text : List ℕ) (e : Event) : Type 0 where
   pub spells : text ≡ frame_name from index
   pub small : index < 2 ^ 47
 
-delivered : (word : WordAt) (from : Side) (index text : List ℕ) (found : Option ℕ) (e : Event) → index_of index ≡ found → ((n : ℕ) → index ≡ decimal n → text ≡ frame_name from n)
+delivered : (word : WordAt) (from : Side) (index text : List ℕ) (found : Option ℕ) (e : Event) → frame_index index ≡ found → ((n : ℕ) → index ≡ decimal n → text ≡ frame_name from n)
     → delivery word from found ≡ Ok e → IsNamed text e
 delivered word from index text None e is spells read = cc read
 delivered word from index text (Some n) e is spells read =
@@ -257,13 +257,13 @@ delivered word from index text (Some n) e is spells read =
     record { from = from; index = n; event_is = cc read; spells = spells n number.0; small = number.1 }
 
 letter-by : (word : WordAt) (letter : ℕ) (index : List ℕ) (e : Event) (client server : Bool) → (client ≡ true → letter ≡ 99) → (server ≡ true → letter ≡ 115)
-    → (if client then delivery word Client (index_of index) else if server then delivery word Server (index_of index) else Err (fault_at word.column why.UnknownWord)) ≡ Ok e
+    → (if client then delivery word Client (frame_index index) else if server then delivery word Server (frame_index index) else Err (fault_at word.column why.UnknownWord)) ≡ Ok e
     → IsNamed (letter ∷ index) e
 letter-by word letter index e true server is_client is_server read =
-    delivered word Client index (letter ∷ index) (index_of index) e refl
+    delivered word Client index (letter ∷ index) (frame_index index) e refl
     (λ n spelled. ap (λ (l : ℕ). l ∷ index) (is_client refl) ∙ ap (λ (digits : List ℕ). 99 ∷ digits) spelled) read
 letter-by word letter index e false true is_client is_server read =
-    delivered word Server index (letter ∷ index) (index_of index) e refl
+    delivered word Server index (letter ∷ index) (frame_index index) e refl
     (λ n spelled. ap (λ (l : ℕ). l ∷ index) (is_server refl) ∙ ap (λ (digits : List ℕ). 115 ∷ digits) spelled) read
 letter-by word letter index e false false is_client is_server read = cc read
 

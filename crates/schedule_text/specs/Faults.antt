@@ -11,7 +11,7 @@ use Rattle.schedule_text.specs.declared.line.LineWhy.{LineWhy}
 use Rattle.schedule_text.specs.declared.line.LineWhy.TheVariants as why
 use Rattle.schedule_text.specs.declared.names.Form.{Form}
 use Rattle.schedule_text.specs.declared.names.Form.TheVariants as form
-use Rattle.schedule_text.specs.Names.{form_of, side_of, place_of, timer_of}
+use Rattle.schedule_text.specs.Names.{form_named, side_named, place_named, timer_of}
 use Rattle.schedule_text.specs.Numbers.{number_below, values_of, feature_of}
 use Rattle.schedule_text.specs.Digits.{flaw_of}
 use Rattle.schedule_text.specs.Words.{WordAt, WordsLeft, first_word, later, word_at, words_of}
@@ -36,10 +36,10 @@ abbrev pub Judge : Type 0
 Judge = WordsLeft → Option LineFault
 
 abbrev pub a_side : Judge
-a_side left = word_fault why.UnknownWord (is_some (side_of (first_word left).text)) (first_word left)
+a_side left = word_fault why.UnknownWord (is_some (side_named (first_word left).text)) (first_word left)
 
 abbrev pub a_place : Judge
-a_place left = word_fault why.UnknownWord (is_some (place_of (first_word left).text)) (first_word left)
+a_place left = word_fault why.UnknownWord (is_some (place_named (first_word left).text)) (first_word left)
 
 abbrev pub a_timer : Judge
 a_timer left = word_fault why.UnknownWord (is_some (timer_of (first_word left).text)) (first_word left)
@@ -127,9 +127,9 @@ abbrev pub end_fault : Form → WordsLeft → Option LineFault
 end_fault form.Plain left = None
 end_fault form.Iss left = None
 end_fault form.Set left =
-    refused_set (word_at 3 left).column (place_of (word_at 1 left).text) (feature_of (word_at 2 left).text) (values_of (word_at 3 left).text)
+    refused_set (word_at 3 left).column (place_named (word_at 1 left).text) (feature_of (word_at 2 left).text) (values_of (word_at 3 left).text)
 end_fault form.Offer left =
-    refused_offer (word_at 2 left).column (place_of (word_at 1 left).text) (feature_of (word_at 2 left).text)
+    refused_offer (word_at 2 left).column (place_named (word_at 1 left).text) (feature_of (word_at 2 left).text)
 end_fault form.Open left = None
 end_fault form.Deliver left = None
 end_fault form.Send left = None
@@ -144,8 +144,8 @@ form_fault (Some form) left = first_or (words_fault (judges_of form) left) (end_
 
 abbrev pub spoken_fault : WordsLeft → Option LineFault
 spoken_fault left =
-    first_or (word_fault why.UnknownWord (is_some (form_of (first_word left).text)) (first_word left))
-    (form_fault (form_of (first_word left).text) (later left))
+    first_or (word_fault why.UnknownWord (is_some (form_named (first_word left).text)) (first_word left))
+    (form_fault (form_named (first_word left).text) (later left))
 
 -- a byte that is no text
 abbrev pub no_text : Option ℕ → Option LineFault

@@ -26,7 +26,7 @@ SpellsBytes digits [] = digits ≡ codes "-"
 SpellsBytes digits (byte ∷ bytes) = AreDigitsOf digits (byte ∷ bytes)
 
 -- the digits of the data that are sent, in the text of their line
-pub record IsSending (text : List ℕ) (side : List ℕ) (payload : List ℕ) : Type 0 where
+pub record IsSendLine (text : List ℕ) (side : List ℕ) (payload : List ℕ) : Type 0 where
   pub digits : List ℕ
   pub spells : SpellsBytes digits payload
   pub words : text ≡ joined (form_name form.Send ∷ (side ∷ (digits ∷ [])))
@@ -44,7 +44,7 @@ IsLine text (line.Offer side place feature mandatory) =
 IsLine text (line.Event event.Open) = text ≡ joined (line_words (line.Event event.Open))
 IsLine text (line.Event (event.Deliver from index)) =
     (text ≡ joined (line_words (line.Event (event.Deliver from index)))) × IsSayable (line.Event (event.Deliver from index))
-IsLine text (line.Event (event.Send side payload)) = IsSending text (side_name side) payload
+IsLine text (line.Event (event.Send side payload)) = IsSendLine text (side_name side) payload
 IsLine text (line.Event (event.Prefer side feature place values)) =
     (text ≡ joined (line_words (line.Event (event.Prefer side feature place values))))
     × IsSayable (line.Event (event.Prefer side feature place values))

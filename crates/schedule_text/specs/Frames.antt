@@ -21,8 +21,8 @@ sized seal column bytes =
     else Ok (Some (frame_line seal bytes))
 
 -- its digits, and nothing behind them
-abbrev pub frame_of : Bool → WordsLeft → Result (Option FrameLine) LineFault
-frame_of seal left = do
+abbrev pub frame_read : Bool → WordsLeft → Result (Option FrameLine) LineFault
+frame_read seal left = do
   bytes ← digits_word (first_word left)
   ended (later left)
   sized seal (first_word left).column bytes
@@ -32,7 +32,7 @@ abbrev pub seals : WordsLeft → Bool
 seals left = bytes_eq (first_word left).text (codes "seal")
 
 abbrev pub read_digits : WordsLeft → Result (Option FrameLine) LineFault
-read_digits left = if seals left then frame_of true (later left) else frame_of false left
+read_digits left = if seals left then frame_read true (later left) else frame_read false left
 
 abbrev pub read_clean_frame : List ℕ → Result (Option FrameLine) LineFault
 read_clean_frame text = if says_nothing text then Ok None else read_digits (words_of text)

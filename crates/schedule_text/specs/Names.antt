@@ -40,8 +40,8 @@ timer_name timer.Close = codes "close"
 timer_name timer.TimeWait = codes "timewait"
 
 -- what a word names, if it names anything of its kind
-abbrev pub form_of : List ℕ → Option Form
-form_of word =
+abbrev pub form_named : List ℕ → Option Form
+form_named word =
     if bytes_eq word (form_name form.Plain) then Some form.Plain
     else if bytes_eq word (form_name form.Iss) then Some form.Iss
     else if bytes_eq word (form_name form.Set) then Some form.Set
@@ -55,14 +55,14 @@ form_of word =
     else if bytes_eq word (form_name form.Abort) then Some form.Abort
     else None
 
-abbrev pub side_of : List ℕ → Option Side
-side_of word =
+abbrev pub side_named : List ℕ → Option Side
+side_named word =
     if bytes_eq word (side_name side.Client) then Some side.Client
     else if bytes_eq word (side_name side.Server) then Some side.Server
     else None
 
-abbrev pub place_of : List ℕ → Option Place
-place_of word =
+abbrev pub place_named : List ℕ → Option Place
+place_named word =
     if bytes_eq word (place_name place.Here) then Some place.Here
     else if bytes_eq word (place_name place.There) then Some place.There
     else None

@@ -2,7 +2,7 @@
 use Rattle.std.specs.Prelude.{ℕ, ◌+◌, ◌-◌, ◌*◌, ◌^◌, Bool, ◌==◌, ◌&&◌, nat_lt, nat_le, if◌then◌else◌, List, [], ◌∷◌, length, Option, Some, None, option_and_then}
 use Rattle.feature_lists.specs.Features.{feature_numbered}
 use Rattle.feature_lists.specs.declared.features.Feature.{Feature}
-use Rattle.schedule_text.specs.Words.{pieces}
+use Rattle.schedule_text.specs.Words.{parted_by}
 
 -- the digits 0 to 9
 abbrev pub is_digit : ℕ → Bool
@@ -28,21 +28,21 @@ abbrev pub indices : ℕ
 indices = 2 ^ 47
 
 -- numbers in front of others
-abbrev pub with_number : ℕ → Option (List ℕ) → Option (List ℕ)
-with_number number None = None
-with_number number (Some numbers) = Some (number ∷ numbers)
+abbrev pub number_and_rest : ℕ → Option (List ℕ) → Option (List ℕ)
+number_and_rest number None = None
+number_and_rest number (Some numbers) = Some (number ∷ numbers)
 
 -- each of the texts as a number below 2^48
-abbrev pub numbers_of : List (List ℕ) → Option (List ℕ)
-numbers_of [] = Some []
-numbers_of (text ∷ texts) = option_and_then (λ number. with_number number (numbers_of texts)) (number_below sequence_numbers text)
+abbrev pub numbers_read : List (List ℕ) → Option (List ℕ)
+numbers_read [] = Some []
+numbers_read (text ∷ texts) = option_and_then (λ number. number_and_rest number (numbers_read texts)) (number_below sequence_numbers text)
 
 abbrev pub at_most_nine : List ℕ → Option (List ℕ)
 at_most_nine numbers = if nat_le (length numbers) 9 then Some numbers else None
 
 -- one to nine numbers below 2^48, parted by commas
 abbrev pub values_of : List ℕ → Option (List ℕ)
-values_of word = option_and_then at_most_nine (numbers_of (pieces 44 word))
+values_of word = option_and_then at_most_nine (numbers_read (parted_by 44 word))
 
 -- a feature's number
 abbrev pub feature_of : List ℕ → Option Feature

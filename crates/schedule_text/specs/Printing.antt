@@ -2,7 +2,7 @@
 use Rattle.std.specs.Prelude.{◌≡◌, ℕ, ◌++◌, Bool, List, [], ◌∷◌, length, take, map, codes, decimal, if◌then◌else◌}
 use Rattle.std.specs.List.{join_with_byte}
 use Rattle.hex.specs.Hex.{encode_lower}
-use Rattle.feature_lists.specs.Features.{number_of}
+use Rattle.feature_lists.specs.Features.{feature_number}
 use Rattle.two_ends.specs.declared.event.Side.{Side}
 use Rattle.two_ends.specs.declared.event.Side.TheVariants.{Client, Server}
 use Rattle.two_ends.specs.declared.event.Event.{Event}
@@ -46,7 +46,7 @@ event_words event.Open = form_name form.Open ∷ []
 event_words (event.Deliver from index) = form_name form.Deliver ∷ frame_name from index ∷ []
 event_words (event.Send side payload) = form_name form.Send ∷ side_name side ∷ hex_text payload ∷ []
 event_words (event.Prefer side feature place values) =
-    form_name form.Prefer ∷ side_name side ∷ place_name place ∷ decimal (number_of feature) ∷ values_text values ∷ []
+    form_name form.Prefer ∷ side_name side ∷ place_name place ∷ decimal (feature_number feature) ∷ values_text values ∷ []
 event_words (event.Timer side timer) = form_name form.Timer ∷ side_name side ∷ timer_name timer ∷ []
 event_words (event.Close side) = form_name form.Close ∷ side_name side ∷ []
 event_words (event.Abort side) = form_name form.Abort ∷ side_name side ∷ []
@@ -61,9 +61,9 @@ line_words line.Nothing = []
 line_words line.Plain = form_name form.Plain ∷ []
 line_words (line.Iss side number) = form_name form.Iss ∷ side_name side ∷ decimal number ∷ []
 line_words (line.Set side place feature values) =
-    form_name form.Set ∷ side_name side ∷ place_name place ∷ decimal (number_of feature) ∷ values_text values ∷ []
+    form_name form.Set ∷ side_name side ∷ place_name place ∷ decimal (feature_number feature) ∷ values_text values ∷ []
 line_words (line.Offer side place feature mandatory) =
-    form_name form.Offer ∷ side_name side ∷ place_name place ∷ decimal (number_of feature) ∷ mandatory_words mandatory
+    form_name form.Offer ∷ side_name side ∷ place_name place ∷ decimal (feature_number feature) ∷ mandatory_words mandatory
 line_words (line.Event event) = event_words event
 
 -- an event as its line has it

@@ -14,14 +14,14 @@ pub record AreValues (values : List ℕ) : Type 0 where
   pub below : All (λ value. value < 2 ^ 48) values
 
 -- as many bytes as one line has room for
-pub record IsSendable (payload : List ℕ) : Type 0 where
+pub record FitsOneLine (payload : List ℕ) : Type 0 where
   pub few : length payload ≤ 2042
   pub bytes : IsBytes payload
 
 abbrev pub IsPrintable : Event → Type 0
 IsPrintable event.Open = Unit {0}
 IsPrintable (event.Deliver from index) = index < 2 ^ 47
-IsPrintable (event.Send side payload) = IsSendable payload
+IsPrintable (event.Send side payload) = FitsOneLine payload
 IsPrintable (event.Prefer side feature place values) = AreValues values
 IsPrintable (event.Timer side timer) = Unit {0}
 IsPrintable (event.Close side) = Unit {0}

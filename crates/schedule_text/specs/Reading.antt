@@ -20,7 +20,7 @@ use Rattle.schedule_text.specs.declared.line.LineWhy.{LineWhy}
 use Rattle.schedule_text.specs.declared.line.LineWhy.TheVariants as why
 use Rattle.schedule_text.specs.declared.names.Form.{Form}
 use Rattle.schedule_text.specs.declared.names.Form.TheVariants as form
-use Rattle.schedule_text.specs.Names.{form_of, side_of, place_of, timer_of}
+use Rattle.schedule_text.specs.Names.{form_named, side_named, place_named, timer_of}
 use Rattle.schedule_text.specs.Numbers.{number_below, sequence_numbers, indices, values_of, feature_of}
 use Rattle.schedule_text.specs.Digits.{flaw_of, bytes_of}
 use Rattle.schedule_text.specs.Words.{WordAt, WordsLeft, later_by, word_at, words_of}
@@ -53,17 +53,17 @@ needed word why (Some found) = Ok found
 abbrev pub form_word : WordAt → Result Form LineFault
 form_word word = do
   present word
-  needed word why.UnknownWord (form_of word.text)
+  needed word why.UnknownWord (form_named word.text)
 
 abbrev pub side_word : WordAt → Result Side LineFault
 side_word word = do
   present word
-  needed word why.UnknownWord (side_of word.text)
+  needed word why.UnknownWord (side_named word.text)
 
 abbrev pub place_word : WordAt → Result Place LineFault
 place_word word = do
   present word
-  needed word why.UnknownWord (place_of word.text)
+  needed word why.UnknownWord (place_named word.text)
 
 abbrev pub timer_word : WordAt → Result Timer LineFault
 timer_word word = do
@@ -86,8 +86,8 @@ values_word word = do
   needed word why.BadNumber (values_of word.text)
 
 -- a frame's name: the letter of its sender and its index
-abbrev pub index_of : List ℕ → Option ℕ
-index_of text = number_below indices text
+abbrev pub frame_index : List ℕ → Option ℕ
+frame_index text = number_below indices text
 
 abbrev pub delivery : WordAt → Side → Option ℕ → Result Event LineFault
 delivery word from None = Err (fault_at word.column why.BadNumber)
@@ -96,8 +96,8 @@ delivery word from (Some index) = Ok (event.Deliver from index)
 abbrev pub named : WordAt → List ℕ → Result Event LineFault
 named word [] = Err (fault_at word.column why.UnknownWord)
 named word (letter ∷ index) =
-    if letter == 99 then delivery word Client (index_of index)
-    else if letter == 115 then delivery word Server (index_of index)
+    if letter == 99 then delivery word Client (frame_index index)
+    else if letter == 115 then delivery word Server (frame_index index)
     else Err (fault_at word.column why.UnknownWord)
 
 abbrev pub name_word : WordAt → Result Event LineFault

@@ -1,11 +1,11 @@
 -- What follows a piece of a text, where something does.
 use Rattle.std.specs.Prelude.{ℕ, ◌+◌, List, [], length, Option, Some, None}
 use Rattle.std.specs.Borrow.{Bor}
-use Rattle.schedule_text.specs.Words.{pieces}
+use Rattle.schedule_text.specs.Words.{parted_by}
 
 abbrev pub pieces_left : ℕ → Option (Bor (List ℕ)) → List (List ℕ)
 pieces_left mark None = []
-pieces_left mark (Some rest) = pieces mark rest.now
+pieces_left mark (Some rest) = parted_by mark rest.now
 
 -- the bytes that are left, with the one that parted them from what was read
 abbrev pub rest_length : Option (Bor (List ℕ)) → ℕ

@@ -27,20 +27,20 @@ refusal_name refusal.BadList = codes "BadList"
 refusal_name refusal.NotOurs = codes "NotOurs"
 refusal_name refusal.NotLive = codes "NotLive"
 
-abbrev pub malformed_name : Malformed → List ℕ
-malformed_name malformed.Short = codes "Short"
-malformed_name malformed.ReservedType = codes "ReservedType"
-malformed_name malformed.OffsetSmall = codes "OffsetSmall"
-malformed_name malformed.OffsetLarge = codes "OffsetLarge"
-malformed_name malformed.ShortNumbers = codes "ShortNumbers"
+abbrev pub malformed_word : Malformed → List ℕ
+malformed_word malformed.Short = codes "Short"
+malformed_word malformed.ReservedType = codes "ReservedType"
+malformed_word malformed.OffsetSmall = codes "OffsetSmall"
+malformed_word malformed.OffsetLarge = codes "OffsetLarge"
+malformed_word malformed.ShortNumbers = codes "ShortNumbers"
 
-abbrev pub sum_name : SumFault → List ℕ
-sum_name sum.CoverageTooLarge = codes "CoverageTooLarge"
-sum_name sum.Wrong = codes "Wrong"
+abbrev pub sum_word : SumFault → List ℕ
+sum_word sum.CoverageTooLarge = codes "CoverageTooLarge"
+sum_word sum.Wrong = codes "Wrong"
 
 abbrev pub why_name : Why → List ℕ
-why_name (why.Malformed fault) = malformed_name fault
-why_name (why.Sum fault) = sum_name fault
+why_name (why.Malformed fault) = malformed_word fault
+why_name (why.Sum fault) = sum_word fault
 why_name why.OtherFlow = codes "OtherFlow"
 why_name why.StrayReset = codes "StrayReset"
 why_name why.ShortOff = codes "ShortOff"
@@ -60,12 +60,12 @@ abbrev pub taken_text : List ℕ → Option (ℕ × ℕ) → List ℕ
 taken_text bytes None = codes "took"
 taken_text bytes (Some place) = data_text (slice_range bytes place.0 place.1)
 
-abbrev pub byte_text : ℕ → List ℕ
-byte_text byte = codes " " ++ decimal byte
+abbrev pub decimal_byte : ℕ → List ℕ
+decimal_byte byte = codes " " ++ decimal byte
 
 -- a Reset that was sent, with its code and the three bytes of its data
 abbrev pub reset_text : ℕ → List ℕ → List ℕ
-reset_text code detail = codes "sent reset " ++ decimal code ++ flat_map byte_text detail
+reset_text code detail = codes "sent reset " ++ decimal code ++ flat_map decimal_byte detail
 
 -- an outcome of a frame with these bytes
 abbrev pub outcome_text : List ℕ → Outcome → List ℕ

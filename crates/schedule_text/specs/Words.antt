@@ -3,8 +3,8 @@ use Rattle.std.specs.Prelude.{ℕ, zero, suc, ◌+◌, Bool, true, false, ◌==�
 use Rattle.std.specs.List.{slice_split}
 
 -- a text's pieces, parted by this byte
-abbrev pub pieces : ℕ → List ℕ → List (List ℕ)
-pieces mark text = slice_split (λ byte. byte == mark) text
+abbrev pub parted_by : ℕ → List ℕ → List (List ℕ)
+parted_by mark text = slice_split (λ byte. byte == mark) text
 
 -- a word, and the column of its first byte
 pub record WordAt : Type 0 where
@@ -29,7 +29,7 @@ words_left words absent = record { words = words; absent = absent }
 
 -- A line's words. Columns count from 1; an absent word would stand behind the line and a space.
 abbrev pub words_of : List ℕ → WordsLeft
-words_of line = words_left (placed 1 (pieces 32 line)) (length line + 2)
+words_of line = words_left (placed 1 (parted_by 32 line)) (length line + 2)
 
 -- the first of the words, which has no text where it is absent
 abbrev pub first_of : ℕ → List WordAt → WordAt
@@ -44,12 +44,12 @@ is_over [] = true
 is_over (word ∷ words) = false
 
 -- the words behind the first
-abbrev pub behind : List WordAt → List WordAt
-behind [] = []
-behind (word ∷ words) = words
+abbrev pub words_behind : List WordAt → List WordAt
+words_behind [] = []
+words_behind (word ∷ words) = words
 
 abbrev pub later : WordsLeft → WordsLeft
-later left = words_left (behind left.words) left.absent
+later left = words_left (words_behind left.words) left.absent
 
 -- the words behind the first so many
 abbrev pub later_by : ℕ → WordsLeft → WordsLeft

@@ -26,7 +26,7 @@ fn sized(seal: bool, column: u32, bytes: &[u8]) -> Result<Option<FrameLine>, Lin
 }
 
 fn frame(seal: bool, words: &mut Words<'_>) -> Result<Option<FrameLine>, LineFault>
-    ensures value { result ≡ spec.frame_of seal (left_of words.old) }
+    ensures value { result ≡ spec.frame_read seal (left_of words.old) }
     ensures seals { IfOk result (λ said. IfSome said (λ frame. frame.seal ≡ true → 8 ≤ length frame.bytes)) }
 {
     let word = words.next_word();

@@ -1,6 +1,6 @@
 //! The words of the tool's lines.
 ghost use Rattle.std.specs.Prelude.{◌≡◌};
-ghost use Rattle.schedule_text.specs.Names.{form_of, side_of, place_of, timer_of};
+ghost use Rattle.schedule_text.specs.Names.{form_named, side_named, place_named, timer_of};
 
 use crate::Timer;
 use feature_lists::Place;
@@ -23,8 +23,8 @@ pub(crate) enum Form {
 }
 
 /// The form that begins with the word.
-pub(crate) fn form_of(word: &[u8]) -> Option<Form>
-    ensures { result ≡ form_of word.now }
+pub(crate) fn form_named(word: &[u8]) -> Option<Form>
+    ensures { result ≡ form_named word.now }
 {
     if word == b"plain".as_slice() {
         Some(Form::Plain)
@@ -54,8 +54,8 @@ pub(crate) fn form_of(word: &[u8]) -> Option<Form>
 }
 
 /// The side of this name.
-pub(crate) fn side_of(word: &[u8]) -> Option<Side>
-    ensures { result ≡ side_of word.now }
+pub(crate) fn side_named(word: &[u8]) -> Option<Side>
+    ensures { result ≡ side_named word.now }
 {
     if word == b"client".as_slice() {
         Some(Side::Client)
@@ -67,8 +67,8 @@ pub(crate) fn side_of(word: &[u8]) -> Option<Side>
 }
 
 /// The place of this name.
-pub(crate) fn place_of(word: &[u8]) -> Option<Place>
-    ensures { result ≡ place_of word.now }
+pub(crate) fn place_named(word: &[u8]) -> Option<Place>
+    ensures { result ≡ place_named word.now }
 {
     if word == b"here".as_slice() {
         Some(Place::Here)

@@ -66,7 +66,7 @@ pub(crate) fn sequence_number_of(word: &[u8]) -> Option<Seq48>
 }
 
 /// A frame's index.
-pub(crate) fn index_of(word: &[u8]) -> Option<u64>
+pub(crate) fn frame_index(word: &[u8]) -> Option<u64>
     ensures { result ≡ number_below indices word.now }
 {
     number_below(INDICES, word)

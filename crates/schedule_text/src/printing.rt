@@ -70,8 +70,8 @@ fn refusal_name(fault: Refusal) -> &'static [u8]
     }
 }
 
-fn malformed_name(fault: Malformed) -> &'static [u8]
-    ensures { result.now ≡ spec.malformed_name fault }
+fn malformed_word(fault: Malformed) -> &'static [u8]
+    ensures { result.now ≡ spec.malformed_word fault }
 {
     match fault {
         Malformed::Short => b"Short",
@@ -82,8 +82,8 @@ fn malformed_name(fault: Malformed) -> &'static [u8]
     }
 }
 
-fn sum_name(fault: SumFault) -> &'static [u8]
-    ensures { result.now ≡ spec.sum_name fault }
+fn sum_word(fault: SumFault) -> &'static [u8]
+    ensures { result.now ≡ spec.sum_word fault }
 {
     match fault {
         SumFault::CoverageTooLarge => b"CoverageTooLarge",
@@ -95,8 +95,8 @@ fn why_name(why: Why) -> &'static [u8]
     ensures { result.now ≡ spec.why_name why }
 {
     match why {
-        Why::Malformed(fault) => malformed_name(fault),
-        Why::Sum(fault) => sum_name(fault),
+        Why::Malformed(fault) => malformed_word(fault),
+        Why::Sum(fault) => sum_word(fault),
         Why::OtherFlow => b"OtherFlow",
         Why::StrayReset => b"StrayReset",
         Why::ShortOff => b"ShortOff",
@@ -237,7 +237,7 @@ fn put_counted(text: &mut Vec<u8>, what: &[u8], number: u64) -> Result<(), NoMem
 
 #[tactic(auto, using(crate::proofs::Keeping::keeps_itself, crate::proofs::Keeping::keeps_on, crate::proofs::Keeping::keeps_more, crate::proofs::Keeping::keeps_through))]
 fn put_detail(text: &mut Vec<u8>, detail: &[u8; 3]) -> Result<(), NoMemory>
-    ensures ok { OnOk result (text.new.items ≡ text.old.items ++ flat_map spec.byte_text detail.now) }
+    ensures ok { OnOk result (text.new.items ≡ text.old.items ++ flat_map spec.decimal_byte detail.now) }
     ensures err { OnErr result (Keeps text.old.items text.new.items) }
 {
     for byte in detail {

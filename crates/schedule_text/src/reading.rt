@@ -6,8 +6,8 @@ ghost use Rattle.schedule_text.specs.Reading as spec;
 ghost use Rattle.feature_lists.specs.Wishes.{is_ours, wish_of};
 
 use crate::digits::{bytes_of, flaw_of, payload_of};
-use crate::names::{Form, form_of, place_of, side_of, timer_of};
-use crate::numbers::{feature_of, index_of, sequence_number_of, values_of};
+use crate::names::{Form, form_named, place_named, side_named, timer_of};
+use crate::numbers::{feature_of, frame_index, sequence_number_of, values_of};
 use crate::words::{Word, Words};
 use crate::{Event, Line, LineFault, LineWhy, Payload, Timer, Values};
 use feature_lists::{Feature, Place, PreferFault, usual, wish};
@@ -38,7 +38,7 @@ impl Word<'_> {
         ensures { result ≡ spec.form_word (word_of self.now) }
     {
         self.present()?;
-        match form_of(self.text) {
+        match form_named(self.text) {
             Some(form) => Ok(form),
             None => Err(fault_at(self.column, LineWhy::UnknownWord)),
         }
@@ -48,7 +48,7 @@ impl Word<'_> {
         ensures { result ≡ spec.side_word (word_of self.now) }
     {
         self.present()?;
-        match side_of(self.text) {
+        match side_named(self.text) {
             Some(side) => Ok(side),
             None => Err(fault_at(self.column, LineWhy::UnknownWord)),
         }
@@ -58,7 +58,7 @@ impl Word<'_> {
         ensures { result ≡ spec.place_word (word_of self.now) }
     {
         self.present()?;
-        match place_of(self.text) {
+        match place_named(self.text) {
             Some(place) => Ok(place),
             None => Err(fault_at(self.column, LineWhy::UnknownWord)),
         }
@@ -107,10 +107,10 @@ impl Word<'_> {
     // The frame of this sender with this index.
     fn frame(&self, from: Side, index: &[u8]) -> Result<(Side, u64), LineFault>
         ensures { MatchResult result
-            (λ frame. spec.delivery (word_of self.now) from (spec.index_of index.now) ≡ Ok (Event.Deliver frame.0 frame.1))
-            (λ fault. spec.delivery (word_of self.now) from (spec.index_of index.now) ≡ Err fault) }
+            (λ frame. spec.delivery (word_of self.now) from (spec.frame_index index.now) ≡ Ok (Event.Deliver frame.0 frame.1))
+            (λ fault. spec.delivery (word_of self.now) from (spec.frame_index index.now) ≡ Err fault) }
     {
-        match index_of(index) {
+        match frame_index(index) {
             Some(index) => Ok((from, index)),
             None => Err(fault_at(self.column, LineWhy::BadNumber)),
         }

@@ -1,7 +1,7 @@
 //! The words of a line.
 ghost use Rattle.std.specs.Prelude.{◌≡◌, ◌==◌, ◌+◌, ◌<◌, ◌≤◌, ◌∷◌, length, IfSome};
 ghost use Rattle.std.specs.List.{position_from};
-ghost use Rattle.schedule_text.specs.Words.{pieces};
+ghost use Rattle.schedule_text.specs.Words.{parted_by};
 ghost use Rattle.schedule_text.specs.Rest.{pieces_left, rest_length};
 
 /// A word of a line, and the column of its first byte, from 1. It has no bytes where the line has no such word.
@@ -21,7 +21,7 @@ fn place_of(mark: u8, text: &[u8]) -> Option<usize>
 /// The first piece of a text that this byte parts, and what follows that byte, if it stands there.
 #[tactic(auto, using(crate::proofs::Pieces::parted, crate::proofs::Pieces::not_parted))]
 pub(crate) fn first_piece(mark: u8, text: &[u8]) -> (&[u8], Option<&[u8]>)
-    ensures pieces { pieces mark text.now ≡ result.0.now ∷ pieces_left mark result.1 }
+    ensures pieces { parted_by mark text.now ≡ result.0.now ∷ pieces_left mark result.1 }
     ensures whole { length result.0.now + rest_length result.1 ≡ length text.now }
 {
     match place_of(mark, text) {

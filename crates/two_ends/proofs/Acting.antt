@@ -6,7 +6,7 @@ use Rattle.std.proofs.Common.{◌≡◌, refl, ap, sym, ◌∙◌, subst, ◌-�
 use Rattle.dccp_endpoint.specs.Causes.{EveryStepHasOneEffect, IsCaused}
 use Rattle.dccp_endpoint.specs.Effects.{Effect, Sending, Silent, Next, WithoutConnection, end_after, frame_by}
 use Rattle.dccp_endpoint.specs.End.{EndState, IsProper, floor_of}
-use Rattle.dccp_endpoint.specs.Inputs.{Arrives, Input, stepped}
+use Rattle.dccp_endpoint.specs.Inputs.{Arrives, Input, end_stepped}
 use Rattle.dccp_endpoint.specs.Steps.{Step}
 use Rattle.dccp_endpoint.specs.declared.config.Config.{Config}
 use Rattle.two_ends.specs.declared.event.Event.{Event}
@@ -17,7 +17,7 @@ use Rattle.two_ends.specs.declared.event.WorldFault.{WorldFault}
 use Rattle.two_ends.specs.declared.event.WorldFault.TheVariants as fault
 use Rattle.two_ends.specs.declared.frames.SentFrame.{SentFrame}
 use Rattle.dccp_endpoint.specs.Drafts.{Fits}
-use Rattle.two_ends.specs.World.{Half, WorldState, WorldStep, Happening, Calls, Delivers, Said, Occurrence, happening_of, as_sent, acting_side, actor, half_with, moved, newly_processed, half_of, half_at_start, half_steps, other, with_half, happens, arrives, takes_place, unless_full, is_full, world_after, run, at_start}
+use Rattle.two_ends.specs.World.{Half, WorldState, WorldStep, Happening, Calls, Delivers, Said, Occurrence, happening_of, as_sent, acting_side, actor, half_with, moved, newly_processed, half_of, half_at_start, half_steps, other, with_half, happens, delivers_frame, takes_place, unless_full, is_full, world_after, world_after_all, at_start}
 use Rattle.two_ends.proofs.Logged.{Logged}
 use Rattle.two_ends.proofs.ReadBack.{IsFromPeer}
 
@@ -161,7 +161,7 @@ full-taken w side given from = by (is_full (half_of w side)) refl where
   by false room = Steps given room from
 
 arrives-taken : (w : WorldState) (from : Side) (index : ℕ) (frame : Option SentFrame) → slice_get (half_of w from).frames index ≡ frame
-    → Takes w (other from) (arrives w from frame)
+    → Takes w (other from) (delivers_frame w from frame)
 arrives-taken w from index None there = Refused fault.NoSuchFrame
 arrives-taken w from index (Some frame) there = full-taken w (other from) (Arrives frame.bytes) (frame-given w from index frame there)
 
@@ -203,7 +203,7 @@ module _ (This : Party → Party → Type 0) (keeps : Keeps NoFact This) (proper
       record { side = x; peer = y; given = given; effect = has.effect; room = not-full x.half room; from_peer = from; because = has.because } in
       record {
         held =
-            subst (λ (half : Half). IsHeld This (with_half w side half)) (sym (moved-after x.half given (stepped x.half.end given) has.effect has.after_is has.frame_is))
+            subst (λ (half : Half). IsHeld This (with_half w side half)) (sym (moved-after x.half given (end_stepped x.half.end given) has.effect has.after_is has.frame_is))
             (held-with This w h.logs side (acted act) (keeps.acts act (tt, tt) now));
         configs = config-with w side (half_steps (half_of w side) given).half (ap (λ (e : EndState). e.config) has.after_is);
       }
@@ -213,7 +213,7 @@ module _ (This : Party → Party → Type 0) (keeps : Keeps NoFact This) (proper
   taken-held w side _ (Refused why) h = record { held = h; configs = λ each. refl }
   taken-held w side _ (Steps given room from) h = side-held w side given room from h
 
-  held-from : (w : WorldState) (events : List Occurrence) → IsHeld This w → IsKept This w (run w events)
+  held-from : (w : WorldState) (events : List Occurrence) → IsHeld This w → IsKept This w (world_after_all w events)
   held-from w [] h = record { held = h; configs = λ each. refl }
   held-from w (now ∷ later) h =
       let next : WorldState = world_after w (happens w now.event now.said) in
@@ -222,16 +222,16 @@ module _ (This : Party → Party → Type 0) (keeps : Keeps NoFact This) (proper
       record { held = rest.held; configs = λ each. rest.configs each ∙ one.configs each }
 
   kept-from : (client server : Config) (events : List Occurrence) → Fits client → Fits server
-      → IsKept This (at_start client server) (run (at_start client server) events)
+      → IsKept This (at_start client server) (world_after_all (at_start client server) events)
   kept-from client server events client_fits server_fits =
       let holds : Both This (at_beginning client) (at_beginning server) = (keeps.starts client server client_fits server_fits, keeps.starts server client server_fits client_fits) in
       held-from (at_start client server) events (record { logs = λ s. []; holds = holds })
 
   -- What the start has and each step keeps, holds after every schedule.
-  pub run-held : (client server : Config) (events : List Occurrence) → Fits client → Fits server → IsHeld This (run (at_start client server) events)
+  pub run-held : (client server : Config) (events : List Occurrence) → Fits client → Fits server → IsHeld This (world_after_all (at_start client server) events)
   run-held client server events client_fits server_fits = (kept-from client server events client_fits server_fits).held
 
   -- The ends keep their configurations.
   pub run-configs : (client server : Config) (events : List Occurrence) → Fits client → Fits server → (side : Side)
-      → (half_of (run (at_start client server) events) side).end.config ≡ (half_of (at_start client server) side).end.config
+      → (half_of (world_after_all (at_start client server) events) side).end.config ≡ (half_of (at_start client server) side).end.config
   run-configs client server events client_fits server_fits = (kept-from client server events client_fits server_fits).configs

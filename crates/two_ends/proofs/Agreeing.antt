@@ -6,14 +6,14 @@ use Rattle.std.specs.Option.{option_map}
 use Rattle.dccp_endpoint.specs.Turns.{Key}
 use Rattle.dccp_endpoint.specs.declared.config.Config.{Config}
 use Rattle.feature_agreement.specs.Agreement as agreement
-use Rattle.feature_agreement.specs.Agreement.{AgreeByLocation, GivenByLocation, IsGiven, IsTold}
+use Rattle.feature_agreement.specs.Agreement.{AgreeByLocation, GivenByLocation, IsGiven, IsToldValue}
 use Rattle.feature_agreement.specs.Agreement.IsGiven.{Initial as AsBefore, Ruled}
-use Rattle.feature_agreement.specs.Agreement.IsTold.{Untold, Told as ToldIn}
+use Rattle.feature_agreement.specs.Agreement.IsToldValue.{Untold, Told as ToldIn}
 use Rattle.feature_agreement.specs.EachFeature.{agree_by, given_by}
 use Rattle.feature_agreement.specs.Moves.{Reached}
 use Rattle.feature_agreement.specs.Rows.{location_of, pair_of, row_pair}
 use Rattle.feature_agreement.specs.View as view
-use Rattle.feature_agreement.specs.View.{carried_at, change_of, has_change, last_change, last_wish, wish_of}
+use Rattle.feature_agreement.specs.View.{carried_at, change_of, has_change, last_change, last_wish, wish_carried}
 use Rattle.feature_agreement.specs.View.Carried.{Change}
 use Rattle.feature_agreement.proofs.ByFeature.{reached_agrees, reached_is_given}
 use Rattle.feature_lists.specs.Features.{described, initial_of}
@@ -25,8 +25,8 @@ use Rattle.feature_machine.specs.declared.stands.Role2.{Role2}
 use Rattle.feature_machine.specs.declared.stands.Role2.TheVariants as end
 use Rattle.two_ends.specs.declared.event.Side.{Side}
 use Rattle.two_ends.specs.declared.event.Side.TheVariants.{Client, Server}
-use Rattle.two_ends.specs.Negotiated.{Agree, AgreeOn, Given, HasSent, HasTold, IsNotNegotiable, IsServerPriority, IsSettled, Origin, Initial, Reconciled, Told, is_change, last_list, last_value, list_said, side_changed, value_said, was_negotiated}
-use Rattle.two_ends.specs.Pairs.{Pair, held_at, place_at}
+use Rattle.two_ends.specs.Negotiated.{Agree, AgreeOn, Given, HasSent, HasTold, IsNotNegotiable, IsServerPriority, IsSettled, Origin, Initial, Reconciled, Told, says_change, last_list_sent, last_value, list_said, side_changed, value_said, pair_was_negotiated}
+use Rattle.two_ends.specs.Pairs.{FeatureAt, held_at, place_at}
 use Rattle.two_ends.specs.World.{WorldState, half_of, other}
 use Rattle.two_ends.proofs.Acting.{Party, config_of, party_of}
 use Rattle.two_ends.proofs.Carrying.{any-logged, frame-at, frame-says, last-logged, says}
@@ -35,7 +35,7 @@ use Rattle.two_ends.proofs.Telling.{AreWell, any-change, last-value, last-wish, 
 use Rattle.two_ends.proofs.Viewing.{carried_of, view_of}
 
 -- the row of a side for a pair
-abbrev pub key_of : Pair → Side → Key
+abbrev pub key_of : FeatureAt → Side → Key
 key_of pair side = (pair.feature, place_at side pair.location)
 
 -- whose end a side is
@@ -49,11 +49,11 @@ pub record IsSpoken (x : Party) (peer_iss : ℕ) : Type 0 where
   pub well : (k : Key) → AreWell peer_iss k x.log
 
 -- a side of the world as a side of the pair
-abbrev pub view_at : WorldState → (Side → List Logged) → (greatest : ℕ) → Pair → Side → view.Side
+abbrev pub view_at : WorldState → (Side → List Logged) → (greatest : ℕ) → FeatureAt → Side → view.FeatureSide
 view_at w logs greatest pair side = view_of (party_of w logs side) (config_of (party_of w logs (other side))).iss greatest (key_of pair side)
 
 -- The views of both sides are reached, the server's first, where each has taken so many of the other's frames.
-pub record AreReached (w : WorldState) (logs : Side → List Logged) (pair : Pair) : Type 0 where
+pub record AreReached (w : WorldState) (logs : Side → List Logged) (pair : FeatureAt) : Type 0 where
   pub servers : ℕ
   pub clients : ℕ
   pub reached : Reached (pair_of pair.feature (end_at pair.location)) (view_at w logs servers pair Server) (view_at w logs clients pair Client)
@@ -65,7 +65,7 @@ location-is Client Server = refl
 location-is Server Client = refl
 location-is Server Server = refl
 
-pub row-pair : (side : Side) (rows : List Row) (pair : Pair) → AreRowsOf (end_at side) rows
+pub row-pair : (side : Side) (rows : List Row) (pair : FeatureAt) → AreRowsOf (end_at side) rows
     → row_pair (row_at rows pair.feature (place_at side pair.location)) ≡ pair_of pair.feature (end_at pair.location)
 row-pair side rows pair are =
     let place : Place = place_at side pair.location in
@@ -76,7 +76,7 @@ row-pair side rows pair are =
     ∙ ap (λ seen. pair_of pair.feature (location_of (end_at side) seen)) is.place_is
     ∙ ap (pair_of pair.feature) (location-is side pair.location)
 
-pub reached-by-row : (w : WorldState) (logs : Side → List Logged) (pair : Pair) (side : Side) (servers clients : ℕ)
+pub reached-by-row : (w : WorldState) (logs : Side → List Logged) (pair : FeatureAt) (side : Side) (servers clients : ℕ)
     → AreRowsOf (end_at side) (half_of w side).end.rows
     → Reached (row_pair (row_at (half_of w side).end.rows pair.feature (place_at side pair.location)))
     (view_at w logs servers pair Server) (view_at w logs clients pair Client)
@@ -103,28 +103,28 @@ module _ (w : WorldState) (logs : Side → List Logged)
   peer_iss side = (config_of (party_of w logs (other side))).iss
 
   -- what the frames say last is what the view has last
-  list-is : (pair : Pair) (side : Side) (greatest : ℕ) → IsServerPriority pair
-      → last_list w pair side ≡ last_wish (view_at w logs greatest pair side).frames
+  list-is : (pair : FeatureAt) (side : Side) (greatest : ℕ) → IsServerPriority pair
+      → last_list_sent w pair side ≡ last_wish (view_at w logs greatest pair side).frames
   list-is pair side greatest priority =
       last-logged (config side) (key_of pair side) list_said refl (spoken side).logged
       ∙ last-wish (peer_iss side) (key_of pair side) priority (logs side) ((spoken side).well (key_of pair side))
 
-  value-is : (pair : Pair) (greatest : ℕ) → IsNotNegotiable pair
+  value-is : (pair : FeatureAt) (greatest : ℕ) → IsNotNegotiable pair
       → last_change (view_at w logs greatest pair pair.location).frames ≡ option_map only (last_value w pair)
   value-is pair greatest other =
       last-value (peer_iss pair.location) (key_of pair pair.location) other (logs pair.location) ((spoken pair.location).well (key_of pair pair.location))
       ∙ ap (option_map only) (sym (last-logged (config pair.location) (key_of pair pair.location) value_said refl (spoken pair.location).logged))
 
-  changed-is : (pair : Pair) (side : Side) (greatest : ℕ) → side_changed w pair side ≡ has_change (view_at w logs greatest pair side).frames
+  changed-is : (pair : FeatureAt) (side : Side) (greatest : ℕ) → side_changed w pair side ≡ has_change (view_at w logs greatest pair side).frames
   changed-is pair side greatest =
-      any-logged (config side) (key_of pair side) is_change refl (spoken side).logged
+      any-logged (config side) (key_of pair side) says_change refl (spoken side).logged
       ∙ any-change (peer_iss side) (key_of pair side) (logs side) ((spoken side).well (key_of pair side))
 
   -- what the view has at some count stands in a frame
-  list-sent : (pair : Pair) (side : Side) (greatest count : ℕ) (list : List ℕ) → IsServerPriority pair
-      → wish_of (carried_at (view_at w logs greatest pair side).frames count) ≡ Some list → HasSent w pair side list
+  list-sent : (pair : FeatureAt) (side : Side) (greatest count : ℕ) (list : List ℕ) → IsServerPriority pair
+      → wish_carried (carried_at (view_at w logs greatest pair side).frames count) ≡ Some list → HasSent w pair side list
   list-sent pair side greatest count list priority shown =
-      let at = shown-at (carried_of (peer_iss side) (key_of pair side)) wish_of (logs side) count list refl shown in
+      let at = shown-at (carried_of (peer_iss side) (key_of pair side)) wish_carried (logs side) count list refl shown in
       let sent = frame-at (config side) at.place at.logged (spoken side).logged at.is_there in
       record {
         index = sent.index;
@@ -136,7 +136,7 @@ module _ (w : WorldState) (logs : Side → List Logged)
             ∙ at.is_shown;
       }
 
-  value-sent : (pair : Pair) (greatest count value : ℕ) → IsNotNegotiable pair
+  value-sent : (pair : FeatureAt) (greatest count value : ℕ) → IsNotNegotiable pair
       → carried_at (view_at w logs greatest pair pair.location).frames count ≡ Change (only value) → HasTold w pair value
   value-sent pair greatest count value other carried =
       let side = pair.location in
@@ -152,22 +152,22 @@ module _ (w : WorldState) (logs : Side → List Logged)
             (sym at.is_shown ∙ value-told (peer_iss side) (key_of pair side) _ other ((spoken side).well (key_of pair side) at.place at.logged at.is_there));
       }
 
-  module _ (pair : Pair) (r : AreReached w logs pair) where
-    abbrev servers : view.Side
+  module _ (pair : FeatureAt) (r : AreReached w logs pair) where
+    abbrev servers : view.FeatureSide
     servers = view_at w logs r.servers pair Server
 
-    abbrev clients : view.Side
+    abbrev clients : view.FeatureSide
     clients = view_at w logs r.clients pair Client
 
-    negotiated-is : was_negotiated w pair ≡ (has_change clients.frames || has_change servers.frames)
+    negotiated-is : pair_was_negotiated w pair ≡ (has_change clients.frames || has_change servers.frames)
     negotiated-is =
         ap (λ own. own || side_changed w pair Server) (changed-is pair Client r.clients)
         ∙ ap (λ own. has_change clients.frames || own) (changed-is pair Server r.servers)
 
-    both-negotiated : IsTrue (was_negotiated w pair) → IsTrue (agreement.was_negotiated servers clients)
+    both-negotiated : IsTrue (pair_was_negotiated w pair) → IsTrue (agreement.was_negotiated servers clients)
     both-negotiated is = or_comm (has_change servers.frames) (has_change clients.frames) ∙ sym negotiated-is ∙ is
 
-    listed-agree : IsServerPriority pair → IsSettled w pair → agreement.Agree reconciled servers clients → AgreeOn w pair
+    listed-agree : IsServerPriority pair → IsSettled w pair → agreement.SidesAgree reconciled servers clients → AgreeOn w pair
     listed-agree priority settled a =
         let stable : agreement.AreStable servers clients = (settled.1, settled.0) in
         record {
@@ -190,7 +190,7 @@ module _ (w : WorldState) (logs : Side → List Logged)
     last-sent greatest value other is = only-is (last_value w pair) value (sym is ∙ value-is pair greatest other)
 
     located-agree : IsNotNegotiable pair → (held_at w pair Client).value ≡ (held_at w pair Server).value
-        → (IsTrue (was_negotiated w pair) → last_value w pair ≡ Some (held_at w pair pair.location).value) → AgreeOn w pair
+        → (IsTrue (pair_was_negotiated w pair) → last_value w pair ≡ Some (held_at w pair pair.location).value) → AgreeOn w pair
     located-agree other equal last =
         record {
           equal = equal;
@@ -233,14 +233,14 @@ module _ (w : WorldState) (logs : Side → List Logged)
         (list-sent pair Client r.clients counterpart client_list priority there) is
 
     told-given : IsNotNegotiable pair → (greatest value : ℕ)
-        → IsTold (initial_of pair.feature) (view_at w logs greatest pair pair.location).frames value → Origin w pair value
+        → IsToldValue (initial_of pair.feature) (view_at w logs greatest pair pair.location).frames value → Origin w pair value
     told-given other greatest value (Untold is) = Initial is
     told-given other greatest value (ToldIn count carried) = Told other (value-sent pair greatest count value other carried)
 
     told-by : IsNotNegotiable pair → (location : Side) → pair.location ≡ location → (greatest value : ℕ)
-        → IsTold (initial_of pair.feature) (view_at w logs greatest pair location).frames value → Origin w pair value
+        → IsToldValue (initial_of pair.feature) (view_at w logs greatest pair location).frames value → Origin w pair value
     told-by other location at greatest value =
-        subst (λ (s : Side). IsTold (initial_of pair.feature) (view_at w logs greatest pair s).frames value → Origin w pair value) at
+        subst (λ (s : Side). IsToldValue (initial_of pair.feature) (view_at w logs greatest pair s).frames value → Origin w pair value) at
         (told-given other greatest value)
 
     given-located : IsNotNegotiable pair → (location : Side) → pair.location ≡ location
@@ -262,8 +262,8 @@ module _ (w : WorldState) (logs : Side → List Logged)
         (reached_is_given pair.feature (end_at pair.location) servers clients r.reached) side
 
   -- Both ends agree on every feature, and each value was given to them.
-  pub agree : ((pair : Pair) → AreReached w logs pair) → Agree w
+  pub agree : ((pair : FeatureAt) → AreReached w logs pair) → Agree w
   agree reached pair settled = agree-on pair (reached pair) settled
 
-  pub given : ((pair : Pair) → AreReached w logs pair) → Given w
+  pub given : ((pair : FeatureAt) → AreReached w logs pair) → Given w
   given reached pair side = given-on pair (reached pair) side

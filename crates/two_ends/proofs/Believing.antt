@@ -5,9 +5,9 @@ use Rattle.std.specs.List.{Contains, filter, list_any}
 use Rattle.std.specs.Result.{result_ok}
 use Rattle.congestion_trait.proofs.Calls.{listed_run, reported_run}
 use Rattle.congestion_trait.proofs.Numbers.{numbers_reported-exact}
-use Rattle.congestion_trait.specs.Calls.{Call, sends, tells}
+use Rattle.congestion_trait.specs.Calls.{Call, call_sends, tells}
 use Rattle.congestion_trait.specs.Control.{Control, IsLawful}
-use Rattle.congestion_trait.specs.Flight.{Has, IsListed}
+use Rattle.congestion_trait.specs.Flight.{Has, HasEntry}
 use Rattle.congestion_trait.specs.declared.flight.Entry.{Entry}
 use Rattle.congestion_trait.specs.declared.flight.Standing.{Standing}
 use Rattle.congestion_trait.specs.declared.flight.Standing.TheVariants.{Reported}
@@ -24,10 +24,10 @@ use Rattle.dccp_states.specs.declared.phase.Role.TheVariants as role
 use Rattle.two_ends.specs.Controlled.{Controlled, begins_with, congestion_of, controlled_after, controls, plays, said_by}
 use Rattle.two_ends.specs.Frames.{options_in, packet_of, packet_options}
 use Rattle.two_ends.specs.Numbered.{Facts}
-use Rattle.two_ends.specs.Reached.{Reached}
+use Rattle.two_ends.specs.Reached.{ReachedByEvents}
 use Rattle.two_ends.specs.Reported.{CarriesVector, Heard}
 use Rattle.two_ends.specs.Safe.{Safe}
-use Rattle.two_ends.specs.World.{Said, WorldState, WorldStep, actor, at_start, half_of, half_steps, happens, other, run}
+use Rattle.two_ends.specs.World.{Said, WorldState, WorldStep, actor, at_start, half_of, half_steps, happens, other, world_after_all}
 use Rattle.two_ends.specs.declared.event.Event.{Event}
 use Rattle.two_ends.specs.declared.event.Side.{Side}
 use Rattle.two_ends.specs.declared.event.Side.TheVariants.{Client, Server}
@@ -63,7 +63,7 @@ arrived-processed w h side given f n from heard small =
 module _ {C : Type 0} (control : Control C) (lawful : IsLawful control) where
   -- The numbers of a congestion control are numbers, and those that were reported to it were processed.
   record IsHonest (congestion : C) (processed : List ℕ) : Type 0 where
-    fits : (n : ℕ) → IsListed (control.flight congestion) n → n < 2 ^ 48
+    fits : (n : ℕ) → HasEntry (control.flight congestion) n → n < 2 ^ 48
     heard : (n : ℕ) → Has (control.flight congestion) n Reported → Contains processed n
 
   started : (congestion : C) (ccid : ℕ) (processed : List ℕ) → IsHonest (control.started congestion ccid) processed
@@ -80,11 +80,11 @@ module _ {C : Type 0} (control : Control C) (lawful : IsLawful control) where
 
   called : (congestion : C) (processed : List ℕ) (calls : List Call) → IsHonest congestion processed
       → ((n : ℕ) → list_any (tells n) calls ≡ true → n < 2 ^ 48 → Contains processed n)
-      → ((n : ℕ) → list_any (sends n) calls ≡ true → n < 2 ^ 48) → IsHonest (after_calls control congestion calls) processed
+      → ((n : ℕ) → list_any (call_sends n) calls ≡ true → n < 2 ^ 48) → IsHonest (after_calls control congestion calls) processed
   called congestion processed calls h told sent = record { fits = fits; heard = heard } where
-    fits : (n : ℕ) → IsListed (control.flight (after_calls control congestion calls)) n → n < 2 ^ 48
+    fits : (n : ℕ) → HasEntry (control.flight (after_calls control congestion calls)) n → n < 2 ^ 48
     fits n listed =
-        ⊎_elim (λ before. h.fits n before) (λ now. sent n (any-left (sends n) (is_made control) calls now))
+        ⊎_elim (λ before. h.fits n before) (λ now. sent n (any-left (call_sends n) (is_made control) calls now))
         (listed_run control lawful congestion (filter (is_made control) calls) n listed)
 
     heard : (n : ℕ) → Has (control.flight (after_calls control congestion calls)) n Reported → Contains processed n
@@ -139,7 +139,7 @@ module _ {C : Type 0} (control : Control C) (lawful : IsLawful control) where
       abbrev last : Controlled C
       last = plays control start events
 
-      same : last.world ≡ run (at_start client server) (occurring control start events)
+      same : last.world ≡ world_after_all (at_start client server) (occurring control start events)
       same = plays-run control start events
 
       last-held : IsHeld SideInvariant last.world
@@ -164,12 +164,12 @@ module _ {C : Type 0} (control : Control C) (lawful : IsLawful control) where
           (run-roles effects client server (occurring control start events) is_client is_server client_fits server_fits))
           last-heard
 
-    pub reached-facts : (w : Controlled C) → Reached control w → Facts w.world
+    pub reached-facts : (w : Controlled C) → ReachedByEvents control w → Facts w.world
     reached-facts w r =
         subst (λ (v : Controlled C). Facts v.world) (sym r.same)
         (plays-facts r.client r.server r.for_client r.for_server r.events r.client_fits r.server_fits)
 
-    pub reached-safe : (w : Controlled C) → Reached control w → Safe control w
+    pub reached-safe : (w : Controlled C) → ReachedByEvents control w → Safe control w
     reached-safe w r =
         subst (Safe control) (sym r.same)
         (plays-safe r.client r.server r.for_client r.for_server r.events r.client_fits r.server_fits r.is_client r.is_server)

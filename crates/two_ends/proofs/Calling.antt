@@ -2,7 +2,7 @@
 use Rattle.std.proofs.Common.{◌≡◌, refl, ap, sym, ◌∙◌, ℕ, ◌^◌, ◌<◌, ◌==◌, ◌||◌, Bool, true, false, cond, if◌then◌else◌, List, [], ◌∷◌, ◌++◌, Option, Some, None, Result, arith}
 use Rattle.std.proofs.lemmas.Option.{same_Some}
 use Rattle.std.specs.List.{concat, filter, list_any}
-use Rattle.congestion_trait.specs.Calls.{Call, Starts, sends, tells}
+use Rattle.congestion_trait.specs.Calls.{Call, Starts, call_sends, tells}
 use Rattle.dccp_options.specs.Grammar.{Entry}
 use Rattle.dccp_options.specs.Vectors.{Report, ack_vectors, is_received, joined_report, report_of, state_at}
 use Rattle.dccp_options.specs.declared.option.OptFault.{OptFault}
@@ -47,9 +47,9 @@ starts-tell n old new = by (old == new) where
   by true = refl
   by false = refl
 
-starts-send : (n old new : ℕ) → list_any (sends n) (start_calls old new) ≡ false
+starts-send : (n old new : ℕ) → list_any (call_sends n) (start_calls old new) ≡ false
 starts-send n old new = by (old == new) where
-  by : (same : Bool) → list_any (sends n) (if same then [] else Starts new ∷ []) ≡ false
+  by : (same : Bool) → list_any (call_sends n) (if same then [] else Starts new ∷ []) ≡ false
   by true = refl
   by false = refl
 
@@ -89,11 +89,11 @@ report-tells : (n : ℕ) (ack : Option ℕ) (options : List (Result Entry OptFau
 report-tells n None options ratio rest none is = cc (none, is)
 report-tells n (Some number) options ratio rest none is = handed-tells n number options ratio rest (report_of number options) refl none is
 
-report-sends : (n : ℕ) (ack : Option ℕ) (options : List (Result Entry OptFault)) (ratio : ℕ) (rest : List Call) → list_any (sends n) rest ≡ false
-    → list_any (sends n) (report_calls ack options ratio ++ rest) ≡ false
+report-sends : (n : ℕ) (ack : Option ℕ) (options : List (Result Entry OptFault)) (ratio : ℕ) (rest : List Call) → list_any (call_sends n) rest ≡ false
+    → list_any (call_sends n) (report_calls ack options ratio ++ rest) ≡ false
 report-sends n None options ratio rest none = none
 report-sends n (Some number) options ratio rest none = by (report_of number options) where
-  by : (report : Option Report) → list_any (sends n) (handing report ratio ++ rest) ≡ false
+  by : (report : Option Report) → list_any (call_sends n) (handing report ratio ++ rest) ≡ false
   by None = none
   by (Some report) = none
 
@@ -108,7 +108,7 @@ for-tells a old new n is =
     (report-tells n (reported_from a.kind a.ack) a.options (value_in new AckRatio Here) (start_calls (value_in old Ccid Here) (value_in new Ccid Here))
     (starts-tell n (value_in old Ccid Here) (value_in new Ccid Here)) is)
 
-for-sends : (a : Incoming) (old new : List Row) (n : ℕ) → list_any (sends n) (calls_for a old new) ≡ false
+for-sends : (a : Incoming) (old new : List Row) (n : ℕ) → list_any (call_sends n) (calls_for a old new) ≡ false
 for-sends a old new n =
     report-sends n (reported_from a.kind a.ack) a.options (value_in new AckRatio Here) (start_calls (value_in old Ccid Here) (value_in new Ccid Here))
     (starts-send n (value_in old Ccid Here) (value_in new Ccid Here))
@@ -133,7 +133,7 @@ module _ (e : EndState) (given : Input) (hearing : Hearing) (sending : Sending) 
   tells-so _ (CallsTimeout asked phase) n is = cc is
 
   -- What is sent, has the next number.
-  pub sends-so : (calls : List Call) → IsCalling e given hearing sending calls → (n : ℕ) → list_any (sends n) calls ≡ true → n < 2 ^ 48
+  pub sends-so : (calls : List Call) → IsCalling e given hearing sending calls → (n : ℕ) → list_any (call_sends n) calls ≡ true → n < 2 ^ 48
   sends-so _ CallsNothing n is = cc is
   sends-so _ (CallsFor a h was heeded) n is = cc (for-sends a e.rows h.rows n, is)
   sends-so _ (CallsSent payload asked phase carries) n is =

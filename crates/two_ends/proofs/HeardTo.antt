@@ -9,13 +9,13 @@ use Rattle.dccp_states.specs.declared.phase.Role.{Role}
 use Rattle.dccp_states.specs.declared.phase.Role.TheVariants as role
 use Rattle.dccp_endpoint.specs.Causes.{Came, IsHearing, Keeps as KeepsHeard, Starts, Raises, IsOpened, NotNow, ByCall, entrance_of, is_waiting}
 use Rattle.dccp_endpoint.specs.Effects.{Effect, Hearing, Unheard, Heard, Passing, end_after, greatest_by, greatest_or, opened_by}
-use Rattle.dccp_endpoint.specs.End.{EndState, first_phase, fresh, is_live}
+use Rattle.dccp_endpoint.specs.End.{EndState, first_phase, is_live, new_end}
 use Rattle.dccp_endpoint.specs.Incoming.{Incoming, is_newest}
 use Rattle.dccp_endpoint.specs.Inputs.{Input, Arrives, Opens}
 use Rattle.dccp_endpoint.specs.declared.config.Config.{Config}
 use Rattle.dccp_endpoint.proofs.Phases.{accept-so, answer-so, check-live}
 use Rattle.feature_agreement.proofs.Order.{before_counts}
-use Rattle.feature_agreement.specs.Counts.{IsNumber, count_of, number_of}
+use Rattle.seq_circle.specs.Counts.{IsNumber, count_of, number_of}
 use Rattle.two_ends.proofs.Acting.{Act, config_of, end_of}
 use Rattle.two_ends.proofs.Numbering.{IsOrdered, came-logged, few-logged}
 use Rattle.two_ends.proofs.ReadBack.{IsFromLog}
@@ -219,7 +219,7 @@ begins-dead : (r : Role) → is_live (first_phase r) ≡ false
 begins-dead role.Client = refl
 begins-dead role.Server = refl
 
-pub heard-none : (config : Config) (iss : ℕ) → IsHeardTo iss 0 0 (fresh config)
+pub heard-none : (config : Config) (iss : ℕ) → IsHeardTo iss 0 0 (new_end config)
 heard-none config iss =
     record {
       within = omega arith;

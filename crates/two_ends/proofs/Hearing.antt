@@ -8,7 +8,7 @@ use Rattle.dccp_endpoint.specs.Effects.{Effect, Hearing, end_after}
 use Rattle.dccp_endpoint.specs.End.{EndState, is_live}
 use Rattle.dccp_endpoint.specs.Incoming.{Incoming}
 use Rattle.dccp_endpoint.proofs.Phases.{begins, check-live}
-use Rattle.two_ends.specs.Numbered.{Hears, IsHeard, IsNumberOf}
+use Rattle.two_ends.specs.Numbered.{AreSentNumbers, Hears, IsNumberOf}
 use Rattle.two_ends.proofs.Acting.{Act, Keeps, Party, config_of, end_of, longer}
 use Rattle.two_ends.proofs.Numbering.{IsOrdered, came-logged, few-logged, more-sent}
 
@@ -23,10 +23,10 @@ dead-still true keeps = sym (keeps refl)
 dead-still false keeps = refl
 
 -- a later packet of the peer raises GSR
-raised-heard : (iss count isr gsr number : ℕ) → count < 2 ^ 47 → IsHeard iss count isr gsr → IsNumberOf iss count number
-    → IsHeard iss count isr (later_of gsr number)
+raised-heard : (iss count isr gsr number : ℕ) → count < 2 ^ 47 → AreSentNumbers iss count isr gsr → IsNumberOf iss count number
+    → AreSentNumbers iss count isr (later_of gsr number)
 raised-heard iss count isr gsr number few h s = by (is_before gsr number) refl where
-  by : (later : Bool) → is_before gsr number ≡ later → IsHeard iss count isr (if later then number else gsr)
+  by : (later : Bool) → is_before gsr number ≡ later → AreSentNumbers iss count isr (if later then number else gsr)
   by true later =
       let above : h.greatest.place ≤ s.place =
       before-places iss h.greatest.place s.place gsr number h.greatest.same s.same (omega (arith, h.greatest.was_sent)) (omega (arith, s.was_sent)) later in

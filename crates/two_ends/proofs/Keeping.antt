@@ -18,11 +18,11 @@ use Rattle.two_ends.specs.declared.event.WorldFault.{WorldFault}
 use Rattle.two_ends.specs.declared.frames.SentFrame.{SentFrame}
 use Rattle.two_ends.specs.Controlled.{Controlled}
 use Rattle.two_ends.specs.Numbered.{AreNumbered, Facts, Hears, IsNumberOf, IsNumbered}
-use Rattle.two_ends.specs.Pairs.{Pair, place_at}
+use Rattle.two_ends.specs.Pairs.{FeatureAt, place_at}
 use Rattle.two_ends.specs.Negotiated.{Agree, Given}
 use Rattle.two_ends.specs.Reported.{CarriesVector, Heard, Once, Told, Truthful}
 use Rattle.two_ends.specs.Safe.{Safe}
-use Rattle.two_ends.specs.World.{WorldState, WorldStep, Occurrence, half_of, other, run, world_after, at_start}
+use Rattle.two_ends.specs.World.{WorldState, WorldStep, Occurrence, half_of, other, world_after_all, world_after, at_start}
 use Rattle.two_ends.proofs.Acknowledging.{KnowsAcknowledged, acknowledging}
 use Rattle.two_ends.proofs.Acting.{IsHeld, Keeps, NoFact, Party, Takes, config_of, end_of, held_by, party_of, run-configs, run-held, taken-held}
 use Rattle.two_ends.proofs.Agreeing.{AreReached, IsSpoken, agree, end_at, given, key_of}
@@ -124,7 +124,7 @@ module _ (w : WorldState) (h : IsHeld SideInvariant w) where
         well = λ k place l there. (at-place (IsWell iss) (h.logs side) place l (holds side).negotiated.well there).each k;
       }
 
-  reached-pair : HasRoles w → (pair : Pair) → AreReached w h.logs pair
+  reached-pair : HasRoles w → (pair : FeatureAt) → AreReached w h.logs pair
   reached-pair roles pair =
       let n = (holds Server).negotiated in
       record {
@@ -189,7 +189,7 @@ kept-safe control w h roles heard =
     }
 
 module _ (effects : EveryStepHasOneEffect) where
-  pub run-kept : (client server : Config) (events : List Occurrence) → Fits client → Fits server → IsHeld SideInvariant (run (at_start client server) events)
+  pub run-kept : (client server : Config) (events : List Occurrence) → Fits client → Fits server → IsHeld SideInvariant (world_after_all (at_start client server) events)
   run-kept client server events client_fits server_fits =
       run-held SideInvariant keeping (λ x y k. k.ordered.proper) effects client server events client_fits server_fits
 
@@ -199,7 +199,7 @@ module _ (effects : EveryStepHasOneEffect) where
   step-kept w side r takes h = (taken-held SideInvariant keeping (λ x y k. k.ordered.proper) effects w side r takes h).held
 
   pub run-roles : (client server : Config) (events : List Occurrence) → client.role ≡ role.Client → server.role ≡ role.Server → Fits client → Fits server
-      → HasRoles (run (at_start client server) events)
+      → HasRoles (world_after_all (at_start client server) events)
   run-roles client server events is_client is_server client_fits server_fits =
       let same = run-configs SideInvariant keeping (λ x y k. k.ordered.proper) effects client server events client_fits server_fits in
       record {

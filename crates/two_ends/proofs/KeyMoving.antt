@@ -11,7 +11,7 @@ use Rattle.dccp_endpoint.specs.Heeding.{Due}
 use Rattle.dccp_endpoint.specs.Saying.{confirm_for, has_key, said_of}
 use Rattle.dccp_endpoint.specs.Steps.{next_number}
 use Rattle.dccp_endpoint.specs.Turns.{Key}
-use Rattle.feature_agreement.specs.Counts.{number_of}
+use Rattle.seq_circle.specs.Counts.{number_of}
 use Rattle.feature_agreement.specs.Rows.{IsBegun, RowMoves, confirm_in}
 use Rattle.feature_agreement.specs.View.{Carried, with_frame}
 use Rattle.feature_lists.specs.declared.features.Feature.{Feature}

@@ -10,7 +10,7 @@ use Rattle.dccp_packets.specs.declared.header.Kind.{Kind}
 use Rattle.dccp_endpoint.proofs.Keys.{apart-so, due-few}
 use Rattle.dccp_endpoint.proofs.OneConfirm.{confirms_are_single}
 use Rattle.dccp_endpoint.proofs.OwnPackets.{own_packets_say, own_packets_speak}
-use Rattle.dccp_endpoint.specs.Causes.{Answers, AreHeard, Deaf, Heeds, HasFrame, Occasion, Plain, Offering, Repeating, PrefersNow as OccasionNow, PrefersLater as OccasionLater, Says, SaysNothing, SaysAll, SaysApart, counts_in, vector_of}
+use Rattle.dccp_endpoint.specs.Causes.{AcknowledgesHeard, AreHeard, Deaf, Heeds, HasFrame, Occasion, Plain, Offering, Repeating, PrefersNow as OccasionNow, PrefersLater as OccasionLater, Says, SaysNothing, SaysAll, SaysApart, counts_in, vector_of}
 use Rattle.dccp_endpoint.specs.Drafts.{Draft}
 use Rattle.dccp_endpoint.specs.Effects.{Effect, Hearing, Heard, Taken, Sending, end_after, greatest_by, rows_by, told_by}
 use Rattle.dccp_endpoint.specs.End.{EndState, IsProper, floor_of}
@@ -23,9 +23,9 @@ use Rattle.dccp_endpoint.specs.Steps.{next_number}
 use Rattle.dccp_endpoint.specs.Turns.{Key}
 use Rattle.feature_agreement.proofs.Saying.{change_carries, change_understood, confirm_whole, wish_valid}
 use Rattle.feature_agreement.proofs.Taking.{heard_same, heard_sound}
-use Rattle.feature_agreement.specs.Counts.{IsNumber, count_of}
+use Rattle.seq_circle.specs.Counts.{IsNumber, count_of}
 use Rattle.feature_agreement.specs.Packets.{IsHeardOf, confirm_of, reply_due}
-use Rattle.feature_agreement.specs.Rows.{change_data, change_in, entries_of, is_valid_change, is_whole, opposite}
+use Rattle.feature_agreement.specs.Rows.{change_data, change_in, entries_of, is_valid_change, is_whole_confirm, opposite}
 use Rattle.feature_agreement.specs.View.{Carried}
 use Rattle.feature_agreement.specs.View.Carried.{Change as CarriedChange}
 use Rattle.feature_lists.specs.Wishes.{is_ours, is_wish}
@@ -36,7 +36,7 @@ use Rattle.feature_lists.specs.declared.wishes.Wanted.TheVariants as wanted
 use Rattle.feature_machine.proofs.Turning.{turned-row}
 use Rattle.feature_machine.specs.Negotiating.{IsNegotiation, row_at}
 use Rattle.feature_machine.specs.Rows.{Change, Confirm, Confirmed, Confirms, Offered, Offers, Opens, Preferred, Prefers, RowAnswer, RowEvent, Sending as RowSending, Sends, row_line, row_step}
-use Rattle.feature_machine.specs.Sound.{IsRowOf, IsSound, is_active}
+use Rattle.feature_machine.specs.Sound.{IsRowOf, IsSoundRow, is_active}
 use Rattle.feature_machine.specs.Turns.{Turn, events_of, row_turned}
 use Rattle.feature_machine.specs.declared.judging.Confirmation.{Confirmation}
 use Rattle.feature_machine.specs.declared.offers.Offer.{Offer}
@@ -65,8 +65,8 @@ confirm-is (Confirms other) body is = (let same : other ≡ body = cc is in ap C
 confirm-is _ body is = cc is
 
 -- The Confirm that is due is whole.
-reply-whole : (iss count : ℕ) (row : Row) (there : List Carried) (events : List RowEvent) (body : List ℕ) → IsSound row → IsHeardOf iss row there count events
-    → reply_due row events ≡ Some body → is_whole row.feature body ≡ true
+reply-whole : (iss count : ℕ) (row : Row) (there : List Carried) (events : List RowEvent) (body : List ℕ) → IsSoundRow row → IsHeardOf iss row there count events
+    → reply_due row events ≡ Some body → is_whole_confirm row.feature body ≡ true
 reply-whole iss count row there [] body sound heard due = cc due
 reply-whole iss count row there (Change change mandatory ∷ []) body sound heard due =
     confirm_whole row change body mandatory sound ((change_understood row change).0 heard.1)
@@ -83,10 +83,10 @@ reply-whole iss count row there (first ∷ (second ∷ rest)) body sound heard d
 -- the same of what a row hears, and that it was a newest packet
 pub record IsReply (row : Row) (greatest later : ℕ) (body : List ℕ) : Type 0 where
   pub newer : greatest < later
-  pub whole : is_whole row.feature body ≡ true
+  pub whole : is_whole_confirm row.feature body ≡ true
 
 hears-reply : (iss greatest : ℕ) (row : Row) (there : List Carried) (later : ℕ) (events : List RowEvent) (reply : Option (List ℕ)) (body : List ℕ)
-    → IsSound row → Hears iss greatest row there later events reply → reply ≡ Some body → IsReply row greatest later body
+    → IsSoundRow row → Hears iss greatest row there later events reply → reply ≡ Some body → IsReply row greatest later body
 hears-reply iss greatest row there later _ _ body sound (HearsNothing same) is = cc is
 hears-reply iss greatest row there later events _ body sound (HearsNewest _ newer heard) is =
     record { newer = newer; whole = reply-whole iss later row there events body sound heard is }
@@ -137,7 +137,7 @@ pub record HasWish (feature : Feature) (place : Place) (row : Row) : Type 0 wher
   pub is_active : row.active ≡ Some wish
   pub is_own : is_wish feature place wish ≡ true
 
-ours : (row : Row) (b : Bool) → IsSound row → row.stand ≢ Stable → is_ours row.feature row.place ≡ b → b ≡ true
+ours : (row : Row) (b : Bool) → IsSoundRow row → row.stand ≢ Stable → is_ours row.feature row.place ≡ b → b ≡ true
 ours row true sound busy is = refl
 ours row false sound busy is = absurd (busy (sound.quiet is).stand)
 
@@ -275,13 +275,13 @@ module _ (s : KnownStep) where
   this-reply k body some =
       hears-reply iss greatest (row k) _ later _ _ body (rows.each k.0 k.1).sound (this-hears k) some
 
-  pub this-answer : (k : Key) (body : List ℕ) (ack : Option ℕ) → confirm_for k due ≡ Some body → (due ≡ []) ⊎ Answers f.hearing ack
+  pub this-answer : (k : Key) (body : List ℕ) (ack : Option ℕ) → confirm_for k due ≡ Some body → (due ≡ []) ⊎ AcknowledgesHeard f.hearing ack
       → IsAnswer peer_iss later ack
   this-answer k body ack some (inl none) =
       let nothing : confirm_for k due ≡ None = ap (confirm_for k) none in
       cc (some, nothing)
   this-answer k body ack some (inr answers) = by f.hearing s.so answers where
-    by : (h : Hearing) → HeardSo act greatest later h → Answers h ack → IsAnswer peer_iss later ack
+    by : (h : Hearing) → HeardSo act greatest later h → AcknowledgesHeard h ack → IsAnswer peer_iss later ack
     by _ (NothingNew same) is = absurd is
     by _ (Old a first how came same old from) is = absurd (let newer = (this-reply k body some).newer in omega (arith, same, newer))
     by _ (Newest a first how came above from same) is =
@@ -312,7 +312,7 @@ module _ (s : KnownStep) where
       ap (λ (items : List Item). said_to true (ack_of packet.kind) (k.0, opposite k.1) (map Ok (entries_at 0 items))) is
       ∙ own_packets_say (ack_of packet.kind) (has-vector packet.kind) told acked due (rows_by e.rows f) keys k
 
-  well-said : (k : Key) (ack : Option ℕ) → (due ≡ []) ⊎ Answers f.hearing ack
+  well-said : (k : Key) (ack : Option ℕ) → (due ≡ []) ⊎ AcknowledgesHeard f.hearing ack
       → IsWellSaid peer_iss k (said_of (confirm_for k due) (has_key k keys) ack k (row-after k))
   well-said k ack answers = by (confirm_for k due) (has_key k keys) refl refl where
     by : (reply : Option (List ℕ)) (asks : Bool) → confirm_for k due ≡ reply → has_key k keys ≡ asks
@@ -320,7 +320,7 @@ module _ (s : KnownStep) where
     by (Some body) asks some is =
         let a = this-answer k body ack some answers in
         subst (λ (n : Option ℕ). IsWellSaid peer_iss k (Confirm body n ∷ [])) (sym a.same)
-        (a.is_number, subst (λ (f : Feature). is_whole f body ≡ true) (rows.each k.0 k.1).feature_is (this-reply k body some).whole)
+        (a.is_number, subst (λ (f : Feature). is_whole_confirm f body ≡ true) (rows.each k.0 k.1).feature_is (this-reply k body some).whole)
     by None true none is = busy-valid k.0 k.1 (row-after k) (this-wish k none is)
     by None false none is = tt
 

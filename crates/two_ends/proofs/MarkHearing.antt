@@ -11,7 +11,7 @@ use Rattle.dccp_endpoint.specs.Causes.{Came, IsHearing, Keeps as KeepsHeard, Sta
 use Rattle.dccp_endpoint.specs.Effects.{Effect, Hearing, Unheard, Heard, Passing, Refused, Shut, Taken, count_by, end_after, first_by, heard_by}
 use Rattle.dccp_endpoint.specs.End.{EndState, is_live}
 use Rattle.dccp_endpoint.specs.Incoming.{Incoming}
-use Rattle.dccp_endpoint.specs.Reporting.{is_acking, is_new, one_more}
+use Rattle.dccp_endpoint.specs.Reporting.{is_acking, is_new, one_more_taken}
 use Rattle.dccp_endpoint.proofs.Phases.{accept-so, answer-so, check-live}
 use Rattle.dccp_packets.specs.Kinds.{value_of}
 use Rattle.dccp_packets.specs.declared.header.PacketType.TheVariants as types
@@ -20,11 +20,11 @@ use Rattle.dccp_states.specs.declared.phase.Phase.{Phase}
 use Rattle.dccp_states.specs.declared.phase.Phase.TheVariants as phases
 use Rattle.mark_agreement.proofs.Sets.{begun_are, begun_shut_are, counts_are_new, joined_are, new_by_counts}
 use Rattle.mark_agreement.proofs.Steps.{Kept}
-use Rattle.mark_agreement.specs.Moves.{Move, Moves, begun, begun_shut, joined, passed, shut}
-use Rattle.mark_agreement.specs.Moves.Move.{Begins, Begins_shut, Joins, Repeats, Refuses, Shuts}
-use Rattle.mark_agreement.specs.Moves.Moves.{Done, Next}
+use Rattle.mark_agreement.specs.Moves.{MarkMove, MarkMoves, begun_shut, passed, shut, with_first_frame, with_processed}
+use Rattle.mark_agreement.specs.Moves.MarkMove.{Begins, Begins_shut, Joins, Repeats, Refuses, Shuts}
+use Rattle.mark_agreement.specs.Moves.MarkMoves.{Done, Next}
 use Rattle.mark_agreement.specs.Sets.{IsMarked}
-use Rattle.mark_agreement.specs.View.{Side, frame_at}
+use Rattle.mark_agreement.specs.View.{MarkSide, frame_at}
 use Rattle.run_list.proofs.Sets.{marked-other}
 use Rattle.run_list.specs.MarkedSet.{MarkedSet, answer_to, empty_from, marked}
 use Rattle.run_list.specs.declared.answers.Marked.{Marked}
@@ -39,9 +39,9 @@ use Rattle.two_ends.proofs.Shown.{IsPacketOf, IsShown, few-processed, later-grea
 use Rattle.two_ends.proofs.Vectors.{frame-of, frames-length}
 
 -- what a step makes of a view, before a packet goes out; `received` is what is kept of received numbers then
-pub record IsTaking (act : Act) (view peer : Side) (received : KeptNumbers) : Type 0 where
-  pub after : Side
-  pub moves : Moves peer.frames view after
+pub record IsTaking (act : Act) (view peer : MarkSide) (received : KeptNumbers) : Type 0 where
+  pub after : MarkSide
+  pub moves : MarkMoves peer.frames view after
   pub frames : after.frames ≡ view.frames
   pub heard : IsHeardTo (config_of act.peer).iss (length act.peer.log) after.greatest (end_after (end_of act.side) act.effect)
   pub first : 1 ≤ after.first → first_by (end_of act.side).marks.isr act.effect.hearing ≡ number_of (config_of act.peer).iss after.first
@@ -94,7 +94,7 @@ known-count floor n false none = grind arith
 not-live : (ph : Phase) → ph ≡ phases.Closed → (is_live ph ≡ false) × (is_waiting ph ≡ false)
 not-live ph closed = (ap is_live closed, ap is_waiting closed)
 
-module _ (act : Act) (peer_ordered : IsOrdered act.peer) (view peer : Side) (kept : Kept view peer) (here : IsShown act.side act.peer view)
+module _ (act : Act) (peer_ordered : IsOrdered act.peer) (view peer : MarkSide) (kept : Kept view peer) (here : IsShown act.side act.peer view)
     (there : IsShown act.peer act.side peer) where
   abbrev e : EndState
   e = end_of act.side
@@ -246,19 +246,19 @@ module _ (act : Act) (peer_ordered : IsOrdered act.peer) (view peer : Side) (kep
     taking-first is =
         let new : answer_to (empty_from a.number) a.number ≡ New = subst (λ (n : ℕ). answer_to (empty_from n) n ≡ New) (sym c.number) empty-new in
         let rose : count_by e.marked e.received f.hearing ≡ e.marked + 1 =
-        ap (count_by e.marked e.received) (sym is) ∙ ap (λ (m : Marked). one_more e.marked (is_new m)) new ∙ count-rose e.marked marked-few in
+        ap (count_by e.marked e.received) (sym is) ∙ ap (λ (m : Marked). one_more_taken e.marked (is_new m)) new ∙ count-rose e.marked marked-few in
         record {
-          after = begun view count;
+          after = with_first_frame view count;
           moves =
-              Next view (begun view count) (begun view count) (Begins count unheard (open-so (inr waiting)) (omega arith) sent-there)
-              (Done (begun view count));
+              Next view (with_first_frame view count) (with_first_frame view count) (Begins count unheard (open-so (inr waiting)) (omega arith) sent-there)
+              (Done (with_first_frame view count));
           frames = refl;
           heard = first-heard Taken is;
           first = λ some. ap (first_by e.marks.isr) (sym is) ∙ c.number;
           unset = λ none. absurd (omega (arith, none));
           set =
-              λ some. subst (λ (h : Hearing). IsMarked iss (heard_by e.received h).set (begun view count)) is
-              (subst (λ (n : ℕ). IsMarked iss (marked (empty_from n) n) (begun view count)) (sym c.number)
+              λ some. subst (λ (h : Hearing). IsMarked iss (heard_by e.received h).set (with_first_frame view count)) is
+              (subst (λ (n : ℕ). IsMarked iss (marked (empty_from n) n) (with_first_frame view count)) (sym c.number)
               (begun_are iss view count fits (omega arith) (omega (arith, c.below, few))));
           closed = λ was. (let not = open-so (inr waiting) in cc (was, not));
           numbers = a.number ∷ [];
@@ -333,7 +333,7 @@ module _ (act : Act) (peer_ordered : IsOrdered act.peer) (view peer : Side) (kep
     not-closed : view.closed ≡ false
     not-closed = open-so (inl live)
 
-    set-at : (how : Passing) (s : MarkedSet) (after : Side) → Heard false a.number how ≡ f.hearing → (heard_by e.received (Heard false a.number how)).set ≡ s
+    set-at : (how : Passing) (s : MarkedSet) (after : MarkSide) → Heard false a.number how ≡ f.hearing → (heard_by e.received (Heard false a.number how)).set ≡ s
         → IsMarked iss s after → IsMarked iss (heard_by e.received f.hearing).set after
     set-at how s after is same are =
         subst (λ (h : Hearing). IsMarked iss (heard_by e.received h).set after) is
@@ -350,16 +350,16 @@ module _ (act : Act) (peer_ordered : IsOrdered act.peer) (view peer : Side) (kep
         let own_new : answer_to e.received.set (number_of iss at) ≡ New = subst (λ (n : ℕ). answer_to e.received.set n ≡ New) later.number new in
         let parts = new_by_counts iss e.received.set view (here.set has-first) at (omega arith) at-early own_new in
         let rose : count_by e.marked e.received f.hearing ≡ e.marked + 1 =
-        ap (count_by e.marked e.received) (sym is) ∙ ap (λ (m : Marked). one_more e.marked (is_new m)) new ∙ count-rose e.marked marked-few in
+        ap (count_by e.marked e.received) (sym is) ∙ ap (λ (m : Marked). one_more_taken e.marked (is_new m)) new ∙ count-rose e.marked marked-few in
         record {
-          after = joined view at;
-          moves = Next view (joined view at) (joined view at) (Joins at has-first not-closed at-there parts.0 parts.1) (Done (joined view at));
+          after = with_processed view at;
+          moves = Next view (with_processed view at) (with_processed view at) (Joins at has-first not-closed at-there parts.0 parts.1) (Done (with_processed view at));
           frames = refl;
           heard = later-heard Taken is;
           first = λ some. ap (first_by e.marks.isr) (sym is) ∙ here.first some;
           unset = λ none. absurd (omega (arith, none, has-first));
           set =
-              λ some. set-at Taken (marked e.received.set (number_of iss at)) (joined view at) is (ap (marked e.received.set) later.number)
+              λ some. set-at Taken (marked e.received.set (number_of iss at)) (with_processed view at) is (ap (marked e.received.set) later.number)
               (joined_are iss e.received.set view (here.set has-first) at (omega arith) at-early own_new);
           closed = λ was. (let not = not-closed in cc (was, not));
           numbers = a.number ∷ [];
@@ -372,7 +372,7 @@ module _ (act : Act) (peer_ordered : IsOrdered act.peer) (view peer : Side) (kep
         }
 
     -- a packet that is not marked, or was before
-    taking-passed : (how : Passing) → Heard false a.number how ≡ f.hearing → Move peer.frames view (passed view at)
+    taking-passed : (how : Passing) → Heard false a.number how ≡ f.hearing → MarkMove peer.frames view (passed view at)
         → (heard_by e.received (Heard false a.number how)).set ≡ e.received.set → count_by e.marked e.received (Heard false a.number how) ≡ e.marked
         → Taking
     taking-passed how is move unmarked uncounted =
@@ -431,7 +431,7 @@ module _ (act : Act) (peer_ordered : IsOrdered act.peer) (view peer : Side) (kep
           (known-count view.floor at (view.marked at)
           (λ parts. none (subst (λ (n : ℕ). answer_to e.received.set n ≡ New) (sym later.number)
           (counts_are_new iss e.received.set view (here.set has-first) at (omega arith) at-early parts)))))
-          (marked-other e.received.set a.number none) (ap (one_more e.marked) old)
+          (marked-other e.received.set a.number none) (ap (one_more_taken e.marked) old)
 
   taking-by : (h : Hearing) → IsHearing e act.given f.phase h → h ≡ f.hearing → Taking
   taking-by _ (KeepsHeard live) is = taking-unheard is live

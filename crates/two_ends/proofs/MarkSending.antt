@@ -29,11 +29,11 @@ use Rattle.dccp_states.specs.declared.phase.Phase.TheVariants as phases
 use Rattle.mark_agreement.proofs.Reaching.{joined}
 use Rattle.mark_agreement.proofs.Sets.{raised_are}
 use Rattle.mark_agreement.proofs.Steps.{Kept}
-use Rattle.mark_agreement.specs.Moves.{Moves, ack_frame, other_frame, raised, sent}
-use Rattle.mark_agreement.specs.Moves.Move.{Acks as AcksFrame, Raises, Sends}
-use Rattle.mark_agreement.specs.Moves.Moves.{Done, Next as NextMove}
+use Rattle.mark_agreement.specs.Moves.{MarkMoves, ack_frame, other_frame, with_floor, with_sent_frame}
+use Rattle.mark_agreement.specs.Moves.MarkMove.{Acks as AcksFrame, Raises, Sends}
+use Rattle.mark_agreement.specs.Moves.MarkMoves.{Done, Next as NextMove}
 use Rattle.mark_agreement.specs.Sets.{IsMarked}
-use Rattle.mark_agreement.specs.View.{Frame, Side, frame_at}
+use Rattle.mark_agreement.specs.View.{Frame, MarkSide, frame_at}
 use Rattle.run_list.specs.MarkedSet.{MarkedSet, has, raised as raised_set}
 use Rattle.seq_circle.specs.Circle.{residue}
 use Rattle.seq_circle.specs.Counts.{number_of}
@@ -67,7 +67,7 @@ recorded-set : (b : Bool) (kept : KeptNumbers) (number ack : ℕ) → (recorded_
 recorded-set true kept number ack = refl
 recorded-set false kept number ack = refl
 
-module _ (act : Act) (own : IsOrdered act.side) (peer_ordered : IsOrdered act.peer) (view peer : Side) (kept : Kept view peer)
+module _ (act : Act) (own : IsOrdered act.side) (peer_ordered : IsOrdered act.peer) (view peer : MarkSide) (kept : Kept view peer)
     (here : IsShown act.side act.peer view) (there : IsShown act.peer act.side peer) where
   abbrev e : EndState
   e = end_of act.side
@@ -126,11 +126,11 @@ module _ (act : Act) (own : IsOrdered act.side) (peer_ordered : IsOrdered act.pe
     first-some : 1 ≤ t.after.first
     first-some = t.some was.first a.number _ was.is_heard
 
-    raises : Moves peer.frames t.after (raised t.after (told + 1))
+    raises : MarkMoves peer.frames t.after (with_floor t.after (told + 1))
     raises =
-        let at : Frame → Type 0 = λ (g : Frame). Moves peer.frames t.after (raised t.after (g.acknowledged + 1)) in
+        let at : Frame → Type 0 = λ (g : Frame). MarkMoves peer.frames t.after (with_floor t.after (g.acknowledged + 1)) in
         let same : frame_at t.after.frames place ≡ frame_at view.frames place = ap (λ (fs : List Frame). frame_at fs place) t.frames in
-        let to : Side = raised t.after ((frame_at t.after.frames place).acknowledged + 1) in
+        let to : MarkSide = with_floor t.after ((frame_at t.after.frames place).acknowledged + 1) in
         subst at same
         (NextMove t.after to to
         (Raises answered.count place first-some answered.is_ack answered.acknowledged (ap (λ (g : Frame). g.has_vector) same ∙ its.has_vector)
@@ -140,14 +140,14 @@ module _ (act : Act) (own : IsOrdered act.side) (peer_ordered : IsOrdered act.pe
     raised-taking : IsTaking act view peer (raised_by old (Some r))
     raised-taking =
         record {
-          after = raised t.after (told + 1);
-          moves = joined peer.frames view t.after (raised t.after (told + 1)) t.moves raises;
+          after = with_floor t.after (told + 1);
+          moves = joined peer.frames view t.after (with_floor t.after (told + 1)) t.moves raises;
           frames = t.frames;
           heard = t.heard;
           first = t.first;
           unset = λ none. absurd (omega (arith, none, first-some));
           set =
-              λ some. subst (λ (n : ℕ). IsMarked iss (raised_set old.set n) (raised t.after (told + 1)))
+              λ some. subst (λ (n : ℕ). IsMarked iss (raised_set old.set n) (with_floor t.after (told + 1)))
               (sym (number-next iss told its.some) ∙ ap (λ (n : ℕ). residue (n + 1)) (sym its.ack))
               (raised_are iss old.set t.after (t.set some) (told + 1) (omega arith) (omega (arith, its.early)));
           closed = t.closed;
@@ -199,7 +199,7 @@ module _ (act : Act) (own : IsOrdered act.side) (peer_ordered : IsOrdered act.pe
     -- the frames then, and the records
     pub record IsSent (s : Sending) : Type 0 where
       pub frames : List Frame
-      pub moves : Moves peer.frames t.after (record t.after { frames = frames })
+      pub moves : MarkMoves peer.frames t.after (record t.after { frames = frames })
       are : AreFrames iss (act.side.log ++ logged_by (length (processed_by act.side.half act.given f)) (floor_of (end_after e f)) s) frames
       records : (r : Record) → Contains (recorded_by (is_acking_sent s && has-vector) kept-numbers (next_number e) greatest).records r
           → IsRecorded own_iss iss frames r
@@ -239,9 +239,9 @@ module _ (act : Act) (own : IsOrdered act.side) (peer_ordered : IsOrdered act.pe
       other-sent : is_acking (packet_type packet.kind) ≡ false → IsSent (Next packet)
       other-sent other =
           record {
-            frames = (sent t.after (other_frame t.after 0)).frames;
+            frames = (with_sent_frame t.after (other_frame t.after 0)).frames;
             moves =
-                (let after : Side = sent t.after (other_frame t.after 0) in
+                (let after : MarkSide = with_sent_frame t.after (other_frame t.after 0) in
                 NextMove t.after after after (Sends 0) (Done after));
             are =
                 frames-append frames-now
@@ -314,9 +314,9 @@ module _ (act : Act) (own : IsOrdered act.side) (peer_ordered : IsOrdered act.pe
 
         its-record : (r : Record) → has-vector ≡ true
             → r ≡ record { number = next_number e; ack = greatest; whole = is_whole (has kept-numbers.set.numbers) kept-numbers.set.floor greatest }
-            → IsRecorded own_iss iss (sent t.after frame).frames r
+            → IsRecorded own_iss iss (with_sent_frame t.after frame).frames r
         its-record r vector is =
-            let last : frame_at (sent t.after frame).frames (suc (length t.after.frames)) ≡ frame = frame-last t.after.frames frame in
+            let last : frame_at (with_sent_frame t.after frame).frames (suc (length t.after.frames)) ≡ frame = frame-last t.after.frames frame in
             let size : length t.after.frames ≡ length act.side.log = frames-length frames-now in
             record {
               place = length t.after.frames;
@@ -335,7 +335,7 @@ module _ (act : Act) (own : IsOrdered act.side) (peer_ordered : IsOrdered act.pe
             }
 
         records-by : (b : Bool) → has-vector ≡ b → (r : Record) → Contains (recorded_by b kept-numbers (next_number e) greatest).records r
-            → IsRecorded own_iss iss (sent t.after frame).frames r
+            → IsRecorded own_iss iss (with_sent_frame t.after frame).frames r
         records-by false vector r has_it = recorded-before own_iss iss t.after.frames frame r (records-now r has_it)
         records-by true vector r has_it =
             elim (recorded-there kept-numbers (next_number e) greatest (is_whole (has kept-numbers.set.numbers) kept-numbers.set.floor greatest) r has_it) [
@@ -346,8 +346,8 @@ module _ (act : Act) (own : IsOrdered act.side) (peer_ordered : IsOrdered act.pe
         ack-sent : IsSent (Next packet)
         ack-sent =
             record {
-              frames = (sent t.after frame).frames;
-              moves = NextMove t.after (sent t.after frame) (sent t.after frame) (AcksFrame has-vector whole begun-some not-closed) (Done (sent t.after frame));
+              frames = (with_sent_frame t.after frame).frames;
+              moves = NextMove t.after (with_sent_frame t.after frame) (with_sent_frame t.after frame) (AcksFrame has-vector whole begun-some not-closed) (Done (with_sent_frame t.after frame));
               are = frames-append frames-now its-frame;
               records =
                   λ r has_it. records-by has-vector refl r
@@ -363,7 +363,7 @@ module _ (act : Act) (own : IsOrdered act.side) (peer_ordered : IsOrdered act.pe
     abbrev pub done : IsSent f.sending
     done = sends-by f.sending act.because.sends act.because.says act.because.framed
 
-    abbrev pub last : Side
+    abbrev pub last : MarkSide
     last = record t.after { frames = done.frames }
 
     abbrev added : List ℕ

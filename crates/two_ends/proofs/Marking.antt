@@ -5,9 +5,9 @@ use Rattle.std.specs.List.{All}
 use Rattle.dccp_endpoint.specs.declared.config.Config.{Config}
 use Rattle.mark_agreement.proofs.Reaching.{joined}
 use Rattle.mark_agreement.proofs.Steps.{Kept, reached_keeps, turned}
-use Rattle.mark_agreement.specs.Moves.{fresh}
-use Rattle.mark_agreement.specs.Moves.Reached.{Starts}
-use Rattle.mark_agreement.specs.View.{Side}
+use Rattle.mark_agreement.specs.Moves.{unmoved_side}
+use Rattle.mark_agreement.specs.Moves.ReachedByMarks.{Starts}
+use Rattle.mark_agreement.specs.View.{MarkSide}
 use Rattle.two_ends.proofs.Acting.{Act, Keeps, Party, acted, at_beginning, config_of, drafted_by, end_of, longer}
 use Rattle.two_ends.proofs.HeardTo.{heard-more, heard-none}
 use Rattle.two_ends.proofs.Logged.{Logged}
@@ -19,8 +19,8 @@ use Rattle.two_ends.proofs.Vectors.{NoneSent}
 
 -- What a side and its peer mark and tell: a view of each, and the facts that moves of either keep.
 pub record IsMarking (x y : Party) : Type 0 where
-  pub view : Side
-  pub peer : Side
+  pub view : MarkSide
+  pub peer : MarkSide
   pub kept : Kept view peer
   pub here : IsShown x y view
   pub there : IsShown y x peer
@@ -51,7 +51,7 @@ packets-more iss log more (n ∷ ns) all =
 acting : (act : Act) → IsOrdered act.side → IsOrdered act.peer → IsMarking act.side act.peer → IsMarking (acted act) act.peer
 acting act own others m =
     let t = looks act own others m.view m.peer m.kept m.here m.there (takes act others m.view m.peer m.kept m.here m.there) in
-    let after : Side = last act own others m.view m.peer m.kept m.here m.there t in
+    let after : MarkSide = last act own others m.view m.peer m.kept m.here m.there t in
     let sends = done act own others m.view m.peer m.kept m.here m.there t in
     record {
       view = after;
@@ -74,7 +74,7 @@ acting act own others m =
           };
     }
 
-begins : (own peer : Config) → IsShown (at_beginning own) (at_beginning peer) fresh
+begins : (own peer : Config) → IsShown (at_beginning own) (at_beginning peer) unmoved_side
 begins own peer =
     record {
       heard = heard-none own peer.iss;
@@ -94,7 +94,7 @@ marking =
     record {
       starts =
           λ own peer own_fits peer_fits.
-          record { view = fresh; peer = fresh; kept = reached_keeps fresh fresh Starts; here = begins own peer; there = begins peer own };
+          record { view = unmoved_side; peer = unmoved_side; kept = reached_keeps unmoved_side unmoved_side Starts; here = begins own peer; there = begins peer own };
       acts =
           λ act (own, others) (here, there).
           let next = acting act own others here in

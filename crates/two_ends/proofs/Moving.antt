@@ -5,18 +5,18 @@ use Rattle.feature_agreement.proofs.ByFeature.{same_moves}
 use Rattle.feature_agreement.proofs.OpeningLines.{offer_drops, offer_moves, plain_moves, prefer_moves, preference_waits, send_moves}
 use Rattle.feature_agreement.proofs.Reaching.{joined}
 use Rattle.feature_agreement.proofs.Taking.{heard_begun, heard_same, heard_sound, replied, silent}
-use Rattle.feature_agreement.specs.Counts.{number_of}
+use Rattle.seq_circle.specs.Counts.{number_of}
 use Rattle.feature_agreement.specs.Packets.{IsHeardOf, carried_reply, reply_due}
 use Rattle.feature_agreement.specs.Rows.{IsBegun, RowMoves, confirm_in, entries_of, opens_at, row_pair, rule_at, side_of}
 use Rattle.feature_agreement.specs.Moves.{Done}
-use Rattle.feature_agreement.specs.View.{Carried, Side, with_frame}
+use Rattle.feature_agreement.specs.View.{Carried, FeatureSide, with_frame}
 use Rattle.feature_agreement.specs.View.Carried.{Nothing, Change}
 use Rattle.feature_lists.specs.Wishes.{is_wish}
 use Rattle.feature_lists.specs.declared.wishes.Wanted.{Wanted}
 use Rattle.feature_machine.proofs.Soundness.{step_sound}
 use Rattle.feature_machine.proofs.Steps.{step_same}
 use Rattle.feature_machine.specs.Rows.{Offers, Opens, Prefers, RowEvent, Sends, row_step}
-use Rattle.feature_machine.specs.Sound.{IsSameRow, IsSound}
+use Rattle.feature_machine.specs.Sound.{IsSameRow, IsSoundRow}
 use Rattle.feature_machine.specs.Turns.{row_turned}
 use Rattle.feature_machine.specs.declared.row.Row.{Row}
 use Rattle.feature_machine.specs.declared.stands.Stand.TheVariants.{Stable}
@@ -72,7 +72,7 @@ moved-then iss there one two three first second third begin middle last m n =
       begun = n.begun;
     }
 
-module _ (iss greatest : ℕ) (row : Row) (there frames : List Carried) (fits : iss < 2 ^ 48) (few : length frames < 2 ^ 47) (sound : IsSound row)
+module _ (iss greatest : ℕ) (row : Row) (there frames : List Carried) (fits : iss < 2 ^ 48) (few : length frames < 2 ^ 47) (sound : IsSoundRow row)
     (begun : IsBegun iss row) where
   abbrev number : ℕ
   number = number_of iss (length frames + 1)
@@ -95,7 +95,7 @@ module _ (iss greatest : ℕ) (row : Row) (there frames : List Carried) (fits : 
         }
 
   pub hears-sound : (later : ℕ) (events : List RowEvent) (reply : Option (List ℕ)) → Hears iss greatest row there later events reply
-      → IsSound (row_turned row events)
+      → IsSoundRow (row_turned row events)
   hears-sound later _ _ (HearsNothing unmoved) = sound
   hears-sound later events _ (HearsNewest _ newer is) = heard_sound iss later row there events is sound
 
@@ -122,7 +122,7 @@ module _ (iss greatest : ℕ) (row : Row) (there frames : List Carried) (fits : 
   drops confirmed closed =
       record {
         moves =
-            subst (λ (s : Side). RowMoves row there (side_of iss row greatest frames) s)
+            subst (λ (s : FeatureSide). RowMoves row there (side_of iss row greatest frames) s)
             (sym (offer_drops iss greatest row [] frames confirmed closed)) (Done _);
         same = step_same row (Offers confirmed);
         begun = dropped_begun iss row confirmed closed begun;
@@ -172,7 +172,7 @@ module _ (iss greatest : ℕ) (row : Row) (there frames : List Carried) (fits : 
       }
 
 -- What else happens to the row, with its Change or without.
-pub does : (iss greatest : ℕ) (row : Row) (there frames : List Carried) → iss < 2 ^ 48 → length frames < 2 ^ 47 → IsSound row → IsBegun iss row
+pub does : (iss greatest : ℕ) (row : Row) (there frames : List Carried) → iss < 2 ^ 48 → length frames < 2 ^ 47 → IsSoundRow row → IsBegun iss row
     → (events : List RowEvent) (asks packet : Bool) → Does row events asks
     → Moved iss there row greatest frames (row_turned row (events ++ sends_if asks (number_of iss (length frames + 1)))) greatest
     (frames_after (row_turned row (events ++ sends_if asks (number_of iss (length frames + 1)))) frames asks packet)

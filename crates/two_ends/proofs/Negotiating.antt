@@ -6,14 +6,14 @@ use Rattle.dccp_states.specs.declared.phase.Role.{Role}
 use Rattle.dccp_states.specs.declared.phase.Role.TheVariants as role
 use Rattle.dccp_endpoint.proofs.Staying.{proper-after}
 use Rattle.dccp_endpoint.specs.Drafts.{Fits}
-use Rattle.dccp_endpoint.specs.End.{end_of as role_of, fresh as fresh_end}
+use Rattle.dccp_endpoint.specs.End.{end_of as role_of, new_end as fresh_end}
 use Rattle.dccp_endpoint.specs.Turns.{Key}
 use Rattle.dccp_endpoint.specs.declared.config.Config.{Config}
 use Rattle.feature_agreement.proofs.Beginning.{start_begun}
 use Rattle.feature_agreement.proofs.ByFeature.{client_row_reaches, one_pair, server_row_reaches, starts}
-use Rattle.feature_agreement.specs.Moves.{Reached, fresh}
+use Rattle.feature_agreement.specs.Moves.{Reached, new_side}
 use Rattle.feature_agreement.specs.Rows.{IsBegun, RowMoves, entries_of, location_of, opposite, pair_of, row_pair, side_of}
-use Rattle.feature_agreement.specs.View.{Side}
+use Rattle.feature_agreement.specs.View.{FeatureSide}
 use Rattle.feature_lists.specs.Features.{initial_of}
 use Rattle.feature_lists.specs.declared.features.Feature.{Feature}
 use Rattle.feature_lists.specs.declared.features.Place.{Place}
@@ -96,7 +96,7 @@ module _ (act : Act) (own : IsOrdered act.side) (peer : IsOrdered act.peer) (gre
   server-reached : (config_of act.side).role ≡ role.Server → AreReached act.side act.peer greatest others → AreReached (acted act) act.peer s.later others
   server-reached is before k =
       let pair : row_pair (row k) ≡ pair_of k.0 (location k) = row-pair k ∙ ap (λ (r : Role). pair_of k.0 (location_of (role_of r) k.1)) is in
-      let client : Side = view_of act.peer (config_of act.side).iss others (across k) in
+      let client : FeatureSide = view_of act.peer (config_of act.side).iss others (across k) in
       subst (λ p. Reached p (view_of (acted act) (config_of act.peer).iss s.later k) client) pair
       (server_row_reaches (row k) (view_of act.side (config_of act.peer).iss greatest k) client (view_of (acted act) (config_of act.peer).iss s.later k)
       (row-role k ∙ ap role_of is) (s.moved k).moves
@@ -107,10 +107,10 @@ module _ (act : Act) (own : IsOrdered act.side) (peer : IsOrdered act.peer) (gre
   client-reached is before k =
       let pair : row_pair (row (across k)) ≡ pair_of k.0 (location k) =
       row-pair (across k) ∙ ap (λ (r : Role). pair_of k.0 (location_of (role_of r) (opposite k.1))) is ∙ sym (one_pair k.0 k.1) in
-      let server : Side = view_of act.peer (config_of act.side).iss others k in
+      let server : FeatureSide = view_of act.peer (config_of act.side).iss others k in
       let own_key : across (across k) ≡ k = ap (λ (p : Place). (k.0, p)) (opposite-twice k.1) in
-      let first : Side = view_of act.side (config_of act.peer).iss greatest (across k) in
-      let last : Side = view_of (acted act) (config_of act.peer).iss s.later (across k) in
+      let first : FeatureSide = view_of act.side (config_of act.peer).iss greatest (across k) in
+      let last : FeatureSide = view_of (acted act) (config_of act.peer).iss s.later (across k) in
       subst (λ p. Reached p server last) pair
       (client_row_reaches (row (across k)) server first last (row-role (across k) ∙ ap role_of is)
       (subst (λ (key : Key). RowMoves (row (across k)) (map (carried_of (config_of act.side).iss key) act.peer.log) first last) own_key (s.moved (across k)).moves)
@@ -149,11 +149,11 @@ begins-begun own fits k =
     subst (IsBegun own.iss) (sym first) (start_begun own.iss (first_row (role_of own.role) (listed_at own.lists k.0 k.1)) refl refl)
 
 first-view : (own : Config) (peer_iss : ℕ) → Fits own → (k : Key)
-    → view_of (at_beginning own) peer_iss 0 k ≡ fresh (initial_of k.0) (entries_of (listed_at own.lists k.0 k.1).wish)
+    → view_of (at_beginning own) peer_iss 0 k ≡ new_side (initial_of k.0) (entries_of (listed_at own.lists k.0 k.1).wish)
 first-view own peer_iss fits k =
     let first = first-fresh (role_of own.role) own.lists fits.lists k.0 k.1 in
     ap (λ (r : Row). side_of own.iss r 0 []) first
-    ∙ ap (λ (f : Feature). fresh (initial_of f) (entries_of (listed_at own.lists k.0 k.1).wish)) (fits.lists.each k.0 k.1).feature_is
+    ∙ ap (λ (f : Feature). new_side (initial_of f) (entries_of (listed_at own.lists k.0 k.1).wish)) (fits.lists.each k.0 k.1).feature_is
 
 begins : (own peer : Config) → Fits own → Fits peer → IsNegotiated (at_beginning own) (at_beginning peer)
 begins own peer own_fits peer_fits =
@@ -167,9 +167,9 @@ begins own peer own_fits peer_fits =
       begun_there = begins-begun peer peer_fits;
       reached =
           λ server client k.
-          subst (λ (s : Side). Reached (pair_of k.0 (location k)) s (view_of (at_beginning peer) own.iss 0 (across k)))
+          subst (λ (s : FeatureSide). Reached (pair_of k.0 (location k)) s (view_of (at_beginning peer) own.iss 0 (across k)))
           (sym (first-view own peer.iss own_fits k))
-          (subst (Reached (pair_of k.0 (location k)) (fresh (initial_of k.0) (entries_of (listed_at own.lists k.0 k.1).wish)))
+          (subst (Reached (pair_of k.0 (location k)) (new_side (initial_of k.0) (entries_of (listed_at own.lists k.0 k.1).wish)))
           (sym (first-view peer own.iss peer_fits (across k)))
           (starts k.0 (location k) (entries_of (listed_at own.lists k.0 k.1).wish) (entries_of (listed_at peer.lists k.0 (opposite k.1)).wish)));
     }

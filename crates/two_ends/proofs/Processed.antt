@@ -5,9 +5,9 @@ use Rattle.std.proofs.lemmas.List.Folds.{list_any_at}
 use Rattle.std.specs.List.{Contains}
 use Rattle.std.specs.Prelude.{slice_index, slice_index_or, take}
 use Rattle.ack_vectors.proofs.ReadBack.{vector-same}
-use Rattle.ack_vectors.specs.Vector.{groups, is_whole, set_states, spelled, state_told, states_between, vector}
+use Rattle.ack_vectors.specs.Vector.{bytes_of_groups, groups, is_whole, set_states, state_told, states_between, vector}
 use Rattle.mark_agreement.proofs.Sets.{from-counts}
-use Rattle.mark_agreement.specs.View.{Frame, Side, frame_at}
+use Rattle.mark_agreement.specs.View.{Frame, MarkSide, frame_at}
 use Rattle.run_list.specs.MarkedSet.{has}
 use Rattle.seq_circle.specs.Circle.{IsBefore, distance, is_from}
 use Rattle.seq_circle.specs.Counts.{number_of}
@@ -61,7 +61,7 @@ module _ (x y : Party) (others : IsOrdered y) (m : IsMarking x y) where
   abbrev iss : ℕ
   iss = (config_of y).iss
 
-  abbrev view : Side
+  abbrev view : MarkSide
   view = m.view
 
   fits : iss < 2 ^ 48
@@ -241,4 +241,4 @@ module _ (x y : Party) (others : IsOrdered y) (m : IsMarking x y) where
           (λ n small from inside. states-so n small below inside)
       by false behind =
           let same = states-none (set_states (has its.set.numbers)) (set_states (has early-list)) floor ack behind in
-          (ap (λ (ss : List ℕ). take 253 (spelled (groups ss))) same, ap (λ (ss : List ℕ). nat_le (length (spelled (groups ss))) 253) same)
+          (ap (λ (ss : List ℕ). take 253 (bytes_of_groups (groups ss))) same, ap (λ (ss : List ℕ). nat_le (length (bytes_of_groups (groups ss))) 253) same)

@@ -10,8 +10,8 @@ use Rattle.two_ends.specs.declared.event.Side.TheVariants as side
 use Rattle.two_ends.specs.declared.event.WorldFault.{WorldFault}
 use Rattle.dccp_endpoint.specs.Drafts.{Fits}
 use Rattle.two_ends.specs.Controlled.{Controlled, begins_with, congestion_of, controlled_after, controls, happens_to, plays, said_by}
-use Rattle.two_ends.specs.World.{Occurrence, WorldStep, actor, happens, world_after, run}
-use Rattle.two_ends.specs.Reached.{Reached}
+use Rattle.two_ends.specs.World.{Occurrence, WorldStep, actor, happens, world_after, world_after_all}
+use Rattle.two_ends.specs.Reached.{ReachedByEvents}
 
 module _ {C : Type 0} (control : Control C) where
   -- What a step makes of a world is what it makes of its two ends alone, with what the congestion control says.
@@ -28,12 +28,12 @@ module _ {C : Type 0} (control : Control C) where
       record { event = event; said = said_by control (congestion_of w (actor event)) }
       ∷ occurring (controlled_after w (happens_to control w event)) events
 
-  pub plays-run : (w : Controlled C) (events : List Event) → (plays control w events).world ≡ run w.world (occurring w events)
+  pub plays-run : (w : Controlled C) (events : List Event) → (plays control w events).world ≡ world_after_all w.world (occurring w events)
   plays-run w [] = refl
   plays-run w (event ∷ events) =
       let next : Controlled C = controlled_after w (happens_to control w event) in
       plays-run next events
-      ∙ ap (λ world. run world (occurring next events))
+      ∙ ap (λ world. world_after_all world (occurring next events))
       (world-after w (actor event) (happens w.world event (said_by control (congestion_of w (actor event)))))
 
   plays-snoc : (w : Controlled C) (events : List Event) (event : Event)
@@ -42,7 +42,7 @@ module _ {C : Type 0} (control : Control C) where
   plays-snoc w (e ∷ events) event = plays-snoc (controlled_after w (happens_to control w e)) events event
 
   pub start-reached : (client server : Config) (for_client for_server : C) → client.role ≡ Client → server.role ≡ Server → Fits client → Fits server
-      → (w : Controlled C) → w ≡ begins_with control client server for_client for_server → Reached control w
+      → (w : Controlled C) → w ≡ begins_with control client server for_client for_server → ReachedByEvents control w
   start-reached client server for_client for_server is_client is_server client_fits server_fits w same =
       record {
         client = client;
@@ -68,8 +68,8 @@ module _ {C : Type 0} (control : Control C) where
   leaves old event new (Err fault) took same = same
 
   pub step-reached : (old : Controlled C) (event : Event) (new : Controlled C) (result : Result Seen WorldFault) → Leaves old event new result
-      → Reached control old → Reached control new
-  step-reached old event new (Err fault) same r = subst (Reached control) (sym same) r
+      → ReachedByEvents control old → ReachedByEvents control new
+  step-reached old event new (Err fault) same r = subst (ReachedByEvents control) (sym same) r
   step-reached old event new (Ok seen) took r =
       record {
         client = r.client;

@@ -14,7 +14,7 @@ use Rattle.dccp_packets.specs.declared.header.Number.TheVariants.{Long, Short}
 use Rattle.dccp_packets.specs.declared.header.PacketType.TheVariants as types
 use Rattle.dccp_states.specs.declared.phase.Role.{Role}
 use Rattle.dccp_endpoint.specs.Causes.{Came, is_without_connection}
-use Rattle.dccp_endpoint.specs.Drafts.{Draft, IsSendable, alone, frame_of, header_of}
+use Rattle.dccp_endpoint.specs.Drafts.{Draft, IsSendable, alone, frame_of, own_header}
 use Rattle.dccp_endpoint.specs.End.{EndState}
 use Rattle.dccp_endpoint.specs.Incoming.{Incoming}
 use Rattle.dccp_endpoint.specs.Inputs.{Input, Arrives}
@@ -29,7 +29,7 @@ use Rattle.two_ends.proofs.Logged.{Logged, IsLogged, IsUnlogged, AreLogged, NoFr
 abbrev pub parts_of : Config → ℕ → Draft → ℕ → Parts
 parts_of config number draft sum =
     record {
-      header = record (in_widths (header_of config number draft.kind)) { checksum = sum };
+      header = record (in_widths (own_header config number draft.kind)) { checksum = sum };
       options = padded (written draft.options);
       payload = draft.payload;
     }

@@ -13,9 +13,9 @@ use Rattle.dccp_packets.specs.Grammar.{Parts}
 use Rattle.dccp_packets.specs.Kinds.{ack_of, value_of}
 use Rattle.dccp_packets.specs.Widths.{kind_in_widths}
 use Rattle.mark_agreement.proofs.Frames.{frame_in}
-use Rattle.mark_agreement.specs.Laws.{IsSettled}
-use Rattle.mark_agreement.specs.Laws.IsSettled.{Far as IsFar, WasTold as ToldBy}
-use Rattle.mark_agreement.specs.View.{Frame, Side as View, frame_at}
+use Rattle.mark_agreement.specs.Laws.{IsAccountedFor}
+use Rattle.mark_agreement.specs.Laws.IsAccountedFor.{Far as IsFar, WasTold as ToldBy}
+use Rattle.mark_agreement.specs.View.{Frame, MarkSide as View, frame_at}
 use Rattle.run_list.specs.MarkedSet.{floor_under, has}
 use Rattle.seq_circle.specs.Circle.{IsBefore, IsWithin, distance}
 use Rattle.seq_circle.specs.Counts.{number_of}
@@ -259,7 +259,7 @@ module _ (w : WorldState) (logs : Side → List Logged) (side : Side) (own : IsO
               (frame-floor place at.number l at.frame there at.is_logged vector);
         }
 
-    needs-none : IsSettled view.frames view.place m.peer.place count → NeedsNoReport w side n
+    needs-none : IsAccountedFor view.frames view.place m.peer.place count → NeedsNoReport w side n
     needs-none (IsFar far) =
         let taken = m.kept.here.sound.processed_taken far.processed far.is_processed in
         Far (number_of iss far.processed) (was-processed x y others m far.processed far.is_processed)

@@ -20,7 +20,7 @@ use Rattle.dccp_endpoint.specs.Effects.{Effect, Hearing, Unheard, Heard, end_aft
 use Rattle.dccp_endpoint.specs.End.{EndState, IsProper}
 use Rattle.dccp_endpoint.specs.Incoming.{Incoming, incoming}
 use Rattle.dccp_endpoint.specs.Inputs.{Arrives, Input}
-use Rattle.dccp_endpoint.specs.Receiving.{Course, Goes, Leaves, accepts_request, acknowledges_in_window, answers, arrives, checks_header, checks_numbers, checks_type, ends_as, ends_by_reset, finds_connection, is_own_service, judged, leaves, opens_connection, raises, received, receives, takes_answer, the_steps, through, with_number, with_packet}
+use Rattle.dccp_endpoint.specs.Receiving.{Course, Goes, Leaves, accepts_request, acknowledges_in_window, answers, arrives, by_verdict, checks_header, checks_numbers, checks_type, ends_as, ends_by_reset, finds_connection, is_own_service, leaves, opens_connection, raises, received, receives, takes_answer, the_steps, through, with_own_number, with_packet}
 use Rattle.dccp_endpoint.specs.declared.exit.Exit.{Exit}
 use Rattle.dccp_endpoint.specs.declared.exit.Exit.TheVariants as exits
 use Rattle.dccp_endpoint.specs.declared.outcome.Why.{Why}
@@ -107,7 +107,7 @@ module _ (e : EndState) (a : Incoming) where
   raises-kept x types.Reset same = same
   raises-kept x _ same = same
 
-  judged-kept : (x : EndState) (v : Verdict) → x.rows ≡ e.rows → Kept e (judged a x v)
+  judged-kept : (x : EndState) (v : Verdict) → x.rows ≡ e.rows → Kept e (by_verdict a x v)
   judged-kept x verdicts.Valid same = raises-kept x a.kind same
   judged-kept x (verdicts.SyncFor number) same = same
   judged-kept x verdicts.Drop same = same
@@ -149,7 +149,7 @@ received-rows e (Ok a) reset = left-rows e a _ (steps-left e a (reset a refl) (g
 received-rows e (Err why) reset = refl
 
 read-kind : (e : EndState) (bytes : List ℕ) (p : Parts) (r : Result ℕ Why) (a : Incoming) → packet_type p.header.kind ≡ types.Reset
-    → with_number e bytes p r ≡ Ok a → a.kind ≡ types.Reset
+    → with_own_number e bytes p r ≡ Ok a → a.kind ≡ types.Reset
 read-kind e bytes p (Ok number) a reset is =
     let same : incoming e bytes p number ≡ a = cc is in
     ap (λ (x : Incoming). x.kind) (sym same) ∙ reset

@@ -11,11 +11,11 @@ use Rattle.dccp_packets.specs.Grammar.{packet_type}
 use Rattle.dccp_packets.specs.declared.header.PacketType.TheVariants as types
 use Rattle.mark_agreement.proofs.Facts.{IsListed}
 use Rattle.mark_agreement.proofs.Steps.{Kept, move_keeps}
-use Rattle.mark_agreement.specs.Facts.{IsSound}
-use Rattle.mark_agreement.specs.Moves.{Moves}
-use Rattle.mark_agreement.specs.Moves.Moves.{Done, Next}
+use Rattle.mark_agreement.specs.Facts.{AreSoundNumbers}
+use Rattle.mark_agreement.specs.Moves.{MarkMoves}
+use Rattle.mark_agreement.specs.Moves.MarkMoves.{Done, Next}
 use Rattle.mark_agreement.specs.Sets.{IsMarked}
-use Rattle.mark_agreement.specs.View.{Frame, Side}
+use Rattle.mark_agreement.specs.View.{Frame, MarkSide}
 use Rattle.seq_circle.specs.Circle.{residue, later_of}
 use Rattle.seq_circle.specs.Counts.{number_of}
 use Rattle.two_ends.proofs.Acting.{Party, config_of, end_of}
@@ -32,7 +32,7 @@ pub record IsPacketOf (iss : ℕ) (log : List Logged) (number : ℕ) : Type 0 wh
   pub is_no_reset : packet_type logged.draft.kind ≢ types.Reset
 
 -- The view shows what x has of its peer's packets and what its own packets tell.
-pub record IsShown (x y : Party) (view : Side) : Type 0 where
+pub record IsShown (x y : Party) (view : MarkSide) : Type 0 where
   pub heard : IsHeardTo (config_of y).iss (length y.log) view.greatest (end_of x)
   pub first : 1 ≤ view.first → (end_of x).marks.isr ≡ number_of (config_of y).iss view.first
   pub unset : view.first ≡ 0 → ((end_of x).marks.isr ≡ 0) × (floor_of (end_of x) ≡ 0)
@@ -45,7 +45,7 @@ pub record IsShown (x y : Party) (view : Side) : Type 0 where
   pub records : (r : Record) → Contains (end_of x).received.records r → IsRecorded (config_of x).iss (config_of y).iss view.frames r
 
 -- moves keep the facts
-pub moves-keep : (peer : Side) {side after : Side} → Moves peer.frames side after → Kept side peer → Kept after peer
+pub moves-keep : (peer : MarkSide) {side after : MarkSide} → MarkMoves peer.frames side after → Kept side peer → Kept after peer
 moves-keep peer (Done _) kept = kept
 moves-keep peer (Next before middle after move moves) kept = moves-keep peer moves (move_keeps before peer middle move kept)
 
@@ -89,7 +89,7 @@ member-at q (n ∷ ns) is = by (q == n) refl is (λ later. member-at q ns later)
       let later = again is in
       (suc later.0, omega (arith, later.1), later.2)
 
-module _ (side : Side) (there : List Frame) (sound : IsSound side there) (listed : IsListed side.processed side.place) where
+module _ (side : MarkSide) (there : List Frame) (sound : AreSoundNumbers side there) (listed : IsListed side.processed side.place) where
   pub place-at : (i : ℕ) → i < length side.processed → side.place (slice_index_or side.processed i 0) ≡ suc i
   place-at i below = listed.place_of (suc i) (omega arith) (omega (arith, below))
 

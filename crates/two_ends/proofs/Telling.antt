@@ -7,7 +7,7 @@ use Rattle.byteorder.specs.Endian.{big_number}
 use Rattle.dccp_endpoint.specs.Turns.{Key}
 use Rattle.feature_agreement.specs.Rows.{confirmed_by, is_valid_by, is_whole_by, proposed_by}
 use Rattle.feature_agreement.specs.View as view
-use Rattle.feature_agreement.specs.View.{Carried, carried_at, change_of, has_change, last_change, last_wish, wish_of}
+use Rattle.feature_agreement.specs.View.{Carried, carried_at, change_of, has_change, last_change, last_wish, wish_carried}
 use Rattle.feature_agreement.specs.View.Carried.{Nothing, Change as Carries}
 use Rattle.feature_lists.specs.Features.{described, is_permitted}
 use Rattle.feature_lists.specs.declared.features.Feature.{Feature}
@@ -15,7 +15,7 @@ use Rattle.feature_lists.specs.declared.features.Place.{Place}
 use Rattle.feature_lists.specs.declared.features.Place.TheVariants.{Here, There}
 use Rattle.feature_machine.specs.Rows.{RowEvent, Change, Confirm}
 use Rattle.two_ends.specs.Lists.{last_some, some_or}
-use Rattle.two_ends.specs.Negotiated.{confirmed_list, is_change, list_said, value_said}
+use Rattle.two_ends.specs.Negotiated.{confirmed_list, list_said, says_change, value_said}
 use Rattle.two_ends.proofs.Carrying.{saying_of, says}
 use Rattle.two_ends.proofs.Logged.{Logged}
 use Rattle.two_ends.proofs.Viewing.{IsWellSaid, carried_by, carried_of, said_by}
@@ -25,19 +25,19 @@ abbrev pub only : ℕ → List ℕ
 only value = value ∷ []
 
 -- Of a server-priority feature the wish is the list.
-proposed-list : (b : Bool) (width : ℕ) (body : List ℕ) → b ≡ true → wish_of (Carries (proposed_by b width body)) ≡ Some body
+proposed-list : (b : Bool) (width : ℕ) (body : List ℕ) → b ≡ true → wish_carried (Carries (proposed_by b width body)) ≡ Some body
 proposed-list true width body is = refl
 proposed-list false width body is = cc is
 
 confirmed-list : (b : Bool) (width count : ℕ) (body : List ℕ) → b ≡ true → is_whole_by b body ≡ true
-    → wish_of (confirmed_by b width count body) ≡ confirmed_list body
+    → wish_carried (confirmed_by b width count body) ≡ confirmed_list body
 confirmed-list true width count [] is whole = cc whole
 confirmed-list true width count (value ∷ []) is whole = cc whole
 confirmed-list true width count (value ∷ (first ∷ rest)) is whole = refl
 confirmed-list false width count body is whole = cc is
 
 pub wish-told : (iss : ℕ) (k : Key) (events : List RowEvent) → (described k.0).is_server_priority ≡ true → IsWellSaid iss k events
-    → wish_of (carried_by iss k.0 events) ≡ list_said (saying_of events)
+    → wish_carried (carried_by iss k.0 events) ≡ list_said (saying_of events)
 wish-told iss k [] priority well = refl
 wish-told iss k (Change body mandatory ∷ []) priority well = proposed-list (described k.0).is_server_priority (described k.0).width body priority
 wish-told iss k (Confirm body (Some ack) ∷ []) priority well =
@@ -72,12 +72,12 @@ value-told iss k (_ ∷ []) priority well = absurd well
 value-told iss k (_ ∷ (second ∷ rest)) priority well = absurd well
 
 -- A Change is a Change.
-confirmed-no_change : (b : Bool) (width count : ℕ) (body : List ℕ) → view.is_change (confirmed_by b width count body) ≡ false
+confirmed-no_change : (b : Bool) (width count : ℕ) (body : List ℕ) → view.carries_change (confirmed_by b width count body) ≡ false
 confirmed-no_change true width count [] = refl
 confirmed-no_change true width count (value ∷ rest) = refl
 confirmed-no_change false width count body = refl
 
-change-told : (iss : ℕ) (k : Key) (events : List RowEvent) → IsWellSaid iss k events → view.is_change (carried_by iss k.0 events) ≡ is_change (saying_of events)
+change-told : (iss : ℕ) (k : Key) (events : List RowEvent) → IsWellSaid iss k events → view.carries_change (carried_by iss k.0 events) ≡ says_change (saying_of events)
 change-told iss k [] well = refl
 change-told iss k (Change body mandatory ∷ []) well = refl
 change-told iss k (Confirm body (Some ack) ∷ []) well = confirmed-no_change (described k.0).is_server_priority (described k.0).width _ body
@@ -114,10 +114,10 @@ module _ (iss : ℕ) (k : Key) where
       ∙ or-mapped (last_some (λ l. value_said (says k l)) log) (value_said (says k l))
 
   pub any-change : (log : List Logged) → AreWell iss k log
-      → list_any (λ l. is_change (says k l)) log ≡ has_change (map (carried_of iss k) log)
+      → list_any (λ l. says_change (says k l)) log ≡ has_change (map (carried_of iss k) log)
   any-change [] well = refl
   any-change (l ∷ log) well =
-      ap (λ later. is_change (says k l) || later) (any-change log (λ place. well (suc place)))
+      ap (λ later. says_change (says k l) || later) (any-change log (λ place. well (suc place)))
       ∙ ap (λ own. own || has_change (map (carried_of iss k) log)) (sym (change-told iss k _ (well 0 l refl)))
 
 -- the logged packet that carries what a count shows

@@ -12,7 +12,7 @@ use Rattle.dccp_options.specs.Written.{Item, entries_at, spelled}
 use Rattle.dccp_packets.specs.Grammar.{has_forms, packet_type}
 use Rattle.dccp_packets.specs.Kinds.{ack_of}
 use Rattle.mark_agreement.specs.Sets.{AreMarks}
-use Rattle.mark_agreement.specs.View.{Frame, frame_at, with_frame}
+use Rattle.mark_agreement.specs.View.{Frame, frame_at, frames_with}
 use Rattle.run_list.specs.MarkedSet.{MarkedSet, has}
 use Rattle.seq_circle.specs.Counts.{number_of}
 use Rattle.two_ends.proofs.FewOptions.{IsNegotiating}
@@ -74,7 +74,7 @@ pub data AreFrames (iss : ℕ) : List Logged → List Frame → Type 0 where
       → AreFrames iss (l ∷ log) (frame ∷ frames)
 
 pub frames-append : {iss : ℕ} {log : List Logged} {frames : List Frame} {l : Logged} {frame : Frame} → AreFrames iss log frames → IsFrame iss l frame
-    → AreFrames iss (log ++ l ∷ []) (with_frame frames frame)
+    → AreFrames iss (log ++ l ∷ []) (frames_with frames frame)
 frames-append NoneSent is = OneSent is NoneSent
 frames-append (OneSent first rest) is = OneSent first (frames-append rest is)
 
@@ -90,12 +90,12 @@ frame-of (suc place) l (OneSent first rest) there = frame-of place l rest there
 
 -- a frame more leaves the others, and is the last
 pub frame-before : (frames : List Frame) (frame : Frame) (place : ℕ) → place < length frames
-    → frame_at (with_frame frames frame) (suc place) ≡ frame_at frames (suc place)
+    → frame_at (frames_with frames frame) (suc place) ≡ frame_at frames (suc place)
 frame-before [] frame place below = absurd (omega (arith, below))
 frame-before (first ∷ rest) frame zero below = refl
 frame-before (first ∷ rest) frame (suc place) below = frame-before rest frame place (omega (arith, below))
 
-pub frame-last : (frames : List Frame) (frame : Frame) → frame_at (with_frame frames frame) (suc (length frames)) ≡ frame
+pub frame-last : (frames : List Frame) (frame : Frame) → frame_at (frames_with frames frame) (suc (length frames)) ≡ frame
 frame-last [] frame = refl
 frame-last (first ∷ rest) frame = frame-last rest frame
 
@@ -111,9 +111,9 @@ pub record IsRecorded (own peer : ℕ) (frames : List Frame) (r : Record) : Type
   pub early : (frame_at frames (suc place)).acknowledged < 2 ^ 47
 
 pub recorded-before : (own peer : ℕ) (frames : List Frame) (frame : Frame) (r : Record) → IsRecorded own peer frames r
-    → IsRecorded own peer (with_frame frames frame) r
+    → IsRecorded own peer (frames_with frames frame) r
 recorded-before own peer frames frame r is =
-    let same : frame_at frames (suc is.place) ≡ frame_at (with_frame frames frame) (suc is.place) = sym (frame-before frames frame is.place is.there) in
+    let same : frame_at frames (suc is.place) ≡ frame_at (frames_with frames frame) (suc is.place) = sym (frame-before frames frame is.place is.there) in
     record {
       place = is.place;
       there = omega (arith, is.there, length-with frames frame);
@@ -125,6 +125,6 @@ recorded-before own peer frames frame r is =
       early = subst (λ (f : Frame). f.acknowledged < 2 ^ 47) same is.early;
     }
   where
-    length-with : (fs : List Frame) (f : Frame) → length (with_frame fs f) ≡ suc (length fs)
+    length-with : (fs : List Frame) (f : Frame) → length (frames_with fs f) ≡ suc (length fs)
     length-with [] f = refl
     length-with (first ∷ rest) f = ap suc (length-with rest f)

@@ -5,9 +5,9 @@ use Rattle.dccp_options.specs.Written.{entries_at}
 use Rattle.dccp_packets.specs.Kinds.{ack_of}
 use Rattle.dccp_endpoint.specs.Saying.{said_to}
 use Rattle.dccp_endpoint.specs.Turns.{Key}
-use Rattle.feature_agreement.specs.Counts.{IsNumber, count_of}
-use Rattle.feature_agreement.specs.Rows.{change_in, confirm_in, is_valid_change, is_whole, opposite, side_of}
-use Rattle.feature_agreement.specs.View.{Carried, Side}
+use Rattle.seq_circle.specs.Counts.{IsNumber, count_of}
+use Rattle.feature_agreement.specs.Rows.{change_in, confirm_in, is_valid_change, is_whole_confirm, opposite, side_of}
+use Rattle.feature_agreement.specs.View.{Carried, FeatureSide}
 use Rattle.feature_agreement.specs.View.Carried.{Nothing}
 use Rattle.feature_lists.specs.declared.features.Feature.{Feature}
 use Rattle.feature_machine.specs.Negotiating.{row_at}
@@ -30,14 +30,14 @@ abbrev pub carried_of : ℕ → Key → Logged → Carried
 carried_of peer_iss k l = carried_by peer_iss k.0 (said_by k l)
 
 -- the side of a row: k is the sender's own row
-abbrev pub view_of : Party → (peer_iss greatest : ℕ) → Key → Side
+abbrev pub view_of : Party → (peer_iss greatest : ℕ) → Key → FeatureSide
 view_of x peer_iss greatest k = side_of (config_of x).iss (row_at (end_of x).rows k.0 k.1) greatest (map (carried_of peer_iss k) x.log)
 
 -- Of a row it says nothing, a valid Change, or a whole Confirm that acknowledges a packet of the peer.
 abbrev pub IsWellSaid : ℕ → Key → List RowEvent → Type 0
 IsWellSaid peer_iss k [] = Unit {0}
 IsWellSaid peer_iss k (Change body mandatory ∷ []) = IsTrue (is_valid_change k.0 k.1 body)
-IsWellSaid peer_iss k (Confirm body (Some ack) ∷ []) = IsNumber peer_iss ack × IsTrue (is_whole k.0 body)
+IsWellSaid peer_iss k (Confirm body (Some ack) ∷ []) = IsNumber peer_iss ack × IsTrue (is_whole_confirm k.0 body)
 IsWellSaid peer_iss k (Confirm body None ∷ []) = ⊥
 IsWellSaid peer_iss k (Prefers wish ∷ []) = ⊥
 IsWellSaid peer_iss k (Offers confirmed ∷ []) = ⊥

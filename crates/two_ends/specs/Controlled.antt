@@ -35,8 +35,8 @@ congestion_of w Client = w.for_client
 congestion_of w Server = w.for_server
 
 -- the end of a side, with its congestion control
-abbrev pub end_of : {C : Type 0} → Controlled C → Side → End C
-end_of w side = record { state = (half_of w.world side).end; congestion = congestion_of w side }
+abbrev pub end_of_side : {C : Type 0} → Controlled C → Side → End C
+end_of_side w side = record { state = (half_of w.world side).end; congestion = congestion_of w side }
 
 -- what a congestion control says when it is asked
 abbrev pub said_by : {C : Type 0} → Control C → C → Said

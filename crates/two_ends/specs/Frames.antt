@@ -16,8 +16,8 @@ abbrev pub packet_number : Option Parts → Option ℕ
 packet_number None = None
 packet_number (Some p) = Some (value_of p.header.number)
 
-abbrev pub number_in : List ℕ → Option ℕ
-number_in bytes = packet_number (packet_of bytes)
+abbrev pub number_of_frame : List ℕ → Option ℕ
+number_of_frame bytes = packet_number (packet_of bytes)
 
 abbrev pub is_reset : Kind → Bool
 is_reset (kind.Reset ack code detail) = true

@@ -13,8 +13,8 @@ use Rattle.feature_lists.specs.declared.features.Place.{Place}
 use Rattle.two_ends.specs.declared.frames.SentFrame.{SentFrame}
 use Rattle.two_ends.specs.declared.event.Side.{Side}
 use Rattle.two_ends.specs.World.{Half, WorldState, half_of, other}
-use Rattle.two_ends.specs.Frames.{packet_of, options_in, is_reset, number_in}
-use Rattle.two_ends.specs.Pairs.{Pair, times_said}
+use Rattle.two_ends.specs.Frames.{packet_of, options_in, is_reset, number_of_frame}
+use Rattle.two_ends.specs.Pairs.{FeatureAt, times_said}
 
 abbrev pub is_packet_without_connection : Role → Option Parts → Bool
 is_packet_without_connection role None = false
@@ -31,7 +31,7 @@ pub record IsResetWithoutConnection (role : Role) (bytes : List ℕ) : Type 0 wh
 -- any other frame, with its number
 pub record IsNumberedFrame (role : Role) (number : ℕ) (bytes : List ℕ) : Type 0 where
   pub of_connection : is_packet_without_connection role (packet_of bytes) ≡ false
-  pub has_number : number_in bytes ≡ Some number
+  pub has_number : number_of_frame bytes ≡ Some number
 
 -- All frames but Resets without a connection are numbered. Of these, so many went before the list, and `count` there are with
 -- the list: each carries the next number.
@@ -63,13 +63,13 @@ pub record IsNumberOf (iss count number : ℕ) : Type 0 where
 
 -- ISR and GSR are numbers of numbered frames of the other side, whose first is ISS and which has sent `count`, and the frame
 -- of ISR is not the later one.
-pub record IsHeard (iss count isr gsr : ℕ) : Type 0 where
+pub record AreSentNumbers (iss count isr gsr : ℕ) : Type 0 where
   pub first : IsNumberOf iss count isr
   pub greatest : IsNumberOf iss count gsr
   pub in_order : first.place ≤ greatest.place
 
 abbrev pub Hears : ℕ → ℕ → EndState → Type 0
-Hears iss count e = IsUnset e ⊎ IsHeard iss count e.marks.isr e.marks.gsr
+Hears iss count e = IsUnset e ⊎ AreSentNumbers iss count e.marks.isr e.marks.gsr
 
 -- An end keeps the numbers that it received, what it knows acknowledged and its features.
 pub record KeepsReceived (before after : EndState) : Type 0 where
@@ -86,7 +86,7 @@ ResetsMoveNothing e = (bytes : List ℕ) (packet : Parts) → packet_of bytes �
 
 -- No frame says two things of one feature and side, and none has an Ack Vector without an acknowledgement number.
 pub record SpeaksOnce (side : Side) (bytes : List ℕ) : Type 0 where
-  pub of_each_pair : (pair : Pair) → times_said pair side bytes ≤ 1
+  pub of_each_pair : (pair : FeatureAt) → times_said pair side bytes ≤ 1
   pub vectors_acknowledge : (packet : Parts) → packet_of bytes ≡ Some packet → ack_of packet.header.kind ≡ None
       → ack_vectors (options_in bytes) ≡ []
 

@@ -2,7 +2,7 @@
 use Rattle.std.specs.Prelude.{ℕ, ◌+◌, ◌==◌, ◌||◌, Bool, List, [], ◌∷◌, Option, Some, None, Result, Ok, Err, if◌then◌else◌}
 use Rattle.dccp_options.specs.Grammar.{Entry}
 use Rattle.dccp_options.specs.declared.option.OptFault.{OptFault}
-use Rattle.feature_lists.specs.Features.{number_of}
+use Rattle.feature_lists.specs.Features.{feature_number}
 use Rattle.feature_lists.specs.declared.features.Feature.{Feature}
 use Rattle.feature_lists.specs.declared.features.Place.{Place}
 use Rattle.feature_lists.specs.declared.features.Place.TheVariants.{Here, There}
@@ -14,7 +14,7 @@ use Rattle.two_ends.specs.World.{WorldState, half_of}
 use Rattle.two_ends.specs.Frames.{options_in}
 
 -- The feature at this side: the row Here of its end and the row There of the other's.
-pub record Pair : Type 0 where
+pub record FeatureAt : Type 0 where
   pub feature : Feature
   pub location : Side
 
@@ -26,7 +26,7 @@ place_at Server Client = There
 place_at Server Server = Here
 
 -- what a side holds for the pair
-abbrev pub held_at : WorldState → Pair → Side → Held
+abbrev pub held_at : WorldState → FeatureAt → Side → Held
 held_at w pair side = held_of (half_of w side).end pair.feature (place_at side pair.location)
 
 -- what a packet says of a pair
@@ -36,13 +36,13 @@ pub data Saying : Type 0 where
   Confirm : (values : List ℕ) → Saying
 
 -- the option types by which a side speaks of a feature Here and There: Change L and Confirm L, Change R and Confirm R
-abbrev pub change_type : Place → ℕ
-change_type Here = 32
-change_type There = 34
+abbrev pub change_option : Place → ℕ
+change_option Here = 32
+change_option There = 34
 
-abbrev pub confirm_type : Place → ℕ
-confirm_type Here = 33
-confirm_type There = 35
+abbrev pub confirm_option : Place → ℕ
+confirm_option Here = 33
+confirm_option There = 35
 
 -- an option for this feature carries its number first, and values behind it
 abbrev pub values_for : ℕ → List ℕ → Option (List ℕ)
@@ -61,26 +61,26 @@ abbrev pub said_in : ℕ → Place → List (Result Entry OptFault) → Saying
 said_in number place [] = Nothing
 said_in number place (Err _ ∷ rest) = said_in number place rest
 said_in number place (Ok entry ∷ rest) =
-    if (entry.kind == change_type place) || (entry.kind == confirm_type place)
-    then said_then (values_for number entry.body) (entry.kind == change_type place) (said_in number place rest)
+    if (entry.kind == change_option place) || (entry.kind == confirm_option place)
+    then said_then (values_for number entry.body) (entry.kind == change_option place) (said_in number place rest)
     else said_in number place rest
 
 -- what a frame of a side says of a pair
-abbrev pub said_by : Pair → Side → List ℕ → Saying
-said_by pair side bytes = said_in (number_of pair.feature) (place_at side pair.location) (options_in bytes)
+abbrev pub said_by : FeatureAt → Side → List ℕ → Saying
+said_by pair side bytes = said_in (feature_number pair.feature) (place_at side pair.location) (options_in bytes)
 
 -- how many options of a packet speak of a pair
-abbrev pub one_if : Option (List ℕ) → ℕ
-one_if None = 0
-one_if (Some values) = 1
+abbrev pub one_if_said : Option (List ℕ) → ℕ
+one_if_said None = 0
+one_if_said (Some values) = 1
 
 abbrev pub said_times : ℕ → Place → List (Result Entry OptFault) → ℕ
 said_times number place [] = 0
 said_times number place (Err _ ∷ rest) = said_times number place rest
 said_times number place (Ok entry ∷ rest) =
-    if (entry.kind == change_type place) || (entry.kind == confirm_type place)
-    then one_if (values_for number entry.body) + said_times number place rest
+    if (entry.kind == change_option place) || (entry.kind == confirm_option place)
+    then one_if_said (values_for number entry.body) + said_times number place rest
     else said_times number place rest
 
-abbrev pub times_said : Pair → Side → List ℕ → ℕ
-times_said pair side bytes = said_times (number_of pair.feature) (place_at side pair.location) (options_in bytes)
+abbrev pub times_said : FeatureAt → Side → List ℕ → ℕ
+times_said pair side bytes = said_times (feature_number pair.feature) (place_at side pair.location) (options_in bytes)

@@ -8,7 +8,7 @@ use Rattle.two_ends.specs.Controlled.{Controlled, begins_with, plays}
 use Rattle.two_ends.specs.declared.event.Event.{Event}
 
 -- some schedule leads here from a client and a server that have sent and received nothing
-pub record Reached {C : Type 0} (control : Control C) (w : Controlled C) : Type 0 where
+pub record ReachedByEvents {C : Type 0} (control : Control C) (w : Controlled C) : Type 0 where
   pub client : Config
   pub server : Config
   pub for_client : C

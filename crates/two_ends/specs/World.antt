@@ -1,8 +1,8 @@
 -- Two ends, all frames that they ever sent, and what happens to them (own). Losing, repeating and reordering frames is the
 -- choice of deliveries.
 use Rattle.std.specs.Prelude.{ℕ, ◌-◌, ◌^◌, ◌≤◌, Bool, true, false, nat_le, nat_lt, if◌then◌else◌, List, [], ◌∷◌, ◌++◌, length, Option, Some, None, Result, Ok, Err, slice_get}
-use Rattle.dccp_endpoint.specs.End.{EndState, fresh, floor_of, marked_of}
-use Rattle.dccp_endpoint.specs.Inputs.{Input, Answer, stepped}
+use Rattle.dccp_endpoint.specs.End.{EndState, new_end, floor_of, marked_of}
+use Rattle.dccp_endpoint.specs.Inputs.{Input, Answer, end_stepped}
 use Rattle.dccp_endpoint.specs.Inputs as input
 use Rattle.dccp_endpoint.specs.Steps.{Step}
 use Rattle.congestion_trait.specs.Calls.{Call}
@@ -11,7 +11,7 @@ use Rattle.dccp_endpoint.specs.declared.calls.SendFault.TheVariants as send
 use Rattle.dccp_endpoint.specs.declared.config.Config.{Config}
 use Rattle.feature_lists.specs.declared.wishes.PreferFault.{PreferFault}
 use Rattle.feature_lists.specs.declared.wishes.PreferFault.TheVariants as prefer
-use Rattle.two_ends.specs.Frames.{number_in}
+use Rattle.two_ends.specs.Frames.{number_of_frame}
 use Rattle.two_ends.specs.declared.frames.SentFrame.{SentFrame}
 use Rattle.two_ends.specs.declared.half.Asked.{Asked}
 use Rattle.two_ends.specs.declared.half.Asked.TheVariants as asked
@@ -55,7 +55,7 @@ as_sent processed floor (Some bytes) = record { bytes = bytes; processed = proce
 
 -- the number of the packet that arrives, if one does
 abbrev pub number_given : Input → Option ℕ
-number_given (input.Arrives bytes) = number_in bytes
+number_given (input.Arrives bytes) = number_of_frame bytes
 number_given _ = None
 
 -- A step processes the number of the packet that arrives where the end's count of numbers that were taken rises.
@@ -105,7 +105,7 @@ seen_of (input.Fired applies) = seen.Fired applies
 -- one step of a side's end
 abbrev pub half_steps : Half → Input → HalfStep
 half_steps half given =
-    record { half = moved half given (stepped half.end given); calls = (stepped half.end given).calls; seen = seen_of (stepped half.end given).answer }
+    record { half = moved half given (end_stepped half.end given); calls = (end_stepped half.end given).calls; seen = seen_of (end_stepped half.end given).answer }
 
 abbrev pub half_of : WorldState → Side → Half
 half_of w Client = w.client
@@ -129,9 +129,9 @@ unless_full w side step =
     else Ok (record { world = with_half w side step.half; calls = step.calls; seen = step.seen })
 
 -- a frame of one side arrives at the other
-abbrev pub arrives : WorldState → Side → Option SentFrame → Result WorldStep WorldFault
-arrives w from None = Err fault.NoSuchFrame
-arrives w from (Some frame) = unless_full w (other from) (half_steps (half_of w (other from)) (input.Arrives frame.bytes))
+abbrev pub delivers_frame : WorldState → Side → Option SentFrame → Result WorldStep WorldFault
+delivers_frame w from None = Err fault.NoSuchFrame
+delivers_frame w from (Some frame) = unless_full w (other from) (half_steps (half_of w (other from)) (input.Arrives frame.bytes))
 
 -- What an event is: a call of a side, or the delivery of a frame of one side to the other.
 pub data Happening : Type 0 where
@@ -163,7 +163,7 @@ happening_of (event.Abort side) said = Calls side input.Aborts
 
 abbrev pub takes_place : WorldState → Happening → Result WorldStep WorldFault
 takes_place w (Calls side given) = unless_full w side (half_steps (half_of w side) given)
-takes_place w (Delivers from index) = arrives w from (slice_get (half_of w from).frames index)
+takes_place w (Delivers from index) = delivers_frame w from (slice_get (half_of w from).frames index)
 
 -- one event, with what the congestion control of the side that acts says
 abbrev pub happens : WorldState → Event → Said → Result WorldStep WorldFault
@@ -208,13 +208,13 @@ pub record Occurrence : Type 0 where
   pub said : Said
 
 -- a whole schedule, whatever is said in it
-abbrev pub run : WorldState → List Occurrence → WorldState
-run w [] = w
-run w (now ∷ later) = run (world_after w (happens w now.event now.said)) later
+abbrev pub world_after_all : WorldState → List Occurrence → WorldState
+world_after_all w [] = w
+world_after_all w (now ∷ later) = world_after_all (world_after w (happens w now.event now.said)) later
 
 -- two ends that have sent and received nothing
 abbrev pub half_at_start : Config → Half
-half_at_start config = record { end = fresh config; frames = []; processed = [] }
+half_at_start config = record { end = new_end config; frames = []; processed = [] }
 
 abbrev pub at_start : Config → Config → WorldState
 at_start client server = record { client = half_at_start client; server = half_at_start server }

@@ -1,10 +1,10 @@
 //! One side of the world: an end, the frames that it ever sent, and the numbers that it processed.
 ghost use Rattle.std.specs.Prelude.{◌≡◌, ◌<◌, ◌≤◌, ◌++◌, length, vec_len, vec_capacity};
 ghost use Rattle.dccp_endpoint.specs.Controlled.{after_calls, with_control};
-ghost use Rattle.dccp_endpoint.specs.Inputs.{stepped};
+ghost use Rattle.dccp_endpoint.specs.Inputs.{end_stepped};
 ghost use Rattle.dccp_endpoint.specs.Receiving.{receives};
 ghost use Rattle.two_ends.specs.Controlled.{said_by};
-ghost use Rattle.two_ends.specs.Frames.{number_in};
+ghost use Rattle.two_ends.specs.Frames.{number_of_frame};
 ghost use Rattle.two_ends.specs.World.{input_of, number_if, refusal_of, seen_of, send_refusal_of};
 
 use crate::frames::{keep_frame, take_memory};
@@ -176,10 +176,10 @@ fn send_refusal_of(fault: SendFault) -> Refusal
 
 // What is seen of a call of the end alone.
 fn answer<C: Congestion>(end: &mut Endpoint<C>, asked: Asked<'_>, out: &mut Outbox) -> Seen
-    ensures after { end.new.state ≡ (stepped end.old.state (input_of asked.entry (said_by C.control end.old.congestion))).after }
-    ensures called { end.new.congestion ≡ after_calls C.control end.old.congestion (stepped end.old.state (input_of asked.entry (said_by C.control end.old.congestion))).calls }
-    ensures sent { out.new ≡ (stepped end.old.state (input_of asked.entry (said_by C.control end.old.congestion))).frame }
-    ensures seen { result ≡ seen_of (stepped end.old.state (input_of asked.entry (said_by C.control end.old.congestion))).answer }
+    ensures after { end.new.state ≡ (end_stepped end.old.state (input_of asked.entry (said_by C.control end.old.congestion))).after }
+    ensures called { end.new.congestion ≡ after_calls C.control end.old.congestion (end_stepped end.old.state (input_of asked.entry (said_by C.control end.old.congestion))).calls }
+    ensures sent { out.new ≡ (end_stepped end.old.state (input_of asked.entry (said_by C.control end.old.congestion))).frame }
+    ensures seen { result ≡ seen_of (end_stepped end.old.state (input_of asked.entry (said_by C.control end.old.congestion))).answer }
 {
     match asked {
         Asked::Open => match end.open(out) {
@@ -211,8 +211,8 @@ fn answer<C: Congestion>(end: &mut Endpoint<C>, asked: Asked<'_>, out: &mut Outb
 }
 
 // The sequence number of bytes that are a packet.
-fn number_in(bytes: &[u8]) -> Option<u64>
-    ensures { result ≡ number_in bytes.now }
+fn number_of_frame(bytes: &[u8]) -> Option<u64>
+    ensures { result ≡ number_of_frame bytes.now }
 {
     match decode(bytes) {
         Ok(packet) => Some(packet.header.number.value().get()),
@@ -224,12 +224,12 @@ fn number_in(bytes: &[u8]) -> Option<u64>
 #[tactic(auto, using(crate::proofs::Processing::nothing_more))]
 fn keep_number(processed: &mut Vec<u64>, taken: bool, bytes: &[u8])
     requires { vec_len processed.old < vec_capacity processed.old }
-    ensures { processed.new.items ≡ processed.old.items ++ number_if taken (number_in bytes.now) }
+    ensures { processed.new.items ≡ processed.old.items ++ number_if taken (number_of_frame bytes.now) }
 {
     if !taken {
         return;
     }
-    let Some(number) = number_in(bytes) else {
+    let Some(number) = number_of_frame(bytes) else {
         return;
     };
     match processed.push(number) {

@@ -40,13 +40,13 @@ pub struct World<C: Congestion> {
 
 impl<C: Congestion> Model for World<C> {
     ghost use Rattle.two_ends.specs.Controlled.{Controlled};
-    ghost use Rattle.two_ends.specs.Reached.{Reached};
+    ghost use Rattle.two_ends.specs.Reached.{ReachedByEvents};
 
     ghost Value = { Controlled C };
 
     ghost view = { λ w. w.sides };
 
-    ghost invariant = { λ w. Reached C.control w.sides };
+    ghost invariant = { λ w. ReachedByEvents C.control w.sides };
 }
 
 impl<C: Congestion + Drop> World<C> {
@@ -85,7 +85,7 @@ impl<C: Congestion + Drop> World<C> {
 impl<C: Congestion> World<C> {
     ghost use Rattle.std.specs.Prelude.{◌≡◌, ◌↔◌, IfOk, OnErr, Ok, Err};
     ghost use Rattle.two_ends.specs.World.{half_of, LacksFrame, ActorIsFull};
-    ghost use Rattle.two_ends.specs.Controlled.{end_of, happens_to};
+    ghost use Rattle.two_ends.specs.Controlled.{end_of_side, happens_to};
     ghost use Rattle.two_ends.specs.Safe.{Safe};
     ghost use Rattle.two_ends.specs.Numbered.{Facts};
 
@@ -128,7 +128,7 @@ impl<C: Congestion> World<C> {
 
     /// The end of a side, with its congestion control.
     pub fn end(&self, side: Side) -> &Endpoint<C>
-        ensures { result.now ≡ end_of self.now side }
+        ensures { result.now ≡ end_of_side self.now side }
     {
         self.sides.half(side).end()
     }

@@ -6,7 +6,7 @@ use Rattle.dccp_packets.specs.declared.header.PacketType.{PacketType}
 use Rattle.dccp_packets.specs.declared.header.PacketType.TheVariants as types
 use Rattle.validity_windows.specs.declared.marks.Marks.{Marks}
 use Rattle.validity_windows.specs.Verdict.{gar_after, taken}
-use Rattle.validity_windows.specs.Beginning.{IsSound, AreNumbers, begun}
+use Rattle.validity_windows.specs.Beginning.{AreSoundMarks, AreNumbers, begun}
 use Rattle.validity_windows.specs.Whole.{residues, IsWhole, unrolled, residue_of, AckLies, HasValidNumbers, whole_ack_low, whole_gar_after, whole_taken, whole_begun}
 use Rattle.validity_windows.proofs.Counts.{later_of-before, later_of-same, later_of-past}
 
@@ -18,7 +18,7 @@ same_marks : {a a' b b' c c' d d' e e' f f' : ℕ} (own peer : ℕ) → a ≡ a'
     → marks a b c d e f own peer ≡ marks a' b' c' d' e' f' own peer
 same_marks own peer iss gss gar isr gsr osr = cc
 
-pub whole_of_sound : (m : Marks) → IsSound m → AreNumbers m → IsWhole (unrolled m)
+pub whole_of_sound : (m : Marks) → AreSoundMarks m → AreNumbers m → IsWhole (unrolled m)
 whole_of_sound m sound fit =
     record {
       acknowledged = omega arith;
@@ -39,7 +39,7 @@ residues_of_unrolled m fit =
     same_marks m.own_w m.peer_w (kept m.iss fit.iss) (on m.iss m.gss fit.iss fit.gss) (on m.iss m.gar fit.iss fit.gar)
     (kept m.isr fit.isr) (on m.isr m.gsr fit.isr fit.gsr) (kept m.osr fit.osr)
 
-pub sound_of_whole : (w : Marks) → IsWhole w → IsSound (residues w)
+pub sound_of_whole : (w : Marks) → IsWhole w → AreSoundMarks (residues w)
 sound_of_whole w whole =
     record {
       acknowledged = omega (arith, whole.acknowledged, whole.sent, whole.few_sent);

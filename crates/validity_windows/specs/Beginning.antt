@@ -26,7 +26,7 @@ begun m kind number ack = record m { isr = number; gsr = number; osr = number; g
 
 -- Sound marks: iss <= gar <= gss and isr <= gsr, gss fewer than 2^47 after iss, and gsr fewer than 2^47 after isr. So at
 -- least one packet was sent (own).
-pub record IsSound (m : Marks) : Type 0 where
+pub record AreSoundMarks (m : Marks) : Type 0 where
   pub acknowledged : IsFrom m.iss m.gar
   pub sent : IsFrom m.gar m.gss
   pub few_sent : IsFrom m.iss m.gss

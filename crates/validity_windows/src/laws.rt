@@ -6,7 +6,7 @@ ghost use Rattle.validity_windows.specs.declared.marks.Marks.{Marks};
 ghost use Rattle.validity_windows.specs.declared.verdict.Verdict.TheVariants as verdicts;
 ghost use Rattle.validity_windows.specs.Windows.{InRange, sequence_low, sequence_high, ack_low, ack_high};
 ghost use Rattle.validity_windows.specs.Verdict.{verdict, taken};
-ghost use Rattle.validity_windows.specs.Beginning.{IsSound, AreNumbers, new_marks, begun};
+ghost use Rattle.validity_windows.specs.Beginning.{AreSoundMarks, AreNumbers, new_marks, begun};
 ghost use Rattle.validity_windows.specs.Whole.{residues, IsWhole, unrolled, residue_of, HasValidNumbers, refusal, IsAckOfTurn, AckLies, whole_ack_low, whole_taken, whole_begun};
 
 /// Where each end used fewer than 2^47 numbers since its first, the windows are intervals of whole numbers, for every
@@ -47,9 +47,9 @@ pub fn verdicts_are_those_of_whole_numbers()
 /// Sound marks are the residues of whole ones, counted on from the first number of each end (`whole`, `same`), and the
 /// residues of whole marks are sound (`sound`).
 pub fn sound_marks_are_whole_numbers()
-    ensures whole { (m : Marks) → IsSound m → AreNumbers m → IsWhole (unrolled m) }
+    ensures whole { (m : Marks) → AreSoundMarks m → AreNumbers m → IsWhole (unrolled m) }
     ensures same { (m : Marks) → AreNumbers m → residues (unrolled m) ≡ m }
-    ensures sound { (w : Marks) → IsWhole w → IsSound (residues w) }
+    ensures sound { (w : Marks) → IsWhole w → AreSoundMarks (residues w) }
 {}
 
 /// What a valid packet raises is the maximum of whole numbers, where its number is one of the first 2^47 of its sender
@@ -64,5 +64,5 @@ pub fn marks_stay_sound()
         → begun (residues w) kind (residue n) (residue_of ack) ≡ residues (whole_begun w kind n ack) }
     ensures first { (w : Marks) (kind : PacketType) (n : ℕ) (ack : Option ℕ) → IsWhole w → AckLies (whole_ack_low w) w.gss ack
         → IsWhole (whole_begun w kind n ack) }
-    ensures sent { (iss width : ℕ) → iss < 2 ^ 48 → IsSound (record (new_marks iss width) { gss = iss }) }
+    ensures sent { (iss width : ℕ) → iss < 2 ^ 48 → AreSoundMarks (record (new_marks iss width) { gss = iss }) }
 {}

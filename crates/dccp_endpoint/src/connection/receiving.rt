@@ -1,7 +1,7 @@
 //! What an end does with a packet that arrives: the sixteen steps of RFC 4340, section 8.5.
 //! `take_bytes`, `take`, `take_steps`, `take_options` and `negotiate` list them, and each has a function of its own below.
 ghost use Rattle.std.specs.Prelude.{◌≡◌, length, map};
-ghost use Rattle.dccp_endpoint.specs.End.{is_connected, is_open, is_live};
+ghost use Rattle.dccp_endpoint.specs.End.{is_connected, is_live, is_open};
 ghost use Rattle.dccp_endpoint.specs.Receiving.{packet_fault};
 ghost use Rattle.dccp_endpoint.specs.Reporting.{carries_data, is_acking};
 ghost use Rattle.dccp_endpoint.specs.Steps.{without_detail};
@@ -102,7 +102,7 @@ impl Connection {
     ghost use Rattle.dccp_endpoint.specs.Heeding.{due_of, heeding_or, unheeded};
     ghost use Rattle.dccp_endpoint.specs.Speaking.{HaveRoom, confirming};
     ghost use Rattle.dccp_endpoint.specs.Incoming.{Incoming, is_newest};
-    ghost use Rattle.dccp_endpoint.specs.Receiving.{receives, takes, checks_header, is_of_connection, course, Goes, the_steps, through, finds_connection, is_own_service, accepts_request, started, acknowledges_in_window, answers, takes_answer, raises, judged, checks_numbers, ends_by_reset, is_unexpected, is_other_service, checks_type, heeded, reads_options, moved_to, needs_ack, acknowledges, responds, replies, processes, resets, resets_without_connection, leaves};
+    ghost use Rattle.dccp_endpoint.specs.Receiving.{receives, takes, checks_header, is_of_connection, course, Goes, the_steps, through, finds_connection, is_own_service, accepts_request, started, acknowledges_in_window, answers, takes_answer, raises, by_verdict, checks_numbers, ends_by_reset, is_unexpected, is_other_service, checks_type, heeded, reads_options, moved_to, needs_ack, acknowledges, responds, replies, processes, resets, resets_without_connection, leaves};
     ghost use Rattle.dccp_endpoint.specs.Reporting.{counts_data, delivered_if, delivers, is_enough, looked_up, looks_up, marks};
     ghost use Rattle.dccp_endpoint.specs.declared.outcome.Outcome.TheVariants.{Took};
     ghost use Rattle.run_list.specs.MarkedSet.{answer_to};

@@ -1,5 +1,5 @@
 //! A congestion control that shows what is handed to it: its window is the Ack Ratio of the last report.
-ghost use Rattle.std.specs.Prelude.{◌≡◌, [], IfOk};
+ghost use Rattle.std.specs.Prelude.{IfOk, [], ◌≡◌};
 
 use congestion_trait::{Congestion, Flight};
 use dccp_options::AckReport;
@@ -40,10 +40,10 @@ impl RatioWindow {
 }
 
 impl Congestion for RatioWindow {
-    ghost use Rattle.std.specs.Prelude.{◌==◌, ◌&&◌, ◌||◌, nat_le, if◌then◌else◌};
-    ghost use Rattle.congestion_trait.specs.Kind.{kind_of, kind_is_lawful};
+    ghost use Rattle.std.specs.Prelude.{if◌then◌else◌, nat_le, ◌&&◌, ◌==◌, ◌||◌};
+    ghost use Rattle.congestion_trait.specs.Kind.{control_by_rules, kind_is_lawful};
 
-    ghost control = { kind_of (record {
+    ghost control = { control_by_rules (record {
       window = λ window. window;
       is_known = λ ccid. ccid == 2 || ccid == 248;
       fresh = 2;

@@ -2,13 +2,13 @@
 use Rattle.std.proofs.Common.{arith, sym, ap, ◌∙◌, refl, subst, inl, inr, Ok, false, true, ◌++◌, List, ℕ}
 use Rattle.std.proofs.lemmas.Option.{IfSome_then}
 use Rattle.dccp_io.specs.Fronts.{TakesFront}
-use Rattle.dccp_io.specs.Lines.{rest}
-use Rattle.dccp_command.specs.Replay.{begun}
+use Rattle.dccp_io.specs.Lines.{rest_of_input}
+use Rattle.dccp_command.specs.Replay.{begun_replay}
 use Rattle.dccp_command.specs.declared.lines.Turn.{Turn}
 use Rattle.dccp_command.specs.declared.replay.Replay.{Replay}
 use Rattle.dccp_command.specs.Loops.{Replays, Leaves}
 use Rattle.dccp_command.specs.RunLines.{end_line, refusal_line}
-use Rattle.dccp_command.specs.Top.{HasBegun, Moves}
+use Rattle.dccp_command.specs.Top.{HasBegun, IsMovedOut}
 use Rattle.dccp_command.proofs.ReplayInvariant.{ReplayInvariant, at-start, counts-at-start}
 use Rattle.dccp_command.proofs.Ending.{on-err, on-ok, unwritten}
 use Rattle.dccp_command.proofs.Streaming.{along-first, along-moved}
@@ -20,7 +20,7 @@ loop-output-init g c =
     let start = c.in-Ok.ensures.value in
     let counts = counts-at-start c.args.side c.args.plain c.in-Ok.replay start in
     let given = c.requires.given in
-    let put = c.in-Ok.ensures.text ∙ ap (λ (t : List ℕ). t ++ (begun c.args.side c.args.plain).text) c.new-text.ensures.items in
+    let put = c.in-Ok.ensures.text ∙ ap (λ (t : List ℕ). t ++ (begun_replay c.args.side c.args.plain).text) c.new-text.ensures.items in
     record {
       unstopped = c.requires.unstopped;
       within = omega (arith, given);
@@ -32,7 +32,7 @@ loop-output-init g c =
       sink_faults = omega arith;
       empty_takes = omega arith;
       along = along-first (λ (bytes front behind : List ℕ). ReplayInvariant c.args.side c.args.plain c.in-Ok.replay behind front bytes) c.in-Ok.replay.read
-          (rest g.S.Source.left c.args.lines.now) c.begin.new.text.items (g.K.Sink.taken c.args.output.now) counts.0
+          (rest_of_input g.S.Source.left c.args.lines.now) c.begin.new.text.items (g.K.Sink.taken c.args.output.now) counts.0
           (λ input. at-start c.args.side c.args.plain c.in-Ok.replay c.begin.new.text.items input start put);
     }
 
@@ -49,7 +49,7 @@ loop-output-preserved g c =
     let number = further.number in
     let some = gives.some in
     let sent = further.sent in
-    let moved : Moves (g.K.Sink.taken c.loop-output.output) (g.K.Sink.taken c.flush_if_full.new.output) c.replay_next.new.text.items c.flush_if_full.new.text.items =
+    let moved : IsMovedOut (g.K.Sink.taken c.loop-output.output) (g.K.Sink.taken c.flush_if_full.new.output) c.replay_next.new.text.items c.flush_if_full.new.text.items =
     on-ok c.flush_if_full.result _ c.flush_if_full.ensures.moved (sym c.is_err.ensures.value ∙ c.if-is_err.false) in
     record {
       unstopped = gives.is_open;

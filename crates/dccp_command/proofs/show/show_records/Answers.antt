@@ -4,7 +4,7 @@ use Rattle.std.proofs.lemmas.Option.{IfSome_then}
 use Rattle.capture_reader.specs.Records.{records_from}
 use Rattle.dccp_command.specs.declared.show.Turn.{Turn}
 use Rattle.dccp_command.specs.Show.{Turns}
-use Rattle.dccp_command.specs.Top.{HasBegun, Moves}
+use Rattle.dccp_command.specs.Top.{HasBegun, IsMovedOut}
 use Rattle.dccp_io.specs.Fronts.{TakesFront}
 use Rattle.dccp_command.proofs.Ending.{on-err, on-ok}
 use Rattle.dccp_command.proofs.Showing.{turned, along-moved, shown-early, over, tallied-one}
@@ -22,7 +22,7 @@ loop-output-preserved g c =
     let number = gives.number in
     let counted = gives.counted in
     let one = tallied-one c.loop-output.tally c.show_next.new.tally entry turns.2 in
-    let moved : Moves (g.K.Sink.taken c.loop-output.output) (g.K.Sink.taken c.flush_if_full.new.output) c.show_next.new.text.items c.flush_if_full.new.text.items =
+    let moved : IsMovedOut (g.K.Sink.taken c.loop-output.output) (g.K.Sink.taken c.flush_if_full.new.output) c.show_next.new.text.items c.flush_if_full.new.text.items =
     on-ok c.flush_if_full.result _ c.flush_if_full.ensures.moved (sym c.is_err.ensures.value ∙ c.if-is_err.false) in
     record {
       unended = gives.is_open;

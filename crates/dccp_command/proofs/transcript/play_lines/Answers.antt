@@ -3,14 +3,14 @@ use Rattle.std.proofs.Common.{arith, ◌≡◌, sym, ap, ◌∙◌, refl, [], su
 use Rattle.std.proofs.lemmas.Option.{IfSome_then}
 use Rattle.ccid_two.specs.Kinds.{at_first}
 use Rattle.dccp_io.specs.Fronts.{TakesFront}
-use Rattle.dccp_io.specs.Lines.{rest}
+use Rattle.dccp_io.specs.Lines.{rest_of_input}
 use Rattle.dccp_io.specs.declared.lines.Stop.TheVariants as stop
 use Rattle.dccp_command.specs.declared.top.Status.TheVariants as status
 use Rattle.dccp_command.specs.declared.lines.Turn.{Turn}
 use Rattle.dccp_command.specs.declared.play.Play.{Play}
 use Rattle.dccp_command.specs.Loops.{Plays, Leaves}
 use Rattle.dccp_command.specs.RunLines.{end_lines, refusal_line}
-use Rattle.dccp_command.specs.Top.{HasBegun, IsAnswered, Moves}
+use Rattle.dccp_command.specs.Top.{HasBegun, IsAnswered, IsMovedOut}
 use Rattle.dccp_command.specs.Transcript.{performed, world_of, SafeThroughout}
 use Rattle.dccp_command.proofs.LoopInvariant.{LoopInvariant, at-start}
 use Rattle.dccp_command.proofs.Causes.{rose-later, sink-later, ends-left, ends-read}
@@ -36,7 +36,7 @@ loop-output-init g c =
       sink_faults = omega arith;
       empty_takes = omega arith;
       along = along-first (λ (bytes front behind : List ℕ). LoopInvariant c.new-play.result behind front bytes) c.new-play.result.read
-          (rest g.S.Source.left c.args.lines.now) c.new-text.result.items (g.K.Sink.taken c.args.output.now) read
+          (rest_of_input g.S.Source.left c.args.lines.now) c.new-text.result.items (g.K.Sink.taken c.args.output.now) read
           (λ input. subst (λ (t : List ℕ). LoopInvariant c.new-play.result input t input) (sym c.new-text.ensures.items) (at-start c.new-play.result input start));
     }
 
@@ -52,7 +52,7 @@ loop-output-preserved g c =
     let read = further.read in
     let number = further.number in
     let some = gives.some in
-    let moved : Moves (g.K.Sink.taken c.loop-output.output) (g.K.Sink.taken c.flush_if_full.new.output) c.play_next.new.text.items c.flush_if_full.new.text.items =
+    let moved : IsMovedOut (g.K.Sink.taken c.loop-output.output) (g.K.Sink.taken c.flush_if_full.new.output) c.play_next.new.text.items c.flush_if_full.new.text.items =
     on-ok c.flush_if_full.result _ c.flush_if_full.ensures.moved (sym c.is_err.ensures.value ∙ c.if-is_err.false) in
     record {
       unstopped = gives.is_open;
@@ -156,7 +156,7 @@ returns-in-Ok-Failed-clause-cause g c =
     (blames g.S.Source.left g.S.Source.faults g.S.Source.lender c.loop-output.lines c.play_next.new.lines stop.Failed c.loop-output.invariant.unstopped turns.0))
 
 pub returns-in-Ok-Failed-clause-safe : goal.returns-in-Ok-Failed-clause-safe
-returns-in-Ok-Failed-clause-safe g c = safe-cut (rest g.S.Source.left c.args.lines.now) c.cut_off.result (inl c.cut_off.ensures.same)
+returns-in-Ok-Failed-clause-safe g c = safe-cut (rest_of_input g.S.Source.left c.args.lines.now) c.cut_off.result (inl c.cut_off.ensures.same)
 
 pub returns-in-Err-clause-safe : goal.returns-in-Err-clause-safe
-returns-in-Err-clause-safe g c = safe-cut (rest g.S.Source.left c.args.lines.now) status.Memory (inr (inr refl))
+returns-in-Err-clause-safe g c = safe-cut (rest_of_input g.S.Source.left c.args.lines.now) status.Memory (inr (inr refl))

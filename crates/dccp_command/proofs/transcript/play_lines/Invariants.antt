@@ -1,6 +1,6 @@
 -- The counters fit what the reader gave, the counts of faults never fall, and the text is along that of the whole input.
 use Rattle.std.proofs.Common.{◌≡◌, ◌+◌, ◌-◌, ◌≤◌, None, IfSome}
-use Rattle.dccp_io.specs.Lines.{rest}
+use Rattle.dccp_io.specs.Lines.{rest_of_input}
 use Rattle.dccp_command.specs.Transcript.{ArePeers}
 use Rattle.dccp_command.proofs.LoopInvariant.{LoopInvariant}
 use Rattle.dccp_command.proofs.Streaming.{Along}
@@ -17,8 +17,8 @@ invariant-loop-output g l = record {
   faults : g.S.Source.faults l.fn.lines.source ≤ g.S.Source.faults l.lines.source;
   sink_faults : g.K.Sink.faults l.fn.output ≤ g.K.Sink.faults l.output;
   empty_takes : g.K.Sink.empty_takes l.fn.output ≤ g.K.Sink.empty_takes l.output;
-  along : IfSome (rest g.S.Source.left l.fn.lines) (λ bytes. Along (λ front behind. LoopInvariant l.play behind front bytes) l.play.read
-      (rest g.S.Source.left l.lines) l.text.items (g.K.Sink.taken l.fn.output) (g.K.Sink.taken l.output) bytes);
+  along : IfSome (rest_of_input g.S.Source.left l.fn.lines) (λ bytes. Along (λ front behind. LoopInvariant l.play behind front bytes) l.play.read
+      (rest_of_input g.S.Source.left l.lines) l.text.items (g.K.Sink.taken l.fn.output) (g.K.Sink.taken l.output) bytes);
 }
 
 abbrev pub decreases-loop-output : goal.decreases-loop-output

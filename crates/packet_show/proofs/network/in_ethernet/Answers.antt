@@ -1,7 +1,8 @@
 -- The packet behind the header, of the type that the header says.
 use Rattle.std.proofs.Common.{rules, ◌≡◌, ◌≤◌, false, length, nat_lt, refl, sym, ap, ◌∙◌, drop, List, ℕ}
 use Rattle.std.proofs.lemmas.Bool.{le-ltb}
-use Rattle.packet_show.specs.Network.{in_ethernet, in_frame, number_at}
+use Rattle.packet_show.specs.Network.{in_ethernet, in_frame}
+use Rattle.dccp_packets.specs.Grammar.{number_at}
 use Rattle.packet_show.proofs.network.in_ethernet.Goals as goal
 
 pub returns-clause-value : goal.returns-clause-value

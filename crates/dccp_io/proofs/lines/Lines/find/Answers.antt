@@ -2,7 +2,7 @@
 use Rattle.std.proofs.Common.{rules, arith, ◌≡◌, ◌≤◌, ◌+◌, true, false, Some, Ok, Err, IfSome, length, drop, subst}
 use Rattle.std.proofs.lemmas.List.{length-drop}
 use Rattle.dccp_io.specs.Ahead.{ahead_of}
-use Rattle.dccp_io.specs.Lines.{LinesState, Finds, next_of, told, IsLineOf}
+use Rattle.dccp_io.specs.Lines.{LinesState, Finds, next_in_bytes, made_out, IsLineOf}
 use Rattle.dccp_io.specs.declared.lines.Stands.{Stands}
 use Rattle.dccp_io.specs.declared.lines.Stands.TheVariants as stands
 use Rattle.dccp_io.specs.declared.lines.Stop.TheVariants as stop
@@ -36,7 +36,7 @@ returns-in-Ok-TooLong g c =
     let got = c.stands_next.new.ahead in
     let block : length got.pending ≤ 8192 = search rules in
     let stood : c.in-Ok-TooLong.field-0 ≡ stands.TooLong = search rules in
-    let next = subst (λ (s : Stands). IfSome (ahead_of c.pass.new.self (g.S.Source.left inside.source)) (λ bytes. next_of inside.given bytes ≡ told got.pending s)) stood c.in-Ok-TooLong.ensures.next in
+    let next = subst (λ (s : Stands). IfSome (ahead_of c.pass.new.self (g.S.Source.left inside.source)) (λ bytes. next_in_bytes inside.given bytes ≡ made_out got.pending s)) stood c.in-Ok-TooLong.ensures.next in
     subst
     (λ (old : LinesState g.row.S.Denot). Finds g.S.Source.left g.S.Source.faults g.S.Source.lender old (state after got.pending 0 inside.given (Some stop.TooLong)) (Err stop.TooLong))
     c.self.view_is
@@ -50,7 +50,7 @@ returns-in-Ok-TooMuch g c =
     let got = c.stands_next.new.ahead in
     let block : length got.pending ≤ 8192 = search rules in
     let stood : c.in-Ok-TooMuch.field-0 ≡ stands.TooMuch = search rules in
-    let next = subst (λ (s : Stands). IfSome (ahead_of c.pass.new.self (g.S.Source.left inside.source)) (λ bytes. next_of inside.given bytes ≡ told got.pending s)) stood c.in-Ok-TooMuch.ensures.next in
+    let next = subst (λ (s : Stands). IfSome (ahead_of c.pass.new.self (g.S.Source.left inside.source)) (λ bytes. next_in_bytes inside.given bytes ≡ made_out got.pending s)) stood c.in-Ok-TooMuch.ensures.next in
     subst
     (λ (old : LinesState g.row.S.Denot). Finds g.S.Source.left g.S.Source.faults g.S.Source.lender old (state after got.pending 0 inside.given (Some stop.TooMuch)) (Err stop.TooMuch))
     c.self.view_is
@@ -64,7 +64,7 @@ returns-in-Ok-End g c =
     let got = c.stands_next.new.ahead in
     let block : length got.pending ≤ 8192 = search rules in
     let stood : c.in-Ok-End.field-0 ≡ stands.End = search rules in
-    let next = subst (λ (s : Stands). IfSome (ahead_of c.pass.new.self (g.S.Source.left inside.source)) (λ bytes. next_of inside.given bytes ≡ told got.pending s)) stood c.in-Ok-End.ensures.next in
+    let next = subst (λ (s : Stands). IfSome (ahead_of c.pass.new.self (g.S.Source.left inside.source)) (λ bytes. next_in_bytes inside.given bytes ≡ made_out got.pending s)) stood c.in-Ok-End.ensures.next in
     subst
     (λ (old : LinesState g.row.S.Denot). Finds g.S.Source.left g.S.Source.faults g.S.Source.lender old (state after got.pending 0 inside.given inside.stop) (Ok false))
     c.self.view_is
@@ -78,7 +78,7 @@ returns-in-Ok-Line g c =
     let got = c.stands_next.new.ahead in
     let block : length got.pending ≤ 8192 = search rules in
     let stood : c.in-Ok-Line.field-0 ≡ stands.Line c.in-Ok-Line.count = search rules in
-    let next = subst (λ (s : Stands). IfSome (ahead_of c.pass.new.self (g.S.Source.left inside.source)) (λ bytes. next_of inside.given bytes ≡ told got.pending s)) stood c.in-Ok-Line.ensures.next in
+    let next = subst (λ (s : Stands). IfSome (ahead_of c.pass.new.self (g.S.Source.left inside.source)) (λ bytes. next_in_bytes inside.given bytes ≡ made_out got.pending s)) stood c.in-Ok-Line.ensures.next in
     let fits = subst (λ (s : Stands). IsLineOf inside.given got.pending s) stood c.in-Ok-Line.ensures.fits in
     subst
     (λ (old : LinesState g.row.S.Denot). Finds g.S.Source.left g.S.Source.faults g.S.Source.lender old (state after got.pending c.in-Ok-Line.count (inside.given + c.in-Ok-Line.count) inside.stop) (Ok true))
