@@ -10,8 +10,8 @@ ghost use Rattle.ack_vectors.specs.declared.received.Record.{Record};
 
 /// What a vector tells is read back, number by number from the acknowledgement down: state 0 exactly for the numbers of
 /// the set and 3 for the others, and nothing past its bytes. They reach no number below the floor, and reach the floor
-/// exactly where the vector is whole (RFC 4340, section 11.4). The same holds of any states but the reserved one, and of any
-/// room (`any_states`, `any_reach`, `any_whole`).
+/// exactly where the vector is whole (RFC 4340, section 11.4). The same holds of any states but the reserved one, and
+/// of any room (`any_states`, `any_reach`, `any_whole`).
 pub fn a_vector_reads_back()
     ensures states { (has : ℕ → Bool) (floor ack n : ℕ) → ack < 2 ^ 48 → n < 2 ^ 48
         → state_at ack (vector has floor ack) n ≡ (if nat_lt (distance n ack) (numbers_told has floor ack) then Some (state_told (has n)) else None) }
@@ -25,8 +25,8 @@ pub fn a_vector_reads_back()
         → IsTrue (is_whole_within room state floor ack) ↔ (numbers_told_within room state floor ack ≡ numbers_between floor ack) }
 {}
 
-/// A vector looks at nothing but the numbers from its floor up to its acknowledgement: two sets that agree there have one
-/// vector, whole or cut alike, and so have any two kinds of states, whatever the room (`any_bytes`, `any_whole`).
+/// A vector looks at nothing but the numbers from its floor up to its acknowledgement: two sets that agree there have
+/// one vector, whole or cut alike, and so have any two kinds of states, whatever the room (`any_bytes`, `any_whole`).
 pub fn a_vector_looks_between_floor_and_acknowledgement()
     ensures bytes { (one other : ℕ → Bool) (floor ack : ℕ) → floor < 2 ^ 48 → ack < 2 ^ 48
         → ((n : ℕ) → n < 2 ^ 48 → IsFrom floor n → distance floor n ≤ distance floor ack → one n ≡ other n) → vector one floor ack ≡ vector other floor ack }
@@ -40,8 +40,8 @@ pub fn a_vector_looks_between_floor_and_acknowledgement()
         → is_whole_within room one floor ack ≡ is_whole_within room other floor ack }
 {}
 
-/// A number to which a vector gives a state lies from the floor up to the acknowledgement, which is not below the floor, and
-/// the state is what the set says (RFC 4340, section 11.4).
+/// A number to which a vector gives a state lies from the floor up to the acknowledgement, which is not below the
+/// floor, and the state is what the set says (RFC 4340, section 11.4).
 pub fn what_is_told_was_there()
     ensures { (has : ℕ → Bool) (floor ack n state : ℕ) → floor < 2 ^ 48 → ack < 2 ^ 48 → n < 2 ^ 48
         → state_at ack (vector has floor ack) n ≡ Some state → IsWithin n floor ack × IsFrom floor ack × (state ≡ state_told (has n)) }
@@ -69,8 +69,8 @@ pub fn a_vector_fits_an_option()
         → All (λ byte. byte < 256) (vector_within room state floor ack) }
 {}
 
-/// Of the records of whole vectors under a number the newest counts, and there is one exactly where any record is such. The one
-/// that counts was kept, under that number, of a whole vector (`kept`).
+/// Of the records of whole vectors under a number the newest counts, and there is one exactly where any record is such.
+/// The one that counts was kept, under that number, of a whole vector (`kept`).
 pub fn the_newest_whole_record_counts()
     ensures newest { (n : ℕ) (records : List Record) (last : Record)
         → newest_whole n (records ++ last ∷ []) ≡ (if is_whole_at n last then Some last else newest_whole n records) }
@@ -89,8 +89,8 @@ pub fn records_only_forget()
     ensures acked { (kept : Kept) (n : ℕ) → (acked kept n).records ≡ kept.records }
 {}
 
-/// An acknowledged number raises the floor to the number behind what the record that counts acknowledged, and without such a
-/// record changes nothing (own).
+/// An acknowledged number raises the floor to the number behind what the record that counts acknowledged, and without
+/// such a record changes nothing (own).
 pub fn acknowledging_raises_the_floor()
     ensures some { (kept : Kept) (n : ℕ) (one : Record) → newest_whole n kept.records ≡ Some one
         → (acked kept n).set ≡ raised kept.set (residue (one.ack + 1)) }

@@ -37,9 +37,9 @@ pub struct Record {
 /// The numbers that an end has received, down to a floor, and the records of the last 64 Ack Vectors that it sent.
 /// Contracts see the set with its floor and the records from the oldest on.
 ///
-/// `start` begins a connection, `took` marks a packet, `write` writes the vector of an acknowledgement and `sent` records
-/// it, and `peer_acked` raises the floor when an Ack or DataAck of the peer acknowledges one that was whole. No call after
-/// `new` takes memory.
+/// `start` begins a connection, `took` marks a packet, `write` writes the vector of an acknowledgement and `sent`
+/// records it, and `peer_acked` raises the floor when an Ack or DataAck of the peer acknowledges one that was whole. No
+/// call after `new` takes memory.
 #[derive(Drop)]
 pub struct Received {
     set: RunList,
@@ -125,21 +125,22 @@ impl Received {
         put_runs(out, OPTION_ROOM, self.set.walk(), floor, count)
     }
 
-    /// Records a sent packet by its number, the number that it acknowledged and whether its vector was whole. The oldest
-    /// of 64 records is dropped for it.
+    /// Records a sent packet by its number, the number that it acknowledged and whether its vector was whole. The
+    /// oldest of 64 records is dropped for it.
     pub fn sent(&mut self, number: Seq48, ack: Seq48, whole: bool)
         ensures { self.new ≡ recorded self.old number ack whole }
     {
         self.records.push_back(Record { number, ack, whole });
     }
 
-    /// Tells whether a whole vector was recorded under the number `n`, which the peer acknowledged by an Ack or a DataAck.
-    /// The floor then rises to the number behind the acknowledgement of the newest such record, where it is before that.
+    /// Tells whether a whole vector was recorded under the number `n`, which the peer acknowledged by an Ack or a
+    /// DataAck. The floor then rises to the number behind the acknowledgement of the newest such record, where it is
+    /// before that.
     ///
-    /// It is to be called for the acknowledgements of these two types alone. They acknowledge the greatest number that the
-    /// peer received, and where that was an Ack or DataAck, the peer has processed it, and so was told. A Sync acknowledges
-    /// the packet that it answers, which its sender may have passed over; the floor would then rise over numbers that the
-    /// peer was never told of.
+    /// It is to be called for the acknowledgements of these two types alone. They acknowledge the greatest number that
+    /// the peer received, and where that was an Ack or DataAck, the peer has processed it, and so was told. A Sync
+    /// acknowledges the packet that it answers, which its sender may have passed over; the floor would then rise over
+    /// numbers that the peer was never told of.
     pub fn peer_acked(&mut self, n: Seq48) -> bool
         ensures kept { self.new ≡ acked self.old n }
         ensures answer { result ≡ is_some (newest_whole n self.old.records) }

@@ -55,8 +55,8 @@ fn put_both(out: &mut VectorBytes, room: usize, missing: u64, received: u64) -> 
     put_run(out, room, RECEIVED, received)
 }
 
-// Writes the bytes of `left` numbers from the floor up, by the runs that were received, up to `room` bytes; tells whether
-// there was room for all.
+// Writes the bytes of `left` numbers from the floor up, by the runs that were received, up to `room` bytes; tells
+// whether there was room for all.
 pub(crate) fn put_runs(
     out: &mut VectorBytes,
     room: usize,

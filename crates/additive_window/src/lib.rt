@@ -1,7 +1,7 @@
 //! An example: a kind of congestion control of one's own, for an end that is to use it. Nothing stands on this crate.
 //!
-//! The window begins with a packet, grows by one for each report of something received, and is halved by each report of a
-//! loss or of a marked packet (own; CCIDs from 248 are for experiments, RFC 4340, section 10).
+//! The window begins with a packet, grows by one for each report of something received, and is halved by each report of
+//! a loss or of a marked packet (own; CCIDs from 248 are for experiments, RFC 4340, section 10).
 #![tactic(auto)]
 
 ghost use Rattle.std.specs.Prelude.{IfOk, [], ◌≡◌};

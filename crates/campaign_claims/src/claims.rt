@@ -27,8 +27,8 @@ impl Model for Claims {
     ghost invariant = { λ c. (c.table.shared.table_id.words ≡ 1) × (c.table.shared.table_id.slots ≡ 0) };
 }
 
-/// The right to a share of the claims, for one thread at a time (own). Contracts see which claims it is of, its numbers,
-/// how many claims it made, its share and the limit.
+/// The right to a share of the claims, for one thread at a time (own). Contracts see which claims it is of, its
+/// numbers, how many claims it made, its share and the limit.
 #[derive(Drop)]
 pub struct Claimer {
     seat: Seat<u8, View>,
@@ -46,8 +46,8 @@ impl Model for Claimer {
     ghost invariant = { λ c. (c.seat.me.1 ≡ []) × (c.limit ≡ c.seat.me.0.limit) × (0 < c.seat.me.0.share) };
 }
 
-/// Claims to the numbers below `n`, of which none is claimed yet, and a claimer with all 2^62 shares. `NoMemory` comes only
-/// here.
+/// Claims to the numbers below `n`, of which none is claimed yet, and a claimer with all 2^62 shares. `NoMemory` comes
+/// only here.
 pub fn make_claims(alloc: Global, n: u64) -> Result<(Claims, Claimer), NoMemory>
     requires few { n ≤ 100000 }
     ensures { IfOk result (λ made. made.1 ≡ held made.0 (first n)) }
@@ -59,8 +59,8 @@ pub fn make_claims(alloc: Global, n: u64) -> Result<(Claims, Claimer), NoMemory>
 }
 
 impl Claimer {
-    /// Claims the next number: one atomic addition to the word. The number is greater than all that this claimer has, and
-    /// nobody else gets it. None where the word read was the limit or more.
+    /// Claims the next number: one atomic addition to the word. The number is greater than all that this claimer has,
+    /// and nobody else gets it. None where the word read was the limit or more.
     pub fn claim(&mut self, claims: &Claims) -> Option<u64>
         requires same { self.old.claims ≡ claims.now }
         requires part { self.old.view.drawn < self.old.view.share }
@@ -105,9 +105,9 @@ impl Claimer {
 }
 
 impl Claims {
-    /// Ends the claims and answers the word's last value: how many claims were made by all. The numbers of any claimer lie
-    /// below the lesser of the limit and the word, each at most once. Whoever has joined all others, and so has all 2^62
-    /// shares, has made all claims and has all those numbers.
+    /// Ends the claims and answers the word's last value: how many claims were made by all. The numbers of any claimer
+    /// lie below the lesser of the limit and the word, each at most once. Whoever has joined all others, and so has all
+    /// 2^62 shares, has made all claims and has all those numbers.
     pub fn close(self, last: Claimer) -> u64
         requires same { last.claims ≡ self }
         ensures least { last.view.drawn ≤ result }

@@ -19,8 +19,8 @@ use std::marker::Model;
 // The bytes of the block: a record's bytes fit it, since its header is let go first.
 const BLOCK: usize = 262_144;
 
-/// A reader of a capture's records over a source (own). Contracts see the source, what was read of it and not given yet,
-/// the format, how many bytes and records were given, and the fault that ended the capture.
+/// A reader of a capture's records over a source (own). Contracts see the source, what was read of it and not given
+/// yet, the format, how many bytes and records were given, and the fault that ended the capture.
 #[derive(Drop)]
 pub struct Captures<S: Drop> {
     source: S,
@@ -156,10 +156,10 @@ impl<S: Source + Drop> Captures<S> {
     ghost use Rattle.capture_reader.specs.State.{Advances, found, read_of};
     ghost use Rattle.capture_reader.specs.contracts.captures.Captures.{the_row};
 
-    /// A reader over this source, behind the file header, which it reads. All memory is taken here. At most 262,144 bytes
-    /// are read, and where the capture is refused the source is handed back. The faults, in this order: NoMemory, where the
-    /// block is not found, and then nothing was read; ReadFault, only where the source failed; CutShort, exactly where fewer
-    /// than 24 bytes come; and of these, in this order, BadMagic, BadVersion and BadLink.
+    /// A reader over this source, behind the file header, which it reads. All memory is taken here. At most 262,144
+    /// bytes are read, and where the capture is refused the source is handed back. The faults, in this order: NoMemory,
+    /// where the block is not found, and then nothing was read; ReadFault, only where the source failed; CutShort,
+    /// exactly where fewer than 24 bytes come; and of these, in this order, BadMagic, BadVersion and BadLink.
     pub fn new(alloc: Global, source: S) -> Result<Captures<S>, (CaptureFault, S)>
         ensures { MatchResult result
             (λ captures. Opens S.left S.faults S.lender source captures)
@@ -216,10 +216,10 @@ impl<S: Source + Drop> Captures<S> {
         &self.ahead.pending()[..self.lent]
     }
 
-    /// The next record, whole however the reads were cut, or None exactly at the end of the input between two records. It
-    /// takes no memory. The faults: ReadFault, only where the source failed; and where that did not happen, exactly the
-    /// first that the bytes have: CutShort and TooLarge in the record's header, RecordTooLong, and CutShort and TooLarge in
-    /// its bytes. After a fault each further call answers the same, and does nothing.
+    /// The next record, whole however the reads were cut, or None exactly at the end of the input between two records.
+    /// It takes no memory. The faults: ReadFault, only where the source failed; and where that did not happen, exactly
+    /// the first that the bytes have: CutShort and TooLarge in the record's header, RecordTooLong, and CutShort and
+    /// TooLarge in its bytes. After a fault each further call answers the same, and does nothing.
     pub fn next(&mut self) -> Result<Option<Record<'_>>, CaptureFault>
         ensures* after { sem 𝓛 (Rests (the_row S.row) self.entry (λ captures. Advances S.left S.faults S.lender self.old captures (read_of result))) }
     {

@@ -1,8 +1,8 @@
 //! The records of a classic packet capture (the savefile format of libpcap), one after another, from a source that may
 //! give its bytes in any pieces.
 //!
-//! All memory is taken when a reader is made: one block of 262,144 bytes. A record is lent from that block, and is given
-//! whole however the reads were cut. Nothing here looks into a record's bytes.
+//! All memory is taken when a reader is made: one block of 262,144 bytes. A record is lent from that block, and is
+//! given whole however the reads were cut. Nothing here looks into a record's bytes.
 #![tactic(auto)]
 
 mod captures;

@@ -39,7 +39,8 @@ impl Model for Kinds {
 }
 
 impl Kinds {
-    /// Both kinds with nothing sent, and CCID 2 in force. NoMemory where no blocks for their flight lists are to be had.
+    /// Both kinds with nothing sent, and CCID 2 in force. NoMemory where no blocks for their flight lists are to be
+    /// had.
     pub fn new(alloc: Global) -> Result<Kinds, NoMemory>
         ensures { IfOk result (λ kinds. kinds ≡ at_first) }
     {

@@ -14,8 +14,8 @@ pub fn window_stays_in_range()
     ensures threshold_high { (calls : List Call) → (run ccid_control first_state calls).threshold ≤ 1024 }
 {}
 
-/// After any calls from the start a report lowers the window only where some entry past the recovery mark became Lost, or
-/// Reported as marked: a loss at or before the mark never halves again.
+/// After any calls from the start a report lowers the window only where some entry past the recovery mark became Lost,
+/// or Reported as marked: a loss at or before the mark never halves again.
 pub fn only_losses_past_the_mark_halve()
     ensures { (calls : List Call) (states : States) (ratio : ℕ)
         → let state = run ccid_control first_state calls in

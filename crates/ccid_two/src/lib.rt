@@ -1,7 +1,8 @@
-//! CCID 2, TCP-like congestion control, and the choice between it and the fixed window of CCID 248 (RFC 4341, section 5).
+//! CCID 2, TCP-like congestion control, and the choice between it and the fixed window of CCID 248 (RFC 4341, section
+//! 5).
 //!
-//! It has no clock and no socket: timeouts are handed in, and the Ack Ratio is the caller's. It does not adapt the Ack Ratio.
-//! Only the constructors take memory.
+//! It has no clock and no socket: timeouts are handed in, and the Ack Ratio is the caller's. It does not adapt the Ack
+//! Ratio. Only the constructors take memory.
 #![tactic(auto)]
 
 mod kinds;

@@ -50,8 +50,8 @@ fn round(rt: &impl Abort, control: &mut Ccid2, last: Seq48, ratio: u16) -> Resul
     Ok(number)
 }
 
-// The numbers that are sent, whether more may be sent then, the report, and what it makes: at 8 the lost 5 halves the window,
-// and at 12 the lost 9 does not halve it again.
+// The numbers that are sent, whether more may be sent then, the report, and what it makes: at 8 the lost 5 halves the
+// window, and at 12 the lost 9 does not halve it again.
 #[test]
 fn window_of_ccid_two(rt: HostRuntime) -> Result<(), Fail> {
     let mut ccid = Ccid2::new(rt.alloc())?;
@@ -130,7 +130,8 @@ fn windows_up_to_the_cap(rt: HostRuntime) -> Result<(), Fail> {
     Ok(())
 }
 
-// So many full rounds from the start, then the window and the threshold by one more packet that was marked, and by a timeout.
+// So many full rounds from the start, then the window and the threshold by one more packet that was marked, and by a
+// timeout.
 #[test]
 fn halves_round_down(rt: HostRuntime) -> Result<(), Fail> {
     for (rounds, halved, timed_out) in [
@@ -159,7 +160,8 @@ fn halves_round_down(rt: HostRuntime) -> Result<(), Fail> {
     Ok(())
 }
 
-// A marked number halves down to one packet, and at a window that is the threshold the window grows by one for a window.
+// A marked number halves down to one packet, and at a window that is the threshold the window grows by one for a
+// window.
 #[test]
 fn avoidance_from_the_threshold_on(rt: HostRuntime) -> Result<(), Fail> {
     let mut ccid = Ccid2::new(rt.alloc())?;
@@ -210,8 +212,8 @@ fn credit_is_not_kept(rt: HostRuntime) -> Result<(), Fail> {
     Ok(())
 }
 
-// After a timeout a marked number counts where it is past the number sent last; after a start any does, and so it does where a
-// timeout came before anything was sent.
+// After a timeout a marked number counts where it is past the number sent last; after a start any does, and so it does
+// where a timeout came before anything was sent.
 #[test]
 fn the_mark_of_a_timeout(rt: HostRuntime) -> Result<(), Fail> {
     for (number, is_started, threshold) in [(47, false, 10), (48, false, 2), (47, true, 2)] {

@@ -14,9 +14,9 @@ const INITIAL_WINDOW: u32 = 4;
 
 const LARGEST_WINDOW: u32 = 1024;
 
-/// TCP-like congestion control (RFC 4341, section 5): the window doubles in a round trip until it reaches the threshold, then
-/// grows by a packet in each, is halved once for all losses of a window, and falls to one packet at a timeout. An Ack Ratio of 0
-/// counts as 1.
+/// TCP-like congestion control (RFC 4341, section 5): the window doubles in a round trip until it reaches the
+/// threshold, then grows by a packet in each, is halved once for all losses of a window, and falls to one packet at a
+/// timeout. An Ack Ratio of 0 counts as 1.
 #[derive(Drop)]
 pub struct Ccid2 {
     flight: Flight,
@@ -45,8 +45,8 @@ impl Model for Ccid2 {
 }
 
 impl Ccid2 {
-    /// CCID 2 with nothing sent: a window of 4 packets and a threshold of 1,024. NoMemory where no block for the flight list
-    /// is to be had.
+    /// CCID 2 with nothing sent: a window of 4 packets and a threshold of 1,024. NoMemory where no block for the flight
+    /// list is to be had.
     pub fn new(alloc: Global) -> Result<Ccid2, NoMemory>
         ensures { IfOk result (λ ccid. ccid ≡ first_state) }
     {

@@ -8,15 +8,15 @@ ghost use Rattle.congestion_trait.specs.Control.{Control, IsLawful, may_send};
 use dccp_options::AckReport;
 use seq_circle::Seq48;
 
-/// The congestion control of one sender (RFC 4340, section 10). Every kind keeps a flight list; each call changes it by the
-/// list's own rules, and changes the rest of the state by the kind's. No call takes memory.
+/// The congestion control of one sender (RFC 4340, section 10). Every kind keeps a flight list; each call changes it by
+/// the list's own rules, and changes the rest of the state by the kind's. No call takes memory.
 ///
-/// To write a kind, take a struct with a `Flight` and whatever else the kind keeps. Its model's Value is a record that has the
-/// list of entries in it, since the laws range over every Value, also over those that no value of the struct has. `control`
-/// names the functions on that Value: the list and the window that it shows, the CCIDs that it knows, and what each call makes
-/// of it. `lawful` says that the list keeps its own rules. `specs/Kind` makes both of the kind's rules for the rest alone
-/// (`control_by_rules`, `kind_is_lawful`). The bounds on the window come from the struct's invariant. The crate additive_window is an
-/// example.
+/// To write a kind, take a struct with a `Flight` and whatever else the kind keeps. Its model's Value is a record that
+/// has the list of entries in it, since the laws range over every Value, also over those that no value of the struct
+/// has. `control` names the functions on that Value: the list and the window that it shows, the CCIDs that it knows,
+/// and what each call makes of it. `lawful` says that the list keeps its own rules. `specs/Kind` makes both of the
+/// kind's rules for the rest alone (`control_by_rules`, `kind_is_lawful`). The bounds on the window come from the
+/// struct's invariant. The crate additive_window is an example.
 pub trait Congestion {
     // The kind's functions on its state, which contracts alone see.
     ghost control: { Control Self };
@@ -54,7 +54,8 @@ pub trait Congestion {
         requires { pipe_of (control.flight self.old) < control.window self.old }
         ensures { self.new ≡ control.with_sent self.old number };
 
-    /// The Ack Vectors of a packet came, while the peer acknowledges every `ratio` data packets (RFC 4340, section 11.3).
+    /// The Ack Vectors of a packet came, while the peer acknowledges every `ratio` data packets (RFC 4340, section
+    /// 11.3).
     fn on_report(&mut self, report: &AckReport<'_>, ratio: u16)
         ensures { self.new ≡ control.with_report self.old (state_at report.now.ack report.now.bytes) ratio };
 

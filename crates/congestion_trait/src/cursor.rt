@@ -20,8 +20,8 @@ fn top_of(report: &AckReport<'_>) -> Option<Seq48>
     }
 }
 
-// One run of a report, and those behind it. Places count from the report's highest number down, which is absent where the
-// report has no run.
+// One run of a report, and those behind it. Places count from the report's highest number down, which is absent where
+// the report has no run.
 #[derive(Drop)]
 pub struct Cursor<'a> {
     top: Option<Seq48>,
@@ -86,8 +86,8 @@ impl<'a> Cursor<'a> {
         }
         Some(self.state)
     }
-    // Tells whether a report that gives this number no state gives none to any number that lies at most so many steps before
-    // it.
+    // Tells whether a report that gives this number no state gives none to any number that lies at most so many steps
+    // before it.
     pub fn ends_before(
         &self,
         report: &AckReport<'a>,

@@ -50,8 +50,8 @@ pub struct FlightNews {
     pub congested: bool,
 }
 
-/// The data packets sent since the last start or timeout, at most the last 2,048, in the order of sending. Contracts see the
-/// list of its entries.
+/// The data packets sent since the last start or timeout, at most the last 2,048, in the order of sending. Contracts
+/// see the list of its entries.
 #[derive(Drop)]
 pub struct Flight {
     entries: HeapCircularBuffer<Entry>,
@@ -124,10 +124,10 @@ impl Flight {
         self.counts = self.counts.with_sent(&driven_out, step);
     }
 
-    /// Settles every entry by a report: those that it gives state 0 or 1 are Reported, and those that are still Out before
-    /// three Reported ones are Lost (RFC 4341, section 5). `mark` is the recovery mark: what it covers shows no new congestion.
-    /// With None every loss and every marked packet does. While numbers are sent in their order, the cost is that of the
-    /// report's runs and of the entries down to the oldest that is Out or that they reach.
+    /// Settles every entry by a report: those that it gives state 0 or 1 are Reported, and those that are still Out
+    /// before three Reported ones are Lost (RFC 4341, section 5). `mark` is the recovery mark: what it covers shows no
+    /// new congestion. With None every loss and every marked packet does. While numbers are sent in their order, the
+    /// cost is that of the report's runs and of the entries down to the oldest that is Out or that they reach.
     pub fn report(&mut self, report: &AckReport<'_>, mark: Option<Seq48>) -> FlightNews
         ensures entries { self.new ≡ after_report (state_at report.now.ack report.now.bytes) self.old }
         ensures acked { result.acked ≡ acked_count (state_at report.now.ack report.now.bytes) self.old }

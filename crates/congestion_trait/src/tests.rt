@@ -25,8 +25,8 @@ fn told(
     Ok(flight.report(&report, mark))
 }
 
-// 10 to 15 are out. 17 and 16 lie outside the list, and 15 is marked. Two later ones make nothing lost, and three do; what
-// the mark covers is no congestion. A lost one that is reported after all is acknowledged, and in flight stays.
+// 10 to 15 are out. 17 and 16 lie outside the list, and 15 is marked. Two later ones make nothing lost, and three do;
+// what the mark covers is no congestion. A lost one that is reported after all is acknowledged, and in flight stays.
 #[test]
 fn several_vectors_and_numbers_outside(rt: HostRuntime) -> Result<(), Fail> {
     let mut flight = Flight::new(rt.alloc())?;

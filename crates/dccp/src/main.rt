@@ -18,7 +18,8 @@ fn main(rt: HostRuntime) -> ExitCode {
     }
 }
 
-// The words after the program's name. Where one is not UTF-8 they are none of the tool's forms, and neither are no words.
+// The words after the program's name. Where one is not UTF-8 they are none of the tool's forms, and neither are no
+// words.
 fn words_of(rt: &HostRuntime) -> Result<Vec<String>, AllocError> {
     let mut words = Vec::new(rt.alloc());
     let all = match env::args(rt) {

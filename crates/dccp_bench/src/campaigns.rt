@@ -21,8 +21,8 @@ fn workers_of(asked: u32) -> u8
     }
 }
 
-/// Runs a campaign by so many workers, and prints these, the nanoseconds, the events, the frames of both ends and the data that were
-/// delivered.
+/// Runs a campaign by so many workers, and prints these, the nanoseconds, the events, the frames of both ends and the
+/// data that were delivered.
 pub(crate) fn all<R: Threads + Sync>(rt: &HostRuntime, threads: &R, asked: u32) -> io::Result<()> {
     let workers = workers_of(asked);
     let start = Instant::now(rt)?;

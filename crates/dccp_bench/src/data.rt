@@ -47,7 +47,8 @@ struct Pair {
 }
 
 impl Pair {
-    // What the client has just sent arrives at the server; then what that sends in answer arrives, and what the client sends to that.
+    // What the client has just sent arrives at the server; then what that sends in answer arrives, and what the client
+    // sends to that.
     fn client_to_server(&mut self) {
         if self.reach_server() && self.reach_client() {
             let _ = self.reach_server();
@@ -80,7 +81,8 @@ impl Pair {
         true
     }
 
-    // The client sends, and every tenth time its packet is lost. Where its window is full, the server's timer brings an Ack.
+    // The client sends, and every tenth time its packet is lost. Where its window is full, the server's timer brings an
+    // Ack.
     fn client_sends(&mut self, round: u32) {
         match self.client.send(&DATA, &mut self.from_client) {
             Ok(()) if round % 10 == 9 => {}
@@ -92,7 +94,8 @@ impl Pair {
         }
     }
 
-    // Now and then the server sends too, the timer of the client's congestion control runs out, or it asks for the other CCID.
+    // Now and then the server sends too, the timer of the client's congestion control runs out, or it asks for the
+    // other CCID.
     fn others(&mut self, round: u32) {
         if round % 4 == 3 && self.server.send(&DATA, &mut self.from_server).is_ok() {
             self.server_to_client();
@@ -128,8 +131,8 @@ fn opened(alloc: Global) -> io::Result<Pair> {
     Ok(pair)
 }
 
-/// Sends data so many times, with losses, reports, timeouts and changes of the CCID; gives how many data were delivered, and the windows
-/// that were seen.
+/// Sends data so many times, with losses, reports, timeouts and changes of the CCID; gives how many data were
+/// delivered, and the windows that were seen.
 pub(crate) fn exchange(alloc: Global, rounds: u32) -> io::Result<u64> {
     let mut pair = opened(alloc)?;
     let mut windows = 0u64;

@@ -11,7 +11,8 @@ use std::alloc::Global;
 use std::io;
 use std::time::Instant;
 
-// How packets come: with every tenth number lost or none, and with the end's newest packet acknowledged by each or by none.
+// How packets come: with every tenth number lost or none, and with the end's newest packet acknowledged by each or by
+// none.
 #[derive(Clone, Copy)]
 struct Order {
     name: &'static str,
@@ -169,8 +170,9 @@ pub(crate) fn all(rt: &HostRuntime, rounds: u32) -> io::Result<()> {
     Ok(())
 }
 
-/// Makes so many packets in one place and hands each to an end in OPEN, with every tenth lost; gives how many data it delivered.
-/// In the second half of each phase the client acknowledges nothing, so that vectors are cut and the floor is pushed.
+/// Makes so many packets in one place and hands each to an end in OPEN, with every tenth lost; gives how many data it
+/// delivered. In the second half of each phase the client acknowledges nothing, so that vectors are cut and the floor
+/// is pushed.
 pub(crate) fn take(alloc: Global, rounds: u32) -> io::Result<u64> {
     let order = ORDERS[1];
     let mut end = opened(alloc)?;

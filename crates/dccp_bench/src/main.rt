@@ -1,10 +1,11 @@
-//! How long it takes to read a packet (own): decoding, listing its options and checking its sum, over frames of worked runs
-//! and over a full frame. One word says how many rounds; the figures go to standard error.
+//! How long it takes to read a packet (own): decoding, listing its options and checking its sum, over frames of worked
+//! runs and over a full frame. One word says how many rounds; the figures go to standard error.
 //!
-//! `marks` and a number of rounds makes the calls of received numbers and of congestion control, hands packets to an end, and lets two
-//! ends send each other data, so that what they allocate can be counted. `ratios` and a number of rounds times marks, the writing of Ack Vectors and the taking of reports. `runs` and a
-//! number of rounds times marks in several orders, over both ways to keep runs. `ends` and a number of rounds times an end in OPEN to
-//! which packets of data come. `campaign` and a number of workers times a campaign.
+//! `marks` and a number of rounds makes the calls of received numbers and of congestion control, hands packets to an
+//! end, and lets two ends send each other data, so that what they allocate can be counted. `ratios` and a number of
+//! rounds times marks, the writing of Ack Vectors and the taking of reports. `runs` and a number of rounds times marks
+//! in several orders, over both ways to keep runs. `ends` and a number of rounds times an end in OPEN to which packets
+//! of data come. `campaign` and a number of workers times a campaign.
 //!
 //! Nothing is claimed of what it prints.
 #![tactic(auto)]

@@ -1,4 +1,5 @@
-//! Calls of the set of received numbers, of congestion control and of ends, over and over, for a count of what they allocate.
+//! Calls of the set of received numbers, of congestion control and of ends, over and over, for a count of what they
+//! allocate.
 
 use crate::data::exchange;
 use crate::ends::take;
@@ -11,15 +12,15 @@ use seq_circle::Seq48;
 use std::alloc::Global;
 use std::io;
 
-// So many rounds, and the set is started afresh. In the second half of them the peer acknowledges nothing, so that vectors
-// are cut and the floor is pushed.
+// So many rounds, and the set is started afresh. In the second half of them the peer acknowledges nothing, so that
+// vectors are cut and the floor is pushed.
 const PHASE: u32 = 4096;
 
 // Three received, one missing and 64 received.
 const REPORT: [u8; 5] = [38, 5, 0x02, 0xc0, 0x3f];
 
-// Marks a number twice, and sometimes the missing one before it; writes the vector down from it and records the packet. Now
-// and then the peer acknowledges that packet.
+// Marks a number twice, and sometimes the missing one before it; writes the vector down from it and records the packet.
+// Now and then the peer acknowledges that packet.
 fn mark(received: &mut Received, out: &mut VectorBytes, newest: Seq48, round: u32) -> u64 {
     let phase = round % PHASE;
     if phase == 0 {

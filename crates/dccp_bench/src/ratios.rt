@@ -1,5 +1,5 @@
-//! Marks in a full window, and the writing of a vector and the taking of a report at some sizes: what is linear takes four
-//! times as long at the second as at the first.
+//! Marks in a full window, and the writing of a vector and the taking of a report at some sizes: what is linear takes
+//! four times as long at the second as at the first.
 
 use ack_vectors::{Received, VectorBytes};
 use congestion_trait::Flight;
@@ -19,8 +19,8 @@ const SMALL: [u8; 3] = [38, 3, 0x02];
 // How many successive numbers are marked.
 const WINDOW: u32 = 2048;
 
-// The factor by which the next place follows from the one before, plus 1, where places come scattered. With one that leaves 1
-// when divided by 4, each place comes once.
+// The factor by which the next place follows from the one before, plus 1, where places come scattered. With one that
+// leaves 1 when divided by 4, each place comes once.
 const SCATTERED: u32 = 1229;
 
 /// The lowest number.
@@ -174,8 +174,8 @@ fn take_report(flight: &mut Flight, received: &Received, ack: Seq48) -> io::Resu
     Ok(flight.report(&report, None).acked)
 }
 
-/// Prints the nanoseconds of so many reports of a small vector over a list whose second entry was lost and whose others are
-/// all Reported.
+/// Prints the nanoseconds of so many reports of a small vector over a list whose second entry was lost and whose others
+/// are all Reported.
 pub(crate) fn behind_a_loss(rt: &HostRuntime, runs: u32, rounds: u32) -> io::Result<()> {
     let ack = newest(runs);
     let mut flight = all_sent(rt.alloc(), runs)?;

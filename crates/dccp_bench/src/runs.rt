@@ -8,8 +8,8 @@ use std::time::Instant;
 // How many successive numbers a full window has.
 const WINDOW: u32 = 2048;
 
-// So many marks: the next place follows from the one before by a factor and a step. With a factor that leaves 1 when divided
-// by 4 and a step of 1, each place of the window comes once.
+// So many marks: the next place follows from the one before by a factor and a step. With a factor that leaves 1 when
+// divided by 4 and a step of 1, each place of the window comes once.
 #[derive(Clone, Copy)]
 struct Order {
     name: &'static str,

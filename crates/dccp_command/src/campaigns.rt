@@ -31,8 +31,8 @@ fn words_in<'a>(alloc: Global, line: &'a str) -> Result<Vec<&'a str>, Fail> {
     Ok(words)
 }
 
-// How a campaign ended and what it wrote, over a source whose first call would fail and a sink that takes 7 bytes a call and
-// fails at these calls.
+// How a campaign ended and what it wrote, over a source whose first call would fail and a sink that takes 7 bytes a
+// call and fails at these calls.
 fn counted<R: Threads + Sync, G: Gate + Sync>(
     rt: &R,
     alloc: Global,
@@ -153,8 +153,8 @@ impl Gate for HoldFirst {
     }
 }
 
-// Two workers run beside each other and claim as they go: one alone, or two with two seeds each from the start, would leave the first seed
-// held.
+// Two workers run beside each other and claim as they go: one alone, or two with two seeds each from the start, would
+// leave the first seed held.
 #[test]
 fn a_held_seed_holds_no_other(rt: HostRuntime) -> Result<(), Fail> {
     let gate = HoldFirst {

@@ -57,8 +57,9 @@ impl Play {
     }
 
     /// Plays one line, which has its newline, or answers why it is refused. The faults that need more than the line are
-    /// judged here, each at its place among those of the line itself: the limit of bytes before them, and behind them that
-    /// it has to stand before all events (but before what an end may wish), the limit of events, and a frame that was not sent.
+    /// judged here, each at its place among those of the line itself: the limit of bytes before them, and behind them
+    /// that it has to stand before all events (but before what an end may wish), the limit of events, and a frame that
+    /// was not sent.
     pub(crate) fn judge(
         &mut self,
         alloc: Global,

@@ -95,8 +95,8 @@ impl Replay {
         Ok(())
     }
 
-    /// Replays one line, which has its newline, or answers why it is refused. The limit of bytes is judged before the line
-    /// itself.
+    /// Replays one line, which has its newline, or answers why it is refused. The limit of bytes is judged before the
+    /// line itself.
     pub(crate) fn judge(
         &mut self,
         line: &[u8],

@@ -48,8 +48,8 @@ fn end<K: Sink>(output: &mut K, replay: &Replay, text: &mut Vec<u8>) -> Status
     leave(output, text, false)
 }
 
-/// Replays the lines of an input, one by one as they are read, until it ends or a line is refused. The text is written in
-/// blocks, and whole at the end.
+/// Replays the lines of an input, one by one as they are read, until it ends or a line is refused. The text is written
+/// in blocks, and whole at the end.
 pub(crate) fn replay_lines<S: Source + Drop, K: Sink>(
     alloc: Global,
     side: Side,

@@ -152,8 +152,9 @@ fn refuse_header<K: Sink>(alloc: Global, why: CaptureFault, output: &mut K) -> S
     }
 }
 
-/// Shows a capture: a line for each record that carries DCCP, written in blocks as the records are read, and a last line
-/// that counts them or tells the fault that ended them. It keeps one record of the input, the flows and one block of text.
+/// Shows a capture: a line for each record that carries DCCP, written in blocks as the records are read, and a last
+/// line that counts them or tells the fault that ended them. It keeps one record of the input, the flows and one block
+/// of text.
 pub(crate) fn show_capture<S: Source, K: Sink>(
     alloc: Global,
     input: &mut S,

@@ -40,16 +40,16 @@ pub enum Status {
 }
 
 /// Does what the words ask for (own), those after the program's name. `run` plays a schedule: it reads `input`, and
-/// writes to `output` a line for each event and for each frame that it sent, and at last the state of both ends. `replay`
-/// hands the frames of `input` to one end, and writes the same of it. `show` reads a capture, and writes a line for each
-/// DCCP packet in it, and at last how many records it has or why it ends early. Each form answers while it reads, a line
-/// or a record at a time, and writes in blocks.
-/// `campaign` reads nothing: it runs seeds on as many threads as it is told, each of which calls `gate` before each seed that it runs, and
-/// writes what was counted of all of them, the same for every number of threads and for every gate.
+/// writes to `output` a line for each event and for each frame that it sent, and at last the state of both ends.
+/// `replay` hands the frames of `input` to one end, and writes the same of it. `show` reads a capture, and writes a
+/// line for each DCCP packet in it, and at last how many records it has or why it ends early. Each form answers while
+/// it reads, a line or a record at a time, and writes in blocks. `campaign` reads nothing: it runs seeds on as many
+/// threads as it is told, each of which calls `gate` before each seed that it runs, and writes what was counted of all
+/// of them, the same for every number of threads and for every gate.
 ///
 /// Words are judged first; after that the first refusal met in the order of reading decides. With status 0 or 1 the
-/// output is the text of the whole input, and the two ends of a schedule were safe after each of its events. With status 3,
-/// 4 or 5 it is a front of that text.
+/// output is the text of the whole input, and the two ends of a schedule were safe after each of its events. With
+/// status 3, 4 or 5 it is a front of that text.
 pub fn dccp<R: Threads + Sync, G: Gate + Sync, S: Source, K: Sink>(
     rt: &R,
     alloc: Global,
@@ -64,7 +64,8 @@ pub fn dccp<R: Threads + Sync, G: Gate + Sync, S: Source, K: Sink>(
     ensures usage { form_of words.now ≡ None → IsWritten usage (K.taken output.old) (K.taken output.new)
         (SinkFailed (K.faults output.old) (K.faults output.new) (K.empty_takes output.old) (K.empty_takes output.new)) }
 
-    // `run`, over an input that the source tells: what is written and how it ends, and what held of the two ends meanwhile.
+    // `run`, over an input that the source tells: what is written and how it ends, and what held of the two ends
+    // meanwhile.
     ensures transcript { form_of words.now ≡ Some Form.Run → (bytes : List ℕ) → S.left input.old ≡ Some bytes
         → Answers (transcript bytes) (is_refused bytes) result (S.left input.new) (K.taken output.old) (K.taken output.new) }
     ensures safe { form_of words.now ≡ Some Form.Run → (bytes : List ℕ) → S.left input.old ≡ Some bytes → IsAnswered result → SafeThroughout bytes }
@@ -78,8 +79,8 @@ pub fn dccp<R: Threads + Sync, G: Gate + Sync, S: Source, K: Sink>(
     ensures replay_past { (side : Side) (plain : Bool) → form_of words.now ≡ Some (Form.Replay side plain) → (bytes : List ℕ) → S.left input.old ≡ Some bytes
         → result ≡ Status.Input → GivesAtMost 16384 (Some (drop (replay.accepted_bytes side plain bytes) bytes)) (S.left input.new) }
 
-    // `show`, over an input that the source tells: what is written and how it ends, and, where the capture has a fault, how far
-    // past its last whole record the input was read.
+    // `show`, over an input that the source tells: what is written and how it ends, and, where the capture has a fault,
+    // how far past its last whole record the input was read.
     ensures shown { form_of words.now ≡ Some Form.Show → (bytes : List ℕ) → S.left input.old ≡ Some bytes
         → Answers (capture_text bytes) (is_faulty bytes) result (S.left input.new) (K.taken output.old) (K.taken output.new) }
     ensures past { form_of words.now ≡ Some Form.Show → (bytes : List ℕ) → S.left input.old ≡ Some bytes → result ≡ Status.Input

@@ -68,10 +68,12 @@ impl Config {
     ghost use Rattle.dccp_endpoint.specs.Usual.{usual};
     ghost use Rattle.dccp_states.specs.declared.phase.Role.TheVariants.{Client, Server};
 
-    /// A client that asks for a service. The addresses are those of the packets that it sends, its own the first; the service is a Service
-    /// Code (RFC 4340, section 8.1.2); the number of its first packet is to be one that nobody can guess (section 7.2).
+    /// A client that asks for a service. The addresses are those of the packets that it sends, its own the first; the
+    /// service is a Service Code (RFC 4340, section 8.1.2); the number of its first packet is to be one that nobody can
+    /// guess (section 7.2).
     ///
-    /// Its wishes and offers are those of `Lists::usual`, which are enough for data under CCID 2. `set`, `offer` and `plain` change them.
+    /// Its wishes and offers are those of `Lists::usual`, which are enough for data under CCID 2. `set`, `offer` and
+    /// `plain` change them.
     pub fn client(addresses: Pseudo, ports: Ports, service: u32, iss: Seq48) -> Config
         ensures { result ≡ configured Client addresses ports service iss }
     {
@@ -145,7 +147,8 @@ impl Config {
         let _wish = self.lists.wish(Feature::Ccid, Place::Here);
     }
 
-    /// Wishes these values, best first, for the feature at this place from the start on, in place of what was wished there.
+    /// Wishes these values, best first, for the feature at this place from the start on, in place of what was wished
+    /// there.
     ///
     /// Refused, with nothing changed, as `feature_lists::wish` refuses: BadList, then NotOurs.
     pub fn set(&mut self, feature: Feature, place: Place, values: &[u64]) -> Result<(), PreferFault>

@@ -47,8 +47,8 @@ fn fit(marks: &mut Marks, rows: &Negotiation)
     marks.peer_w = rows.held(Feature::SequenceWindow, Place::There).value;
 }
 
-/// One end of a connection but for its congestion control, which is lent to it where something is due to it. Its calls are those of
-/// `Endpoint`.
+/// One end of a connection but for its congestion control, which is lent to it where something is due to it. Its calls
+/// are those of `Endpoint`.
 #[derive(Drop)]
 pub(crate) struct Connection {
     config: Config,

@@ -13,14 +13,15 @@ use std::marker::Model;
 // The CCID with which every end begins (RFC 4340, section 10).
 const FIRST_CCID: u8 = 2;
 
-/// One end of a connection, with the congestion control of the data that it sends. It has no socket and no clock: whoever owns it
-/// has both. Each call that takes an Outbox empties it first and leaves at most one frame there, which the owner then sends to the
-/// peer. A refused call leaves the end and its congestion control unchanged and the box empty. Only `new` may take memory.
+/// One end of a connection, with the congestion control of the data that it sends. It has no socket and no clock:
+/// whoever owns it has both. Each call that takes an Outbox empties it first and leaves at most one frame there, which
+/// the owner then sends to the peer. A refused call leaves the end and its congestion control unchanged and the box
+/// empty. Only `new` may take memory.
 ///
 /// # The order of calls
 ///
-/// An end serves one connection. A client's is made by `new` and opened once, by `open`; a server's is made by `new` for a peer from
-/// which a datagram came. From then on, in whatever order:
+/// An end serves one connection. A client's is made by `new` and opened once, by `open`; a server's is made by `new`
+/// for a peer from which a datagram came. From then on, in whatever order:
 ///
 /// - `receive` for each datagram of the peer, of at most [`MOST_FRAME_BYTES`](crate::MOST_FRAME_BYTES) bytes: the owner drops a longer one
 /// - `timer` for each timer that has run out
@@ -29,8 +30,8 @@ const FIRST_CCID: u8 = 2;
 /// - `close` to end the connection in order, in PARTOPEN and OPEN, and `abort` to end it at once
 /// - the readers `phase`, `marks`, `held`, `window`, `in_flight`, `is_reported`, `floor` and `marked`, at any time
 ///
-/// A feature's value, as `held` shows it, is settled where its stand is Stable. The connection has ended once the phase is CLOSED again.
-/// An end in TIMEWAIT is kept until its timer has run out.
+/// A feature's value, as `held` shows it, is settled where its stand is Stable. The connection has ended once the phase
+/// is CLOSED again. An end in TIMEWAIT is kept until its timer has run out.
 ///
 /// # What an outcome of `receive` asks of the owner
 ///
@@ -61,8 +62,9 @@ const FIRST_CCID: u8 = 2;
 ///
 /// # Sizes
 ///
-/// An end has 3,128 bytes beside its congestion control's, which are 168 for `Kinds` of ccid_two, and takes two blocks in `new`, of 17,920
-/// bytes together. A flight list takes one of 32,768; `Kinds` has two. An [`Outbox`] has 2,064 bytes: one may serve all ends of a thread.
+/// An end has 3,128 bytes beside its congestion control's, which are 168 for `Kinds` of ccid_two, and takes two blocks
+/// in `new`, of 17,920 bytes together. A flight list takes one of 32,768; `Kinds` has two. An [`Outbox`] has 2,064
+/// bytes: one may serve all ends of a thread.
 #[derive(Drop)]
 pub struct Endpoint<C> {
     connection: Connection,
@@ -81,8 +83,8 @@ impl<C: Congestion + Drop> Endpoint<C> {
     ghost use Rattle.std.specs.Prelude.{◌≡◌, IsTrue, IfOk};
     ghost use Rattle.dccp_endpoint.specs.Controlled.{begins};
 
-    /// An end of its configuration: CLOSED for a client, LISTEN for a server (RFC 4340, section 8.1). The congestion control is
-    /// started with CCID 2, and has to know it.
+    /// An end of its configuration: CLOSED for a client, LISTEN for a server (RFC 4340, section 8.1). The congestion
+    /// control is started with CCID 2, and has to know it.
     pub fn new(alloc: Global, config: Config, congestion: C) -> Result<Endpoint<C>, NoMemory>
         requires { IsTrue (C.control.is_known 2) }
         ensures { IfOk result (λ e. e ≡ begins C.control config congestion) }
@@ -159,8 +161,8 @@ impl<C: Congestion> Endpoint<C> {
         self.congestion.is_reported(number)
     }
 
-    /// The least number that an Ack Vector may report (RFC 4340, section 11.4.2), or 0 before the first was received. All numbers that
-    /// are kept lie from it up to 2,047 above it.
+    /// The least number that an Ack Vector may report (RFC 4340, section 11.4.2), or 0 before the first was received.
+    /// All numbers that are kept lie from it up to 2,047 above it.
     pub fn floor(&self) -> Seq48
         ensures value { result ≡ floor_of self.now.state }
         ensures sound { IsSound self.now.state.received.set }
@@ -175,8 +177,8 @@ impl<C: Congestion> Endpoint<C> {
         self.connection.marked()
     }
 
-    /// The client sends its Request (RFC 4340, section 8.1.1). Refused with `NotFresh` exactly where the end is a server
-    /// or was opened before.
+    /// The client sends its Request (RFC 4340, section 8.1.1). Refused with `NotFresh` exactly where the end is a
+    /// server or was opened before.
     pub fn open(&mut self, out: &mut Outbox) -> Result<(), OpenFault>
         ensures step { record { after = self.new; frame = out.new; answer = result } ≡ with_control C.control self.old.congestion (opens self.old.state) }
         ensures not_fresh { (result ≡ Err OpenFault.NotFresh) ↔ ((self.old.state.config.role ≡ Role.Server) ⊎ (self.old.state.opened ≡ true)) }
@@ -185,10 +187,11 @@ impl<C: Congestion> Endpoint<C> {
         self.connection.open(out)
     }
 
-    /// Sends data, at most 1,024 bytes: a DataAck where an acknowledgement is owed, which has an Ack Vector where Send Ack Vector is 1,
-    /// else a Data (RFC 4340, section 8.1.5). The congestion control counts the packet as in flight. Refused with `NotOpen` exactly
-    /// outside OPEN; then with `TooLong` exactly where the data are longer; then with `NotNegotiated` exactly where CCID here is 2 and
-    /// the peer sends no Ack Vectors (RFC 4341, section 4); then with `WindowFull` exactly where as many packets are in flight as may be.
+    /// Sends data, at most 1,024 bytes: a DataAck where an acknowledgement is owed, which has an Ack Vector where Send
+    /// Ack Vector is 1, else a Data (RFC 4340, section 8.1.5). The congestion control counts the packet as in flight.
+    /// Refused with `NotOpen` exactly outside OPEN; then with `TooLong` exactly where the data are longer; then with
+    /// `NotNegotiated` exactly where CCID here is 2 and the peer sends no Ack Vectors (RFC 4341, section 4); then with
+    /// `WindowFull` exactly where as many packets are in flight as may be.
     #[tactic(auto, unfolding(crate::specs::Calling::sends_payload))]
     pub fn send(&mut self, payload: &[u8], out: &mut Outbox) -> Result<(), SendFault>
         ensures step { record { after = self.new; frame = out.new; answer = result } ≡ with_control C.control self.old.congestion (sends_payload self.old.state payload.now (may_send C.control self.old.congestion)) }
@@ -221,8 +224,9 @@ impl<C: Congestion> Endpoint<C> {
         self.connection.close(out)
     }
 
-    /// Ends the connection at once: the phase is CLOSED, and a Reset with the code Aborted goes out, but in REQUEST nothing,
-    /// since the other end was not heard (RFC 4340, section 8.3). Refused with `NotLive` exactly in CLOSED, LISTEN and TIMEWAIT.
+    /// Ends the connection at once: the phase is CLOSED, and a Reset with the code Aborted goes out, but in REQUEST
+    /// nothing, since the other end was not heard (RFC 4340, section 8.3). Refused with `NotLive` exactly in CLOSED,
+    /// LISTEN and TIMEWAIT.
     pub fn abort(&mut self, out: &mut Outbox) -> Result<(), AbortFault>
         ensures step { record { after = self.new; frame = out.new; answer = result } ≡ with_control C.control self.old.congestion (aborts self.old.state) }
         ensures not_live { (result ≡ Err AbortFault.NotLive) ↔ ((self.old.state.phase ≡ Phase.Closed) ⊎ (self.old.state.phase ≡ Phase.Listen) ⊎ (self.old.state.phase ≡ Phase.TimeWait)) }
@@ -231,9 +235,9 @@ impl<C: Congestion> Endpoint<C> {
         self.connection.abort(out)
     }
 
-    /// The end wants these values, best first, for a feature at a place (RFC 4340, section 6.6.1). A row in STABLE asks at once, by
-    /// an Ack with its Change; any other asks on a later occasion, and nothing goes out. Refused with `NotOpen` exactly outside
-    /// PARTOPEN and OPEN; then as `feature_lists::wish` refuses, with `BadList` or `NotOurs`.
+    /// The end wants these values, best first, for a feature at a place (RFC 4340, section 6.6.1). A row in STABLE asks
+    /// at once, by an Ack with its Change; any other asks on a later occasion, and nothing goes out. Refused with
+    /// `NotOpen` exactly outside PARTOPEN and OPEN; then as `feature_lists::wish` refuses, with `BadList` or `NotOurs`.
     pub fn prefer(
         &mut self,
         feature: Feature,
@@ -288,33 +292,34 @@ impl<C: Congestion> Endpoint<C> {
         true
     }
 
-    /// Takes bytes that arrived, as RFC 4340, section 8.5 says under this profile, at most 2,044 of them. Bytes that are no
-    /// packet, whose checksum does not fit, whose ports are not those of the connection or whose numbers are short are
-    /// dropped, in this order. The phase decides whether the packet may enter, the windows whether its numbers are valid, its
-    /// type whether it is unexpected; then its options are read, its number is marked, what it acknowledges is looked up among
-    /// the Ack Vectors that were sent, and it moves the phase and is answered. Options of the negotiation count on newest
-    /// packets alone, in RESPOND, PARTOPEN and OPEN and on the Response in REQUEST.
+    /// Takes bytes that arrived, as RFC 4340, section 8.5 says under this profile, at most 2,044 of them. Bytes that
+    /// are no packet, whose checksum does not fit, whose ports are not those of the connection or whose numbers are
+    /// short are dropped, in this order. The phase decides whether the packet may enter, the windows whether its
+    /// numbers are valid, its type whether it is unexpected; then its options are read, its number is marked, what it
+    /// acknowledges is looked up among the Ack Vectors that were sent, and it moves the phase and is answered. Options
+    /// of the negotiation count on newest packets alone, in RESPOND, PARTOPEN and OPEN and on the Response in REQUEST.
     ///
-    /// Once the options are read without a fault, the congestion control hears of them: first of the Ack Vectors, on every packet with
-    /// an acknowledgement number but a Sync, with the Ack Ratio here after the packet; and then it is started with the new CCID where
-    /// that of this end changed, if it knows it.
+    /// Once the options are read without a fault, the congestion control hears of them: first of the Ack Vectors, on
+    /// every packet with an acknowledgement number but a Sync, with the Ack Ratio here after the packet; and then it is
+    /// started with the new CCID where that of this end changed, if it knows it.
     ///
-    /// Each outcome comes exactly for its causes (`cause`, `no_other_cause`), and tells what has changed (`effect`). A packet
-    /// that is dropped changes nothing and sends nothing. A valid Reset moves the phase to TIMEWAIT, and nothing
+    /// Each outcome comes exactly for its causes (`cause`, `no_other_cause`), and tells what has changed (`effect`). A
+    /// packet that is dropped changes nothing and sends nothing. A valid Reset moves the phase to TIMEWAIT, and nothing
     /// else. A Sync takes the next number and acknowledges the number that `Synced` has; nothing else changes where the
-    /// packet's numbers are not valid, and where it is unexpected it has raised the greatest numbers received. A Reset has the
-    /// code and the detail that `SentReset` has. Without a connection (codes 3 and 8) it changes nothing. In REQUEST, where the
-    /// packet is neither a Reset nor a Response that acknowledges within the window (code 4), it takes the next number, and
-    /// nothing else changes. Otherwise (codes 1, 5, 6 and 8) the packet's numbers were taken, the end closes, and the Reset takes
-    /// the next number and acknowledges the greatest number received. The first fault of the options (codes 5 and 6) leaves what
-    /// was negotiated as it was before the packet, and its number unmarked.
+    /// packet's numbers are not valid, and where it is unexpected it has raised the greatest numbers received. A Reset
+    /// has the code and the detail that `SentReset` has. Without a connection (codes 3 and 8) it changes nothing. In
+    /// REQUEST, where the packet is neither a Reset nor a Response that acknowledges within the window (code 4), it
+    /// takes the next number, and nothing else changes. Otherwise (codes 1, 5, 6 and 8) the packet's numbers were
+    /// taken, the end closes, and the Reset takes the next number and acknowledges the greatest number received. The
+    /// first fault of the options (codes 5 and 6) leaves what was negotiated as it was before the packet, and its
+    /// number unmarked.
     ///
-    /// A packet that is `Took` moves the phase and is answered by the table of phases; its data are delivered where it is a Data
-    /// or a DataAck, the end is OPEN then and its number is new. The rows have heard its options in their order, and the Confirms
-    /// that they answer go out on the packet that acknowledges it: the table's, or an Ack where the table has none in PARTOPEN and
-    /// OPEN. In OPEN an Ack goes out as well where as many data packets were delivered since the last one as the peer's Ack Ratio
-    /// says. Each Ack has an Ack Vector where Send Ack Vector is 1. A Response lets all offers come up, and carries the Changes of
-    /// all rows that ask and have no Confirm in it.
+    /// A packet that is `Took` moves the phase and is answered by the table of phases; its data are delivered where it
+    /// is a Data or a DataAck, the end is OPEN then and its number is new. The rows have heard its options in their
+    /// order, and the Confirms that they answer go out on the packet that acknowledges it: the table's, or an Ack where
+    /// the table has none in PARTOPEN and OPEN. In OPEN an Ack goes out as well where as many data packets were
+    /// delivered since the last one as the peer's Ack Ratio says. Each Ack has an Ack Vector where Send Ack Vector is
+    /// 1. A Response lets all offers come up, and carries the Changes of all rows that ask and have no Confirm in it.
     pub fn receive(&mut self, bytes: &[u8], out: &mut Outbox) -> Outcome
         requires { length bytes.now ≤ 2044 }
         ensures step { record { after = self.new; frame = out.new; answer = result } ≡ with_control C.control self.old.congestion (receives self.old.state bytes.now) }

@@ -17,8 +17,8 @@ use std::marker::Model;
 // How many Changes of a packet count.
 const MOST_CHANGES: usize = 64;
 
-/// What reading the options of a packet has come to: the rows, which features were spoken of by L and by R, how many Changes were
-/// met, and the Confirms that are due, in order.
+/// What reading the options of a packet has come to: the rows, which features were spoken of by L and by R, how many
+/// Changes were met, and the Confirms that are due, in order.
 #[derive(Debug, Drop)]
 pub(crate) struct Reading {
     rows: Negotiation,
@@ -260,8 +260,8 @@ impl Reading {
     }
 }
 
-/// Reads the options of an area, on a Data packet or on another, in order, up to the first fault; `count` tells whether those of the
-/// negotiation count, and `ack` is the packet's acknowledgement number.
+/// Reads the options of an area, on a Data packet or on another, in order, up to the first fault; `count` tells whether
+/// those of the negotiation count, and `ack` is the packet's acknowledgement number.
 pub(crate) fn heed(
     reading: &mut Reading,
     area: &[u8],
@@ -288,7 +288,8 @@ fn is_silent(item: &Result<Opt<'_>, OptFault>, count: bool) -> bool
     }
 }
 
-/// Tells that no option of an area has a fault or says anything to the rows, as nearly always: then there is nothing to read.
+/// Tells that no option of an area has a fault or says anything to the rows, as nearly always: then there is nothing to
+/// read.
 pub(crate) fn are_silent(area: &[u8], on_data: bool, count: bool) -> bool
     requires { length area.now ≤ 1008 }
     ensures { result ≡ true → (ack : Option ℕ) (heeding : Heeding) → heeds count ack heeding (options_of area.now on_data) ≡ Ok heeding }

@@ -7,9 +7,9 @@ ghost use Rattle.dccp_endpoint.specs.Causes.{EveryStepHasOneEffect};
 ghost use Rattle.dccp_endpoint.specs.Drafts.{Draft, Fits, IsSendable, ReadsAs, frame_of, own_header};
 ghost use Rattle.dccp_endpoint.specs.Saying.{ConfirmsAreSingle, OwnPacketsSayOfARow, OwnPacketsSpeakOnce, RowsHearThePacket};
 
-/// What an end writes is read as it was meant: each frame of a draft is a packet with the draft's type, options and data under the
-/// end's ports and the number, and its checksum fits (RFC 4340, sections 5 and 9). Where numbers are too large for their fields, the
-/// low bits are read.
+/// What an end writes is read as it was meant: each frame of a draft is a packet with the draft's type, options and
+/// data under the end's ports and the number, and its checksum fits (RFC 4340, sections 5 and 9). Where numbers are too
+/// large for their fields, the low bits are read.
 pub fn own_frames_are_read()
     ensures whole { (config : Config) (number : ℕ) (draft : Draft) → Fits config → number < 2 ^ 48 → KindFits draft.kind → IsSendable draft
         → ReadsAs (own_header config number draft.kind) config.pseudo_out draft (frame_of config number draft) }
@@ -17,28 +17,29 @@ pub fn own_frames_are_read()
         → ReadsAs (in_widths (own_header config number draft.kind)) config.pseudo_out draft (frame_of config number draft) }
 {}
 
-/// Each step of an end has one effect: a record of what becomes of each part of the end, of what goes out and why (own). What two ends
-/// do to each other follows from the effects of their steps.
+/// Each step of an end has one effect: a record of what becomes of each part of the end, of what goes out and why
+/// (own). What two ends do to each other follows from the effects of their steps.
 pub fn every_step_has_one_effect()
     ensures { EveryStepHasOneEffect }
 {}
 
-/// A packet of at most 64 options that is read whole says one thing to a row at most: what the first option says that speaks to it, a
-/// Change or a Confirm (RFC 4340, sections 6.1 and 6.2; that only the first counts where there are several, and that none has more
-/// options that count, is own). The row hears that and nothing else, and a Confirm for it is due exactly where its answer is one, and once.
+/// A packet of at most 64 options that is read whole says one thing to a row at most: what the first option says that
+/// speaks to it, a Change or a Confirm (RFC 4340, sections 6.1 and 6.2; that only the first counts where there are
+/// several, and that none has more options that count, is own). The row hears that and nothing else, and a Confirm for
+/// it is due exactly where its answer is one, and once.
 pub fn packets_say_one_thing_to_a_row()
     ensures heard { RowsHearThePacket }
     ensures single { ConfirmsAreSingle }
 {}
 
-/// What an end's own packet says to the peer's row of the same feature: the Confirm for the row if there is one, or else its Change
-/// if that goes out, or else nothing (RFC 4340, sections 6.1 and 6.2).
+/// What an end's own packet says to the peer's row of the same feature: the Confirm for the row if there is one, or
+/// else its Change if that goes out, or else nothing (RFC 4340, sections 6.1 and 6.2).
 pub fn own_packets_say_one_thing_of_a_row()
     ensures { OwnPacketsSayOfARow }
 {}
 
-/// An end's own packet speaks to a row of the peer once at most: no row's Change goes out twice on a packet, nor beside a Confirm for
-/// that row. RFC 4340 (section 6) allows more; that an end says no more is own.
+/// An end's own packet speaks to a row of the peer once at most: no row's Change goes out twice on a packet, nor beside
+/// a Confirm for that row. RFC 4340 (section 6) allows more; that an end says no more is own.
 pub fn own_packets_speak_once()
     ensures { OwnPacketsSpeakOnce }
 {}

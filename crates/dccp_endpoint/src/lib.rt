@@ -1,12 +1,14 @@
-//! One end of a DCCP connection: what it does with each packet that arrives and with each call, how it negotiates features
-//! (RFC 4340, sections 6 and 8), and what its congestion control hears (section 10).
+//! One end of a DCCP connection: what it does with each packet that arrives and with each call, how it negotiates
+//! features (RFC 4340, sections 6 and 8), and what its congestion control hears (section 10).
 //!
-//! An [`Endpoint`] is made from a [`Config`], which has its wishes and offers, and a congestion control of any kind, and serves
-//! one connection. Its calls put at most one frame into an `Outbox`, which they empty first; a refused call leaves the end
-//! unchanged and the box empty. It has no socket and no clock, and takes no memory once it is made. Frames that arrive are
-//! handed to `receive`, in whatever order. [`Endpoint`] says in which order its calls come and what is left to whoever owns it.
+//! An [`Endpoint`] is made from a [`Config`], which has its wishes and offers, and a congestion control of any kind,
+//! and serves one connection. Its calls put at most one frame into an `Outbox`, which they empty first; a refused call
+//! leaves the end unchanged and the box empty. It has no socket and no clock, and takes no memory once it is made.
+//! Frames that arrive are handed to `receive`, in whatever order. [`Endpoint`] says in which order its calls come and
+//! what is left to whoever owns it.
 //!
-//! What the calls take and give is named here too, so that one crate is enough to import beside that of a congestion control.
+//! What the calls take and give is named here too, so that one crate is enough to import beside that of a congestion
+//! control.
 #![tactic(auto)]
 
 mod calls;

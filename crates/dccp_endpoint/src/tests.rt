@@ -1,5 +1,5 @@
-//! Each public call of an end once, with ample memory. What an end answers to which packet, and in which phase, is told by the
-//! replays and schedules of examples/.
+//! Each public call of an end once, with ample memory. What an end answers to which packet, and in which phase, is told
+//! by the replays and schedules of examples/.
 use crate::{
     AbortFault, CloseFault, Config, Feature, Held, OpenFault, Outcome, Phase, Place, PreferFault,
     Role, SendFault, Stand, Timer,

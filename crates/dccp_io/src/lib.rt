@@ -1,7 +1,7 @@
 //! Where bytes come from and where they go: sources and sinks that may fail, and count how often they did (own).
 //!
-//! Nothing here knows packets, or what a line says. A source that tells its bytes and a sink that tells what it took are what
-//! contracts above speak of; the adapters over standard input and output tell nothing but their counts.
+//! Nothing here knows packets, or what a line says. A source that tells its bytes and a sink that tells what it took
+//! are what contracts above speak of; the adapters over standard input and output tell nothing but their counts.
 #![tactic(auto)]
 
 mod calls;

@@ -25,7 +25,8 @@ pub enum LineRead<'a> {
     Whole(&'a [u8]),
     /// A line has more than 4,096 bytes: its first 4,097.
     TooLong(&'a [u8]),
-    /// A line's newline or 4,097th byte, or the end of the input behind it, does not lie within the first 16,777,216 bytes.
+    /// A line's newline or 4,097th byte, or the end of the input behind it, does not lie within the first 16,777,216
+    /// bytes.
     TooMuch,
 }
 
@@ -41,8 +42,8 @@ pub enum LinesFault {
 pub enum Stop {
     /// The next line has more than 4,096 bytes.
     TooLong,
-    /// The next line's newline or 4,097th byte, or the end of the input behind it, does not lie within the first 16,777,216
-    /// bytes.
+    /// The next line's newline or 4,097th byte, or the end of the input behind it, does not lie within the first
+    /// 16,777,216 bytes.
     TooMuch,
     /// The source failed.
     Failed,
@@ -155,8 +156,8 @@ fn stands_next<S: Source>(
     Ok(first_in(ahead.pending(), seen, given))
 }
 
-/// A reader of lines over a source (own). Contracts see the source, what was read of it and not given yet, the line that
-/// was given last, how many bytes the lines have that were given, and why no further line comes.
+/// A reader of lines over a source (own). Contracts see the source, what was read of it and not given yet, the line
+/// that was given last, how many bytes the lines have that were given, and why no further line comes.
 #[derive(Drop)]
 pub struct Lines<S: Drop> {
     source: S,
@@ -206,10 +207,10 @@ impl<S: Source + Drop> Lines<S> {
         })
     }
 
-    /// Finds the next line, whole however the reads were cut, which is then `line`; false is the end of the input. It takes
-    /// no memory. At most 8,192 bytes are read past the lines that were given. TooLong and TooMuch come exactly where the
-    /// next line is so, too much before too long, and Failed only where the source failed. After one of these each further
-    /// call answers the same, and does nothing.
+    /// Finds the next line, whole however the reads were cut, which is then `line`; false is the end of the input. It
+    /// takes no memory. At most 8,192 bytes are read past the lines that were given. TooLong and TooMuch come exactly
+    /// where the next line is so, too much before too long, and Failed only where the source failed. After one of these
+    /// each further call answers the same, and does nothing.
     pub fn find(&mut self) -> Result<bool, Stop>
         ensures { Finds S.left S.faults S.lender self.old self.new result }
     {
@@ -263,8 +264,8 @@ impl<S: Source + Drop> Lines<S> {
         &pending[..ONE_TOO_MANY.min(pending.len())]
     }
 
-    /// The next line, or None exactly at the end of the input. It is `find`, and lends what was found: a line without its
-    /// newline, or the front of one that is too long.
+    /// The next line, or None exactly at the end of the input. It is `find`, and lends what was found: a line without
+    /// its newline, or the front of one that is too long.
     pub fn next(&mut self) -> Result<Option<LineRead<'_>>, LinesFault>
         ensures* after { sem 𝓛 (Rests (the_row S.row) self.entry (λ lines. Finds S.left S.faults S.lender self.old lines (found_of result) × Lends lines result)) }
     {

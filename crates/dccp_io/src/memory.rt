@@ -104,8 +104,8 @@ impl Model for MemorySink {
 }
 
 impl MemorySink {
-    /// A sink with memory for `room` bytes, of which a call takes at most `most`, and whose calls with the listed numbers
-    /// fail, counted from 1. No later call takes memory.
+    /// A sink with memory for `room` bytes, of which a call takes at most `most`, and whose calls with the listed
+    /// numbers fail, counted from 1. No later call takes memory.
     pub fn new(
         alloc: Global,
         failing_calls: Vec<u64>,

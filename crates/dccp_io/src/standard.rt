@@ -79,8 +79,8 @@ fn write_retrying<W: Write>(writer: &mut W, piece: &[u8]) -> Option<usize>
 }
 
 /// A sink over a writer, such as standard output (own). It does not tell what it took. It counts each error of the
-/// writer as a fault, but a write that was interrupted is tried again, and it counts the pieces of which the writer took
-/// nothing. Contracts see these two counts, which stop at 2^64 - 1.
+/// writer as a fault, but a write that was interrupted is tried again, and it counts the pieces of which the writer
+/// took nothing. Contracts see these two counts, which stop at 2^64 - 1.
 #[derive(Drop)]
 pub struct StdSink<W: Drop> {
     writer: W,

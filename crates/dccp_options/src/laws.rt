@@ -8,8 +8,9 @@ ghost use Rattle.dccp_options.specs.Listing.{IsListed, IsCut};
 ghost use Rattle.dccp_options.specs.Vectors.{is_ack_vector, states, reported, state_at, report_of, joined_report, runs_of, is_in_run, state_in};
 ghost use Rattle.dccp_options.specs.Written.{Item, IsWritable, spelled, written, entries_at, item_at, item_vectors};
 
-/// The list of an area is the one that goes by the first byte of what is left: Padding, Mandatory, another option of one
-/// byte, an option with a length, or one whose length is wrong; and an area has no other list (RFC 4340, section 5.8).
+/// The list of an area is the one that goes by the first byte of what is left: Padding, Mandatory, another option of
+/// one byte, an option with a length, or one whose length is wrong; and an area has no other list (RFC 4340, section
+/// 5.8).
 pub fn an_area_has_one_list()
     ensures is_listed { (area : List ℕ) (on_data : Bool) → IsListed on_data false 0 area (options_of area on_data) }
     ensures only { (area : List ℕ) (on_data : Bool) (items : List (Result Entry OptFault))
@@ -25,7 +26,8 @@ pub fn written_options_are_listed()
         → written (items ++ item ∷ []) ≡ written items ++ spelled item.mandatory item.kind item.body }
 {}
 
-/// The entries of options that were written are those options, in their order: each with its mark, its type and its data.
+/// The entries of options that were written are those options, in their order: each with its mark, its type and its
+/// data.
 pub fn entries_keep_what_was_written()
     ensures items { (place : ℕ) (items : List Item) → map item_at (entries_at place items) ≡ items }
     ensures said { (place : ℕ) (items : List Item)
@@ -33,16 +35,16 @@ pub fn entries_keep_what_was_written()
         ≡ map {B = ℕ × List ℕ} (λ (item : Item). (item.kind, item.body)) items }
 {}
 
-/// An option whose length is below 2 or beyond the area ends the list just as the area's end does: what stands before it
-/// is listed, and nothing tells of it (RFC 4340, section 5.8).
+/// An option whose length is below 2 or beyond the area ends the list just as the area's end does: what stands before
+/// it is listed, and nothing tells of it (RFC 4340, section 5.8).
 pub fn a_cut_option_ends_the_list()
     ensures { (items : List Item) (kind : ℕ) (rest : List ℕ) → All IsWritable items → 32 ≤ kind → IsCut rest
         → options_of (written items ++ kind ∷ rest) false ≡ options_of (written items) false }
 {}
 
 /// What a packet reports whose options were written, with any zeros behind them: the Ack Vectors among them, one behind
-/// the other; one vector and options of other types give just that vector, and without one there is no report (RFC 4340,
-/// section 11.4).
+/// the other; one vector and options of other types give just that vector, and without one there is no report (RFC
+/// 4340, section 11.4).
 pub fn a_report_is_what_was_written()
     ensures every { (ack zeros : ℕ) (items : List Item) → All IsWritable items
         → report_of ack (options_of (written items ++ replicate zeros 0) false) ≡ joined_report ack (item_vectors items) }
@@ -73,8 +75,8 @@ pub fn runs_give_the_states()
         → Contains (runs_of ack bytes) run → IsTrue (is_in_run run n) → state_at ack bytes n ≡ Some run.state }
 {}
 
-/// Vectors that continue each other give the states of the first, and behind them those of the second (RFC 4340, section
-/// 11.4).
+/// Vectors that continue each other give the states of the first, and behind them those of the second (RFC 4340,
+/// section 11.4).
 pub fn vectors_continue_each_other()
     ensures { (front behind : List ℕ) → states (front ++ behind) ≡ states front ++ states behind }
 {}

@@ -94,7 +94,8 @@ fn is_read_on_data(kind: u8) -> bool {
     true
 }
 
-// Whether the option is listed, or which fault stands in its place: behind Mandatory or not, on a packet other than Data.
+// Whether the option is listed, or which fault stands in its place: behind Mandatory or not, on a packet other than
+// Data.
 fn wanted(kind: u8, length: u8, mandatory: bool) -> Result<bool, OptFault> {
     match (kind, mandatory) {
         (0, _) | (1, false) => Ok(false),

@@ -80,9 +80,9 @@ impl Frame {
     }
 }
 
-/// Where an end leaves the frame that one of its calls sends: it holds no frame, or one. Contracts see no list of bytes,
-/// or one. Each call of an end that takes an Outbox empties it first. Its frame has room for the longest one and stays where it is, so an
-/// Outbox is made once and handed to many calls.
+/// Where an end leaves the frame that one of its calls sends: it holds no frame, or one. Contracts see no list of
+/// bytes, or one. Each call of an end that takes an Outbox empties it first. Its frame has room for the longest one and
+/// stays where it is, so an Outbox is made once and handed to many calls.
 #[derive(Debug, Drop)]
 pub struct Outbox {
     // of an earlier call, where it holds none

@@ -235,7 +235,8 @@ impl Kind {
         }
     }
 
-    // Tells whether all numbers of the packet have a form that its type may carry, beside a sequence number of this one.
+    // Tells whether all numbers of the packet have a form that its type may carry, beside a sequence number of this
+    // one.
     fn has_forms(&self, long: bool) -> bool
         ensures { result ≡ has_forms long self.now }
     {

@@ -22,7 +22,8 @@ impl Number {
 }
 
 impl PacketType {
-    /// Tells whether packets of this type have an acknowledgement number: all but Request and Data (RFC 4340, section 5.1).
+    /// Tells whether packets of this type have an acknowledgement number: all but Request and Data (RFC 4340, section
+    /// 5.1).
     pub fn has_ack(self) -> bool
         ensures { result ≡ has_ack self }
     {
@@ -38,8 +39,8 @@ impl PacketType {
 }
 
 impl Kind {
-    /// The acknowledgement number, or None exactly for the types that have none. A short form gives its 24 bits alone, as
-    /// `Number::value` does (RFC 4340, section 5.1).
+    /// The acknowledgement number, or None exactly for the types that have none. A short form gives its 24 bits alone,
+    /// as `Number::value` does (RFC 4340, section 5.1).
     pub fn ack(&self) -> Option<Seq48>
         ensures value { result ≡ ack_of self.now }
         ensures by_type { is_some result ≡ has_ack (packet_type self.now) }

@@ -15,9 +15,10 @@ pub fn what_is_spelled_is_read()
         → decoded (spelling h options payload) ≡ Ok (record { header = h; options = padded options; payload = payload }) }
 {}
 
-/// What is spelled is read again also where numbers are too large for their fields: each is cut to the width of its field
-/// (`read`), which keeps a header whose fields fit (`kept`). So whatever needs only the type, the options or the data, or
-/// numbers that are below 2^48 anyway, needs no premise on the other fields (RFC 4340, section 5; the widths of section 5.1).
+/// What is spelled is read again also where numbers are too large for their fields: each is cut to the width of its
+/// field (`read`), which keeps a header whose fields fit (`kept`). So whatever needs only the type, the options or the
+/// data, or numbers that are below 2^48 anyway, needs no premise on the other fields (RFC 4340, section 5; the widths
+/// of section 5.1).
 pub fn what_is_spelled_is_read_in_widths()
     ensures read { (h : Header) (options payload : List ℕ) → HasDetail h.kind → IsTrue (is_valid h) → header_length h + length (padded options) ≤ 1020
         → decoded (spelling h options payload) ≡ Ok (record { header = in_widths h; options = padded options; payload = payload }) }
@@ -47,8 +48,8 @@ pub fn the_first_fault_is_answered()
         → (decoded bytes ≡ Err Malformed.ShortNumbers) ↔ (has_form (has_long_numbers bytes) kind ≡ false) }
 {}
 
-/// Of the spellings of a packet just one has all reserved bits zero, and that is the one that `encode` writes (RFC 4340,
-/// section 5).
+/// Of the spellings of a packet just one has all reserved bits zero, and that is the one that `encode` writes (RFC
+/// 4340, section 5).
 pub fn one_spelling_has_no_reserved_bit()
     ensures { (h : Header) (options payload bytes : List ℕ) → IsPacket h options payload bytes → AreBytes bytes → HasZeros h bytes
         → bytes ≡ spelling h options payload }

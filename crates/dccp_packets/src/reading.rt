@@ -33,8 +33,8 @@ pub enum Malformed {
 // The generic header with a short number.
 const SHORTEST: usize = 12;
 
-/// The packet that `bytes` are, borrowed from them, or the first cause in the order of `Malformed` (RFC 4340, section 5).
-/// Reserved bits are ignored. Its checksum and its options are not judged.
+/// The packet that `bytes` are, borrowed from them, or the first cause in the order of `Malformed` (RFC 4340, section
+/// 5). Reserved bits are ignored. Its checksum and its options are not judged.
 pub fn decode(bytes: &[u8]) -> Result<Packet<'_>, Malformed>
     ensures exact { MatchResult result
         (λ p. decoded bytes.now ≡ Ok (record { header = p.header; options = p.options.now; payload = p.payload.now }))

@@ -8,8 +8,8 @@ use std::test::Fail;
 // A Request from port 40000 to 5001 with number 1000 and service 42.
 const REQUEST: &str = "9c401389050031ec01000000000003e80000002a";
 
-// Frames of worked runs of both ends, and a CloseReq, a short Data and a short DataAck written by hand: every type in every
-// form, with options and with data.
+// Frames of worked runs of both ends, and a CloseReq, a short Data and a short DataAck written by hand: every type in
+// every form, with options and with data.
 const FRAMES: [&str; 37] = [
     "9c401389050031ec01000000000003e80000002a",
     "13899c400700261403000000000007d000000000000003e80000002a",

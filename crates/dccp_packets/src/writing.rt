@@ -19,10 +19,10 @@ const RESERVED: u8 = 0;
 // 255 words, the most that a Data Offset counts, in bytes.
 const LONGEST_HEADER: usize = 1020;
 
-/// Writes the packet into `out`, in place of what was there: the header, the options filled with zeros up to four bytes,
-/// and the data. The header must be valid (`Header::valid`), and the data at most 1,024 bytes. Reserved bits are zero, and
-/// the checksum is the header's (RFC 4340, section 5). OptionsTooLong comes exactly where the fixed part and the padded
-/// options pass 1,020 bytes, and `out` is then unchanged.
+/// Writes the packet into `out`, in place of what was there: the header, the options filled with zeros up to four
+/// bytes, and the data. The header must be valid (`Header::valid`), and the data at most 1,024 bytes. Reserved bits are
+/// zero, and the checksum is the header's (RFC 4340, section 5). OptionsTooLong comes exactly where the fixed part and
+/// the padded options pass 1,020 bytes, and `out` is then unchanged.
 pub fn encode(
     header: &Header,
     options: &[u8],

@@ -33,9 +33,9 @@ fn is_opening_type(kind: PacketType) -> bool
     matches!(kind, PacketType::Request | PacketType::Response)
 }
 
-/// Tells whether a valid packet is out of place, so that a Sync answers it (RFC 4340, section 8.5, step 7): a server gets
-/// CloseReq or Response, a client gets Request, the phase is OPEN or later and a Request or Response comes whose number
-/// is not before the first of the open connection, which `from_osr` tells, or Data comes in RESPOND.
+/// Tells whether a valid packet is out of place, so that a Sync answers it (RFC 4340, section 8.5, step 7): a server
+/// gets CloseReq or Response, a client gets Request, the phase is OPEN or later and a Request or Response comes whose
+/// number is not before the first of the open connection, which `from_osr` tells, or Data comes in RESPOND.
 pub fn unexpected(role: Role, phase: Phase, kind: PacketType, from_osr: bool) -> bool
     ensures { result ≡ unexpected role phase kind from_osr }
 {

@@ -9,8 +9,8 @@ pub enum Role {
     Server,
 }
 
-/// The states of an end (RFC 4340, section 8.4). The arrows are the packets that it takes, and behind a slash stands the
-/// reply (`after`); dotted arrows are the end's own calls, which are not in the tables of this crate.
+/// The states of an end (RFC 4340, section 8.4). The arrows are the packets that it takes, and behind a slash stands
+/// the reply (`after`); dotted arrows are the end's own calls, which are not in the tables of this crate.
 ///
 /// ```text
 ///       a client                                      a server

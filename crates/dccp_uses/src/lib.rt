@@ -1,9 +1,11 @@
-//! How an end is used: what a voice, game or streaming transport writes around one `Endpoint` (own; the end is RFC 4340's).
+//! How an end is used: what a voice, game or streaming transport writes around one `Endpoint` (own; the end is RFC
+//! 4340's).
 //!
-//! A [`Session`] is an end with the timers that its owner keeps for it. What happens goes in by its calls, each with the time:
-//! a datagram that arrived, data to send, a feature's new value, the end of the connection, and the time itself. Each frame that
-//! the end makes is handed to a [`Network`]. [`accept`] is what a server does with a datagram of a peer that it does not know. There is no
-//! socket here and no clock, and no memory is taken once a session is made.
+//! A [`Session`] is an end with the timers that its owner keeps for it. What happens goes in by its calls, each with
+//! the time: a datagram that arrived, data to send, a feature's new value, the end of the connection, and the time
+//! itself. Each frame that the end makes is handed to a [`Network`]. [`accept`] is what a server does with a datagram
+//! of a peer that it does not know. There is no socket here and no clock, and no memory is taken once a session is
+//! made.
 //!
 //! This crate is an example to read whole and to copy from; nothing stands on it.
 #![tactic(auto)]

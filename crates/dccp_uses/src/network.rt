@@ -4,8 +4,8 @@ ghost use Rattle.dccp_uses.specs.Handing.{Hands};
 
 use dccp_endpoint::Outbox;
 
-/// What carries frames to the peer: a socket, a tunnel, or a wire of a test. A frame that it does not carry is a lost one, for which
-/// the protocol is made; so there is no answer.
+/// What carries frames to the peer: a socket, a tunnel, or a wire of a test. A frame that it does not carry is a lost
+/// one, for which the protocol is made; so there is no answer.
 pub trait Network {
     // What becomes of the network by a frame: the network before, the frame's bytes, and the network after.
     ghost sends: { Self → List ℕ → Self → Type 0 };

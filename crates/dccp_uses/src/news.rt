@@ -11,8 +11,8 @@ pub enum News {
     Data { first: usize, past: usize },
     /// Nothing that the owner has to do with: it was taken, answered or dropped.
     Quiet,
-    /// The connection has ended by a Reset with this code (RFC 4340, section 5.6), either end's. 1 is an orderly close, 2 an end that gave
-    /// up, any other a fault.
+    /// The connection has ended by a Reset with this code (RFC 4340, section 5.6), either end's. 1 is an orderly close,
+    /// 2 an end that gave up, any other a fault.
     Ended { code: u8 },
     /// It is longer than any frame of an end. It was not looked at.
     TooLong,

@@ -11,8 +11,8 @@ const CCID: u8 = 2;
 
 const WINDOW: u32 = 1;
 
-/// A window of one packet, in place of CCID 2: the next packet goes out once the last one was reported, or taken for lost. It never sends
-/// faster than CCID 2, whose window is one packet at least (RFC 4341, section 5).
+/// A window of one packet, in place of CCID 2: the next packet goes out once the last one was reported, or taken for
+/// lost. It never sends faster than CCID 2, whose window is one packet at least (RFC 4341, section 5).
 #[derive(Drop)]
 pub struct OneAtATime {
     flight: Flight,

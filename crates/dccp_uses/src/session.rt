@@ -12,13 +12,14 @@ use dccp_endpoint::{
 use std::alloc::Global;
 use std::marker::Model;
 
-/// An end with the timers that its owner keeps for it. Each call takes the time, in milliseconds from any beginning, and the network that
-/// carries the end's frames to its peer.
+/// An end with the timers that its owner keeps for it. Each call takes the time, in milliseconds from any beginning,
+/// and the network that carries the end's frames to its peer.
 ///
-/// The order of calls: a client is made (`new`) and opened (`open`); a server's end is made by `accept`. From then on each datagram from
-/// the peer goes into `arrived`, and `tick` is called as soon as `until_first` has gone by, which has to be asked after every other call.
-/// Data go out by `send` as long as there is `room`. `close` ends the connection in order, `abort` at once. It has ended once the phase
-/// of `end` is CLOSED; in TIMEWAIT the session has to be kept, since it answers what is still on its way.
+/// The order of calls: a client is made (`new`) and opened (`open`); a server's end is made by `accept`. From then on
+/// each datagram from the peer goes into `arrived`, and `tick` is called as soon as `until_first` has gone by, which
+/// has to be asked after every other call. Data go out by `send` as long as there is `room`. `close` ends the
+/// connection in order, `abort` at once. It has ended once the phase of `end` is CLOSED; in TIMEWAIT the session has to
+/// be kept, since it answers what is still on its way.
 #[derive(Drop)]
 pub struct Session<C> {
     end: Endpoint<C>,
@@ -106,8 +107,8 @@ impl<C: Congestion> Session<C> {
         self.alarms = arranged(&self.alarms, &condition, now);
     }
 
-    /// A client asks for its service, once: its Request goes out. Refused as `Endpoint::open` is; then nothing has changed and nothing is
-    /// sent.
+    /// A client asks for its service, once: its Request goes out. Refused as `Endpoint::open` is; then nothing has
+    /// changed and nothing is sent.
     pub fn open<N: Network>(&mut self, now: u64, network: &mut N) -> Result<(), OpenFault>
         ensures does { Does N.sends (calls C.control now self.old (with_control C.control self.old.end.congestion (opens self.old.end.state)))
             self.new network.old network.new result }
@@ -120,8 +121,8 @@ impl<C: Congestion> Session<C> {
         Ok(())
     }
 
-    /// Sends data, at most 1,024 bytes, if the end takes them. Refused as `Endpoint::send` is, with `WindowFull` where there is no room;
-    /// then nothing has changed and nothing is sent, and the data may be offered again.
+    /// Sends data, at most 1,024 bytes, if the end takes them. Refused as `Endpoint::send` is, with `WindowFull` where
+    /// there is no room; then nothing has changed and nothing is sent, and the data may be offered again.
     pub fn send<N: Network>(
         &mut self,
         payload: &[u8],
@@ -139,8 +140,8 @@ impl<C: Congestion> Session<C> {
         Ok(())
     }
 
-    /// Asks for these values of a feature, best first. Refused as `Endpoint::prefer` is; then nothing has changed and nothing is sent. What
-    /// comes of it is seen by `Endpoint::held`, once that is Stable again.
+    /// Asks for these values of a feature, best first. Refused as `Endpoint::prefer` is; then nothing has changed and
+    /// nothing is sent. What comes of it is seen by `Endpoint::held`, once that is Stable again.
     pub fn prefer<N: Network>(
         &mut self,
         feature: Feature,
@@ -187,8 +188,8 @@ impl<C: Congestion> Session<C> {
         Ok(())
     }
 
-    /// Takes a datagram from the peer, the bytes of a DCCP packet. One that is longer than 2,044 bytes is no frame of such an end: it
-    /// changes nothing and nothing is sent. Data that come with it stand within it.
+    /// Takes a datagram from the peer, the bytes of a DCCP packet. One that is longer than 2,044 bytes is no frame of
+    /// such an end: it changes nothing and nothing is sent. Data that come with it stand within it.
     pub fn arrived<N: Network>(&mut self, datagram: &[u8], now: u64, network: &mut N) -> News
         ensures does { Does N.sends (hears C.control now self.old datagram.now) self.new network.old network.new result }
         ensures too_long { (result ≡ News.TooLong) ↔ (2044 < length datagram.now) }
@@ -210,7 +211,8 @@ impl<C: Congestion> Session<C> {
         news_of(&outcome, was, self.end.phase())
     }
 
-    /// The time has come to this: each timer that has run out is told to the end, once. Afterwards none has that it was not told of.
+    /// The time has come to this: each timer that has run out is told to the end, once. Afterwards none has that it was
+    /// not told of.
     pub fn tick<N: Network>(&mut self, now: u64, network: &mut N)
         ensures session { self.new ≡ (rings_each C.control now self.old every_timer).session }
         ensures handed { HandsAll N.sends network.old (rings_each C.control now self.old every_timer).frames network.new }

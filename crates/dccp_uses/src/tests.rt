@@ -1,5 +1,5 @@
-//! Sessions over a wire that loses frames and takes them out of order. What is looked at is what an owner sees: phases, news, data and the
-//! values of features.
+//! Sessions over a wire that loses frames and takes them out of order. What is looked at is what an owner sees: phases,
+//! news, data and the values of features.
 use crate::alarms::arranged;
 use crate::{Alarm, Alarms, Condition, News, OneAtATime, Session, accept};
 use ccid_two::Kinds;
@@ -136,8 +136,8 @@ fn the_request_goes_out_again(rt: HostRuntime) -> Result<(), Fail> {
     Ok(())
 }
 
-// The waits of RFC 4340, sections 8.1.1, 8.1.5 and 8.3, with round trips of 200 milliseconds and segments that live for two minutes (section
-// 3.4); and a second for a Confirm and for a report.
+// The waits of RFC 4340, sections 8.1.1, 8.1.5 and 8.3, with round trips of 200 milliseconds and segments that live for
+// two minutes (section 3.4); and a second for a Confirm and for a report.
 #[test]
 fn a_timer_begins_with_its_first_wait(rt: HostRuntime) -> Result<(), Fail> {
     let cases = [

@@ -1,6 +1,7 @@
-//! What a replay has no line for, and two ends of this project never send each other: Changes and Confirms that meet a wish, at both
-//! roles (RFC 4340, section 6, and the table of this profile); each packet type at a client before `open`, and what a server that has
-//! asked for a Close answers to types that its peer may not send (RFC 4340, section 8.5).
+//! What a replay has no line for, and two ends of this project never send each other: Changes and Confirms that meet a
+//! wish, at both roles (RFC 4340, section 6, and the table of this profile); each packet type at a client before
+//! `open`, and what a server that has asked for a Close answers to types that its peer may not send (RFC 4340, section
+//! 8.5).
 use ccid_two::Kinds;
 use dccp_endpoint::{Config, Held, Outcome, Role, Stand, Timer, Why};
 use dccp_packets::Outbox;
@@ -10,9 +11,9 @@ use std::test::Fail;
 
 type Endpoint = dccp_endpoint::Endpoint<Kinds>;
 
-// A row is what an end in OPEN has asked for, each wish as `here/8/1,2`, and `again` where its Change goes out again; then a packet that
-// arrives. Behind the colon stands the answer, what the end then holds for what it asked last (`*` in CHANGING, `!` in UNSTABLE), and
-// the frame that it sends. Behind `#` stands what the rows below are.
+// A row is what an end in OPEN has asked for, each wish as `here/8/1,2`, and `again` where its Change goes out again;
+// then a packet that arrives. Behind the colon stands the answer, what the end then holds for what it asked last (`*`
+// in CHANGING, `!` in UNSTABLE), and the frame that it sends. Behind `#` stands what the rows below are.
 const AT_A_SERVER: &str = "\
     # A Change that is not valid, at a row in CHANGING and at one in UNSTABLE\n\
     here/8/1,2 9c4013890700f83607000000000003ea00000000000007d222030800: took, 0*, 13899c400700f93507000000000007d300000000000003ea21030800\n\
@@ -125,7 +126,8 @@ const AT_A_CLIENT: &str = "\
     here/3/200 13899c400800fa6507000000000007d200000000000003ea23080300000000c8: sent reset 5 35 3 0, 100*, 9c401389070012160f000000000003eb00000000000007d205230300\n\
     here/3/200 13899c400900f95f07000000000007d200000000000003ea230a03000000000000c80000: sent reset 5 35 3 0, 100*, 9c401389070012160f000000000003eb00000000000007d205230300\n";
 
-// A packet of each type from a server, numbered 2,005, that acknowledges 1,000; and the answer of a client that was not opened.
+// A packet of each type from a server, numbered 2,005, that acknowledges 1,000; and the answer of a client that was not
+// opened.
 const BEFORE_OPEN: &str = "\
     # Request and Data have no acknowledgement that the Reset could be numbered after\n\
     13899c4005002dff01000000000007d50000002a: sent reset 3 0 0 0, Closed, 9c40138907001b210f0000000000000000000000000007d503000000\n\
@@ -141,7 +143,8 @@ const BEFORE_OPEN: &str = "\
     # No Reset answers a Reset\n\
     13899c40070018390f000000000007d500000000000003e802000000: dropped StrayReset, Closed, -\n";
 
-// A packet from a client, numbered 1,005, that acknowledges 2,000; and the answer of a server that has asked for a Close.
+// A packet from a client, numbered 1,005, that acknowledges 2,000; and the answer of a server that has asked for a
+// Close.
 const AFTER_CLOSE_REQ: &str = "\
     # A Request, a Response and a CloseReq are unexpected\n\
     9c401389050031e701000000000003ed0000002a: synced 1005, CloseReq, 13899c400600193a11000000000007d300000000000003ed\n\

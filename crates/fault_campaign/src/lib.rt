@@ -1,8 +1,10 @@
-//! Campaigns (own): runs of two ends whose events are drawn from a seed, by any number of threads, and what is counted of them.
+//! Campaigns (own): runs of two ends whose events are drawn from a seed, by any number of threads, and what is counted
+//! of them.
 //!
-//! `run_seed` runs one seed: two usual ends whose initial sequence numbers and events are drawn from it, frames lost, repeated and
-//! reordered among them. `campaign` runs as many seeds as it is asked to, each once, and adds their reports: the answer is the same
-//! for every number of workers and whatever they wait for. Nothing is said of which worker runs which seed, nor of how long it takes.
+//! `run_seed` runs one seed: two usual ends whose initial sequence numbers and events are drawn from it, frames lost,
+//! repeated and reordered among them. `campaign` runs as many seeds as it is asked to, each once, and adds their
+//! reports: the answer is the same for every number of workers and whatever they wait for. Nothing is said of which
+//! worker runs which seed, nor of how long it takes.
 #![tactic(auto)]
 
 mod draws;

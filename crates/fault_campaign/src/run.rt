@@ -90,8 +90,8 @@ impl Run {
         self.play_drawn(a, b)
     }
 
-    // Plays the event of two words. Each kind of event is made where it is played, since the room that an event has for data
-    // is cleared where it is made and moves with it.
+    // Plays the event of two words. Each kind of event is made where it is played, since the room that an event has for
+    // data is cleared where it is made and moves with it.
     #[tactic(auto, unfolding(crate::specs::Draws::drawn))]
     fn play_drawn(&mut self, a: u32, b: u32) -> Result<(), NoMemory>
         requires { size self.old.report < 2 ^ 62 }
@@ -234,10 +234,10 @@ fn settled_at(world: &World<Kinds>, location: Side) -> u64
         + settles(world, location, Feature::CheckDataChecksum)
 }
 
-/// Runs a seed (own), with so many events, and answers what was counted of it. The ends are the usual ones, with initial sequence
-/// numbers that are drawn; the first event opens the connection, and all others are drawn: most deliver one of the frames that were sent
-/// last, or at times an older one; others send data, prefer other values, let timers run out, or end the connection. The two ends take
-/// their memory once; each event takes that of a frame.
+/// Runs a seed (own), with so many events, and answers what was counted of it. The ends are the usual ones, with
+/// initial sequence numbers that are drawn; the first event opens the connection, and all others are drawn: most
+/// deliver one of the frames that were sent last, or at times an older one; others send data, prefer other values, let
+/// timers run out, or end the connection. The two ends take their memory once; each event takes that of a frame.
 #[tactic(auto, unfolding(crate::specs::Seeded::seeded_report))]
 pub fn run_seed(alloc: Global, seed: u64, events: u32) -> Result<Report, NoMemory>
     requires events { 1 ≤ events × events ≤ 4096 }

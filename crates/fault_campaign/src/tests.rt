@@ -3,8 +3,8 @@ use campaign_claims::Claimer;
 use std::sync::atomic::{AtomicU64, Ordering};
 use std::test::Fail;
 
-// After the opening event alone: 16 features a seed are settled, since the client asks for ECN Incapable here and for Send Ack Vector
-// there.
+// After the opening event alone: 16 features a seed are settled, since the client asks for ECN Incapable here and for
+// Send Ack Vector there.
 const OPENINGS: Report = Report {
     seeds: 3,
     events: 3,
@@ -27,8 +27,9 @@ fn openings_alone(rt: HostRuntime) -> Result<(), Fail> {
     Ok(())
 }
 
-// Seed 1: open, a preference and data, both refused outside a connection, the Request again, its delivery, the Response six times,
-// and a timer of the server that has nothing to do. The events were drawn apart, by a second generator over a plain model of both ends.
+// Seed 1: open, a preference and data, both refused outside a connection, the Request again, its delivery, the Response
+// six times, and a timer of the server that has nothing to do. The events were drawn apart, by a second generator over
+// a plain model of both ends.
 #[test]
 fn twelve_events_of_seed_one(rt: HostRuntime) -> Result<(), Fail> {
     let report = run_seed(rt.alloc(), 1, 12)?;
@@ -113,8 +114,8 @@ impl Gate for HoldFirst {
     }
 }
 
-// Workers run beside each other, and claim as they go: one alone, or two with two seeds each from the start, would leave the first seed
-// held.
+// Workers run beside each other, and claim as they go: one alone, or two with two seeds each from the start, would
+// leave the first seed held.
 #[test]
 fn workers_run_beside_each_other(rt: HostRuntime) -> Result<(), Fail> {
     let gate = HoldFirst {

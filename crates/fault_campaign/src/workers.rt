@@ -98,11 +98,12 @@ fn work_beside<R: Threads + Sync, G: Gate + Sync>(
     (mine, both(one, another))
 }
 
-/// Runs so many seeds from the first on (own), each once and with so many events, by so many workers at the same time, and adds their
-/// reports. The answer is the same for every number of workers and for every gate: the fields of all seeds' reports, added up.
+/// Runs so many seeds from the first on (own), each once and with so many events, by so many workers at the same time,
+/// and adds their reports. The answer is the same for every number of workers and for every gate: the fields of all
+/// seeds' reports, added up.
 ///
-/// A worker claims the next seed, calls the gate with the number that it claimed, runs the seed and adds its report, until it claims in
-/// vain. `NoMemory`, where one of them had none, is answered when all have ended.
+/// A worker claims the next seed, calls the gate with the number that it claimed, runs the seed and adds its report,
+/// until it claims in vain. `NoMemory`, where one of them had none, is answered when all have ended.
 pub fn campaign<R: Threads + Sync, G: Gate + Sync>(
     rt: &R,
     alloc: Global,

@@ -6,7 +6,8 @@ ghost use Rattle.feature_agreement.specs.Exchanges.{server_asked, client_asking,
 ghost use Rattle.feature_agreement.specs.Facts.{SpeaksForItsRow, IsConfirmed};
 ghost use Rattle.feature_agreement.specs.Agreement.{SidesAgree, SidesAreGiven, AgreeByLocation, GivenByLocation};
 
-/// Two sides are reachable at the start, whatever was configured, and after each step of either that is a list of moves.
+/// Two sides are reachable at the start, whatever was configured, and after each step of either that is a list of
+/// moves.
 pub fn steps_stay_reachable()
     ensures joined { (rule : Rule) (opens : List ℕ → Bool) (there : List Carried) (before middle after : FeatureSide)
         → Moves rule opens there before middle → Moves rule opens there middle after → Moves rule opens there before after }
@@ -29,14 +30,15 @@ pub fn reachable_sides_agree()
         → IsReachable pair server client → ∥ SidesAreGiven pair.initial pair.rule server client ∥₁ }
 {}
 
-/// Why they agree: what a side's frames say is true of what it holds, towards its peer, at the server and at the client.
+/// Why they agree: what a side's frames say is true of what it holds, towards its peer, at the server and at the
+/// client.
 pub fn reachable_sides_are_truthful()
     ensures servers { (pair : Pair) (server client : FeatureSide) → IsReachable pair server client → SpeaksForItsRow pair.rule server client }
     ensures clients { (pair : Pair) (server client : FeatureSide) → IsReachable pair server client → SpeaksForItsRow (swapped pair.rule) client server }
 {}
 
-/// The agreement of a feature that is not negotiable (RFC 4340, section 6.3.2): its value is the one that the end where it is
-/// located sent last.
+/// The agreement of a feature that is not negotiable (RFC 4340, section 6.3.2): its value is the one that the end where
+/// it is located sent last.
 pub fn location_decides()
     ensures agree_at_server { (initial : ℕ) (server client : FeatureSide)
         → IsReachable (at_server initial) server client → AgreeByLocation server client }
@@ -48,14 +50,16 @@ pub fn location_decides()
         → IsReachable (at_client initial) server client → ∥ GivenByLocation initial client server ∥₁ }
 {}
 
-/// And why: what the remote row confirms is what the location told, and its present value once it answers the last opening.
+/// And why: what the remote row confirms is what the location told, and its present value once it answers the last
+/// opening.
 pub fn remote_rows_confirm_what_was_told()
     ensures at_server { (initial : ℕ) (server client : FeatureSide) → IsReachable (at_server initial) server client → IsConfirmed server client }
     ensures at_client { (initial : ℕ) (server client : FeatureSide) → IsReachable (at_client initial) server client → IsConfirmed client server }
 {}
 
-/// Rows do settle: by a Change and its Confirm, and by two Changes that cross, each confirmed. Both rows then are STABLE,
-/// at the value that the rule gives, whatever the two wishes are. This shows that the laws above speak of something.
+/// Rows do settle: by a Change and its Confirm, and by two Changes that cross, each confirmed. Both rows then are
+/// STABLE, at the value that the rule gives, whatever the two wishes are. This shows that the laws above speak of
+/// something.
 pub fn exchanges_settle()
     ensures asked { (pair : Pair) (servers clients : List ℕ) → IsTrue (pair.client_opens clients)
         → IsReachable pair (server_asked pair servers clients) (client_asking pair servers clients) }

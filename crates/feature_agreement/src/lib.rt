@@ -1,8 +1,8 @@
-//! Why the two ends of a connection agree on a feature: a law on its pair of rows (own; the negotiation is that of RFC 4340,
-//! section 6, as this profile restricts it).
+//! Why the two ends of a connection agree on a feature: a law on its pair of rows (own; the negotiation is that of RFC
+//! 4340, section 6, as this profile restricts it).
 //!
-//! The crate has no code that runs: its functions have empty bodies, and their contracts are the laws. It says nothing of
-//! packets, phases or windows, and never that a negotiation settles.
+//! The crate has no code that runs: its functions have empty bodies, and their contracts are the laws. It says nothing
+//! of packets, phases or windows, and never that a negotiation settles.
 #![tactic(auto)]
 
 mod counts;

@@ -17,8 +17,8 @@ ghost use Rattle.feature_agreement.specs.Moves.{new_side};
 ghost use Rattle.seq_circle.specs.Counts.{count_of, IsNumber};
 ghost use Rattle.feature_agreement.specs.Rows.{RowMoves, IsBegun, row_pair, entries_of, side_of, change_in, confirm_in, is_whole_confirm, is_valid_change, after_change, after_confirm, after_sending, sending_row, change_data, opposite};
 
-/// A Change of the feature is taken from a newest packet: a valid one is one move, whatever the row answers, and so is a frame
-/// of which nothing of the feature is taken.
+/// A Change of the feature is taken from a newest packet: a valid one is one move, whatever the row answers, and so is
+/// a frame of which nothing of the feature is taken.
 pub fn taking_a_change_is_a_move()
     ensures change { (iss greatest count : ℕ) (row : Row) (there frames : List Carried) (body : List ℕ) (mandatory : Bool)
         → greatest < count → IsSoundRow row → carried_at there count ≡ change_in row.feature body → proposal row body ≢ Invalid
@@ -67,8 +67,8 @@ pub fn sending_is_a_move()
         → RowMoves row there (side_of iss row greatest frames) (side_of iss row greatest (with_frame frames Nothing)) }
 {}
 
-/// A row that never asked is a fresh side. Each step that the laws above name leaves a row whose last opening is one of its
-/// end's frames.
+/// A row that never asked is a fresh side. Each step that the laws above name leaves a row whose last opening is one of
+/// its end's frames.
 pub fn rows_stay_begun()
     ensures fresh { (iss : ℕ) (row : Row) → row.stand ≡ Stable → row.opened ≡ None → row.value ≡ initial_of row.feature
         → side_of iss row 0 [] ≡ new_side (row_pair row).initial (entries_of row.active) }
@@ -90,8 +90,8 @@ pub fn rows_stay_begun()
         → (row : Row) → IsBegun iss row → IsBegun iss (sending_row iss row frames) }
 {}
 
-/// What our ends say of a feature is understood by the other: a Change's data carry the wish that they were made of and are
-/// valid for the peer's row, and the Confirm of a valid Change is whole.
+/// What our ends say of a feature is understood by the other: a Change's data carry the wish that they were made of and
+/// are valid for the peer's row, and the Confirm of a valid Change is whole.
 pub fn what_rows_say_is_whole()
     ensures carried { (feature : Feature) (place : Place) (wish : Wanted) → IsTrue (is_wish feature place wish)
         → change_in feature (change_data feature wish) ≡ Change (entries_of (Some wish)) }
@@ -101,8 +101,8 @@ pub fn what_rows_say_is_whole()
         → (row_step row (machine.Change body mandatory)).answer ≡ Confirms reply → IsTrue (is_whole_confirm row.feature reply) }
 {}
 
-/// Whether a Change is valid is told by its data, by the feature and by where its sender sees it: the data made of a wish are, and
-/// for the row of the peer they are exactly where the table takes them so.
+/// Whether a Change is valid is told by its data, by the feature and by where its sender sees it: the data made of a
+/// wish are, and for the row of the peer they are exactly where the table takes them so.
 pub fn valid_changes_are_understood()
     ensures sent { (feature : Feature) (place : Place) (wish : Wanted) → IsTrue (is_wish feature place wish)
         → IsTrue (is_valid_change feature place (change_data feature wish)) }
@@ -110,8 +110,8 @@ pub fn valid_changes_are_understood()
         → IsTrue (is_valid_change row.feature (opposite row.place) body) ↔ (proposal row body ≢ Invalid) }
 {}
 
-/// Where every Confirm among frames has a list, the last wish sent is the list in the last frame with a Change, or with a Confirm that
-/// has a list. A whole Confirm of a server-priority feature has one.
+/// Where every Confirm among frames has a list, the last wish sent is the list in the last frame with a Change, or with
+/// a Confirm that has a list. A whole Confirm of a server-priority feature has one.
 pub fn whole_confirms_have_lists()
     ensures last { (frames : List Carried) → IsTrue (are_listed frames) → last_list frames ≡ last_wish frames }
     ensures more { (frames : List Carried) (frame : Carried)

@@ -9,12 +9,12 @@ ghost use Rattle.feature_agreement.specs.View.{Carried, with_frame};
 ghost use Rattle.feature_agreement.specs.Packets.{IsHeardOf, reply_due, carried_reply};
 ghost use Rattle.feature_agreement.specs.Rows.{RowMoves, IsBegun, side_of, after_sending};
 
-/// A newest packet is taken, of which the row hears nothing, a valid Change or a whole Confirm; and the end sends a frame in the
-/// same step, or none. Together these are moves of the row, whatever it makes of what it heard.
+/// A newest packet is taken, of which the row hears nothing, a valid Change or a whole Confirm; and the end sends a
+/// frame in the same step, or none. Together these are moves of the row, whatever it makes of what it heard.
 ///
-/// `replied`: the frame has the Confirm that is due, or nothing of the feature where none is. `silent`: there is no frame, and no
-/// Confirm is due. `asks`: none is due and the frame has the row's Change. `offers`: none is due, the row's offer opens and the frame
-/// has its Change.
+/// `replied`: the frame has the Confirm that is due, or nothing of the feature where none is. `silent`: there is no
+/// frame, and no Confirm is due. `asks`: none is due and the frame has the row's Change. `offers`: none is due, the
+/// row's offer opens and the frame has its Change.
 pub fn taking_a_packet_is_moves()
     ensures replied { (iss greatest count : ℕ) (row : Row) (there frames : List Carried) (events : List RowEvent)
         → greatest < count → IsSoundRow row → IsBegun iss row → IsHeardOf iss row there count events

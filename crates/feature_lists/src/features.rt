@@ -91,15 +91,16 @@ impl Feature {
         }
     }
 
-    /// Whether the feature is server-priority, so that its value is the reconciliation of two lists (RFC 4340, section 6.3.1).
-    /// Any other is non-negotiable: its value is what its location tells (section 6.3.2).
+    /// Whether the feature is server-priority, so that its value is the reconciliation of two lists (RFC 4340, section
+    /// 6.3.1). Any other is non-negotiable: its value is what its location tells (section 6.3.2).
     pub fn is_server_priority(self) -> bool
         ensures { result ≡ (described self).is_server_priority }
     {
         !matches!(self, Feature::SequenceWindow | Feature::AckRatio)
     }
 
-    /// The length of one value in bytes: 6 for Sequence Window, 2 for Ack Ratio, and 1 for each other (RFC 4340, section 6.4).
+    /// The length of one value in bytes: 6 for Sequence Window, 2 for Ack Ratio, and 1 for each other (RFC 4340,
+    /// section 6.4).
     pub fn width(self) -> usize
         ensures { result ≡ (described self).width }
     {
@@ -120,8 +121,8 @@ impl Feature {
         )
     }
 
-    /// Whether the value is permitted for the feature at this place (own): our ends wish for no other. What is told of a
-    /// non-negotiable feature at the peer has the range of Here.
+    /// Whether the value is permitted for the feature at this place (own): our ends wish for no other. What is told of
+    /// a non-negotiable feature at the peer has the range of Here.
     pub fn is_permitted(self, place: Place, value: u64) -> bool
         ensures { result ≡ is_permitted self place value }
     {

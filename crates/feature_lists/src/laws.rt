@@ -27,8 +27,8 @@ pub fn wishes_are_given()
         ↔ ((values : List ℕ) × (wish_of feature place values ≡ Ok wanted)) }
 {}
 
-/// A number names at most one feature, and each feature is found by its number. `Feature::ALL` has the nine in the order of
-/// their numbers.
+/// A number names at most one feature, and each feature is found by its number. `Feature::ALL` has the nine in the
+/// order of their numbers.
 pub fn numbers_name_features()
     ensures found { (feature : Feature) → feature_numbered (feature_number feature) ≡ Some feature }
     ensures number { (number : ℕ) (feature : Feature) → feature_numbered number ≡ Some feature → feature_number feature ≡ number }

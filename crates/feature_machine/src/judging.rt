@@ -177,8 +177,8 @@ impl Row {
         }
     }
 
-    // What a Confirm with this data behind the feature number, on a packet with this acknowledgement number, is to a row in
-    // CHANGING.
+    // What a Confirm with this data behind the feature number, on a packet with this acknowledgement number, is to a
+    // row in CHANGING.
     pub(crate) fn confirmation(&self, body: &[u8], ack: &Option<Seq48>) -> Confirmation
         ensures { result ≡ confirmation self.now body.now ack.now }
     {

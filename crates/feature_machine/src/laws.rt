@@ -14,7 +14,8 @@ ghost use Rattle.feature_machine.specs.declared.row.Row.{Row};
 ghost use Rattle.feature_machine.specs.declared.stands.Role2.TheVariants.{Client, Server};
 ghost use Rattle.feature_machine.specs.declared.stands.Stand.TheVariants.{Stable, Changing, Unstable};
 
-/// A row's value is always the initial one or a permitted one, whatever the peer sends, and so it fits the bytes of its feature.
+/// A row's value is always the initial one or a permitted one, whatever the peer sends, and so it fits the bytes of its
+/// feature.
 pub fn values_are_lawful()
     ensures steps { (row : Row) (event : RowEvent) → IsSoundRow row → IsEventFor row event → IsSoundRow (row_step row event).row }
     ensures fits { (row : Row) → IsSoundRow row → row.value < 256 ^ (described row.feature).width }
@@ -26,9 +27,9 @@ pub fn rows_stay_sound()
         → IsEventFor (row_at rows feature place) event → IsNegotiation (stepped rows feature place event).rows }
 {}
 
-/// A row in CHANGING passes over a Confirm without an acknowledgement number, one that acknowledges a packet from before its last
-/// opening, and any that comes before the Change of that opening was sent. A number is before the opening's where its distance to it
-/// is less than half the circle; at just half the circle it is not.
+/// A row in CHANGING passes over a Confirm without an acknowledgement number, one that acknowledges a packet from
+/// before its last opening, and any that comes before the Change of that opening was sent. A number is before the
+/// opening's where its distance to it is less than half the circle; at just half the circle it is not.
 pub fn late_confirms_are_ignored()
     ensures without { (row : Row) (body : List ℕ) → row.stand ≡ Changing → row_step row (Confirm body None) ≡ says row Ignored }
     ensures before { (row : Row) (body : List ℕ) (opened ack : ℕ) → row.stand ≡ Changing → row.opened ≡ Some opened
@@ -43,8 +44,9 @@ pub fn refusals_change_nothing()
     ensures same { (row : Row) (event : RowEvent) → IsSameRow row (row_step row event).row }
 {}
 
-/// A Change leads to Reset 6 exactly where it carries Mandatory and is not valid, or shares nothing with a row that is not
-/// UNSTABLE; a Confirm leads to Reset 5 exactly where it answers a row's opening and is wrong, or is empty and the feature required.
+/// A Change leads to Reset 6 exactly where it carries Mandatory and is not valid, or shares nothing with a row that is
+/// not UNSTABLE; a Confirm leads to Reset 5 exactly where it answers a row's opening and is wrong, or is empty and the
+/// feature required.
 pub fn causes_of_resets()
     ensures change { (row : Row) (body : List ℕ) (mandatory : Bool) → ((row_step row (Change body mandatory)).answer ≡ Fatal 6)
         ↔ ((mandatory ≡ true) × ((proposal row body ≡ Invalid) ⊎ ((row.stand ≢ Unstable) × (proposal row body ≡ Unshared)))) }
@@ -53,9 +55,9 @@ pub fn causes_of_resets()
         ⊎ ((confirmation row body ack ≡ Empty) × ((described row.feature).is_required ≡ true)))) }
 {}
 
-/// An opening has no number until its Change is sent; the first packet that carries it gives the number. It stays until the next
-/// opening, by a preference or an offer in STABLE, or by the new list of an UNSTABLE row: a Change sent again, a Change of the
-/// peer, a Confirm, a wish that waits and whatever is refused all leave it.
+/// An opening has no number until its Change is sent; the first packet that carries it gives the number. It stays until
+/// the next opening, by a preference or an offer in STABLE, or by the new list of an UNSTABLE row: a Change sent again,
+/// a Change of the peer, a Confirm, a wish that waits and whatever is refused all leave it.
 pub fn openings_keep_their_number()
     ensures opens { (row : Row) (event : RowEvent) → (row_step row event).answer ≡ Opens → (row_step row event).row.opened ≡ None }
     ensures settles { (row : Row) (event : RowEvent) → (row_step row event).answer ≡ Settled → (row_step row event).row.opened ≡ row.opened }
@@ -74,8 +76,8 @@ pub fn changes_move_no_stand()
         → (row_step row (Change body mandatory)).row ≡ record row { value = (row_step row (Change body mandatory)).row.value } }
 {}
 
-/// A row that asks comes to STABLE from CHANGING alone, by a Confirm that acknowledges its last opening or a later packet; and that
-/// is what it answers Settled to.
+/// A row that asks comes to STABLE from CHANGING alone, by a Confirm that acknowledges its last opening or a later
+/// packet; and that is what it answers Settled to.
 pub fn only_its_confirm_settles()
     ensures stand { (row : Row) (event : RowEvent) → row.stand ≢ Stable → (row_step row event).row.stand ≡ Stable
         → (row.stand ≡ Changing) × IsItsConfirm row event }

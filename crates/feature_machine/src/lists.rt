@@ -11,8 +11,8 @@ use crate::offers::{Listed, Offer};
 use feature_lists::{Feature, Place, PreferFault, Wanted, usual, wish};
 use std::marker::Model;
 
-/// What an end wants for each feature at each place when the connection starts, and which of these it offers by itself. Contracts
-/// see what is listed for the rows in their order.
+/// What an end wants for each feature at each place when the connection starts, and which of these it offers by itself.
+/// Contracts see what is listed for the rows in their order.
 #[derive(Clone, Copy, Debug, PartialEq, Eq)]
 pub struct Lists {
     listed: [Listed; 18],
@@ -84,8 +84,8 @@ fn unoffer(listed: &mut [Listed])
 }
 
 impl Lists {
-    /// The lists of an end that was told no others. It offers, each behind Mandatory, ECN Incapable here and Send Ack Vector at the
-    /// peer (own).
+    /// The lists of an end that was told no others. It offers, each behind Mandatory, ECN Incapable here and Send Ack
+    /// Vector at the peer (own).
     pub fn usual() -> Lists
         ensures { result ≡ usual_lists }
     {
@@ -94,7 +94,8 @@ impl Lists {
         }
     }
 
-    /// What the end wishes for the feature at this place from the start on; None exactly for a non-negotiable feature at There.
+    /// What the end wishes for the feature at this place from the start on; None exactly for a non-negotiable feature
+    /// at There.
     pub fn wish(&self, feature: Feature, place: Place) -> Option<Wanted>
         ensures value { result ≡ (listed_at self.now feature place).wish }
         ensures none { IsNone result ↔ (is_ours feature place ≡ false) }
@@ -129,7 +130,8 @@ impl Lists {
         self.listed[index_of(feature, place)] = listed;
     }
 
-    /// Wishes these values, best first, for the feature at this place from the start on, in place of what was wished there.
+    /// Wishes these values, best first, for the feature at this place from the start on, in place of what was wished
+    /// there.
     ///
     /// Refused, with nothing changed, as `wish` refuses: BadList, then NotOurs.
     pub fn set(&mut self, feature: Feature, place: Place, values: &[u64]) -> Result<(), PreferFault>

@@ -20,18 +20,18 @@ use feature_lists::{Feature, Place, Wanted};
 use seq_circle::Seq48;
 use std::marker::Model;
 
-/// The negotiation of all features at one end: a row for each feature at each place. Contracts see the rows in the order of
-/// the features, Here before There.
+/// The negotiation of all features at one end: a row for each feature at each place. Contracts see the rows in the
+/// order of the features, Here before There.
 ///
-/// `held`, `active`, `mandatory` and `due` read; `on_change` and `on_confirm` take what a newest packet carries (a number after
-/// all that were taken before: options of older packets must not be handed in, since they would bring values back that both
-/// ends have left); `prefer` and `open_offer` open a row, whose Change is then due, and `sent` tells that it went out. Each call
-/// changes the row that it names alone.
+/// `held`, `active`, `mandatory` and `due` read; `on_change` and `on_confirm` take what a newest packet carries (a
+/// number after all that were taken before: options of older packets must not be handed in, since they would bring
+/// values back that both ends have left); `prefer` and `open_offer` open a row, whose Change is then due, and `sent`
+/// tells that it went out. Each call changes the row that it names alone.
 ///
-/// A Confirm that `on_change` answers has to go out in the same step, in a packet that acknowledges the Change's: without it the
-/// end would hold a value of which no packet of its own tells. A Change is written by first calling `sent` with the
-/// number of its packet, and then taking the list or value from `active` and Mandatory from `mandatory`: until then an UNSTABLE
-/// row still has its old list there.
+/// A Confirm that `on_change` answers has to go out in the same step, in a packet that acknowledges the Change's:
+/// without it the end would hold a value of which no packet of its own tells. A Change is written by first calling
+/// `sent` with the number of its packet, and then taking the list or value from `active` and Mandatory from
+/// `mandatory`: until then an UNSTABLE row still has its old list there.
 #[derive(Clone, Copy, Debug, PartialEq, Eq)]
 pub struct Negotiation {
     rows: [Row; 18],
@@ -159,8 +159,8 @@ impl Negotiation {
         }
     }
 
-    /// The list or value that the row last sent, or its configured one before that; None exactly for a non-negotiable feature at
-    /// There.
+    /// The list or value that the row last sent, or its configured one before that; None exactly for a non-negotiable
+    /// feature at There.
     pub fn active(&self, feature: Feature, place: Place) -> Option<Wanted>
         ensures value { result ≡ (row_at self.now feature place).active }
         ensures none { IsNone result ↔ (is_ours feature place ≡ false) }
@@ -179,8 +179,8 @@ impl Negotiation {
 
     /// A Change L (`left`) or Change R of a newest packet comes, with its data behind the feature number.
     ///
-    /// It answers the Confirm that is due, or Ignored, or Fatal for Reset 6, by the negotiation table. A Change that is not valid,
-    /// also one of an unknown feature, gets an empty Confirm, or Reset 6 behind Mandatory.
+    /// It answers the Confirm that is due, or Ignored, or Fatal for Reset 6, by the negotiation table. A Change that is
+    /// not valid, also one of an unknown feature, gets an empty Confirm, or Reset 6 behind Mandatory.
     pub fn on_change(&mut self, left: bool, feature: u8, body: &[u8], mandatory: bool) -> Answer
         ensures rows { self.new ≡ (changes self.old left feature body.now mandatory).rows }
         ensures answer { shown result ≡ answered left feature (changes self.old left feature body.now mandatory).answer }
@@ -210,8 +210,8 @@ impl Negotiation {
         }
     }
 
-    /// A Confirm L (`left`) or Confirm R of a newest packet comes, with its data behind the feature number and the packet's
-    /// acknowledgement number.
+    /// A Confirm L (`left`) or Confirm R of a newest packet comes, with its data behind the feature number and the
+    /// packet's acknowledgement number.
     ///
     /// It answers Settled, Ignored, or Fatal for Reset 5, by the negotiation table.
     pub fn on_confirm(
@@ -234,9 +234,9 @@ impl Negotiation {
         }
     }
 
-    /// The end wants something else for a feature at a place: a wish that `wish` gives there, which is the condition. Now means that
-    /// the row was STABLE and its Change is due in this very step; Later that a Change of the row is under way, and the new wish goes
-    /// out on a later one.
+    /// The end wants something else for a feature at a place: a wish that `wish` gives there, which is the condition.
+    /// Now means that the row was STABLE and its Change is due in this very step; Later that a Change of the row is
+    /// under way, and the new wish goes out on a later one.
     pub fn prefer(&mut self, feature: Feature, place: Place, wish: Wanted) -> Opening
         requires { is_wish feature place wish ≡ true }
         ensures rows { self.new ≡ (stepped self.old feature place (Prefers wish)).rows }
@@ -249,9 +249,10 @@ impl Negotiation {
         opening
     }
 
-    /// The offer of a row that is STABLE, which is the condition, comes up: one that was not yet made is used up. True exactly where
-    /// there was one and no Confirm of the row goes out on the same packet (`confirmed`): then the row is in CHANGING with its
-    /// active list, which is the configured one unless the end preferred another before, and its Change is due.
+    /// The offer of a row that is STABLE, which is the condition, comes up: one that was not yet made is used up. True
+    /// exactly where there was one and no Confirm of the row goes out on the same packet (`confirmed`): then the row is
+    /// in CHANGING with its active list, which is the configured one unless the end preferred another before, and its
+    /// Change is due.
     pub fn open_offer(&mut self, feature: Feature, place: Place, confirmed: bool) -> bool
         requires { (row_at self.old feature place).stand ≡ Stable }
         ensures rows { self.new ≡ (stepped self.old feature place (Offers confirmed)).rows }
@@ -264,8 +265,8 @@ impl Negotiation {
         opening
     }
 
-    /// Whether the next Change of a due row, in CHANGING or UNSTABLE, carries Mandatory: that of an offer, until a new list of the
-    /// row is sent.
+    /// Whether the next Change of a due row, in CHANGING or UNSTABLE, carries Mandatory: that of an offer, until a new
+    /// list of the row is sent.
     pub fn mandatory(&self, feature: Feature, place: Place) -> bool
         requires { is_due (row_at self.now feature place) ≡ true }
         ensures { result ≡ is_next_mandatory (row_at self.now feature place).stand (row_at self.now feature place) }
@@ -274,8 +275,8 @@ impl Negotiation {
         row.stand == Stand::Changing && row.mandatory
     }
 
-    /// A packet with the Change of a due row, in CHANGING or UNSTABLE, goes out under this number. An UNSTABLE row's new wish is
-    /// its active one from then on.
+    /// A packet with the Change of a due row, in CHANGING or UNSTABLE, goes out under this number. An UNSTABLE row's
+    /// new wish is its active one from then on.
     pub fn sent(&mut self, feature: Feature, place: Place, number: Seq48)
         requires { is_due (row_at self.old feature place) ≡ true }
         ensures rows { self.new ≡ (stepped self.old feature place (Sends number)).rows }

@@ -8,8 +8,8 @@
 //!     +--------------------------+    +--------------------------+
 //! ```
 //!
-//! A Change of the peer moves no stand: a row in CHANGING answers it, takes its value and still waits for its own Confirm. Were it
-//! to go to STABLE there, the Confirm under way could carry another value than the peer holds by then.
+//! A Change of the peer moves no stand: a row in CHANGING answers it, takes its value and still waits for its own
+//! Confirm. Were it to go to STABLE there, the Confirm under way could carry another value than the peer holds by then.
 ghost use Rattle.std.specs.Prelude.{◌≡◌, ◌≢◌, ◌++◌, ◌∷◌, [], ℕ, ◌<◌, ◌^◌, length, true, false};
 ghost use Rattle.arrayvec.specs.ArrayVec.{array_vec_len};
 ghost use Rattle.byteorder.specs.Endian.{big_bytes};
@@ -42,7 +42,8 @@ pub struct Row {
     pub active: Option<Wanted>,
     /// What it is to send next, where it is UNSTABLE.
     pub pending: Option<Wanted>,
-    /// The number of the packet with the last opening's first Change, once it was sent (FGSS of RFC 4340, section 6.6.4).
+    /// The number of the packet with the last opening's first Change, once it was sent (FGSS of RFC 4340, section
+    /// 6.6.4).
     pub opened: Option<Seq48>,
     /// The offer that was not yet made.
     pub offer: Offer,

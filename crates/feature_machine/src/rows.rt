@@ -11,7 +11,8 @@ ghost use Rattle.feature_machine.specs.declared.offers.Listed.{Listed};
 ghost use Rattle.feature_machine.specs.declared.row.Row.{Row};
 ghost use Rattle.feature_machine.specs.declared.stands.Role2.{Role2};
 
-/// An end begins with fresh rows: each is STABLE at its feature's initial value, with the wish and the offer that are listed for it.
+/// An end begins with fresh rows: each is STABLE at its feature's initial value, with the wish and the offer that are
+/// listed for it.
 pub fn rows_begin_fresh()
     ensures { (role : Role2) (lists : List Listed) → IsLists lists → (feature : Feature) (place : Place)
         → row_at (first_rows role lists) feature place ≡ first_row role (listed_at lists feature place) }
@@ -24,8 +25,9 @@ pub fn rows_keep_their_role()
         → IsEventFor (row_at rows feature place) event → AreRowsOf role (stepped rows feature place event).rows }
 {}
 
-/// What happens to rows, in order, happens to each by itself: after turns a row is what its own events make of it, in their order.
-/// The rows stay sound and of their role where what the end wants in each turn is a wish for that turn's row.
+/// What happens to rows, in order, happens to each by itself: after turns a row is what its own events make of it, in
+/// their order. The rows stay sound and of their role where what the end wants in each turn is a wish for that turn's
+/// row.
 pub fn turns_are_of_their_rows()
     ensures one_row { (feature : Feature) (place : Place) (turns : List Turn) (rows : List Row) → length rows ≡ 18
         → row_at (turned rows turns) feature place ≡ row_turned (row_at rows feature place) (events_of feature place turns) }

@@ -5,8 +5,8 @@
 pub enum Stand {
     /// Nothing is asked: the value holds.
     Stable,
-    /// The row has opened: its Change was sent, or is due in this step, and its Confirm has not come. The end still answers the
-    /// peer's Changes.
+    /// The row has opened: its Change was sent, or is due in this step, and its Confirm has not come. The end still
+    /// answers the peer's Changes.
     Changing,
     /// While a Change was under way the end came to want something else, which it has yet to send.
     Unstable,

@@ -352,8 +352,8 @@ fn changes_by_the_table(rt: HostRuntime) -> Result<(), Fail> {
 
 #[test]
 fn confirms_by_the_table(rt: HostRuntime) -> Result<(), Fail> {
-    // The stand, the Confirm's data for the server and for the client, the acknowledgement number or 0 for none, what it leads
-    // to, and the value after at each.
+    // The stand, the Confirm's data for the server and for the client, the acknowledgement number or 0 for none, what
+    // it leads to, and the value after at each.
     let cases: [(Stand, [&[u8]; 2], u64, Settling, [u64; 2]); 14] = [
         (
             Stand::Stable,

@@ -1,8 +1,8 @@
-//! What two ends know of each other's packets by their marks and Ack Vectors (RFC 4340, section 11.4; the marks and their floor
-//! are own): laws on the pair of sides, with frames by their counts.
+//! What two ends know of each other's packets by their marks and Ack Vectors (RFC 4340, section 11.4; the marks and
+//! their floor are own): laws on the pair of sides, with frames by their counts.
 //!
-//! The crate has no code that runs: its functions have empty bodies, and their contracts are the laws. It says nothing of
-//! packets, phases or windows.
+//! The crate has no code that runs: its functions have empty bodies, and their contracts are the laws. It says nothing
+//! of packets, phases or windows.
 #![tactic(auto)]
 
 mod laws;

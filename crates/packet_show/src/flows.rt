@@ -34,8 +34,8 @@ type End = (u128, u16);
 // The version of IP, and both ends, the lesser first.
 type Flow = (u8, End, End);
 
-/// The flows that were seen, in the order in which they were first seen (own). A flow is the pair of both ends, in either
-/// direction. Contracts see the list of flows.
+/// The flows that were seen, in the order in which they were first seen (own). A flow is the pair of both ends, in
+/// either direction. Contracts see the list of flows.
 #[derive(Drop)]
 pub struct Flows {
     alloc: Global,
@@ -202,11 +202,12 @@ impl Flows {
         Ok(Shown::Line)
     }
 
-    /// Writes the line of a record at the text's end: of a DCCP packet over IPv4 or IPv6, or of bytes that are none though
-    /// they are there to the IP length. It is skipped, and nothing is written, exactly where there is no such packet: the
-    /// record is no IP, a fragment, of another protocol, has no whole IP header or one that does not hold together, or
-    /// bytes are missing to the IP length and those that are there are no packet. A packet's line has the number of its
-    /// flow, which is the next one where the flow was not seen before. After NoMemory flows and text are as before.
+    /// Writes the line of a record at the text's end: of a DCCP packet over IPv4 or IPv6, or of bytes that are none
+    /// though they are there to the IP length. It is skipped, and nothing is written, exactly where there is no such
+    /// packet: the record is no IP, a fragment, of another protocol, has no whole IP header or one that does not hold
+    /// together, or bytes are missing to the IP length and those that are there are no packet. A packet's line has the
+    /// number of its flow, which is the next one where the flow was not seen before. After NoMemory flows and text are
+    /// as before.
     pub fn show(&mut self, item: &Record<'_>, to: &mut Vec<u8>) -> Result<Shown, NoMemory>
         ensures ok { IfOk result (λ shown. Shows (shows self.old (entry_of item.now)) to.old.items to.new.items self.new shown) }
         ensures unchanged { OnErr result (self.new ≡ self.old) }

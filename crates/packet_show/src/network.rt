@@ -225,8 +225,8 @@ fn in_ethernet(bytes: &[u8]) -> Option<Datagram<'_>>
     )
 }
 
-/// The DCCP packet in a record of this link type, or None exactly where there is none: it is no IPv4 or IPv6 of protocol
-/// 33, a fragment, or an IP header that was not captured whole or does not hold together.
+/// The DCCP packet in a record of this link type, or None exactly where there is none: it is no IPv4 or IPv6 of
+/// protocol 33, a fragment, or an IP header that was not captured whole or does not hold together.
 pub(crate) fn carried(link: u32, bytes: &[u8]) -> Option<Datagram<'_>>
     ensures value { option_map carried_by result ≡ carried link bytes.now }
     ensures fits { IfSome result (λ d. length d.bytes.now ≤ 65535) }

@@ -19,8 +19,8 @@ pub fn raising_keeps_the_rest()
         → IsTrue (has (raised set to).numbers m) ↔ (IsTrue (has set.numbers m) × IsFrom (raised set to).floor m) }
 {}
 
-/// What a new number makes of the floor (own): the floor stays where it lies at most 2,047 below the number, and otherwise
-/// rises to just that. So the number is in the set, and what the floor passes lies before that place.
+/// What a new number makes of the floor (own): the floor stays where it lies at most 2,047 below the number, and
+/// otherwise rises to just that. So the number is in the set, and what the floor passes lies before that place.
 pub fn marking_moves_the_floor()
     ensures floor { (set : MarkedSet) (n : ℕ) → answer_to set n ≡ New → (marked set n).floor ≡ later_of set.floor (floor_under n) }
     ensures stays { (set : MarkedSet) (n : ℕ) → IsSound set → n < 2 ^ 48 → answer_to set n ≡ New
@@ -47,8 +47,8 @@ pub fn floors_never_fall()
     ensures raised { (set : MarkedSet) (to : ℕ) → IsFrom set.floor (raised set to).floor }
 {}
 
-/// Among a sender's first 2^47 packets, whose numbers go up from ISS, the floor moves as counts do: a new packet raises it to
-/// 2,047 counts below itself where it is under that, and a raise to the greater count (own).
+/// Among a sender's first 2^47 packets, whose numbers go up from ISS, the floor moves as counts do: a new packet raises
+/// it to 2,047 counts below itself where it is under that, and a raise to the greater count (own).
 pub fn floors_go_by_counts()
     ensures marked { (set : MarkedSet) (iss floor n : ℕ) → iss < 2 ^ 48 → 1 ≤ floor → floor ≤ 2 ^ 47 → 1 ≤ n → n ≤ 2 ^ 47
         → set.floor ≡ number_of iss floor → answer_to set (number_of iss n) ≡ New
@@ -59,8 +59,8 @@ pub fn floors_go_by_counts()
         → later_of (number_of iss floor) (floor_under (number_of iss n)) ≡ number_of iss (max floor (n - 2047)) }
 {}
 
-/// Among a sender's first 2^47 packets, by their counts: a new packet joins, and of the others those stay that are not under
-/// the floor; a raise keeps just those (own).
+/// Among a sender's first 2^47 packets, by their counts: a new packet joins, and of the others those stay that are not
+/// under the floor; a raise keeps just those (own).
 pub fn members_go_by_counts()
     ensures marked { (set : MarkedSet) (iss floor n m : ℕ) → IsSound set → iss < 2 ^ 48 → 1 ≤ floor → floor ≤ 2 ^ 47
         → 1 ≤ n → n ≤ 2 ^ 47 → 1 ≤ m → m ≤ 2 ^ 47 → set.floor ≡ number_of iss floor → answer_to set (number_of iss n) ≡ New

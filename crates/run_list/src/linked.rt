@@ -152,7 +152,8 @@ fn extend_up(runs: &mut Linked, floor: Seq48, before: u16, at: u16, n: Seq48)
     };
 }
 
-// Puts `n` under the run at `at`, which begins right above it, and joins that with the next run where it ends right below.
+// Puts `n` under the run at `at`, which begins right above it, and joins that with the next run where it ends right
+// below.
 fn extend_down(runs: &mut Linked, floor: Seq48, before: u16, at: u16, n: Seq48)
     requires linked { IsLinked runs.old.nodes.items runs.old.first runs.old.free }
     requires laid { AreLaid floor 2048 (runs_from runs.old.nodes.items runs.old.first) }

@@ -59,9 +59,9 @@ impl RunList {
         self.floor = first;
     }
 
-    /// Adds `n`: `BelowFloor` where it is not at the floor or ahead of it by less than half the circle, `Again` where it
-    /// is in the set, else `New`. Where the answer is New and the floor is before `n - 2047`, the floor first rises to
-    /// that. The other answers leave all as it was.
+    /// Adds `n`: `BelowFloor` where it is not at the floor or ahead of it by less than half the circle, `Again` where
+    /// it is in the set, else `New`. Where the answer is New and the floor is before `n - 2047`, the floor first rises
+    /// to that. The other answers leave all as it was.
     pub fn mark(&mut self, n: Seq48) -> Marked
         ensures set { self.new ≡ marked self.old n }
         ensures answer { result ≡ answer_to self.old n }

@@ -50,7 +50,8 @@ fn extend_up(runs: &mut Vec<Stretch>, floor: Seq48, at: usize, n: Seq48)
     runs[at] = Stretch { hi: n, count };
 }
 
-// Puts `n` under the run at `at`, which begins right above it, and joins that with the next run where it ends right below.
+// Puts `n` under the run at `at`, which begins right above it, and joins that with the next run where it ends right
+// below.
 fn extend_down(runs: &mut Vec<Stretch>, floor: Seq48, at: usize, n: Seq48)
     requires within { at < length runs.old.items }
     requires laid { AreLaid floor 2048 runs.old.items }

@@ -8,8 +8,8 @@ use crate::list::RunList;
 use crate::plain::PlainRuns;
 use seq_circle::Seq48;
 
-/// A set of sequence numbers with a floor, however it is kept: no number below the floor is in it, and a new number pushes the
-/// floor up to 2,047 below itself (own). No call takes memory.
+/// A set of sequence numbers with a floor, however it is kept: no number below the floor is in it, and a new number
+/// pushes the floor up to 2,047 below itself (own). No call takes memory.
 pub trait Runs {
     /// The set, which contracts alone see.
     ghost set: { Self → MarkedSet };
@@ -18,9 +18,9 @@ pub trait Runs {
     fn start(&mut self, first: Seq48)
         ensures { set self.new ≡ empty_from first };
 
-    /// Adds `n`: `BelowFloor` where it is not at the floor or ahead of it by less than half the circle, `Again` where it
-    /// is in the set, else `New`. Where the answer is New and the floor is before `n - 2047`, the floor first rises to
-    /// that. The other answers leave all as it was.
+    /// Adds `n`: `BelowFloor` where it is not at the floor or ahead of it by less than half the circle, `Again` where
+    /// it is in the set, else `New`. Where the answer is New and the floor is before `n - 2047`, the floor first rises
+    /// to that. The other answers leave all as it was.
     fn mark(&mut self, n: Seq48) -> Marked
         ensures set { set self.new ≡ marked (set self.old) n }
         ensures answer { result ≡ answer_to (set self.old) n }
@@ -107,8 +107,8 @@ fn replay_call<R: Runs>(runs: &mut R, call: RunCall) -> u32
     0
 }
 
-/// Makes the calls in order, and answers how many marks were New. The answer, the set and its floor depend on the set before
-/// and on the calls, and not on how the set is kept.
+/// Makes the calls in order, and answers how many marks were New. The answer, the set and its floor depend on the set
+/// before and on the calls, and not on how the set is kept.
 pub fn replay_runs<R: Runs>(runs: &mut R, calls: &[RunCall]) -> u32
     requires few { length calls.now < 2 ^ 32 }
     ensures set { R.set runs.new ≡ replayed calls.now (R.set runs.old) }

@@ -3,8 +3,8 @@ use seq_circle::Seq48;
 use std::process::Abort;
 use std::test::Fail;
 
-// A mark by what happens to the runs: its name, the floor, the marks before, the mark, its answer, and the floor and the
-// runs after it.
+// A mark by what happens to the runs: its name, the floor, the marks before, the mark, its answer, and the floor and
+// the runs after it.
 #[derive(Clone, Copy)]
 struct Case<'a> {
     name: &'a str,

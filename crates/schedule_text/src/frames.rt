@@ -48,8 +48,8 @@ fn read_digits(words: &mut Words<'_>) -> Result<Option<FrameLine>, LineFault>
     }
 }
 
-/// The frame that a line of a replay says, or None exactly where the line is empty or a comment; or the first of the line's
-/// faults in the order of `LineWhy`, with its column (own). The line comes without its newline.
+/// The frame that a line of a replay says, or None exactly where the line is empty or a comment; or the first of the
+/// line's faults in the order of `LineWhy`, with its column (own). The line comes without its newline.
 ///
 /// A frame stands as digits of its bytes, one to 2,044 of them; behind the word `seal` at least eight.
 pub fn read_frame(line: &[u8]) -> Result<Option<FrameLine>, LineFault>

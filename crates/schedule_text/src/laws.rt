@@ -13,8 +13,8 @@ ghost use Rattle.schedule_text.specs.Range.{IsPrintable};
 ghost use Rattle.schedule_text.specs.Reading.{read_line};
 ghost use Rattle.schedule_text.specs.Words.{words_of};
 
-/// A line's words, parted by one space, are the line; each stands in it at its column, in bytes from 1; and one that is absent
-/// would stand behind the line and a space, at the line's length plus 2 (own).
+/// A line's words, parted by one space, are the line; each stands in it at its column, in bytes from 1; and one that is
+/// absent would stand behind the line and a space, at the line's length plus 2 (own).
 pub fn words_stand_at_their_columns()
     ensures { (line : List ℕ) → AreWordsOf line (words_of line) }
 {}
@@ -25,15 +25,15 @@ pub fn printed_events_are_read()
     ensures { (event : Event) → IsPrintable event → read_line (event_text event) ≡ Ok (line.Event event) }
 {}
 
-/// A line is accepted exactly where it is the words of what it says: an empty line or a comment of text that is not too long;
-/// or a form's words, parted by one space, with numbers in decimal in their ranges, a list or an offer that an end may
-/// have, and the digits of data in either case (own).
+/// A line is accepted exactly where it is the words of what it says: an empty line or a comment of text that is not too
+/// long; or a form's words, parted by one space, with numbers in decimal in their ranges, a list or an offer that an
+/// end may have, and the digits of data in either case (own).
 pub fn lines_are_their_forms()
     ensures { (text : List ℕ) (said : Line) → (read_line text ≡ Ok said) ↔ IsLine text said }
 {}
 
-/// A line is refused exactly for its first fault in the order of `LineWhy`, at that fault's column: the table of forms says
-/// what each word is judged for (own).
+/// A line is refused exactly for its first fault in the order of `LineWhy`, at that fault's column: the table of forms
+/// says what each word is judged for (own).
 pub fn the_first_fault_is_answered()
     ensures { (text : List ℕ) (fault : LineFault) → (read_line text ≡ Err fault) ↔ (line_fault text ≡ Some fault) }
 {}

@@ -51,8 +51,8 @@ pub struct LineFault {
     pub why: LineWhy,
 }
 
-/// What may be wrong with a line, in the order in which it is judged (own). Missing, UnknownWord, BadNumber and BadHex are
-/// judged together, word by word from the left.
+/// What may be wrong with a line, in the order in which it is judged (own). Missing, UnknownWord, BadNumber and BadHex
+/// are judged together, word by word from the left.
 #[derive(Clone, Copy, Debug, PartialEq, Eq)]
 pub enum LineWhy {
     /// It ends past the input's limit. The program judges this.
@@ -65,7 +65,8 @@ pub enum LineWhy {
     Missing,
     /// A word is none of those that may stand there: at that word.
     UnknownWord,
-    /// A word should be a number, a feature or a list of numbers and is not, or the index of a name is none: at that word.
+    /// A word should be a number, a feature or a list of numbers and is not, or the index of a name is none: at that
+    /// word.
     BadNumber,
     /// A word should be digits of bytes and is not: at the first other byte, or behind an odd number of digits.
     BadHex,

@@ -359,8 +359,8 @@ pub fn print_event(event: &Event, to: &mut Vec<u8>) -> Result<(), NoMemory>
 }
 
 /// Appends the line `K EVENT: RESULT` of an event that took place, under the number K of its line in the input, and a
-/// newline (own). `input` is the bytes of the frame that arrived, in which data that was delivered stands, and is empty for any other event. After
-/// NoMemory the text is as before.
+/// newline (own). `input` is the bytes of the frame that arrived, in which data that was delivered stands, and is empty
+/// for any other event. After NoMemory the text is as before.
 pub fn print_seen(
     line: u64,
     event: &Event,
@@ -390,8 +390,8 @@ fn put_numbered(text: &mut Vec<u8>, line: u64, seen: &Seen, input: &[u8]) -> Res
     Ok(())
 }
 
-/// Appends the line `K: RESULT` of a replay's frame, under the number K of its line in the input, and a newline (own). `input`
-/// is the bytes of the frame. After NoMemory the text is as before.
+/// Appends the line `K: RESULT` of a replay's frame, under the number K of its line in the input, and a newline (own).
+/// `input` is the bytes of the frame. After NoMemory the text is as before.
 pub fn print_result(line: u64, seen: &Seen, input: &[u8], to: &mut Vec<u8>) -> Result<(), NoMemory>
     requires { spec.IsSeenOf input.now seen.now }
     ensures ok { OnOk result (to.new.items ≡ to.old.items ++ spec.result_line line seen.now input.now) }

@@ -417,8 +417,8 @@ pub(crate) fn says_nothing(line: &[u8]) -> bool
     }
 }
 
-/// What a line of a schedule says, or the first of its faults in the order of `LineWhy`, with its column (own). The line
-/// comes without its newline.
+/// What a line of a schedule says, or the first of its faults in the order of `LineWhy`, with its column (own). The
+/// line comes without its newline.
 ///
 /// It answers none of TooMuchInput, HeaderLate, TooManyEvents and NoSuchFrame, which need more than the line,
 /// nor FrameTooLong and SealShort, which are faults of frames.

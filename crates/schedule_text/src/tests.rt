@@ -1,5 +1,6 @@
-//! Lines with each fault at its column, lines that are taken, and what is printed. No value here comes from the program:
-//! columns are counted by hand from the table of faults, and some are those that a second implementation answered.
+//! Lines with each fault at its column, lines that are taken, and what is printed. No value here comes from the
+//! program: columns are counted by hand from the table of faults, and some are those that a second implementation
+//! answered.
 ghost use Rattle.std.specs.Prelude.{◌≡◌, true};
 ghost use Rattle.schedule_text.specs.Results.{IsSeenOf};
 

@@ -97,9 +97,9 @@ impl Seq48 {
         if self.before(other) { other } else { self }
     }
 
-    /// Tells whether this number is `low` or lies ahead of it by less than half the circle: it lies in the interval that
-    /// begins at `low` and has no upper end (RFC 4340, section 3.1). Of two numbers exactly half the circle apart neither is
-    /// before the other, and neither is from the other.
+    /// Tells whether this number is `low` or lies ahead of it by less than half the circle: it lies in the interval
+    /// that begins at `low` and has no upper end (RFC 4340, section 3.1). Of two numbers exactly half the circle apart
+    /// neither is before the other, and neither is from the other.
     pub fn is_from(self, low: Seq48) -> bool
         ensures value { result ≡ is_from low self }
         ensures meaning { IsTrue result ↔ IsFrom low self }
@@ -107,8 +107,8 @@ impl Seq48 {
         low.distance(self) < HALF
     }
 
-    /// The upper end of the interval that begins at this number and has no upper end: 2^47 - 1 steps up, so that `is_from`
-    /// and `within` tell the same.
+    /// The upper end of the interval that begins at this number and has no upper end: 2^47 - 1 steps up, so that
+    /// `is_from` and `within` tell the same.
     pub fn open_end(self) -> Seq48
         ensures { result ≡ open_end self }
     {

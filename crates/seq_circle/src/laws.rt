@@ -12,8 +12,8 @@ pub fn before_is_the_order_of_counts()
 {}
 
 /// `is_from` is "at or before": the low end is the number, or is before it (`order`). It is `within` up to the open end
-/// (`interval`), and within half a circle of whole numbers from some base on it is the order of plain counts (`counts`; RFC
-/// 4340, section 3.1).
+/// (`interval`), and within half a circle of whole numbers from some base on it is the order of plain counts (`counts`;
+/// RFC 4340, section 3.1).
 pub fn from_is_the_order_of_counts()
     ensures order { (low n : ℕ) → low < 2 ^ 48 → n < 2 ^ 48 → IsFrom low n ↔ ((low ≡ n) ⊎ IsBefore low n) }
     ensures interval { (low n : ℕ) → low < 2 ^ 48 → IsWithin n low (open_end low) ↔ IsFrom low n }

@@ -55,8 +55,8 @@ pub struct SentFrame {
     pub floor: Seq48,
 }
 
-/// Takes all memory that keeping one more frame may need: a place in the list, and room for a frame of any length in the spare
-/// block.
+/// Takes all memory that keeping one more frame may need: a place in the list, and room for a frame of any length in
+/// the spare block.
 pub(crate) fn take_memory(frames: &mut Vec<SentFrame>, spare: &mut Vec<u8>) -> Result<(), NoMemory>
     requires empty { spare.old.items ≡ [] }
     ensures same { frames.new.items ≡ frames.old.items }
@@ -69,8 +69,8 @@ pub(crate) fn take_memory(frames: &mut Vec<SentFrame>, spare: &mut Vec<u8>) -> R
     Ok(())
 }
 
-/// Keeps the frame that a step sent, if any, in memory that was taken before the step: a place in the list, and a block that
-/// is given only where none of the frame's length is to be had.
+/// Keeps the frame that a step sent, if any, in memory that was taken before the step: a place in the list, and a block
+/// that is given only where none of the frame's length is to be had.
 pub(crate) fn keep_frame(
     alloc: Global,
     frames: &mut Vec<SentFrame>,

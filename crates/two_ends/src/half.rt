@@ -106,7 +106,8 @@ impl<C: Congestion> HalfWorld<C> {
         &self.processed
     }
 
-    // One call of the end, which processes no number. All memory that the step may need is taken before the end is touched.
+    // One call of the end, which processes no number. All memory that the step may need is taken before the end is
+    // touched.
     #[tactic(auto, using(crate::proofs::Processing::calls_process_nothing))]
     pub(crate) fn call(&mut self, asked: Asked<'_>) -> Result<Seen, NoMemory>
         ensures ok { IfOk result (λ seen. record { after = self.new; seen = seen } ≡ controlled_half_steps C.control self.old (input_of asked.entry (said_by C.control self.old.congestion))) }

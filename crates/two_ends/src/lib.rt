@@ -1,10 +1,11 @@
 //! Two ends of one connection and all frames that they ever sent, as a world in which any frame may arrive at any time,
 //! again and in any order, or never (own; the ends are RFC 4340's).
 //!
-//! Both ends negotiate features, as they are configured and as they are asked to on the way, and send data as their congestion
-//! controls allow. Whatever the schedule and whatever the congestion controls, the world is safe: where both ends call a feature
-//! settled they hold one value, each value was given to them, their Ack Vectors tell what was processed, and what an end believes
-//! received the other one processed. Nothing is said of progress or time, and no frame is altered on its way.
+//! Both ends negotiate features, as they are configured and as they are asked to on the way, and send data as their
+//! congestion controls allow. Whatever the schedule and whatever the congestion controls, the world is safe: where both
+//! ends call a feature settled they hold one value, each value was given to them, their Ack Vectors tell what was
+//! processed, and what an end believes received the other one processed. Nothing is said of progress or time, and no
+//! frame is altered on its way.
 #![tactic(auto)]
 
 mod event;

@@ -17,13 +17,14 @@ use seq_circle::NoMemory;
 use std::alloc::Global;
 use std::marker::Model;
 
-/// A client, a server, and every frame that either ever sent. [`World::step`] lets one thing happen: a side is asked to open,
-/// to send data, to prefer other values of a feature, or to close; a timer of it has run out; or a frame arrives. After each step
-/// the world is safe and its facts hold, whatever was sent, preferred, delivered, lost, repeated or reordered before, and whatever
-/// the congestion controls do: so both ends agree on each feature that they call settled, and each value was given to them; each
-/// number is processed once, each Ack Vector that was ever sent tells just what its sender had processed, and a floor passes a
-/// number only where the other side was told of it or it lies more than 2,047 below one that was processed; and what an end
-/// believes received, by its congestion control, the other one processed.
+/// A client, a server, and every frame that either ever sent. [`World::step`] lets one thing happen: a side is asked to
+/// open, to send data, to prefer other values of a feature, or to close; a timer of it has run out; or a frame arrives.
+/// After each step the world is safe and its facts hold, whatever was sent, preferred, delivered, lost, repeated or
+/// reordered before, and whatever the congestion controls do: so both ends agree on each feature that they call
+/// settled, and each value was given to them; each number is processed once, each Ack Vector that was ever sent tells
+/// just what its sender had processed, and a floor passes a number only where the other side was told of it or it lies
+/// more than 2,047 below one that was processed; and what an end believes received, by its congestion control, the
+/// other one processed.
 ///
 /// The facts: a side's frames, but for Resets without a connection, carry its first number, the next, and so on up to
 /// its greatest number sent, in this order (RFC 4340, section 7.1); there are fewer than 2^47. A Reset without a
@@ -31,8 +32,8 @@ use std::marker::Model;
 /// and TIMEWAIT numbers that are 0 may mean none), that and its greatest number received are numbers of such frames of
 /// the other side, and the first is not the later one. Once it has sent such a frame, GAR, the greatest acknowledgement
 /// number that it received or its first number, is the number of one of its own. A Reset that arrives moves nothing
-/// received, nothing acknowledged and no feature. No frame says two things of one feature and side, and none has an Ack Vector
-/// without an acknowledgement number.
+/// received, nothing acknowledged and no feature. No frame says two things of one feature and side, and none has an Ack
+/// Vector without an acknowledgement number.
 #[derive(Drop)]
 pub struct World<C: Congestion> {
     sides: Sides<C>,
@@ -56,10 +57,10 @@ impl<C: Congestion + Drop> World<C> {
     ghost use Rattle.two_ends.specs.Safe.{Safe};
     ghost use Rattle.two_ends.specs.Numbered.{Facts};
 
-    /// Two ends of these configurations, with what they wish and offer of features and with a congestion control for the data of
-    /// each, that have sent and received nothing. Both congestion controls are started with CCID 2, the first value of the feature,
-    /// which they have to know. The world is safe and its facts hold: no frame has a number yet, nothing was heard, every feature
-    /// has its initial value, and a Reset would move nothing received.
+    /// Two ends of these configurations, with what they wish and offer of features and with a congestion control for
+    /// the data of each, that have sent and received nothing. Both congestion controls are started with CCID 2, the
+    /// first value of the feature, which they have to know. The world is safe and its facts hold: no frame has a number
+    /// yet, nothing was heard, every feature has its initial value, and a Reset would move nothing received.
     pub fn new(
         alloc: Global,
         client: Config,
@@ -89,15 +90,15 @@ impl<C: Congestion> World<C> {
     ghost use Rattle.two_ends.specs.Safe.{Safe};
     ghost use Rattle.two_ends.specs.Numbered.{Facts};
 
-    /// Lets one event happen: exactly what `happens_to` says of it. Refusals, in this order: `NoSuchFrame` exactly where a
-    /// delivery's index is not below the number of frames of its sender, `Full` exactly where otherwise the side that
-    /// would act has sent 2^47 - 1 frames, `NoMemory`. Each leaves the world unchanged: all memory that the step may
-    /// need is taken before it.
+    /// Lets one event happen: exactly what `happens_to` says of it. Refusals, in this order: `NoSuchFrame` exactly
+    /// where a delivery's index is not below the number of frames of its sender, `Full` exactly where otherwise the
+    /// side that would act has sent 2^47 - 1 frames, `NoMemory`. Each leaves the world unchanged: all memory that the
+    /// step may need is taken before it.
     ///
-    /// After it, refused or not, the world is safe and its facts hold: the frames of a side but Resets without a connection
-    /// carry its first number, the next, and so on; once an end has received a first number, what it heard are numbers of
-    /// the other side's frames; once it has sent a numbered frame, GAR is the number of one; a Reset moves nothing received;
-    /// and no frame says two things of one feature and side.
+    /// After it, refused or not, the world is safe and its facts hold: the frames of a side but Resets without a
+    /// connection carry its first number, the next, and so on; once an end has received a first number, what it heard
+    /// are numbers of the other side's frames; once it has sent a numbered frame, GAR is the number of one; a Reset
+    /// moves nothing received; and no frame says two things of one feature and side.
     pub fn step(&mut self, event: &Event) -> Result<Seen, WorldFault>
         ensures ok { IfOk result (λ seen. happens_to C.control self.old event.now ≡ Ok (record { after = self.new; seen = seen })) }
         ensures no_such_frame { (result ≡ Err WorldFault.NoSuchFrame) ↔ (happens_to C.control self.old event.now ≡ Err WorldFault.NoSuchFrame) }
@@ -153,8 +154,8 @@ fn service_fits(service: u32)
     ensures { service < 2 ^ 32 }
 {}
 
-/// The world is safe after every list of events, with any congestion control, from any configurations of a client and a server
-/// whose fields fit their widths.
+/// The world is safe after every list of events, with any congestion control, from any configurations of a client and a
+/// server whose fields fit their widths.
 pub fn every_run_is_safe<C: Congestion>()
     ensures { (client server : Config) (for_client for_server : C) (events : List Event) → client.role ≡ role.Client → server.role ≡ role.Server
         → Fits client → Fits server → Safe C.control (plays C.control (begins_with C.control client server for_client for_server) events) }
@@ -162,14 +163,14 @@ pub fn every_run_is_safe<C: Congestion>()
     every_step_has_one_effect();
 }
 
-/// The world's facts after every list of events, with any congestion control, from any two configurations, whatever their roles,
-/// whose fields fit their widths. A side's frames, but for Resets without a connection, carry its first number, the next, and so on up
-/// to its greatest number sent, in this order (RFC 4340, section 7.1); there are fewer than 2^47. A Reset without a
-/// connection, whose code is 3 or a server's 8, carries no option. Once an end has received a first number, that and
-/// its greatest number received are numbers of numbered frames of the other side, and the first is not the later one;
-/// once it has sent a numbered frame, GAR is the number of one of its own. A Reset that arrives moves neither the
-/// received numbers, nor GAR, nor a feature. No frame says two things of one feature and side, and none has an Ack Vector
-/// without an acknowledgement number.
+/// The world's facts after every list of events, with any congestion control, from any two configurations, whatever
+/// their roles, whose fields fit their widths. A side's frames, but for Resets without a connection, carry its first
+/// number, the next, and so on up to its greatest number sent, in this order (RFC 4340, section 7.1); there are fewer
+/// than 2^47. A Reset without a connection, whose code is 3 or a server's 8, carries no option. Once an end has
+/// received a first number, that and its greatest number received are numbers of numbered frames of the other side, and
+/// the first is not the later one; once it has sent a numbered frame, GAR is the number of one of its own. A Reset that
+/// arrives moves neither the received numbers, nor GAR, nor a feature. No frame says two things of one feature and
+/// side, and none has an Ack Vector without an acknowledgement number.
 pub fn every_run_numbers_its_frames<C: Congestion>()
     ensures { (client server : Config) (for_client for_server : C) (events : List Event) → Fits client → Fits server
         → Facts (plays C.control (begins_with C.control client server for_client for_server) events).world }

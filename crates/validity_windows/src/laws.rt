@@ -10,10 +10,10 @@ ghost use Rattle.validity_windows.specs.Beginning.{AreSoundMarks, AreNumbers, ne
 ghost use Rattle.validity_windows.specs.Whole.{residues, IsWhole, unrolled, residue_of, HasValidNumbers, refusal, IsAckOfTurn, AckLies, whole_ack_low, whole_taken, whole_begun};
 
 /// Where each end used fewer than 2^47 numbers since its first, the windows are intervals of whole numbers, for every
-/// number of the circle: counted on from the first within one turn, just those between the two ends lie in a window (RFC
-/// 4340, section 7.5.1), just those after GSR and up to SWH are valid on what ends a connection, just those from GAR to AWH
-/// are acknowledged by it, and just those from SWL on, fewer than 2^47 of them, are valid on Sync and SyncAck (section
-/// 7.5.3). So the circle's end is no border.
+/// number of the circle: counted on from the first within one turn, just those between the two ends lie in a window
+/// (RFC 4340, section 7.5.1), just those after GSR and up to SWH are valid on what ends a connection, just those from
+/// GAR to AWH are acknowledged by it, and just those from SWL on, fewer than 2^47 of them, are valid on Sync and
+/// SyncAck (section 7.5.3). So the circle's end is no border.
 pub fn windows_are_intervals_of_counts()
     ensures sequence { (m : Marks) (isr gsr n : ℕ) → InRange m → m.isr ≡ residue isr → m.gsr ≡ residue gsr
         → isr ≤ gsr → gsr < isr + 2 ^ 47 → isr ≤ n → n < isr + 2 ^ 48
@@ -34,9 +34,10 @@ pub fn windows_are_intervals_of_counts()
         ↔ ((max (gsr + 1 - m.peer_w / 4) isr ≤ n) × (n < max (gsr + 1 - m.peer_w / 4) isr + 2 ^ 47)) }
 {}
 
-/// The table of RFC 4340, section 7.5.3, over whole numbers: for sound marks a packet is valid exactly where its numbers lie
-/// in the intervals of the plain order (`valid`), and what is not valid is answered as the table says (`otherwise`). Each
-/// number of a packet is the residue of just one whole number within one turn from the first on, so no packet is left out.
+/// The table of RFC 4340, section 7.5.3, over whole numbers: for sound marks a packet is valid exactly where its
+/// numbers lie in the intervals of the plain order (`valid`), and what is not valid is answered as the table says
+/// (`otherwise`). Each number of a packet is the residue of just one whole number within one turn from the first on, so
+/// no packet is left out.
 pub fn verdicts_are_those_of_whole_numbers()
     ensures valid { (w : Marks) (kind : PacketType) (n : ℕ) (ack : Option ℕ) → IsWhole w → InRange w → w.isr ≤ n → n < w.isr + 2 ^ 48
         → IsAckOfTurn w.iss ack → (verdict (residues w) kind (residue n) (residue_of ack) ≡ verdicts.Valid) ↔ HasValidNumbers w kind n ack }
@@ -53,8 +54,9 @@ pub fn sound_marks_are_whole_numbers()
 {}
 
 /// What a valid packet raises is the maximum of whole numbers, where its number is one of the first 2^47 of its sender
-/// (`raised`), and the marks are whole ones again (`taken`). The first packet received does the same where it acknowledges
-/// AWL to AWH (`begun`, `first`). So sound marks stay so, and they are sound from the first packet sent on (`sent`).
+/// (`raised`), and the marks are whole ones again (`taken`). The first packet received does the same where it
+/// acknowledges AWL to AWH (`begun`, `first`). So sound marks stay so, and they are sound from the first packet sent on
+/// (`sent`).
 pub fn marks_stay_sound()
     ensures raised { (w : Marks) (kind : PacketType) (n : ℕ) (ack : Option ℕ) → IsWhole w → w.isr ≤ n → n < w.isr + 2 ^ 47
         → HasValidNumbers w kind n ack → taken (residues w) kind (residue n) (residue_of ack) ≡ residues (whole_taken w kind n ack) }

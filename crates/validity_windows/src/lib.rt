@@ -1,5 +1,5 @@
-//! The windows of valid sequence and acknowledgement numbers, the verdict on a packet's numbers, and what a valid packet
-//! raises (RFC 4340, section 7.5).
+//! The windows of valid sequence and acknowledgement numbers, the verdict on a packet's numbers, and what a valid
+//! packet raises (RFC 4340, section 7.5).
 //!
 //! Nothing here knows phases, options or the checksum, and nothing takes memory.
 #![tactic(auto)]

@@ -7,9 +7,9 @@ use crate::verdict::gar_after;
 use dccp_packets::PacketType;
 use seq_circle::Seq48;
 
-/// The numbers that an end keeps of its connection (RFC 4340, section 7.1), and the widths of both windows, each in 32 to
-/// 2^46 - 1. They begin with `new`, and `begin` takes the first packet received. What a packet of its own is numbered is
-/// the caller's to count in `gss`.
+/// The numbers that an end keeps of its connection (RFC 4340, section 7.1), and the widths of both windows, each in 32
+/// to 2^46 - 1. They begin with `new`, and `begin` takes the first packet received. What a packet of its own is
+/// numbered is the caller's to count in `gss`.
 #[derive(Clone, Copy, Debug, PartialEq, Eq)]
 pub struct Marks {
     /// ISS, the first number sent.
@@ -40,8 +40,8 @@ fn zero() -> Seq48
 }
 
 impl Marks {
-    /// The marks of an end whose first packet will have the number `iss`, before any packet. Both windows have this width: the
-    /// value with which the feature Sequence Window begins at both ends (RFC 4340, section 7.5.2).
+    /// The marks of an end whose first packet will have the number `iss`, before any packet. Both windows have this
+    /// width: the value with which the feature Sequence Window begins at both ends (RFC 4340, section 7.5.2).
     pub fn new(iss: Seq48, width: u64) -> Marks
         ensures { result ≡ new_marks iss width }
     {
@@ -59,7 +59,8 @@ impl Marks {
     }
 
     /// Takes the first packet received: ISR, GSR and OSR become its number, and GAR the later of itself and the
-    /// acknowledgement number (RFC 4340, section 8.5, steps 3 and 4). `ack` is there exactly for the types that have one.
+    /// acknowledgement number (RFC 4340, section 8.5, steps 3 and 4). `ack` is there exactly for the types that have
+    /// one.
     pub fn begin(&mut self, kind: PacketType, number: Seq48, ack: Option<Seq48>)
         requires { is_some ack ≡ has_ack kind }
         ensures { self.new ≡ begun self.old kind number ack }

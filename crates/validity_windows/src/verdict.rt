@@ -40,10 +40,10 @@ pub(crate) fn gar_after(gar: Seq48, kind: PacketType, ack: Option<Seq48>) -> Seq
 }
 
 impl Marks {
-    /// The windows of valid numbers (RFC 4340, section 7.5.1), with W the width `peer_w` and W' the width `own_w`: SWL is
-    /// the later of GSR + 1 - floor(W/4) and ISR, SWH is GSR + ceil(3W/4), AWL is the later of GSS + 1 - W' and ISS, and
-    /// AWH is GSS. Both widths lie in 32 to 2^46 - 1. Before the first packet was sent AWL is ISS and AWH is ISS - 1, so
-    /// that every acknowledgement number is in the window: judge no packet before that (own).
+    /// The windows of valid numbers (RFC 4340, section 7.5.1), with W the width `peer_w` and W' the width `own_w`: SWL
+    /// is the later of GSR + 1 - floor(W/4) and ISR, SWH is GSR + ceil(3W/4), AWL is the later of GSS + 1 - W' and ISS,
+    /// and AWH is GSS. Both widths lie in 32 to 2^46 - 1. Before the first packet was sent AWL is ISS and AWH is ISS -
+    /// 1, so that every acknowledgement number is in the window: judge no packet before that (own).
     pub fn windows(&self) -> Windows
         requires { InRange self.now }
         ensures { result ≡ windows self.now }
@@ -99,9 +99,9 @@ impl Marks {
         }
     }
 
-    /// Tells whether an acknowledgement number, where there is one, is of a packet that this end sent lately: it lies in AWL to
-    /// AWH (RFC 4340, section 7.5.1). An end in REQUEST asks this of a Response or Reset, since the peer's numbers are not
-    /// known yet. The widths are in range, and at least one packet was sent.
+    /// Tells whether an acknowledgement number, where there is one, is of a packet that this end sent lately: it lies
+    /// in AWL to AWH (RFC 4340, section 7.5.1). An end in REQUEST asks this of a Response or Reset, since the peer's
+    /// numbers are not known yet. The widths are in range, and at least one packet was sent.
     pub fn acknowledges(&self, ack: Option<Seq48>) -> bool
         requires { InRange self.now }
         ensures { result ≡ is_ack_within (ack_low self.now) (ack_high self.now) ack }
@@ -110,9 +110,9 @@ impl Marks {
         is_ack_within(ack, windows.awl, windows.awh)
     }
 
-    /// The verdict on a packet of this type with these numbers (RFC 4340, section 7.5.3). The widths are in range, `ack` is
-    /// there exactly for the types that have an acknowledgement number (`PacketType::has_ack`), and at least one packet was
-    /// sent and one received, this one perhaps.
+    /// The verdict on a packet of this type with these numbers (RFC 4340, section 7.5.3). The widths are in range,
+    /// `ack` is there exactly for the types that have an acknowledgement number (`PacketType::has_ack`), and at least
+    /// one packet was sent and one received, this one perhaps.
     ///
     /// | Types | Valid where | Otherwise |
     /// |---|---|---|
@@ -121,8 +121,8 @@ impl Marks {
     /// | Reset | the same | SyncFor GSR |
     /// | Sync, SyncAck | from SWL on, less than half the circle, acknowledging AWL to AWH | Drop |
     ///
-    /// A packet without an acknowledgement number is judged by its number alone. For sound marks the intervals are those of
-    /// whole numbers, wherever the circle's end lies (`verdicts_are_those_of_whole_numbers`).
+    /// A packet without an acknowledgement number is judged by its number alone. For sound marks the intervals are
+    /// those of whole numbers, wherever the circle's end lies (`verdicts_are_those_of_whole_numbers`).
     pub fn check(&self, kind: PacketType, number: Seq48, ack: Option<Seq48>) -> Verdict
         requires in_range { InRange self.now }
         requires ack { is_some ack ≡ has_ack kind }
@@ -140,9 +140,9 @@ impl Marks {
         }
     }
 
-    /// Takes the numbers of a packet that `check` calls Valid: GSR becomes the later of itself and the number, and GAR the
-    /// later of itself and the acknowledgement number, unless the packet is a Sync (RFC 4340, section 7.1). A Reset is never
-    /// taken (own): it moves neither. The conditions of `check` hold here too.
+    /// Takes the numbers of a packet that `check` calls Valid: GSR becomes the later of itself and the number, and GAR
+    /// the later of itself and the acknowledgement number, unless the packet is a Sync (RFC 4340, section 7.1). A Reset
+    /// is never taken (own): it moves neither. The conditions of `check` hold here too.
     pub fn take(&mut self, kind: PacketType, number: Seq48, ack: Option<Seq48>)
         requires in_range { InRange self.old }
         requires ack { is_some ack ≡ has_ack kind }

@@ -176,7 +176,8 @@ impl Connection {
         self.send_ack(Kind::Ack { ack }, &[], keys, out);
     }
 
-    /// A timer has run out, other than that of the congestion control. True exactly where it has something to do in this phase.
+    /// A timer has run out, other than that of the congestion control. True exactly where it has something to do in
+    /// this phase.
     #[tactic(auto, unfolding(crate::specs::Calling::fires))]
     pub(crate) fn timer(&mut self, timer: Timer, out: &mut Outbox) -> bool
         requires { timer ≢ Timer.Rto }

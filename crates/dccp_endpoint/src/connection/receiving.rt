@@ -1,5 +1,5 @@
-//! What an end does with a packet that arrives: the sixteen steps of RFC 4340, section 8.5.
-//! `take_bytes`, `take`, `take_steps`, `take_options` and `negotiate` list them, and each has a function of its own below.
+//! What an end does with a packet that arrives: the sixteen steps of RFC 4340, section 8.5. `take_bytes`, `take`,
+//! `take_steps`, `take_options` and `negotiate` list them, and each has a function of its own below.
 ghost use Rattle.std.specs.Prelude.{◌≡◌, length, map};
 ghost use Rattle.dccp_endpoint.specs.End.{is_connected, is_live, is_open};
 ghost use Rattle.dccp_endpoint.specs.Receiving.{packet_fault};
@@ -177,8 +177,8 @@ impl Connection {
         }
     }
 
-    // Step 8. Most packets have no option that says anything to the rows: then these stay, and the windows too, which are as wide as they
-    // say, and no Confirm is due.
+    // Step 8. Most packets have no option that says anything to the rows: then these stay, and the windows too, which
+    // are as wide as they say, and no Confirm is due.
     fn take_options<C: Congestion>(
         &mut self,
         packet: &IncomingPacket<'_>,
@@ -195,8 +195,8 @@ impl Connection {
         self.process(packet, &[], out)
     }
 
-    // Step 8, whole: the first fault of the options ends the connection, and else the rows are stored, once the congestion control has
-    // what is due to it. With the Confirms that are due come steps 10 to 16.
+    // Step 8, whole: the first fault of the options ends the connection, and else the rows are stored, once the
+    // congestion control has what is due to it. With the Confirms that are due come steps 10 to 16.
     fn negotiate<C: Congestion>(
         &mut self,
         packet: &IncomingPacket<'_>,
@@ -389,8 +389,8 @@ impl Connection {
         }
     }
 
-    // Step 7: a packet that its phase does not expect is answered with a Sync; a Response for another service than was asked for
-    // ends the connection.
+    // Step 7: a packet that its phase does not expect is answered with a Sync; a Response for another service than was
+    // asked for ends the connection.
     fn check_type(&self, packet: &IncomingPacket<'_>) -> Result<(), Exit>
         ensures { course self.now result ≡ checks_type packet.now self.now }
     {
@@ -548,7 +548,8 @@ impl Connection {
         ratio != 0 && ratio <= u64::from(self.unacked)
     }
 
-    // Where the table has no reply: an Ack is needed in PARTOPEN and OPEN if Confirms are due, and in OPEN for enough data packets.
+    // Where the table has no reply: an Ack is needed in PARTOPEN and OPEN if Confirms are due, and in OPEN for enough
+    // data packets.
     fn needs_ack(&self, confirms: &[ConfirmOut]) -> bool
         ensures { result ≡ needs_ack self.now.phase (map due_of confirms.now) self.now.rows self.now.unacked }
     {
@@ -588,7 +589,8 @@ impl Connection {
         Outcome::Took { delivered }
     }
 
-    // A Response opens the offered rows that have no Confirm in it, and carries the Changes of these and of all others that ask.
+    // A Response opens the offered rows that have no Confirm in it, and carries the Changes of these and of all others
+    // that ask.
     fn respond(
         &mut self,
         confirms: &[ConfirmOut],

@@ -142,7 +142,8 @@ impl Connection {
         self.unacked = 0;
     }
 
-    // Sends an Ack or a DataAck: behind its Ack Vector the Confirms, and the Changes of these rows, which are in CHANGING.
+    // Sends an Ack or a DataAck: behind its Ack Vector the Confirms, and the Changes of these rows, which are in
+    // CHANGING.
     #[tactic(auto, using(crate::proofs::Frames::fixed_part_is_short, crate::proofs::Writing::written_all))]
     pub(crate) fn send_ack(
         &mut self,
@@ -241,8 +242,8 @@ impl Connection {
         fit(&mut self.marks, &self.rows);
     }
 
-    // Sends a packet with these Confirms, once all offers have come up: it carries the Changes of all rows that ask and have no
-    // Confirm in it.
+    // Sends a packet with these Confirms, once all offers have come up: it carries the Changes of all rows that ask and
+    // have no Confirm in it.
     pub(crate) fn send_offering(&mut self, kind: Kind, confirms: &[ConfirmOut], out: &mut Outbox)
         requires form { has_forms true kind ≡ true }
         requires room { HaveRoom (map due_of confirms.now) }

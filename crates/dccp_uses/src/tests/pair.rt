@@ -9,8 +9,8 @@ use std::test::Fail;
 // How many milliseconds a turn takes.
 const TURN: u64 = 50;
 
-// A client that asks for the usual service, the server's session once there is one, what each was told of its end, and what was delivered to
-// the server.
+// A client that asks for the usual service, the server's session once there is one, what each was told of its end, and
+// what was delivered to the server.
 #[derive(Drop)]
 pub(crate) struct Pair<C> {
     alloc: Global,

@@ -2,7 +2,8 @@
 use crate::Network;
 use std::alloc::Global;
 
-/// Keeps frames until they are taken. It loses one of four, and gives them in any order; or all in order, where it is whole.
+/// Keeps frames until they are taken. It loses one of four, and gives them in any order; or all in order, where it is
+/// whole.
 #[derive(Drop)]
 pub(crate) struct Wire {
     alloc: Global,
