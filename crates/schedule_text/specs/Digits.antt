@@ -4,6 +4,7 @@ use Rattle.std.specs.List.{position_from}
 use Rattle.std.specs.Result.{result_unwrap_or}
 use Rattle.hex.specs.Hex.{is_hex_digit, decode_sized}
 
+-- the place that was found, or else the end of a text whose number of digits is odd
 abbrev pub flaw_or_odd : List ℕ → Option ℕ → Option ℕ
 flaw_or_odd text (Some place) = Some place
 flaw_or_odd text None = if length text % 2 == 1 then Some (length text) else None

@@ -22,6 +22,7 @@ abbrev pub first_or : Option LineFault → Option LineFault → Option LineFault
 first_or None next = next
 first_or (Some fault) next = Some fault
 
+-- no fault where that fits, and this one where it does not
 abbrev pub unless : Bool → LineFault → Option LineFault
 unless fits fault = if fits then None else Some fault
 
@@ -32,24 +33,31 @@ word_fault cause fits word =
 
 -- What the first of the words that are left is judged for
 
+-- a judgement of the words that are left: the fault of the first of them, if it has one
 abbrev pub Judge : Type 0
 Judge = WordsLeft → Option LineFault
 
+-- the word for a side, `client` or `server`
 abbrev pub a_side : Judge
 a_side left = word_fault why.UnknownWord (is_some (side_named (first_word left).text)) (first_word left)
 
+-- the word for where a feature is located, `here` or `there`
 abbrev pub a_place : Judge
 a_place left = word_fault why.UnknownWord (is_some (place_named (first_word left).text)) (first_word left)
 
+-- the word for one of the six timers of an end
 abbrev pub a_timer : Judge
 a_timer left = word_fault why.UnknownWord (is_some (timer_of (first_word left).text)) (first_word left)
 
+-- a sequence number, which is below 2^48
 abbrev pub a_number : Judge
 a_number left = word_fault why.BadNumber (is_some (number_below (2 ^ 48) (first_word left).text)) (first_word left)
 
+-- the number of a feature, from 1 to 9
 abbrev pub a_feature : Judge
 a_feature left = word_fault why.BadNumber (is_some (feature_of (first_word left).text)) (first_word left)
 
+-- one to nine values below 2^48, parted by commas
 abbrev pub some_values : Judge
 some_values left = word_fault why.BadNumber (is_some (values_of (first_word left).text)) (first_word left)
 
@@ -58,10 +66,12 @@ abbrev pub name_cause : List ℕ → LineWhy
 name_cause [] = why.UnknownWord
 name_cause (letter ∷ index) = if letter == 99 || letter == 115 then why.BadNumber else why.UnknownWord
 
+-- the letter of a sender, `c` or `s`, and an index below 2^47
 abbrev pub names_frame : List ℕ → Bool
 names_frame [] = false
 names_frame (letter ∷ index) = (letter == 99 || letter == 115) && is_some (number_below (2 ^ 47) index)
 
+-- a frame's name; its letter and its index are refused for different causes
 abbrev pub a_name : Judge
 a_name left = word_fault (name_cause (first_word left).text) (names_frame (first_word left).text) (first_word left)
 
@@ -70,17 +80,21 @@ abbrev pub bad_digit : WordAt → Option ℕ → Option LineFault
 bad_digit word None = None
 bad_digit word (Some place) = Some (fault_at (word.column + place) why.BadHex)
 
+-- the fault of a word that should be digits of bytes: there is none, or the digits have a flaw
 abbrev pub digits_fault : WordAt → Option LineFault
 digits_fault word =
     if length word.text == 0 then Some (fault_at word.column why.Missing) else bad_digit word (flaw_of word.text)
 
+-- the bytes of data that are sent: digits, or a dash for none
 abbrev pub some_bytes : Judge
 some_bytes left = if bytes_eq (first_word left).text (codes "-") then None else digits_fault (first_word left)
 
+-- the fault of a next word other than `mandatory`, where there is a next word
 abbrev pub maybe_first : List WordAt → Option LineFault
 maybe_first [] = None
 maybe_first (word ∷ words) = word_fault why.UnknownWord (bytes_eq word.text (codes "mandatory")) word
 
+-- the last word of an offer, which may be left out
 abbrev pub maybe_mandatory : Judge
 maybe_mandatory left = maybe_first left.words
 
@@ -98,6 +112,7 @@ judges_of form.Timer = a_side ∷ a_timer ∷ []
 judges_of form.Close = a_side ∷ []
 judges_of form.Abort = a_side ∷ []
 
+-- a word where the line should be over
 abbrev pub nothing_more : List WordAt → Option LineFault
 nothing_more [] = None
 nothing_more (word ∷ words) = Some (fault_at word.column why.Trailing)
@@ -112,17 +127,20 @@ abbrev pub refused_wish : ℕ → Result Wanted PreferFault → Option LineFault
 refused_wish column (Ok wanted) = None
 refused_wish column (Err fault) = Some (fault_at column (wish_fault fault))
 
+-- a configured list that the end may not have; words that could not be read are judged elsewhere
 abbrev pub refused_set : ℕ → Option Place → Option Feature → Option (List ℕ) → Option LineFault
 refused_set column (Some place) (Some feature) (Some values) = refused_wish column (wish_of feature place values)
 refused_set column (Some place) (Some feature) None = None
 refused_set column (Some place) None values = None
 refused_set column None feature values = None
 
+-- an offer that the end may not make; words that could not be read are judged elsewhere
 abbrev pub refused_offer : ℕ → Option Place → Option Feature → Option LineFault
 refused_offer column (Some place) (Some feature) = unless (is_ours feature place) (fault_at column why.NotOurs)
 refused_offer column (Some place) None = None
 refused_offer column None feature = None
 
+-- what an end may not have, which only `set` and `offer` can ask for
 abbrev pub end_fault : Form → WordsLeft → Option LineFault
 end_fault form.Plain left = None
 end_fault form.Iss left = None
@@ -138,10 +156,12 @@ end_fault form.Timer left = None
 end_fault form.Close left = None
 end_fault form.Abort left = None
 
+-- the words behind a known first word are judged before what an end may not have
 abbrev pub form_fault : Option Form → WordsLeft → Option LineFault
 form_fault None left = None
 form_fault (Some form) left = first_or (words_fault (judges_of form) left) (end_fault form left)
 
+-- the first fault of a line that says something: its first word, then what its form has behind that
 abbrev pub spoken_fault : WordsLeft → Option LineFault
 spoken_fault left =
     first_or (word_fault why.UnknownWord (is_some (form_named (first_word left).text)) (first_word left))

@@ -31,12 +31,15 @@ frame_read seal left = do
 abbrev pub seals : WordsLeft → Bool
 seals left = bytes_eq (first_word left).text (codes "seal")
 
+-- the words of a line with a frame: `seal` where the checksum is to be set, then the digits
 abbrev pub read_digits : WordsLeft → Result (Option FrameLine) LineFault
 read_digits left = if seals left then frame_read true (later left) else frame_read false left
 
+-- the frame of a line whose bytes are text; an empty line or a comment has none
 abbrev pub read_clean_frame : List ℕ → Result (Option FrameLine) LineFault
 read_clean_frame text = if says_nothing text then Ok None else read_digits (words_of text)
 
+-- a replay's line without its newline: its frame, if it has one, or the first of its faults
 abbrev pub read_frame : List ℕ → Result (Option FrameLine) LineFault
 read_frame text = do
   clean text
@@ -44,20 +47,24 @@ read_frame text = do
 
 -- The first fault of such a line, as a table.
 
+-- more than 2,044 bytes, or fewer than 8 where the checksum is to be set
 abbrev pub size_fault : Bool → ℕ → List ℕ → Option LineFault
 size_fault seal column bytes =
     if nat_lt 2044 (length bytes) then Some (fault_at column why.FrameTooLong)
     else if seal && nat_lt (length bytes) 8 then Some (fault_at column why.SealShort)
     else None
 
+-- a flaw in the digits comes before a word behind them, and that before a size that no frame has
 abbrev pub digits_line_fault : Bool → WordsLeft → Option LineFault
 digits_line_fault seal left =
     first_or (digits_fault (first_word left))
     (first_or (nothing_more (later left).words) (size_fault seal (first_word left).column (bytes_of (first_word left).text)))
 
+-- the digits are the second word where `seal` is the first
 abbrev pub replayed_fault : WordsLeft → Option LineFault
 replayed_fault left = if seals left then digits_line_fault true (later left) else digits_line_fault false left
 
+-- the first fault of a replay's line: its length, then a byte that is no text, then its words
 abbrev pub frame_fault : List ℕ → Option LineFault
 frame_fault text =
     first_or (if nat_lt 4096 (length text) then Some (fault_at 4097 why.LineTooLong) else None)

@@ -10,6 +10,7 @@ use Rattle.dccp_endpoint.specs.declared.calls.Timer.TheVariants as timer
 use Rattle.schedule_text.specs.declared.names.Form.{Form}
 use Rattle.schedule_text.specs.declared.names.Form.TheVariants as form
 
+-- the first word of a line, which tells what the line is
 abbrev pub form_name : Form → List ℕ
 form_name form.Plain = codes "plain"
 form_name form.Iss = codes "iss"
@@ -23,14 +24,17 @@ form_name form.Timer = codes "timer"
 form_name form.Close = codes "close"
 form_name form.Abort = codes "abort"
 
+-- the word for the end that a line is about
 abbrev pub side_name : Side → List ℕ
 side_name side.Client = codes "client"
 side_name side.Server = codes "server"
 
+-- the word for where a feature is located: at the side that the line names, or at its peer
 abbrev pub place_name : Place → List ℕ
 place_name place.Here = codes "here"
 place_name place.There = codes "there"
 
+-- the word for the timer that runs out
 abbrev pub timer_name : Timer → List ℕ
 timer_name timer.Request = codes "request"
 timer_name timer.Ack = codes "ack"
@@ -55,18 +59,21 @@ form_named word =
     else if bytes_eq word (form_name form.Abort) then Some form.Abort
     else None
 
+-- one of two sides; a word in another case names none
 abbrev pub side_named : List ℕ → Option Side
 side_named word =
     if bytes_eq word (side_name side.Client) then Some side.Client
     else if bytes_eq word (side_name side.Server) then Some side.Server
     else None
 
+-- one of the two places that a feature can have
 abbrev pub place_named : List ℕ → Option Place
 place_named word =
     if bytes_eq word (place_name place.Here) then Some place.Here
     else if bytes_eq word (place_name place.There) then Some place.There
     else None
 
+-- the timer with this name, if there is one
 abbrev pub timer_of : List ℕ → Option Timer
 timer_of word =
     if bytes_eq word (timer_name timer.Request) then Some timer.Request

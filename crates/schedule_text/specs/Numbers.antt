@@ -24,6 +24,7 @@ number_below limit (byte ∷ (next ∷ rest)) = if byte == 48 then None else dig
 abbrev pub sequence_numbers : ℕ
 sequence_numbers = 2 ^ 48
 
+-- the limit that a frame's index stays below
 abbrev pub indices : ℕ
 indices = 2 ^ 47
 
@@ -37,6 +38,7 @@ abbrev pub numbers_read : List (List ℕ) → Option (List ℕ)
 numbers_read [] = Some []
 numbers_read (text ∷ texts) = option_and_then (λ number. number_and_rest number (numbers_read texts)) (number_below sequence_numbers text)
 
+-- numbers that the room for values holds, which is for nine
 abbrev pub at_most_nine : List ℕ → Option (List ℕ)
 at_most_nine numbers = if nat_le (length numbers) 9 then Some numbers else None
 

@@ -38,9 +38,11 @@ abbrev pub side_letter : Side → List ℕ
 side_letter Client = codes "c"
 side_letter Server = codes "s"
 
+-- the name by which a line speaks of a frame, as `c12` is that of the client's frame with index 12
 abbrev pub frame_name : Side → ℕ → List ℕ
 frame_name from index = side_letter from ++ decimal index
 
+-- the words that a schedule has for an event, its form first
 abbrev pub event_words : Event → List (List ℕ)
 event_words event.Open = form_name form.Open ∷ []
 event_words (event.Deliver from index) = form_name form.Deliver ∷ frame_name from index ∷ []

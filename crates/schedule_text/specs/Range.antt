@@ -18,6 +18,7 @@ pub record FitsOneLine (payload : List ℕ) : Type 0 where
   pub few : length payload ≤ 2042
   pub bytes : IsBytes payload
 
+-- an event whose index, data or values are such as a line can say
 abbrev pub IsPrintable : Event → Type 0
 IsPrintable event.Open = Unit {0}
 IsPrintable (event.Deliver from index) = index < 2 ^ 47

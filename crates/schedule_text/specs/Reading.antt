@@ -31,11 +31,13 @@ abbrev pub ◌>>=◌ : {A B : Type 0} → Result A LineFault → (A → Result B
 Ok x >>= f = f x
 Err fault >>= f = Err fault
 
+-- a check's fault, or what follows the check where it held
 infixl 10 ◌>>◌
 abbrev pub ◌>>◌ : {B : Type 0} → Result (Unit {0}) LineFault → Result B LineFault → Result B LineFault
 Ok _ >> next = next
 Err fault >> next = Err fault
 
+-- a cause, at the column where it was found
 abbrev pub fault_at : ℕ → LineWhy → LineFault
 fault_at column why = record { column = column; why = why }
 
@@ -50,36 +52,43 @@ abbrev pub needed : {A : Type 0} → WordAt → LineWhy → Option A → Result 
 needed word why None = Err (fault_at word.column why)
 needed word why (Some found) = Ok found
 
+-- the first word of a line; one that names no form is unknown
 abbrev pub form_word : WordAt → Result Form LineFault
 form_word word = do
   present word
   needed word why.UnknownWord (form_named word.text)
 
+-- a word for a side; any other is unknown
 abbrev pub side_word : WordAt → Result Side LineFault
 side_word word = do
   present word
   needed word why.UnknownWord (side_named word.text)
 
+-- a word for where a feature is located; any other is unknown
 abbrev pub place_word : WordAt → Result Place LineFault
 place_word word = do
   present word
   needed word why.UnknownWord (place_named word.text)
 
+-- a word for a timer; any other is unknown
 abbrev pub timer_word : WordAt → Result Timer LineFault
 timer_word word = do
   present word
   needed word why.UnknownWord (timer_of word.text)
 
+-- an initial sequence number, in decimal digits
 abbrev pub number_word : WordAt → Result ℕ LineFault
 number_word word = do
   present word
   needed word why.BadNumber (number_below sequence_numbers word.text)
 
+-- a feature by its number, for names are not taken
 abbrev pub feature_word : WordAt → Result Feature LineFault
 feature_word word = do
   present word
   needed word why.BadNumber (feature_of word.text)
 
+-- the list of values for a feature, all in one word
 abbrev pub values_word : WordAt → Result (List ℕ) LineFault
 values_word word = do
   present word
@@ -89,10 +98,12 @@ values_word word = do
 abbrev pub frame_index : List ℕ → Option ℕ
 frame_index text = number_below indices text
 
+-- the arrival of a frame, where its index could be read
 abbrev pub delivery : WordAt → Side → Option ℕ → Result Event LineFault
 delivery word from None = Err (fault_at word.column why.BadNumber)
 delivery word from (Some index) = Ok (event.Deliver from index)
 
+-- the letter of a sender and an index; another letter begins no name
 abbrev pub named : WordAt → List ℕ → Result Event LineFault
 named word [] = Err (fault_at word.column why.UnknownWord)
 named word (letter ∷ index) =
@@ -100,6 +111,7 @@ named word (letter ∷ index) =
     else if letter == 115 then delivery word Server (frame_index index)
     else Err (fault_at word.column why.UnknownWord)
 
+-- the arrival of the frame that a word names
 abbrev pub name_word : WordAt → Result Event LineFault
 name_word word = do
   present word
@@ -110,6 +122,7 @@ abbrev pub digits_or_flaw : WordAt → Option ℕ → Result (List ℕ) LineFaul
 digits_or_flaw word None = Ok (bytes_of word.text)
 digits_or_flaw word (Some place) = Err (fault_at (word.column + place) why.BadHex)
 
+-- the bytes that a word spells in hexadecimal, at least one
 abbrev pub digits_word : WordAt → Result (List ℕ) LineFault
 digits_word word = do
   present word
@@ -125,10 +138,12 @@ mandatory_or_other word = do
   present word
   if bytes_eq word.text (codes "mandatory") then Ok true else Err (fault_at word.column why.UnknownWord)
 
+-- an offer without a further word is not marked with Mandatory
 abbrev pub mandatory_first : List WordAt → Result Bool LineFault
 mandatory_first [] = Ok false
 mandatory_first (word ∷ words) = mandatory_or_other word
 
+-- whether an offer is marked with Mandatory, by the words behind its feature
 abbrev pub mandatory_word : WordsLeft → Result Bool LineFault
 mandatory_word left = mandatory_first left.words
 
@@ -137,6 +152,7 @@ abbrev pub none_left : List WordAt → Result (Unit {0}) LineFault
 none_left [] = Ok tt
 none_left (word ∷ words) = Err (fault_at word.column why.Trailing)
 
+-- no word may stand behind those of a form
 abbrev pub ended : WordsLeft → Result (Unit {0}) LineFault
 ended left = none_left left.words
 
@@ -148,18 +164,22 @@ wish_fault wish.BadList = why.BadList
 wish_fault wish.NotOurs = why.NotOurs
 wish_fault wish.NotOpen = why.NotOurs
 
+-- a list that the end may have, or else its fault at this column
 abbrev pub wished : ℕ → Result Wanted PreferFault → Result (Unit {0}) LineFault
 wished column (Ok wanted) = Ok tt
 wished column (Err fault) = Err (fault_at column (wish_fault fault))
 
+-- an offer that the end may make, or else its fault at this column
 abbrev pub offered : ℕ → Bool → Result (Unit {0}) LineFault
 offered column ours = if ours then Ok tt else Err (fault_at column why.NotOurs)
 
+-- the line `plain`, which has no other word
 abbrev pub plain_line : WordsLeft → Result Line LineFault
 plain_line left = do
   ended left
   Ok line.Plain
 
+-- `iss`: a side, and the initial sequence number that it is given
 abbrev pub iss_line : WordsLeft → Result Line LineFault
 iss_line left = do
   side ← side_word (word_at 0 left)
@@ -167,6 +187,7 @@ iss_line left = do
   ended (later_by 2 left)
   Ok (line.Iss side number)
 
+-- `set`: the list that a side is configured with, judged as a wish once all words are read
 abbrev pub set_line : WordsLeft → Result Line LineFault
 set_line left = do
   side ← side_word (word_at 0 left)
@@ -177,6 +198,7 @@ set_line left = do
   wished (word_at 3 left).column (wish_of feature place values)
   Ok (line.Set side place feature values)
 
+-- `offer`: a feature that a side is configured to offer, marked with Mandatory or not
 abbrev pub offer_line : WordsLeft → Result Line LineFault
 offer_line left = do
   side ← side_word (word_at 0 left)
@@ -187,17 +209,20 @@ offer_line left = do
   offered (word_at 2 left).column (is_ours feature place)
   Ok (line.Offer side place feature mandatory)
 
+-- `open`: an event that needs no word for its side
 abbrev pub open_line : WordsLeft → Result Line LineFault
 open_line left = do
   ended left
   Ok (line.Event event.Open)
 
+-- `deliver`: a frame arrives, which its name alone tells
 abbrev pub deliver_line : WordsLeft → Result Line LineFault
 deliver_line left = do
   delivery ← name_word (word_at 0 left)
   ended (later_by 1 left)
   Ok (line.Event delivery)
 
+-- `send`: a side, and the data that it sends, which may be no bytes at all
 abbrev pub send_line : WordsLeft → Result Line LineFault
 send_line left = do
   side ← side_word (word_at 0 left)
@@ -205,6 +230,7 @@ send_line left = do
   ended (later_by 2 left)
   Ok (line.Event (event.Send side payload))
 
+-- `prefer`: a wish of a side for a feature, which unlike that of `set` is not judged here
 abbrev pub prefer_line : WordsLeft → Result Line LineFault
 prefer_line left = do
   side ← side_word (word_at 0 left)
@@ -214,6 +240,7 @@ prefer_line left = do
   ended (later_by 4 left)
   Ok (line.Event (event.Prefer side feature place values))
 
+-- `timer`: a timer of this side has run out
 abbrev pub timer_line : WordsLeft → Result Line LineFault
 timer_line left = do
   side ← side_word (word_at 0 left)
@@ -221,12 +248,14 @@ timer_line left = do
   ended (later_by 2 left)
   Ok (line.Event (event.Timer side timer))
 
+-- `close`: the side that closes the connection
 abbrev pub close_line : WordsLeft → Result Line LineFault
 close_line left = do
   side ← side_word (word_at 0 left)
   ended (later_by 1 left)
   Ok (line.Event (event.Close side))
 
+-- `abort`: the side that gives the connection up
 abbrev pub abort_line : WordsLeft → Result Line LineFault
 abort_line left = do
   side ← side_word (word_at 0 left)
@@ -247,6 +276,7 @@ line_of form.Timer left = timer_line left
 line_of form.Close left = close_line left
 line_of form.Abort left = abort_line left
 
+-- a line that says something: its form, and what that form has behind it
 abbrev pub read_words : WordsLeft → Result Line LineFault
 read_words left = do
   form ← form_word (word_at 0 left)
@@ -262,6 +292,7 @@ is_text byte = nat_le 32 byte && nat_le byte 126
 abbrev pub first_other : List ℕ → Option ℕ
 first_other text = position_from (λ byte. not (is_text byte)) 0 text
 
+-- all bytes are text, or else the fault of the first that is none
 abbrev pub text_or_other : Option ℕ → Result (Unit {0}) LineFault
 text_or_other None = Ok tt
 text_or_other (Some place) = Err (fault_at (place + 1) why.NotText)
@@ -281,6 +312,7 @@ says_nothing (first ∷ rest) = first == 35
 abbrev pub read_clean : List ℕ → Result Line LineFault
 read_clean text = if says_nothing text then Ok line.Nothing else read_words (words_of text)
 
+-- a schedule's line, whose length and bytes are judged before its words
 abbrev pub read_line : List ℕ → Result Line LineFault
 read_line line = do
   clean line

@@ -17,6 +17,7 @@ use Rattle.schedule_text.specs.Printing.{hex_text, event_text}
 
 -- Names
 
+-- the word for why a call was refused
 abbrev pub refusal_name : Refusal → List ℕ
 refusal_name refusal.NotFresh = codes "NotFresh"
 refusal_name refusal.NotOpen = codes "NotOpen"
@@ -27,6 +28,7 @@ refusal_name refusal.BadList = codes "BadList"
 refusal_name refusal.NotOurs = codes "NotOurs"
 refusal_name refusal.NotLive = codes "NotLive"
 
+-- the word for why bytes are no packet
 abbrev pub malformed_word : Malformed → List ℕ
 malformed_word malformed.Short = codes "Short"
 malformed_word malformed.ReservedType = codes "ReservedType"
@@ -34,10 +36,12 @@ malformed_word malformed.OffsetSmall = codes "OffsetSmall"
 malformed_word malformed.OffsetLarge = codes "OffsetLarge"
 malformed_word malformed.ShortNumbers = codes "ShortNumbers"
 
+-- the word for what is wrong with a packet's checksum or its coverage
 abbrev pub sum_word : SumFault → List ℕ
 sum_word sum.CoverageTooLarge = codes "CoverageTooLarge"
 sum_word sum.Wrong = codes "Wrong"
 
+-- the word for why a packet was dropped; where its bytes or its checksum are at fault, that of the fault
 abbrev pub why_name : Why → List ℕ
 why_name (why.Malformed fault) = malformed_word fault
 why_name (why.Sum fault) = sum_word fault
@@ -48,10 +52,12 @@ why_name why.BadSync = codes "BadSync"
 
 -- Results
 
+-- whether a timer that ran out had something to do
 abbrev pub timer_text : Bool → List ℕ
 timer_text true = codes "fired"
 timer_text false = codes "idle"
 
+-- a packet that was taken, and the data that it delivered
 abbrev pub data_text : List ℕ → List ℕ
 data_text bytes = codes "took data " ++ hex_text bytes
 
@@ -60,6 +66,7 @@ abbrev pub taken_text : List ℕ → Option (ℕ × ℕ) → List ℕ
 taken_text bytes None = codes "took"
 taken_text bytes (Some place) = data_text (slice_range bytes place.0 place.1)
 
+-- a byte as a decimal number, behind a space
 abbrev pub decimal_byte : ℕ → List ℕ
 decimal_byte byte = codes " " ++ decimal byte
 
@@ -75,6 +82,7 @@ outcome_text bytes (Synced number) = codes "synced " ++ decimal number
 outcome_text bytes (WasReset code) = codes "was reset " ++ decimal code
 outcome_text bytes (SentReset code detail) = reset_text code detail
 
+-- the answer of a call, of a timer, or of an end that received these bytes
 abbrev pub seen_text : List ℕ → Seen → List ℕ
 seen_text bytes (Called (Ok _)) = codes "ok"
 seen_text bytes (Called (Err fault)) = codes "refused " ++ refusal_name fault
@@ -99,10 +107,12 @@ result_line number seen bytes = decimal number ++ result_text bytes seen
 
 -- Data that is delivered stands in the frame.
 
+-- the first and the past-last index of data are in order and within these bytes
 abbrev pub IsPlaceIn : List ℕ → Option (ℕ × ℕ) → Type 0
 IsPlaceIn bytes None = Unit {0}
 IsPlaceIn bytes (Some place) = (place.0 ≤ place.1) × (place.1 ≤ length bytes)
 
+-- the data that an outcome delivers lie within these bytes; most outcomes deliver none
 abbrev pub HasItsData : List ℕ → Outcome → Type 0
 HasItsData bytes (Took delivered) = IsPlaceIn bytes delivered
 HasItsData bytes (Dropped why) = Unit {0}
@@ -110,6 +120,7 @@ HasItsData bytes (Synced number) = Unit {0}
 HasItsData bytes (WasReset code) = Unit {0}
 HasItsData bytes (SentReset code detail) = Unit {0}
 
+-- what was seen can be told of a frame with these bytes; calls and timers have no data
 abbrev pub IsSeenOf : List ℕ → Seen → Type 0
 IsSeenOf bytes (Called result) = Unit {0}
 IsSeenOf bytes (Fired fired) = Unit {0}

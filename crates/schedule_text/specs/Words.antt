@@ -11,6 +11,7 @@ pub record WordAt : Type 0 where
   pub column : ℕ
   pub text : List ℕ
 
+-- a word of this text, whose first byte has this column
 abbrev pub word_at_column : ℕ → List ℕ → WordAt
 word_at_column column text = record { column = column; text = text }
 
@@ -24,6 +25,7 @@ pub record WordsLeft : Type 0 where
   pub words : List WordAt
   pub absent : ℕ
 
+-- these words are still to be read, and an absent one has this column
 abbrev pub words_left : List WordAt → ℕ → WordsLeft
 words_left words absent = record { words = words; absent = absent }
 
@@ -36,9 +38,11 @@ abbrev pub first_of : ℕ → List WordAt → WordAt
 first_of absent [] = word_at_column absent []
 first_of absent (word ∷ words) = word
 
+-- the next word to be read, without text where the line is over
 abbrev pub first_word : WordsLeft → WordAt
 first_word left = first_of left.absent left.words
 
+-- no word stands there any more
 abbrev pub is_over : List WordAt → Bool
 is_over [] = true
 is_over (word ∷ words) = false
@@ -48,6 +52,7 @@ abbrev pub words_behind : List WordAt → List WordAt
 words_behind [] = []
 words_behind (word ∷ words) = words
 
+-- what is left once the first word is read; an absent word keeps its column
 abbrev pub later : WordsLeft → WordsLeft
 later left = words_left (words_behind left.words) left.absent
 

@@ -14,6 +14,8 @@ mod numbers;
 mod printing;
 mod reading;
 #[cfg(test)]
+mod result_tests;
+#[cfg(test)]
 mod tests;
 mod text;
 mod words;
