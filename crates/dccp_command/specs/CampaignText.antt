@@ -24,6 +24,7 @@ arrival_text r =
     count_line (codes "took ") r.took ++ count_line (codes "delivered ") r.delivered ++ count_line (codes "dropped ") r.dropped
     ++ count_line (codes "synced ") r.synced ++ count_line (codes "was_reset ") r.was_reset ++ count_line (codes "sent_reset ") r.sent_reset
 
+-- a report, a count in each line: what was run and arrived, then the refused calls and the settled features
 unfoldable pub report_text : Report → List ℕ
 report_text r = run_text r ++ arrival_text r ++ count_line (codes "refused ") r.refused ++ count_line (codes "settled ") r.settled
 

@@ -26,6 +26,7 @@ least Seeds = 1
 least Events = 1
 least Workers = 1
 
+-- the greatest that a figure may be, itself allowed
 abbrev pub most : Figure → ℕ
 most First = 2 ^ 64 - 1
 most Seeds = 100000
@@ -37,6 +38,7 @@ abbrev pub number_from : ℕ → Option ℕ → Option ℕ
 number_from low None = None
 number_from low (Some n) = if nat_lt n low then None else Some n
 
+-- the number that a text is for this figure, if it is one that the figure may be
 abbrev pub figure_number : Figure → List ℕ → Option ℕ
 figure_number figure text = number_from (least figure) (number_below (most figure + 1) text)
 
@@ -45,6 +47,7 @@ abbrev pub setting_by : Option Figure → List ℕ → Option Setting
 setting_by None text = None
 setting_by (Some figure) text = option_and_then (λ n. Some (record { figure = figure; number = n })) (figure_number figure text)
 
+-- the setting of an option by its name and the text of its value
 abbrev pub setting_of : List ℕ → List ℕ → Option Setting
 setting_of name text = setting_by (figure_named name) text
 
@@ -56,6 +59,7 @@ is_equals byte = byte == 61
 abbrev pub is_joined : List ℕ → Bool
 is_joined word = nat_lt (position_or_len is_equals word) (length word)
 
+-- what stands before the first `=` is the option, and all that follows it is the value
 abbrev pub joined_setting : List ℕ → Option Setting
 joined_setting word = setting_of (before_first is_equals word) (after_first is_equals word)
 
@@ -90,6 +94,7 @@ abbrev pub once : Figure → List Setting → Option ℕ
 once figure [] = None
 once figure (setting ∷ settings) = if is_same setting.figure figure then unless_again figure setting.number settings else once figure settings
 
+-- the figure's number, where all the words are settings and just one of these is of that figure
 abbrev pub given_once : Figure → List (String Global) → Option ℕ
 given_once figure words = option_and_then (once figure) (settings_of (map string_bytes words))
 

@@ -9,6 +9,7 @@ use Rattle.packet_show.specs.Flows.{Flow}
 use Rattle.packet_show.specs.Lines.{shows}
 use Rattle.dccp_command.specs.declared.show.Tally.{Tally}
 
+-- the word for the fault that ended a capture
 abbrev pub fault_name : CaptureFault → List ℕ
 fault_name fault.BadMagic = codes "BadMagic"
 fault_name fault.BadVersion = codes "BadVersion"
@@ -28,6 +29,7 @@ abbrev pub counted_record : Tally → Shown → List Flow → Tally
 counted_record tally Line flows = record { shown = tally.shown + 1; skipped = tally.skipped; flows = flows }
 counted_record tally Skipped flows = record { shown = tally.shown; skipped = tally.skipped + 1; flows = flows }
 
+-- the tally once this record was looked at, with its flow if that is new
 abbrev pub tallied : Tally → RecordParts → Tally
 tallied tally entry = counted_record tally (shows tally.flows entry).shown (shows tally.flows entry).flows
 
@@ -39,6 +41,7 @@ record_text tally entry = (shows tally.flows entry).text
 abbrev pub labelled_number : List ℕ → ℕ → List ℕ
 labelled_number word number = word ++ decimal number
 
+-- the last line of a capture without a fault: how many records it has, shown and skipped, and how many flows
 abbrev pub counts_line : Tally → List ℕ
 counts_line tally =
     labelled_number (codes "records ") (tally.shown + tally.skipped) ++ labelled_number (codes " shown ") tally.shown
@@ -49,6 +52,7 @@ abbrev pub fault_line : Tally → CaptureFault → List ℕ
 fault_line tally why =
     codes "capture " ++ fault_name why ++ codes " after " ++ labelled_number (codes "record ") (tally.shown + tally.skipped) ++ codes "\n"
 
+-- what stands behind the lines of a capture's records: the counts, or the fault that ended them
 abbrev pub last_line : Tally → Option CaptureFault → List ℕ
 last_line tally None = counts_line tally
 last_line tally (Some why) = fault_line tally why
@@ -76,5 +80,6 @@ abbrev pub end_of_records : List RecordParts → ℕ
 end_of_records [] = 0
 end_of_records (entry ∷ entries) = 24 + size_of (entry ∷ entries)
 
+-- where the last whole record of an input ends; 0 where it has none
 abbrev pub records_end : List ℕ → ℕ
 records_end input = end_of_records (captured input).records

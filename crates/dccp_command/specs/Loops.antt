@@ -24,6 +24,7 @@ stopped stop.TooLong = turn.Refused too_long
 stopped stop.TooMuch = turn.Refused (whole_line why.TooMuchInput)
 stopped stop.Failed = turn.Failed
 
+-- a line that was judged is accepted, or refused with its fault
 abbrev pub judged_turn : Result (Unit {0}) LineFault → Turn
 judged_turn (Ok _) = turn.Accepted
 judged_turn (Err fault) = turn.Refused fault

@@ -27,6 +27,7 @@ use Rattle.dccp_command.specs.Lines.{without_newline}
 use Rattle.dccp_command.specs.RunLines.{bytes_line, end_line, refusal_line}
 use Rattle.dccp_command.specs.Transcript.{config_without_offers, whole_line}
 
+-- the role that the end of a side is configured with
 abbrev pub role_of : Side → Role
 role_of Client = role.Client
 role_of Server = role.Server
@@ -40,6 +41,7 @@ abbrev pub first_replay : Side → Bool → Replay
 first_replay side plain =
     record { number = 1; read = 0; sent = 0; side = side; end = begins kinds_control (replay_config side plain) at_first }
 
+-- how many frames a step sent, one at most
 abbrev pub count : Option (List ℕ) → ℕ
 count None = 0
 count (Some bytes) = 1
@@ -67,6 +69,7 @@ pub record Begun : Type 0 where
   pub text : List ℕ
   pub replay : Replay
 
+-- the answer of the call `open`, the frame that the call sent, and the replay behind both
 abbrev pub opened_replay : Replay → EndStep Both (Result (Unit {0}) OpenFault) → Begun
 opened_replay replay step = record { text = opened_line step.answer ++ reply_line replay.side replay.sent step.frame; replay = after_step replay step }
 
@@ -75,6 +78,7 @@ abbrev pub begun_from : Replay → Side → Begun
 begun_from replay Client = opened_replay replay (controlled_step replay (opens replay.end.state))
 begun_from replay Server = record { text = []; replay = replay }
 
+-- what stands before the first line of a replay of this side, whose end is new
 abbrev pub begun_replay : Side → Bool → Begun
 begun_replay side plain = begun_from (first_replay side plain) side
 
@@ -97,12 +101,15 @@ abbrev pub replay_line : Replay → List ℕ → EndStep Both Outcome → List �
 replay_line replay bytes step =
     result_line replay.number (seen.Received step.answer) bytes ++ reply_line replay.side replay.sent step.frame
 
+-- a line whose frame arrived is accepted, whatever its end made of the frame
 abbrev pub by_step : Replay → List ℕ → List ℕ → EndStep Both Outcome → Verdict
 by_step replay piece bytes step = Accepted (replay_line replay bytes step) (behind (after_step replay step) piece)
 
+-- the end of the replay receives these bytes, which the line made arrive
 abbrev pub by_frame : Replay → List ℕ → List ℕ → Verdict
 by_frame replay piece bytes = by_step replay piece bytes (controlled_step replay (receives replay.end.state bytes))
 
+-- a line that says nothing is accepted and leaves no text, and one with a frame reaches the end
 abbrev pub by_line : Replay → List ℕ → Result (Option FrameLine) LineFault → Verdict
 by_line replay piece (Err fault) = Refused fault
 by_line replay piece (Ok None) = Accepted [] (behind replay piece)
@@ -136,23 +143,29 @@ pub record Replayed : Type 0 where
   pub is_refused : Bool
   pub accepted : ℕ
 
+-- a text in front of what the rest of an input comes to
 abbrev pub onto : List ℕ → Replayed → Replayed
 onto text rest = record rest { text = text ++ rest.text }
 
+-- a replay that is over: its last text, and the bytes of its accepted lines
 abbrev pub ends_at : Replay → List ℕ → Bool → Replayed
 ends_at replay text refused = record { text = text; is_refused = refused; accepted = replay.read }
 
+-- the rest of an input counts behind an accepted line; a refused line is the last, under its number
 abbrev pub continues_with : Replay → Verdict → (Replay → Replayed) → Replayed
 continues_with replay (Accepted text next) rest = onto text (rest next)
 continues_with replay (Refused fault) rest = ends_at replay (refusal_line replay.number fault) true
 
+-- what these lines come to; where none is refused, the end's line is the last
 abbrev pub replayed_from : Replay → List (List ℕ) → Replayed
 replayed_from replay [] = ends_at replay (end_line replay.side replay.end) false
 replayed_from replay (piece ∷ pieces) = continues_with replay (judged replay piece) (λ next. replayed_from next pieces)
 
+-- what these lines come to behind the text that a replay begins with
 abbrev pub begun_with : Begun → List (List ℕ) → Replayed
 begun_with begun pieces = onto begun.text (replayed_from begun.replay pieces)
 
+-- what an input comes to, whose frames arrive at a new end of this side
 abbrev pub replay_of_input : Side → Bool → List ℕ → Replayed
 replay_of_input side plain input = begun_with (begun_replay side plain) (lines_of input)
 

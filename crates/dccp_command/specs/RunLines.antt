@@ -21,6 +21,7 @@ use Rattle.schedule_text.specs.Printing.{frame_name}
 use Rattle.schedule_text.specs.declared.line.LineFault.{LineFault}
 use Rattle.dccp_command.specs.Text.{phase_name, stand_mark, line_why_name}
 
+-- the bytes of a frame that a side sent; none where there is no such frame
 abbrev pub sent_bytes : Option SentFrame → List ℕ
 sent_bytes None = []
 sent_bytes (Some frame) = frame.bytes
@@ -34,6 +35,7 @@ arrived w _ = []
 abbrev pub bytes_line : Side → ℕ → List ℕ → List ℕ
 bytes_line side index bytes = codes "sent " ++ frame_name side index ++ codes " " ++ encode_lower bytes ++ codes "\n"
 
+-- the line of a frame that a side sent, under its name; nothing where there is no such frame
 abbrev pub sent_frame_line : Side → ℕ → Option SentFrame → List ℕ
 sent_frame_line side index None = []
 sent_frame_line side index (Some frame) = bytes_line side index frame.bytes
@@ -42,6 +44,7 @@ sent_frame_line side index (Some frame) = bytes_line side index frame.bytes
 abbrev pub sent_line : WorldState → Side → ℕ → List ℕ
 sent_line w side before = sent_frame_line side before (slice_get (half_of w side).frames before)
 
+-- the value that an end has for a feature, marked where it is not settled
 abbrev pub held_text : Held → List ℕ
 held_text held = decimal held.value ++ stand_mark held.stand
 
@@ -50,6 +53,7 @@ unfoldable pub row_text : EndState → Feature → List ℕ
 row_text e feature =
     codes " " ++ decimal (feature_number feature) ++ codes "=" ++ held_text (held_of e feature Here) ++ codes "/" ++ held_text (held_of e feature There)
 
+-- the nine features, in the order of their numbers
 abbrev pub all_features : List Feature
 all_features =
     feature.Ccid ∷ feature.ShortSeqnos ∷ feature.SequenceWindow ∷ feature.EcnIncapable ∷ feature.AckRatio
@@ -64,12 +68,15 @@ abbrev pub end_counts : Both → List ℕ
 end_counts both =
     codes " window " ++ decimal (window_of kinds_control both) ++ codes " flight " ++ decimal (in_flight_of kinds_control both)
 
+-- the values of all features, a row for each
 unfoldable pub end_rows : EndState → List ℕ
 end_rows e = flat_map (row_text e) all_features
 
+-- the line of an end: its side and phase, the counts of its congestion control, and its features
 abbrev pub end_line : Side → End Both → List ℕ
 end_line side e = end_name side e.state ++ end_counts e.congestion ++ end_rows e.state ++ codes "\n"
 
+-- the last lines of a schedule that was not refused, the line of the client first
 abbrev pub end_lines : Controlled Both → List ℕ
 end_lines w = end_line Client (end_of_side w Client) ++ end_line Server (end_of_side w Server)
 

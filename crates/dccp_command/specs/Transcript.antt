@@ -44,6 +44,7 @@ first_play = record { number = 1; read = 0; events = 0; client = usual role.Clie
 abbrev pub starts : Config → Config → Controlled Both
 starts client server = begins_with kinds_control client server at_first at_first
 
+-- the world that events have made, or that of two ends to which nothing has happened
 abbrev pub world_or_start : Config → Config → Option (Controlled Both) → Controlled Both
 world_or_start client server None = starts client server
 world_or_start client server (Some w) = w
@@ -69,6 +70,7 @@ whole_line cause = record { column = 1; why = cause }
 abbrev pub no_such_frame : LineFault
 no_such_frame = record { column = 9; why = why.NoSuchFrame }
 
+-- a line that is accepted without an event and leaves no text
 abbrev pub accepts_nothing : Play → List ℕ → Verdict
 accepts_nothing play piece = Accepted [] [] (behind play piece)
 
@@ -76,14 +78,17 @@ accepts_nothing play piece = Accepted [] [] (behind play piece)
 abbrev pub configures : Play → Play → Verdict
 configures play next = if is_some play.world then Refused (whole_line why.HeaderLate) else Accepted [] [] next
 
+-- the configuration of a side, as the lines so far have it
 abbrev pub config_of : Play → Side → Config
 config_of play Client = play.client
 config_of play Server = play.server
 
+-- the same schedule with another configuration of this side
 abbrev pub with_config : Side → Config → Play → Play
 with_config Client config play = record play { client = config }
 with_config Server config play = record play { server = config }
 
+-- a side whose initial sequence number is this one
 abbrev pub with_iss : Side → ℕ → Play → Play
 with_iss side number play = with_config side (record (config_of play side) { iss = number }) play
 
@@ -91,6 +96,7 @@ with_iss side number play = with_config side (record (config_of play side) { iss
 abbrev pub config_without_offers : Config → Config
 config_without_offers config = record config { lists = listed.without_offers config.lists }
 
+-- neither of the two ends offers a feature
 abbrev pub says_plain : Play → Play
 says_plain play = record play { client = config_without_offers play.client; server = config_without_offers play.server }
 
@@ -99,14 +105,17 @@ abbrev pub wishing : Config → Feature → Place → Result Wanted PreferFault 
 wishing config feature place (Ok wish) = record config { lists = with_wish config.lists feature place wish }
 wishing config feature place (Err fault) = config
 
+-- a configuration with one offer more, where an end may make it
 abbrev pub offering : Config → Feature → Place → Bool → Config
 offering config feature place mandatory =
     if is_ours feature place then record config { lists = with_offer config.lists feature place mandatory } else config
 
+-- a side that is configured with these values of a feature, where an end may have them
 unfoldable pub with_set : Side → Feature → Place → List ℕ → Play → Play
 with_set side feature place values play =
     with_config side (wishing (config_of play side) feature place (wish_of feature place values)) play
 
+-- a side that is configured to offer a feature, where an end may do so
 abbrev pub with_offered : Side → Feature → Place → Bool → Play → Play
 with_offered side feature place mandatory play = with_config side (offering (config_of play side) feature place mandatory) play
 
@@ -124,6 +133,7 @@ took_place number before event step = record {
   world = step.after;
 }
 
+-- an event as it is shown, or the fault of its line: it names no frame, or the world has no room for it
 abbrev pub by_step : ℕ → Controlled Both → Event → Result (ControlledStep Both) WorldFault → Result Shown LineFault
 by_step number before event (Ok step) = Ok (took_place number before event step)
 by_step number before event (Err fault.NoSuchFrame) = Err no_such_frame
@@ -133,10 +143,12 @@ by_step number before event (Err _) = Err (whole_line why.TooManyEvents)
 abbrev pub event_shown : ℕ → Controlled Both → Event → Result Shown LineFault
 event_shown number before event = by_step number before event (happens_to kinds_control before event)
 
+-- an event that took place is counted, and the schedule goes on from the world behind it
 abbrev pub by_shown : Play → List ℕ → Event → Result Shown LineFault → Verdict
 by_shown play piece event (Ok shown) = Accepted shown.text (event ∷ []) (record (behind play piece) { events = play.events + 1; world = Some shown.world })
 by_shown play piece event (Err fault) = Refused fault
 
+-- the line of an event, which is refused once a schedule has its most events
 abbrev pub says_event : Play → List ℕ → Event → Verdict
 says_event play piece event =
     if nat_lt play.events most_events then by_shown play piece event (event_shown play.number (world_of play) event)
@@ -152,6 +164,7 @@ is_of_wish _ = false
 abbrev pub in_place : Play → LineFault → LineFault
 in_place play fault = if is_some play.world && is_of_wish fault.why then whole_line why.HeaderLate else fault
 
+-- what a line says changes a configuration, makes an event happen, or does nothing
 abbrev pub by_line : Play → List ℕ → Result Line LineFault → Verdict
 by_line play piece (Err fault) = Refused (in_place play fault)
 by_line play piece (Ok line.Nothing) = accepts_nothing play piece
@@ -161,6 +174,7 @@ by_line play piece (Ok (line.Set side place feature values)) = configures play (
 by_line play piece (Ok (line.Offer side place feature mandatory)) = configures play (with_offered side feature place mandatory (behind play piece))
 by_line play piece (Ok (line.Event event)) = says_event play piece event
 
+-- behind the lines that were read, this one ends within the bytes that an input may have
 abbrev pub line_is_within : Play → List ℕ → Bool
 line_is_within play piece = ends_within play.read piece
 
@@ -209,20 +223,25 @@ pub record Performance : Type 0 where
   pub is_refused : Bool
   pub accepted : ℕ
 
+-- the text and the events of a line in front of what the rest of an input comes to
 abbrev pub onto : List ℕ → List Event → Performance → Performance
 onto text events rest = record rest { text = text ++ rest.text; events = events ++ rest.events }
 
+-- a schedule that is over: its last text, its two configurations, and the bytes of its accepted lines
 abbrev pub ends_at : Play → List ℕ → Bool → Performance
 ends_at play text refused = record { text = text; client = play.client; server = play.server; events = []; is_refused = refused; accepted = play.read }
 
+-- the rest of an input counts behind an accepted line; a refused line is the last, under its number
 abbrev pub continues_with : Play → Verdict → (Play → Performance) → Performance
 continues_with play (Accepted text events next) rest = onto text events (rest next)
 continues_with play (Refused fault) rest = ends_at play (refusal_line play.number fault) true
 
+-- what these lines come to; where none is refused, the two end lines are the last
 abbrev pub performed_from : Play → List (List ℕ) → Performance
 performed_from play [] = ends_at play (end_lines (world_of play)) false
 performed_from play (piece ∷ pieces) = continues_with play (judged play piece) (λ next. performed_from next pieces)
 
+-- what an input comes to, played from the two usual ends
 abbrev pub performed : List ℕ → Performance
 performed input = performed_from first_play (lines_of input)
 
@@ -242,5 +261,6 @@ accepted_bytes input = (performed input).accepted
 abbrev pub IsSafeThroughout : Performance → Type 0
 IsSafeThroughout whole = (n : ℕ) → Safe kinds_control (plays kinds_control (starts whole.client whole.server) (take n whole.events))
 
+-- the world is safe after each prefix of the accepted events of this input
 abbrev pub SafeThroughout : List ℕ → Type 0
 SafeThroughout input = IsSafeThroughout (performed input)

@@ -26,6 +26,7 @@ joined_side word =
     else if is_word word (codes "--side=client") then Some Client
     else None
 
+-- a replay of the side that the words name, if they name one
 abbrev pub replays : Bool → Option Side → Option Form
 replays plain None = None
 replays plain (Some side) = Some (form.Replay side plain)
