@@ -23,6 +23,7 @@ abbrev pub from_end : Pseudo → ℕ → AddressAndPort
 from_end (V4 from to) port = (big_number 4 from, port)
 from_end (V6 from to) port = (big_number 16 from, port)
 
+-- the end that a packet goes to: its destination address, and this port
 abbrev pub to_end : Pseudo → ℕ → AddressAndPort
 to_end (V4 from to) port = (big_number 4 to, port)
 to_end (V6 from to) port = (big_number 16 to, port)
@@ -39,9 +40,11 @@ flow_between version a b = if is_lesser_end b a then (version, b, a) else (versi
 abbrev pub flow_of : Pseudo → ℕ → ℕ → Flow
 flow_of pseudo from to = flow_between (version_of pseudo) (from_end pseudo from) (to_end pseudo to)
 
+-- two ends are one where both the address and the port agree
 abbrev pub same_end : AddressAndPort → AddressAndPort → Bool
 same_end a b = a.0 == b.0 && a.1 == b.1
 
+-- two flows are one where the version of IP and both ends agree
 abbrev pub same_flow : Flow → Flow → Bool
 same_flow a b = a.0 == b.0 && (same_end a.1 b.1 && same_end a.2 b.2)
 

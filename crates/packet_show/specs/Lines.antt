@@ -57,10 +57,12 @@ rest_text there packet =
     options_text (options_of packet.options (is_data (packet_type packet.header.kind))) ++ codes " data " ++ decimal (length packet.payload)
     ++ sum_text there ++ codes "\n"
 
+-- the line of a packet: its record, its flow and ends, its header, and then options, data and checksum
 abbrev pub packet_line : RecordParts → DatagramParts → Parts → ℕ → List ℕ
 packet_line entry there packet flow =
     stamp_text entry ++ ends_text there packet.header flow ++ header_text packet.header ++ rest_text there packet
 
+-- the line of bytes that are no packet: their record, and what is wrong with them
 abbrev pub malformed_line : RecordParts → Malformed → List ℕ
 malformed_line entry why = stamp_text entry ++ codes " malform" ++ codes "ed " ++ malformed_name why ++ codes "\n"
 
@@ -78,11 +80,13 @@ abbrev pub shows_malformed : List Flow → RecordParts → Bool → Malformed �
 shows_malformed seen entry true why = record { text = malformed_line entry why; shown = Line; flows = seen }
 shows_malformed seen entry false why = skips seen
 
+-- what DCCP bytes come to, which may be a packet or not
 abbrev pub shows_decoded : List Flow → RecordParts → DatagramParts → Result Parts Malformed → Showing
 shows_decoded seen entry there (Ok packet) =
     shows_packet seen entry there packet (flow_of there.pseudo packet.header.from packet.header.to)
 shows_decoded seen entry there (Err why) = shows_malformed seen entry there.whole why
 
+-- a record that carries no DCCP is skipped
 abbrev pub shows_carried : List Flow → RecordParts → Option DatagramParts → Showing
 shows_carried seen entry None = skips seen
 shows_carried seen entry (Some there) = shows_decoded seen entry there (decoded there.bytes)

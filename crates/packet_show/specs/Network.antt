@@ -51,6 +51,7 @@ behind_v4 bytes = record {
   whole = nat_le (v4_total bytes) (length bytes);
 }
 
+-- the DCCP packet in these bytes, where they are IPv4 that carries one
 abbrev pub in_v4 : List ℕ → Option DatagramParts
 in_v4 bytes = if is_v4 bytes then Some (behind_v4 bytes) else None
 
@@ -70,6 +71,7 @@ behind_v6 bytes = record {
   whole = nat_le (40 + v6_payload bytes) (length bytes);
 }
 
+-- the DCCP packet in these bytes, where they are IPv6 that carries one
 abbrev pub in_v6 : List ℕ → Option DatagramParts
 in_v6 bytes = if is_v6 bytes then Some (behind_v6 bytes) else None
 
@@ -81,6 +83,7 @@ in_ip bytes = if is_v4 bytes then in_v4 bytes else in_v6 bytes
 abbrev pub in_frame : ℕ → List ℕ → Option DatagramParts
 in_frame kind bytes = if kind == 2048 then in_v4 bytes else if kind == 34525 then in_v6 bytes else None
 
+-- the DCCP packet in a frame of Ethernet, which is found behind the type in its header
 abbrev pub in_ethernet : List ℕ → Option DatagramParts
 in_ethernet bytes = if nat_lt (length bytes) 14 then None else in_frame (number_at 12 2 bytes) (drop 14 bytes)
 

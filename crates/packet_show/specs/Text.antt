@@ -30,6 +30,7 @@ zeros_before width digits = take (width - length digits) (codes "000000000")
 abbrev pub width_of : Bool → ℕ
 width_of nanos = if nanos then 9 else 6
 
+-- the digits behind the point of a time, as many as its unit has
 abbrev pub fraction_text : Bool → ℕ → List ℕ
 fraction_text nanos fraction = zeros_before (width_of nanos) (decimal fraction) ++ decimal fraction
 
@@ -64,6 +65,7 @@ abbrev pub from_text : Pseudo → List ℕ
 from_text (V4 from to) = v4_text from
 from_text (V6 from to) = v6_text from
 
+-- the destination address of a packet
 abbrev pub to_text : Pseudo → List ℕ
 to_text (V4 from to) = v4_text to
 to_text (V6 from to) = v6_text to
@@ -73,9 +75,11 @@ abbrev pub number_text : Number → List ℕ
 number_text (Long n) = decimal n
 number_text (Short n) = decimal n
 
+-- the acknowledgement number of a packet, behind its word
 abbrev pub ack_text : Number → List ℕ
 ack_text ack = codes " ack " ++ number_text ack
 
+-- the Service Code of a Request or a Response, as a decimal number
 abbrev pub service_text : ℕ → List ℕ
 service_text service = codes " service " ++ decimal service
 
@@ -107,15 +111,18 @@ abbrev pub feature_text : ℕ → List ℕ → List ℕ
 feature_text kind [] = numbered_text (codes "option") kind []
 feature_text kind (feature ∷ rest) = numbered_text (option_name kind) feature rest
 
+-- the name of an option, and behind it what an option of this form has
 abbrev pub option_by_form : OptionForm → ℕ → List ℕ → List ℕ
 option_by_form forms.Bare kind body = option_name kind
 option_by_form forms.Data kind body = option_name kind ++ codes " " ++ hex_or_dash body
 option_by_form forms.Feature kind body = feature_text kind body
 option_by_form forms.Numbered kind body = numbered_text (option_name kind) kind body
 
+-- an option by its type and its data, without the mark of Mandatory
 abbrev pub option_text : ℕ → List ℕ → List ℕ
 option_text kind body = option_by_form (option_form kind) kind body
 
+-- the word in front of an option that is marked with Mandatory
 abbrev pub mark_text : Bool → List ℕ
 mark_text mandatory = if mandatory then codes "mandatory " else []
 
@@ -124,6 +131,7 @@ abbrev pub item_text : Result Entry OptFault → List ℕ
 item_text (Ok o) = codes " [" ++ (mark_text o.mandatory ++ option_text o.kind o.body) ++ codes "]"
 item_text (Err _) = codes " [mandatory fault]"
 
+-- the options of a packet in the order in which they stand there, each in brackets
 abbrev pub options_text : List (Result Entry OptFault) → List ℕ
 options_text [] = []
 options_text (item ∷ items) = item_text item ++ options_text items
