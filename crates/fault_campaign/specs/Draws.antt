@@ -21,6 +21,7 @@ generator seed = pcg32_of_seed (pcg32_seed 16 seed)
 unfoldable pub word : Lcg → ℕ
 word g = (pcg32 g).0
 
+-- the generator once a word was drawn from it
 unfoldable pub behind_word : Lcg → Lcg
 behind_word g = (pcg32 g).1
 
@@ -40,6 +41,7 @@ drawn_index b n = if b / 256 % 16 == 0 then b / 4096 % n else n - 1 - b % min n 
 abbrev pub drawn_delivery : Side → ℕ → ℕ → Event
 drawn_delivery from n b = if n == 0 then event.Timer Client timer.Request else event.Deliver from (drawn_index b n)
 
+-- a side sends the four bytes of this word
 abbrev pub sending : Side → ℕ → Event
 sending side b = event.Send side (big_bytes 4 b)
 

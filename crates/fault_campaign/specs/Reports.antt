@@ -32,9 +32,11 @@ of_fields value =
       settled = value (λ r. r.settled);
     }
 
+-- the report of no seed at all, in which each count is 0
 abbrev pub nothing : Report
 nothing = of_fields (λ field. 0)
 
+-- two reports as one, count by count
 abbrev pub plus : Report → Report → Report
 plus r s = of_fields (λ field. field r + field s)
 
@@ -66,13 +68,16 @@ is_stable Stable = true
 is_stable Changing = false
 is_stable Unstable = false
 
+-- a feature that is settled at both ends, the client and the server
 abbrev pub is_settled : WorldState → FeatureAt → Bool
 is_settled w pair = is_stable (held_at w pair Client).stand && is_stable (held_at w pair Server).stand
 
+-- a settled feature counts once, and another not at all
 abbrev pub one_if_settled : Bool → ℕ
 one_if_settled true = 1
 one_if_settled false = 0
 
+-- what the feature that is located at this side adds to the count of settled ones
 abbrev pub settles : WorldState → Side → Feature → ℕ
 settles w side feature = one_if_settled (is_settled w (record { feature = feature; location = side }))
 
@@ -83,5 +88,6 @@ settled_at w side =
     + settles w side feature.AckRatio + settles w side feature.SendAckVector + settles w side feature.SendNdpCount + settles w side feature.MinCsCov
     + settles w side feature.CheckDataChecksum
 
+-- how many of the eighteen features of a connection are settled, nine at each side
 abbrev pub settled_of : WorldState → ℕ
 settled_of w = settled_at w Client + settled_at w Server

@@ -37,6 +37,7 @@ begun_run g =
       report = nothing;
     }
 
+-- how many frames this side has sent in the run
 abbrev pub frames_of : Running → Side → ℕ
 frames_of run side = length (half_of run.world.world side).frames
 
@@ -45,6 +46,7 @@ abbrev pub after_event : Running → Result (ControlledStep Both) WorldFault →
 after_event run (Ok step) = record run { world = step.after; report = with_seen run.report step.seen }
 after_event run (Err fault) = run
 
+-- a run behind this event, with what was counted of it
 unfoldable pub played : Running → Event → Running
 played run event = after_event run (happens_to kinds_control run.world event)
 
@@ -52,9 +54,11 @@ played run event = after_event run (happens_to kinds_control run.world event)
 abbrev pub next_event : Running → Event
 next_event run = drawn (word run.words) (word (behind_word run.words)) (frames_of run Client) (frames_of run Server)
 
+-- a run behind its next event, for which two words were drawn
 abbrev pub goes_on : Running → Running
 goes_on run = played (record run { words = behind_two run.words }) (next_event run)
 
+-- a run behind so many further events
 abbrev pub goes_on_for : ℕ → Running → Running
 goes_on_for zero run = run
 goes_on_for (suc n) run = goes_on_for n (goes_on run)
@@ -72,6 +76,7 @@ abbrev pub next_events : ℕ → Running → List Event
 next_events zero run = []
 next_events (suc n) run = next_event run ∷ next_events n (goes_on run)
 
+-- the events that the run of a seed has, the opening of the connection first
 abbrev pub seeded_events : ℕ → ℕ → List Event
 seeded_events seed events = Open ∷ next_events (events - 1) (opened_run seed)
 
@@ -86,5 +91,6 @@ run_report run events =
       settled = settled_of run.world.world;
     }
 
+-- the report of a single seed, whose run has so many events
 unfoldable pub seeded_report : ℕ → ℕ → Report
 seeded_report seed events = run_report (seeded seed events) events

@@ -51,6 +51,7 @@ pub record IsWholeReport (job : Job) (view : View) (report : Report) : Type 0 wh
   pub sum : report ≡ claimed_report job.first job.events view.numbers
   pub in_vain : length view.numbers < view.drawn
 
+-- so many workers are through: the claims are the same, and a report has all the numbers that were claimed
 pub record HaveWorked (workers : ℕ) (job : Job) (claims : TableId) (view : View) (now : Held) (report : Result Report NoMemory) : Type 0 where
   pub same : now.claims ≡ claims
   pub share : now.view.share ≡ view.share
