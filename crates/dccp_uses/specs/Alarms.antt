@@ -12,10 +12,12 @@ use Rattle.dccp_uses.specs.declared.alarms.Condition.{Condition}
 abbrev pub time_left : Alarm → ℕ → ℕ
 time_left alarm now = alarm.wait - (now - alarm.since)
 
+-- a timer that runs has no time left; one that does not run never runs out
 abbrev pub has_run_out : Option Alarm → ℕ → Bool
 has_run_out None now = false
 has_run_out (Some alarm) now = time_left alarm now == 0
 
+-- none of the six timers runs
 abbrev pub no_alarms : Alarms
 no_alarms = record { request = None; ack = None; negotiate = None; rto = None; close = None; time_wait = None }
 
@@ -63,6 +65,7 @@ alarm_after false old wait now = None
 alarm_after true (Some alarm) wait now = Some alarm
 alarm_after true None wait now = Some (record { since = now; wait = wait })
 
+-- the alarm of a timer as this condition needs it: it goes on, begins with its first wait, or is none
 abbrev pub arranged_alarm : Alarms → Timer → Condition → ℕ → Option Alarm
 arranged_alarm alarms timer c now = alarm_after (runs_in timer c) (alarm_of alarms timer) (first_wait timer) now
 

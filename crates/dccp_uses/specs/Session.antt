@@ -18,6 +18,7 @@ use Rattle.dccp_uses.specs.declared.alarms.Condition.{Condition}
 use Rattle.dccp_uses.specs.declared.news.News.{News}
 use Rattle.dccp_uses.specs.declared.news.News.TheVariants as news
 
+-- an end, and the alarms of the timers that run for it
 pub record SessionState (C : Type 0) : Type 0 where
   pub end : End C
   pub alarms : Alarms
@@ -58,6 +59,7 @@ abbrev pub called : {C Fault : Type 0} → Control C → ℕ → SessionState C 
 called control now s alarms step (Ok _) = goes_on_with control now alarms step
 called control now s alarms step (Err fault) = record { session = s; frame = None; answer = Err fault }
 
+-- a call of the end, behind which its timers go on where they are still needed
 abbrev pub calls : {C Fault : Type 0} → Control C → ℕ → SessionState C → EndStep C (Result (Unit {0}) Fault) → SessionStep C (Result (Unit {0}) Fault)
 calls control now s step = called control now s s.alarms step step.answer
 
@@ -65,6 +67,7 @@ calls control now s step = called control now s s.alarms step step.answer
 abbrev pub calls_anew : {C Fault : Type 0} → Control C → ℕ → SessionState C → EndStep C (Result (Unit {0}) Fault) → SessionStep C (Result (Unit {0}) Fault)
 calls_anew control now s step = called control now s (record s.alarms { negotiate = None }) step step.answer
 
+-- the connection is over, or was never begun
 abbrev pub is_closed : Phase → Bool
 is_closed phases.Closed = true
 is_closed _ = false
@@ -82,6 +85,7 @@ news_of (Synced number) was is = news.Quiet
 news_of (WasReset code) was is = news.Ended code
 news_of (SentReset code detail) was is = if has_closed was is then news.Ended code else news.Quiet
 
+-- the packet was taken and has brought data for the owner
 abbrev pub is_delivery : Outcome → Bool
 is_delivery (Took delivered) = is_some delivered
 is_delivery (Dropped why) = false
@@ -98,6 +102,7 @@ tells_news s step =
       answer = news_of step.answer s.end.state.phase step.session.end.state.phase;
     }
 
+-- the end has received a packet; its timers go by what came out of flight, and by data that were delivered
 abbrev pub after_hearing : {C : Type 0} → Control C → ℕ → SessionState C → EndStep C Outcome → SessionStep C Outcome
 after_hearing control now s step =
     goes_on_with control now
@@ -126,6 +131,7 @@ pub record SessionSteps (C : Type 0) : Type 0 where
   pub session : SessionState C
   pub frames : List (Option (List ℕ))
 
+-- a step in front of those that come after it, with its frame as the first
 abbrev pub followed : {C : Type 0} → SessionStep C Bool → SessionSteps C → SessionSteps C
 followed step rest = record { session = rest.session; frames = step.frame ∷ rest.frames }
 
@@ -134,6 +140,7 @@ abbrev pub rings_each : {C : Type 0} → Control C → ℕ → SessionState C �
 rings_each control now s [] = record { session = s; frames = [] }
 rings_each control now s (timer ∷ rest) = followed (rings control now s timer) (rings_each control now (rings control now s timer).session rest)
 
+-- the six timers of an end, in the order in which they are looked at
 abbrev pub every_timer : List Timer
 every_timer = timers.Request ∷ timers.Ack ∷ timers.Negotiate ∷ timers.Rto ∷ timers.Close ∷ timers.TimeWait ∷ []
 
@@ -146,9 +153,11 @@ abbrev pub is_listening : Phase → Bool
 is_listening phases.Listen = true
 is_listening _ = false
 
+-- the session of an end that has left LISTEN
 abbrev pub unless_listening : {C : Type 0} → SessionState C → Bool → Option (SessionState C)
 unless_listening s true = None
 unless_listening s false = Some s
 
+-- the session that a first datagram has made, where its end has left LISTEN
 abbrev pub accepted_session : {C : Type 0} → SessionStep C News → Option (SessionState C)
 accepted_session step = unless_listening step.session (is_listening step.session.end.state.phase)
