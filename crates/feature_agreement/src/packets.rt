@@ -6,8 +6,8 @@ ghost use Rattle.feature_machine.specs.Turns.{row_turned};
 ghost use Rattle.feature_machine.specs.declared.row.Row.{Row};
 ghost use Rattle.feature_machine.specs.declared.stands.Stand.TheVariants.{Stable};
 ghost use Rattle.feature_agreement.specs.View.{Carried, with_frame};
-ghost use Rattle.feature_agreement.specs.Packets.{IsHeardOf, reply_due, carried_reply};
-ghost use Rattle.feature_agreement.specs.Rows.{RowMoves, IsBegun, side_of, after_sending};
+ghost use Rattle.feature_agreement.specs.Packets.{IsHeardOf, IsRowPacket, LeadsTo, RowPacket, carried_reply, reply_due, row_after};
+ghost use Rattle.feature_agreement.specs.Rows.{IsBegun, side_of, after_sending};
 
 /// A newest packet is taken, of which the row hears nothing, a valid Change or a whole Confirm; and the end sends a
 /// frame in the same step, or none. Together these are moves of the row, whatever it makes of what it heard.
@@ -16,24 +16,18 @@ ghost use Rattle.feature_agreement.specs.Rows.{RowMoves, IsBegun, side_of, after
 /// frame, and no Confirm is due. `asks`: none is due and the frame has the row's Change. `offers`: none is due, the
 /// row's offer opens and the frame has its Change.
 pub fn taking_a_packet_is_moves()
-    ensures replied { (iss greatest count : ℕ) (row : Row) (there frames : List Carried) (events : List RowEvent)
-        → greatest < count → IsSoundRow row → IsBegun iss row → IsHeardOf iss row there count events
-        → RowMoves row there (side_of iss row greatest frames)
-        (side_of iss (row_turned row events) count (with_frame frames (carried_reply row.feature count (reply_due row events)))) }
-    ensures silent { (iss greatest count : ℕ) (row : Row) (there frames : List Carried) (events : List RowEvent)
-        → greatest < count → IsSoundRow row → IsBegun iss row → IsHeardOf iss row there count events → reply_due row events ≡ None
-        → RowMoves row there (side_of iss row greatest frames) (side_of iss (row_turned row events) count frames) }
-    ensures asks { (iss greatest count : ℕ) (row : Row) (there frames : List Carried) (events : List RowEvent)
-        → iss < 2 ^ 48 → length frames < 2 ^ 47
-        → greatest < count → IsSoundRow row → IsBegun iss row → IsHeardOf iss row there count events → reply_due row events ≡ None
-        → (row_turned row events).stand ≢ Stable
-        → RowMoves row there (side_of iss row greatest frames) (after_sending iss (row_turned row events) count frames) }
-    ensures offers { (iss greatest count : ℕ) (row : Row) (there frames : List Carried) (events : List RowEvent) (confirmed : Bool)
-        → iss < 2 ^ 48 → length frames < 2 ^ 47
-        → greatest < count → IsSoundRow row → IsBegun iss row → IsHeardOf iss row there count events → reply_due row events ≡ None
-        → (row_step (row_turned row events) (Offers confirmed)).answer ≡ Opens
-        → RowMoves row there (side_of iss row greatest frames)
-        (after_sending iss (row_step (row_turned row events) (Offers confirmed)).row count frames) }
+    ensures replied { (packet : RowPacket) → IsRowPacket packet → LeadsTo packet
+        (side_of packet.iss (row_after packet) packet.count
+        (with_frame packet.frames (carried_reply packet.row.feature packet.count (reply_due packet.row packet.events)))) }
+    ensures silent { (packet : RowPacket) → IsRowPacket packet → reply_due packet.row packet.events ≡ None
+        → LeadsTo packet (side_of packet.iss (row_after packet) packet.count packet.frames) }
+    ensures asks { (packet : RowPacket) → packet.iss < 2 ^ 48 → length packet.frames < 2 ^ 47
+        → IsRowPacket packet → reply_due packet.row packet.events ≡ None → (row_after packet).stand ≢ Stable
+        → LeadsTo packet (after_sending packet.iss (row_after packet) packet.count packet.frames) }
+    ensures offers { (packet : RowPacket) (confirmed : Bool) → packet.iss < 2 ^ 48 → length packet.frames < 2 ^ 47
+        → IsRowPacket packet → reply_due packet.row packet.events ≡ None
+        → (row_step (row_after packet) (Offers confirmed)).answer ≡ Opens
+        → LeadsTo packet (after_sending packet.iss (row_step (row_after packet) (Offers confirmed)).row packet.count packet.frames) }
 {}
 
 /// What the row hears of a packet leaves it the same row, sound, and its last opening one of its end's frames.
