@@ -16,6 +16,8 @@ mod row;
 mod rows;
 mod stands;
 #[cfg(test)]
+mod table_tests;
+#[cfg(test)]
 mod tests;
 
 pub use crate::answers::{Answer, ConfirmOut, Opening, Settling};
