@@ -51,6 +51,7 @@ requests_asking e keys answer = sends e (saying (kind.Request e.config.service) 
 abbrev pub requests_offering : {Answer : Type 0} → EndState → List Key → Answer → Step Answer
 requests_offering e keys answer = requests_asking (asks e keys) keys answer
 
+-- a Request with all offers, and the Change of every row that asks once they have come up
 abbrev pub requests : {Answer : Type 0} → EndState → Answer → Step Answer
 requests e answer = requests_offering (offers e []) (asking (offers e []).rows []) answer
 
@@ -60,6 +61,7 @@ opens_as e role.Client false = requests (record e { opened = true; phase = phase
 opens_as e role.Client true = idle e (Err NotFresh)
 opens_as e role.Server _ = idle e (Err NotFresh)
 
+-- an end of the server, or one that was opened before, refuses
 unfoldable pub opens : EndState → Called OpenFault
 opens e = opens_as e e.config.role e.opened
 
@@ -68,18 +70,22 @@ abbrev pub closing_phase : Role → Phase
 closing_phase role.Client = phases.Closing
 closing_phase role.Server = phases.CloseReq
 
+-- a client's Close or a server's CloseReq, with this acknowledgement number
 abbrev pub closing_packet : Role → ℕ → Kind
 closing_packet role.Client ack = kind.Close ack
 closing_packet role.Server ack = kind.CloseReq ack
 
+-- the phase changes together with the packet that goes out, which has no options
 abbrev pub closes_now : EndState → Role → Called CloseFault
 closes_now e who = sends (in_phase e (closing_phase who)) (alone (closing_packet who e.marks.gsr)) (Ok tt)
 
+-- closing is open to PARTOPEN and OPEN alone (own)
 abbrev pub closes_in : EndState → Phase → Called CloseFault
 closes_in e phases.PartOpen = closes_now e e.config.role
 closes_in e phases.Open = closes_now e e.config.role
 closes_in e _ = idle e (Err NotOpen)
 
+-- the phase alone decides whether the connection is closed or the call refused
 unfoldable pub closes : EndState → Called CloseFault
 closes e = closes_in e e.phase
 
@@ -87,6 +93,7 @@ closes e = closes_in e e.phase
 abbrev pub aborts_now : EndState → Called AbortFault
 aborts_now e = sends (in_phase e phases.Closed) (reset_of e.marks.gsr (without_detail (number_of_code codes.Aborted))) (Ok tt)
 
+-- refused in CLOSED, LISTEN and TIMEWAIT; in REQUEST the end falls silent, and from RESPOND on the Reset goes out
 abbrev pub aborts_in : EndState → Phase → Called AbortFault
 aborts_in e phases.Closed = idle e (Err NotLive)
 aborts_in e phases.Listen = idle e (Err NotLive)
@@ -98,6 +105,7 @@ aborts_in e phases.Open = aborts_now e
 aborts_in e phases.CloseReq = aborts_now e
 aborts_in e phases.Closing = aborts_now e
 
+-- the phase alone decides between a refusal, silence and a Reset
 unfoldable pub aborts : EndState → Called AbortFault
 aborts e = aborts_in e e.phase
 
@@ -105,6 +113,7 @@ aborts e = aborts_in e e.phase
 abbrev pub acks_asking : {Answer : Type 0} → EndState → List Key → Answer → Step Answer
 acks_asking e keys answer = sends_ack e (saying (kind.Ack (Long e.marks.gsr)) [] e.rows keys) answer
 
+-- these rows ask at once, and an Ack carries their Changes
 abbrev pub asks_now : {Answer : Type 0} → EndState → List Key → Answer → Step Answer
 asks_now e keys answer = acks_asking (asks e keys) keys answer
 
@@ -121,6 +130,7 @@ is_asking_now e k wish = is_opening (row_step (row_at e.rows k.0 k.1) (Prefers w
 abbrev pub preferring : EndState → Key → Wanted → EndState
 preferring e k wish = with_rows e (turned e.rows (turn_of k (Prefers wish) ∷ []))
 
+-- a feature's values that make no wish are refused, and no row changes
 abbrev pub prefers_wish : EndState → Key → Result Wanted PreferFault → Called PreferFault
 prefers_wish e k (Ok wish) = prefers_so (preferring e k wish) k (is_asking_now e k wish)
 prefers_wish e k (Err fault) = idle e (Err fault)
@@ -130,6 +140,7 @@ abbrev pub prefers_in : EndState → Bool → Key → List ℕ → Called Prefer
 prefers_in e true k values = prefers_wish e k (wish_of k.0 k.1 values)
 prefers_in e false k values = idle e (Err prefer.NotOpen)
 
+-- a new preference is taken in PARTOPEN and OPEN alone
 unfoldable pub prefers : EndState → Key → List ℕ → Called PreferFault
 prefers e k values = prefers_in e (is_connected e.phase) k values
 
@@ -155,6 +166,7 @@ abbrev pub sends_data : EndState → List ℕ → Bool → Called SendFault
 sends_data e payload true = sends_ack e (carrying (kind.DataAck (Long e.marks.gsr)) payload) (Ok tt)
 sends_data e payload false = sends e (carrying kind.Data payload) (Ok tt)
 
+-- data that are refused change nothing, and the congestion control hears of none of them
 abbrev pub sends_unless : EndState → List ℕ → Option SendFault → Called SendFault
 sends_unless e payload (Some fault) = idle e (Err fault)
 sends_unless e payload None = with_calls (Sends (next_number e) ∷ []) (sends_data e payload e.owed)
@@ -177,6 +189,7 @@ applies_in timers.Close phases.Closing = true
 applies_in timers.TimeWait phases.TimeWait = true
 applies_in _ _ = false
 
+-- some row has its Change due
 abbrev pub has_keys : List Key → Bool
 has_keys [] = false
 has_keys (k ∷ keys) = true
@@ -187,6 +200,7 @@ has_cause timers.Negotiate e in_flight = has_keys (due_keys e.rows)
 has_cause timers.Rto e in_flight = in_flight
 has_cause _ e in_flight = true
 
+-- a timer applies where its phase and its cause both hold
 abbrev pub applies : Timer → EndState → Bool → Bool
 applies timer e in_flight = applies_in timer e.phase && has_cause timer e in_flight
 

@@ -49,9 +49,11 @@ begins control config congestion = record { state = new_end config; congestion =
 abbrev pub window_of : {C : Type 0} → Control C → C → ℕ
 window_of control congestion = control.window congestion
 
+-- the pipe of RFC 4341: the data packets that still stand as Out
 abbrev pub in_flight_of : {C : Type 0} → Control C → C → ℕ
 in_flight_of control congestion = pipe_of (control.flight congestion)
 
+-- at least one data packet is in flight, so that the timer rto has a cause
 abbrev pub has_in_flight : {C : Type 0} → Control C → C → Bool
 has_in_flight control congestion = nat_lt 0 (in_flight_of control congestion)
 

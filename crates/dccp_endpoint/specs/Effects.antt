@@ -34,6 +34,7 @@ pub data Sending : Type 0 where
   Next : (packet : Draft) → Sending
   WithoutConnection : (number : ℕ) (packet : Kind) → Sending
 
+-- all that a step changes, sends and owes
 pub record Effect : Type 0 where
   -- sets ISR, raises GSR, and is marked where it was taken
   pub hearing : Hearing
@@ -61,6 +62,7 @@ owed_as Taken old = true
 owed_as Refused old = old
 owed_as Shut old = old
 
+-- a step that hears nothing leaves what was owed before
 abbrev pub owed_by : Bool → Hearing → Bool
 owed_by old Unheard = old
 owed_by old (Heard first number how) = owed_as how old
@@ -92,6 +94,7 @@ abbrev pub isr_or : Bool → ℕ → ℕ → ℕ
 isr_or true number old = number
 isr_or false number old = old
 
+-- GSR begins at the first number, and later rises to the number heard where this is after it in the circle
 abbrev pub greatest_or : Bool → ℕ → ℕ → ℕ
 greatest_or true number old = number
 greatest_or false number old = later_of old number
@@ -101,10 +104,12 @@ abbrev pub first_by : ℕ → Hearing → ℕ
 first_by old Unheard = old
 first_by old (Heard first number how) = isr_or first number old
 
+-- GSR after a step
 abbrev pub greatest_by : ℕ → Hearing → ℕ
 greatest_by old Unheard = old
 greatest_by old (Heard first number how) = greatest_or first number old
 
+-- OSR begins at the first number, and moves to the number heard where the end becomes OPEN
 abbrev pub osr_by : ℕ → Hearing → Bool → ℕ
 osr_by old Unheard opening = old
 osr_by old (Heard first number how) opening = osr_after (isr_or first number old) number opening
@@ -140,6 +145,7 @@ marked_as Taken old number = marked_by old number
 marked_as Refused old number = old
 marked_as Shut old number = old
 
+-- what is kept begins anew with a first number, and then marks a packet that was taken
 abbrev pub heard_by : Kept → Hearing → Kept
 heard_by old Unheard = old
 heard_by old (Heard first number how) = marked_as how (begun_or first number old) number
@@ -150,6 +156,7 @@ count_as Taken count old number = one_more_taken count (is_new (answer_to old.se
 count_as Refused count old number = count
 count_as Shut count old number = count
 
+-- how many numbers were taken, by what was heard; at a first number the set has just begun
 abbrev pub count_by : ℕ → Kept → Hearing → ℕ
 count_by count old Unheard = count
 count_by count old (Heard first number how) = count_as how count (begun_or first number old) number

@@ -108,6 +108,7 @@ is_connected phase.CloseReq = false
 is_connected phase.Closing = false
 is_connected phase.TimeWait = false
 
+-- the one phase in which data are sent and delivered
 abbrev pub is_open : Phase → Bool
 is_open phase.Open = true
 is_open phase.Closed = false

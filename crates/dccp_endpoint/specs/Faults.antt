@@ -25,6 +25,7 @@ negotiates phases.CloseReq = false
 negotiates phases.Closing = false
 negotiates phases.TimeWait = false
 
+-- Data, CloseReq, Close and Reset never negotiate
 abbrev pub may_negotiate : PacketType → Bool
 may_negotiate types.Request = true
 may_negotiate types.Response = true
@@ -37,6 +38,7 @@ may_negotiate types.Reset = false
 may_negotiate types.Sync = true
 may_negotiate types.SyncAck = true
 
+-- whether the Changes and Confirms of a packet of this type count in this phase
 abbrev pub counts : Phase → PacketType → Bool
 counts phases.Request types.Response = true
 counts phase kind = negotiates phase && may_negotiate kind

@@ -81,6 +81,7 @@ by_answered h place rows entry (Confirming left number body) =
 by_answered h place rows entry Ignoring = Ok (met h place true rows h.confirms)
 by_answered h place rows entry Failing = Err (fault_of codes.MandatoryError entry)
 
+-- a Change that is heeded: what its row answers makes a Confirm that is due, nothing, or the fault Mandatory Error
 abbrev pub heeds_change : Heeding → Entry → Bool → ℕ → List ℕ → Result Heeding Fault
 heeds_change h entry left number body =
     by_answered h (place_in_used left number) (changes h.rows left number body entry.mandatory).rows entry
@@ -92,6 +93,7 @@ by_settling h place rows entry settling.Settled = Ok (met h place false rows h.c
 by_settling h place rows entry settling.Ignored = Ok (met h place false rows h.confirms)
 by_settling h place rows entry settling.Fatal = Err (fault_of codes.OptionError entry)
 
+-- a Confirm that is heeded, for the packet's acknowledgement number: what its row cannot accept is the fault Option Error
 abbrev pub heeds_confirm : Option ℕ → Heeding → Entry → Bool → ℕ → List ℕ → Result Heeding Fault
 heeds_confirm ack h entry left number body =
     by_settling h (place_in_used left number) (confirmed h.rows left number body ack).rows entry
@@ -131,10 +133,12 @@ heeds_entry count ack h entry =
     else if count && is_of_negotiation entry.kind then heeds_body ack h entry entry.body
     else Ok h
 
+-- a fault of Mandatory itself ends the reading with Option Error
 abbrev pub heeds_item : Bool → Option ℕ → Heeding → Result Entry OptFault → Result Heeding Fault
 heeds_item count ack h (Ok entry) = heeds_entry count ack h entry
 heeds_item count ack h (Err _) = Err mandatory_fault
 
+-- the options behind a fault are not heeded
 abbrev pub heeds_then : Result Heeding Fault → (Heeding → Result Heeding Fault) → Result Heeding Fault
 heeds_then (Ok h) rest = rest h
 heeds_then (Err fault) rest = Err fault
@@ -159,26 +163,31 @@ turn_known (Some feature) left event = turn_of (feature, place_of left) event �
 abbrev pub is_too_many : Heeding → Bool → Bool
 is_too_many h change = change && not (nat_lt h.changes 64)
 
+-- neither a repeated option nor a Change beyond the first 64 turns a row, and a feature number that is not known has none
 abbrev pub feature_turns : Option ℕ → Heeding → Entry → Bool → Bool → ℕ → List ℕ → List Turn
 feature_turns ack h entry change left number body =
     if slice_index_or h.used (place_in_used left number) false then []
     else if is_too_many h change then []
     else turn_known (feature_numbered number) left (event_of ack entry change body)
 
+-- an option of the negotiation without a feature number turns no row
 abbrev pub body_turns : Option ℕ → Heeding → Entry → List ℕ → List Turn
 body_turns ack h entry [] = []
 body_turns ack h entry (number ∷ body) = feature_turns ack h entry (is_change entry.kind) (is_left entry.kind) number body
 
+-- only an understood option of the negotiation turns a row, and only where such options count
 abbrev pub entry_turns : Bool → Option ℕ → Heeding → Entry → List Turn
 entry_turns count ack h entry =
     if not (is_understood entry.kind (length entry.body)) then []
     else if count && is_of_negotiation entry.kind then body_turns ack h entry entry.body
     else []
 
+-- a fault of Mandatory itself turns no row
 abbrev pub item_turns : Bool → Option ℕ → Heeding → Result Entry OptFault → List Turn
 item_turns count ack h (Ok entry) = entry_turns count ack h entry
 item_turns count ack h (Err _) = []
 
+-- no row has a turn behind a fault
 abbrev pub turns_then : Result Heeding Fault → (Heeding → List Turn) → List Turn
 turns_then (Ok h) rest = rest h
 turns_then (Err fault) rest = []

@@ -43,5 +43,6 @@ incoming_of p number size newest =
       newest = newest;
     }
 
+-- the packet that was read from these bytes; the end tells by its GSR whether it is newest
 abbrev pub incoming : EndState → List ℕ → Parts → ℕ → Incoming
 incoming e bytes p number = incoming_of p number (length bytes) (is_newest e number)

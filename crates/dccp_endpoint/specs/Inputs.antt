@@ -36,6 +36,7 @@ pub data Answer : Type 0 where
 abbrev pub step_shown : {A : Type 0} → (A → Answer) → Step A → Step Answer
 step_shown show step = record { after = step.after; frame = step.frame; calls = step.calls; answer = show step.answer }
 
+-- what an end does on an input: it receives the bytes, takes the call, or fires the timer
 abbrev pub end_stepped : EndState → Input → Step Answer
 end_stepped e (Arrives bytes) = step_shown Received (receives e bytes)
 end_stepped e Opens = step_shown Opened (opens e)

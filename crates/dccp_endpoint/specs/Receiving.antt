@@ -244,6 +244,7 @@ responds_asking e confirms keys took = sends e (saying (kind.Response e.marks.gs
 abbrev pub responds_offering : EndState → List Due → List Key → Outcome → Step Outcome
 responds_offering e confirms keys took = responds_asking (asks e keys) confirms keys took
 
+-- a Response with the Confirms that are due, all offers, and the Changes of the rows that ask and meet no Confirm in it
 abbrev pub responds : EndState → List Due → Outcome → Step Outcome
 responds e confirms took = responds_offering (offers e confirms) confirms (asking (offers e confirms).rows confirms) took
 

@@ -42,6 +42,7 @@ abbrev pub body_if : Bool → List ℕ → Option (List ℕ) → Option (List �
 body_if true body later = Some body
 body_if false body later = later
 
+-- of several Confirms for the row, the data of the first
 abbrev pub confirm_for : Key → List Due → Option (List ℕ)
 confirm_for k [] = None
 confirm_for k (due ∷ rest) = body_if (is_for k due) due.body (confirm_for k rest)
@@ -65,6 +66,7 @@ ConfirmsHaveRoom =
 abbrev pub is_key : Key → Key → Bool
 is_key one other = feature_number one.0 == feature_number other.0 && is_of_place (is_of_place true one.1) other.1
 
+-- one of these rows is this row
 abbrev pub has_key : Key → List Key → Bool
 has_key k keys = list_any (is_key k) keys
 
@@ -78,6 +80,7 @@ abbrev pub change_if : Bool → Key → Row → List RowEvent
 change_if true k row = Change (wish_bytes k.0 row.active) row.mandatory ∷ []
 change_if false k row = []
 
+-- a Confirm for the row takes the place of its Change
 abbrev pub said_of : Option (List ℕ) → Bool → Option ℕ → Key → Row → List RowEvent
 said_of (Some body) asks ack k row = Confirm body ack ∷ []
 said_of None asks ack k row = change_if asks k row

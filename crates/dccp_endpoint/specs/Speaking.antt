@@ -37,6 +37,7 @@ wish_bytes feature (Some (wanted.Number number)) = big_bytes (described feature)
 abbrev pub change_item : Key → Row → Item
 change_item k row = record { mandatory = row.mandatory; kind = change_type k.1; body = feature_number k.0 ∷ wish_bytes k.0 row.active }
 
+-- the Changes of these rows, in their order
 abbrev pub change_items : List Row → List Key → List Item
 change_items rows keys = map (λ (k : Key). change_item k (row_at rows k.0 k.1)) keys
 
@@ -63,6 +64,7 @@ confirm_type false = options.confirm_r
 abbrev pub confirm_item : Due → Item
 confirm_item due = record { mandatory = false; kind = confirm_type due.left; body = due.number ∷ due.body }
 
+-- the Confirms of a packet, in the order in which they became due
 abbrev pub confirm_items : List Due → List Item
 confirm_items confirms = map confirm_item confirms
 

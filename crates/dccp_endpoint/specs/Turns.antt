@@ -9,6 +9,7 @@ use Rattle.feature_machine.specs.Turns.{Turn, turn}
 abbrev pub Key : Type 0
 Key = Feature × Place
 
+-- an event at this row
 abbrev pub turn_of : Key → RowEvent → Turn
 turn_of k event = turn k.0 k.1 event
 

@@ -11,6 +11,7 @@ use Rattle.dccp_states.specs.declared.phase.Role.TheVariants.{Client, Server}
 abbrev pub to_server : Pseudo
 to_server = V4 (10 ∷ 0 ∷ 0 ∷ 1 ∷ []) (10 ∷ 0 ∷ 0 ∷ 2 ∷ [])
 
+-- the same two addresses the other way round
 abbrev pub to_client : Pseudo
 to_client = V4 (10 ∷ 0 ∷ 0 ∷ 2 ∷ []) (10 ∷ 0 ∷ 0 ∷ 1 ∷ [])
 

@@ -15,6 +15,7 @@ use validity_windows::Marks;
 mod calling;
 mod handing;
 mod receiving;
+mod replying;
 mod sending;
 
 pub(crate) use receiving::is_open;

@@ -1,24 +1,22 @@
 //! What an end does with a packet that arrives: the sixteen steps of RFC 4340, section 8.5. `take_bytes`, `take`,
-//! `take_steps`, `take_options` and `negotiate` list them, and each has a function of its own below.
+//! `take_steps`, `take_options`, `negotiate` and `process` list them, and each has a function of its own, below or in
+//! `replying`.
 ghost use Rattle.std.specs.Prelude.{◌≡◌, length, map};
 ghost use Rattle.dccp_endpoint.specs.End.{is_connected, is_live, is_open};
-ghost use Rattle.dccp_endpoint.specs.Receiving.{packet_fault};
 ghost use Rattle.dccp_endpoint.specs.Reporting.{carries_data, is_acking};
 ghost use Rattle.dccp_endpoint.specs.Steps.{without_detail};
 ghost use Rattle.dccp_packets.specs.ResetCodes.{number_of_code};
 
 use super::Connection;
 use super::handing::hand_over;
-use crate::config::number as seq48;
 use crate::faults::counts;
 use crate::heeding::{Reading, are_silent, heed};
 use crate::incoming::IncomingPacket;
 use crate::{Exit, Fault, Outcome, Why};
 use congestion_trait::Congestion;
-use dccp_packets::{Header, Kind, Number, Outbox, PacketType, ResetCode, decode};
-use dccp_states::{Entrance, Phase, Reply, after, gate, unexpected};
+use dccp_packets::{Header, Number, Outbox, PacketType, ResetCode, decode};
+use dccp_states::{Entrance, Phase, after, gate, unexpected};
 use dccp_sum::check;
-use feature_lists::{Feature, Place};
 use feature_machine::ConfirmOut;
 use run_list::Marked;
 use seq_circle::Seq48;
@@ -49,7 +47,7 @@ pub(crate) fn is_connected(phase: Phase) -> bool
 }
 
 // A Reset code without details.
-fn without_detail(code: ResetCode) -> Fault
+pub(crate) fn without_detail(code: ResetCode) -> Fault
     ensures { result ≡ without_detail (number_of_code code) }
 {
     Fault {
@@ -74,41 +72,23 @@ fn carries_data(kind: PacketType) -> bool
     matches!(kind, PacketType::Data | PacketType::DataAck)
 }
 
-// Packet Error tells of the packet's type.
-fn packet_fault(packet: &IncomingPacket<'_>) -> Fault
-    ensures { result ≡ packet_fault packet.now }
-{
-    Fault {
-        code: ResetCode::PacketError.number(),
-        first: packet.kind.code(),
-        second: 0,
-        third: 0,
-    }
-}
-
 impl Connection {
-    ghost use Rattle.std.specs.Prelude.{◌≡◌, ◌≤◌, ◌&&◌, if◌then◌else◌, [], Option, Some, None, Ok, Err, true, false, length, map};
-    ghost use Rattle.dccp_packets.specs.Grammar.{has_forms};
-    ghost use Rattle.dccp_packets.specs.declared.header.Kind.TheVariants as kind;
-    ghost use Rattle.dccp_packets.specs.declared.header.Number.TheVariants.{Long};
+    ghost use Rattle.std.specs.Prelude.{◌≡◌, ◌≤◌, ◌&&◌, [], None, Ok, true, length, map};
     ghost use Rattle.dccp_states.specs.Entrance.{gate};
     ghost use Rattle.dccp_states.specs.Phases.{after};
     ghost use Rattle.dccp_states.specs.declared.phase.Phase.TheVariants as phase;
     ghost use Rattle.validity_windows.specs.Verdict.{verdict};
     ghost use Rattle.dccp_endpoint.specs.Controlled.{with_control};
-    ghost use Rattle.dccp_endpoint.specs.Drafts.{alone};
-    ghost use Rattle.dccp_endpoint.specs.End.{EndState, IsProper, is_phase_of};
+    ghost use Rattle.dccp_endpoint.specs.End.{IsProper, is_phase_of};
     ghost use Rattle.dccp_endpoint.specs.Faults.{counts};
     ghost use Rattle.dccp_endpoint.specs.Heeding.{due_of, heeding_or, unheeded};
-    ghost use Rattle.dccp_endpoint.specs.Speaking.{HaveRoom, confirming};
-    ghost use Rattle.dccp_endpoint.specs.Incoming.{Incoming, is_newest};
-    ghost use Rattle.dccp_endpoint.specs.Receiving.{receives, takes, checks_header, is_of_connection, course, Goes, the_steps, through, finds_connection, is_own_service, accepts_request, started, acknowledges_in_window, answers, takes_answer, raises, by_verdict, checks_numbers, ends_by_reset, is_unexpected, is_other_service, checks_type, heeded, reads_options, moved_to, needs_ack, acknowledges, responds, replies, processes, resets, resets_without_connection, leaves};
-    ghost use Rattle.dccp_endpoint.specs.Reporting.{counts_data, delivered_if, delivers, is_enough, looked_up, looks_up, marks};
-    ghost use Rattle.dccp_endpoint.specs.declared.outcome.Outcome.TheVariants.{Took};
+    ghost use Rattle.dccp_endpoint.specs.Speaking.{HaveRoom};
+    ghost use Rattle.dccp_endpoint.specs.Incoming.{is_newest};
+    ghost use Rattle.dccp_endpoint.specs.Receiving.{receives, takes, checks_header, is_of_connection, course, Goes, the_steps, through, finds_connection, is_own_service, accepts_request, started, acknowledges_in_window, answers, takes_answer, raises, checks_numbers, ends_by_reset, is_unexpected, is_other_service, checks_type, heeded, reads_options, moved_to, processes};
+    ghost use Rattle.dccp_endpoint.specs.Reporting.{counts_data, delivered_if, delivers, looked_up, looks_up, marks};
     ghost use Rattle.run_list.specs.MarkedSet.{answer_to};
     ghost use Rattle.dccp_endpoint.specs.Inputs.{Arrives};
     ghost use Rattle.dccp_endpoint.specs.Outcomes.{HasCause, HasEffectOf, HasNoOtherCause};
-    ghost use Rattle.dccp_endpoint.specs.Steps.{idle, sends, without_detail};
 
     /// Takes bytes that arrived, and hands to the congestion control what is due to it.
     pub(crate) fn receive<C: Congestion>(
@@ -510,170 +490,5 @@ impl Connection {
             self.marks.osr = number;
         }
         self.phase = phase;
-    }
-
-    // What the table of phases sends; a Reset has left at step 9.
-    fn reply(
-        &mut self,
-        packet: &IncomingPacket<'_>,
-        confirms: &[ConfirmOut],
-        delivered: Option<(usize, usize)>,
-        reply: Reply,
-        out: &mut Outbox,
-    ) -> Outcome
-        requires empty { out.old ≡ None }
-        requires room { HaveRoom (map due_of confirms.now) }
-        ensures { record { after = self.new; frame = out.new; calls = []; answer = result } ≡ replies self.old packet.now (map due_of confirms.now) (Took delivered) reply }
-    {
-        let ack = self.marks.gsr;
-        match reply {
-            Reply::Nothing => self.acknowledge_if_due(confirms, delivered, out),
-            Reply::Response => self.respond(confirms, delivered, out),
-            Reply::Ack => self.acknowledge(confirms, delivered, out),
-            Reply::Close => self.send_and_take(Kind::Close { ack }, &[], delivered, out),
-            Reply::ResetClosed => self.reset(ack, without_detail(ResetCode::Closed), out),
-            Reply::SyncAck => {
-                let ack = packet.number;
-                self.send_and_take(Kind::SyncAck { ack }, confirms, delivered, out)
-            }
-            Reply::Torn => Outcome::Took { delivered },
-        }
-    }
-
-    // As many data packets are not acknowledged as the peer asks for by its Ack Ratio.
-    fn is_enough(&self) -> bool
-        ensures { result ≡ is_enough self.now.rows self.now.unacked }
-    {
-        let ratio = self.rows().held(Feature::AckRatio, Place::There).value;
-        ratio != 0 && ratio <= u64::from(self.unacked)
-    }
-
-    // Where the table has no reply: an Ack is needed in PARTOPEN and OPEN if Confirms are due, and in OPEN for enough
-    // data packets.
-    fn needs_ack(&self, confirms: &[ConfirmOut]) -> bool
-        ensures { result ≡ needs_ack self.now.phase (map due_of confirms.now) self.now.rows self.now.unacked }
-    {
-        is_connected(self.phase)
-            && (!confirms.is_empty() || (is_open(self.phase) && self.is_enough()))
-    }
-
-    // Where the table has no reply, an Ack goes out if it is needed.
-    fn acknowledge_if_due(
-        &mut self,
-        confirms: &[ConfirmOut],
-        delivered: Option<(usize, usize)>,
-        out: &mut Outbox,
-    ) -> Outcome
-        requires empty { out.old ≡ None }
-        requires room { HaveRoom (map due_of confirms.now) }
-        ensures { record { after = self.new; frame = out.new; calls = []; answer = result } ≡ (if needs_ack self.old.phase (map due_of confirms.now) self.old.rows self.old.unacked then acknowledges self.old (map due_of confirms.now) (Took delivered) else idle self.old (Took delivered)) }
-    {
-        if self.needs_ack(confirms) {
-            return self.acknowledge(confirms, delivered, out);
-        }
-        Outcome::Took { delivered }
-    }
-
-    // An Ack with the Confirms that are due.
-    fn acknowledge(
-        &mut self,
-        confirms: &[ConfirmOut],
-        delivered: Option<(usize, usize)>,
-        out: &mut Outbox,
-    ) -> Outcome
-        requires { HaveRoom (map due_of confirms.now) }
-        ensures { record { after = self.new; frame = out.new; calls = []; answer = result } ≡ acknowledges self.old (map due_of confirms.now) (Took delivered) }
-    {
-        let ack = Number::Long(self.marks.gsr);
-        self.send_ack(Kind::Ack { ack }, confirms, &[], out);
-        Outcome::Took { delivered }
-    }
-
-    // A Response opens the offered rows that have no Confirm in it, and carries the Changes of these and of all others
-    // that ask.
-    fn respond(
-        &mut self,
-        confirms: &[ConfirmOut],
-        delivered: Option<(usize, usize)>,
-        out: &mut Outbox,
-    ) -> Outcome
-        requires { HaveRoom (map due_of confirms.now) }
-        ensures { record { after = self.new; frame = out.new; calls = []; answer = result } ≡ responds self.old (map due_of confirms.now) (Took delivered) }
-    {
-        let ack = self.marks.gsr;
-        let service = self.config.service;
-        self.send_offering(Kind::Response { ack, service }, confirms, out);
-        Outcome::Took { delivered }
-    }
-
-    fn send_and_take(
-        &mut self,
-        kind: Kind,
-        confirms: &[ConfirmOut],
-        delivered: Option<(usize, usize)>,
-        out: &mut Outbox,
-    ) -> Outcome
-        requires form { has_forms true kind ≡ true }
-        requires room { HaveRoom (map due_of confirms.now) }
-        ensures { record { after = self.new; frame = out.new; calls = []; answer = result } ≡ sends self.old (confirming kind (map due_of confirms.now)) (Took delivered) }
-    {
-        self.send_confirming(kind, confirms, out);
-        Outcome::Took { delivered }
-    }
-
-    // What is done with a packet that leaves before step 10.
-    fn leave(&mut self, packet: &IncomingPacket<'_>, exit: Exit, out: &mut Outbox) -> Outcome
-        requires { out.old ≡ None }
-        ensures { record { after = self.new; frame = out.new; calls = []; answer = result } ≡ leaves self.old packet.now exit }
-    {
-        match exit {
-            Exit::Drop(why) => Outcome::Dropped(why),
-            Exit::Sync(number) => {
-                self.send(Kind::Sync { ack: number }, out);
-                Outcome::Synced(number)
-            }
-            Exit::ResetWithoutConnection(code) => {
-                self.reset_without_connection(packet, without_detail(code), out)
-            }
-            Exit::PacketError => self.reset(packet.number, packet_fault(packet), out),
-            Exit::Shut(fault) => {
-                self.phase = Phase::Closed;
-                self.reset(self.marks.gsr, fault, out)
-            }
-            Exit::TimeWait(code) => {
-                self.phase = Phase::TimeWait;
-                Outcome::WasReset(code)
-            }
-        }
-    }
-
-    // A Reset under the next number.
-    fn reset(&mut self, ack: Seq48, fault: Fault, out: &mut Outbox) -> Outcome
-        ensures { record { after = self.new; frame = out.new; calls = []; answer = result } ≡ resets self.old ack fault }
-    {
-        let code = fault.code;
-        let detail = [fault.first, fault.second, fault.third];
-        self.send(Kind::Reset { ack, code, detail }, out);
-        Outcome::SentReset { code, detail }
-    }
-
-    // A Reset without a connection takes its numbers from the packet, and the end stays as it is (own).
-    fn reset_without_connection(
-        &mut self,
-        packet: &IncomingPacket<'_>,
-        fault: Fault,
-        out: &mut Outbox,
-    ) -> Outcome
-        ensures { record { after = self.new; frame = out.new; calls = []; answer = result } ≡ resets_without_connection self.old packet.now fault }
-    {
-        let code = fault.code;
-        let detail = [fault.first, fault.second, fault.third];
-        let own = match packet.ack {
-            Some(ack) => ack.next(),
-            None => seq48(0),
-        };
-        let ack = packet.number;
-        self.put_alone(own, Kind::Reset { ack, code, detail }, out);
-        Outcome::SentReset { code, detail }
     }
 }

@@ -1,5 +1,5 @@
 //! The frames that an end sends, and what they say of features.
-ghost use Rattle.std.specs.Prelude.{◌≡◌, ◌≤◌, ◌^◌, Some, None, true, false, if◌then◌else◌, length, map};
+ghost use Rattle.std.specs.Prelude.{◌≡◌, ◌≤◌, Some, None, true, false, if◌then◌else◌, length, map};
 ghost use Rattle.dccp_sum.specs.Checksum.{sealed};
 
 use super::{Connection, fit};
