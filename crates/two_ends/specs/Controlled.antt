@@ -17,6 +17,7 @@ pub record Controlled (C : Type 0) : Type 0 where
   pub for_client : C
   pub for_server : C
 
+-- the world after an event that took place, and what was seen of the end's step
 pub record ControlledStep (C : Type 0) : Type 0 where
   pub after : Controlled C
   pub seen : Seen
@@ -26,10 +27,12 @@ pub record ControlledHalf (C : Type 0) : Type 0 where
   pub half : Half
   pub congestion : C
 
+-- a side after a step of its end, and what was seen of it
 pub record ControlledHalfStep (C : Type 0) : Type 0 where
   pub after : ControlledHalf C
   pub seen : Seen
 
+-- each side has a congestion control of its own
 abbrev pub congestion_of : {C : Type 0} → Controlled C → Side → C
 congestion_of w Client = w.for_client
 congestion_of w Server = w.for_server
@@ -59,6 +62,7 @@ abbrev pub controlled : {C : Type 0} → Control C → Controlled C → Side →
 controlled control w Client step = record w { world = step.world; for_client = after_calls control w.for_client step.calls }
 controlled control w Server step = record w { world = step.world; for_server = after_calls control w.for_server step.calls }
 
+-- an event that cannot happen calls no congestion control
 abbrev pub controls : {C : Type 0} → Control C → Controlled C → Side → Result WorldStep WorldFault → Result (ControlledStep C) WorldFault
 controls control w side (Ok step) = Ok (record { after = controlled control w side step; seen = step.seen })
 controls control w side (Err fault) = Err fault
@@ -81,6 +85,7 @@ plays control w (event ∷ events) = plays control (controlled_after w (happens_
 abbrev pub half_begins : {C : Type 0} → Control C → Config → C → ControlledHalf C
 half_begins control config congestion = record { half = half_at_start config; congestion = (begins control config congestion).congestion }
 
+-- two ends that have sent and received nothing, each with its congestion control started
 abbrev pub begins_with : {C : Type 0} → Control C → Config → Config → C → C → Controlled C
 begins_with control client server for_client for_server =
     record {

@@ -12,6 +12,7 @@ use Rattle.two_ends.specs.Lists.{last_some}
 use Rattle.two_ends.specs.World.{WorldState, half_of}
 use Rattle.two_ends.specs.Pairs.{FeatureAt, Saying, Nothing, Change, Confirm, held_at, said_by}
 
+-- a Change for the pair, not a Confirm or nothing
 abbrev pub says_change : Saying → Bool
 says_change Nothing = false
 says_change (Change values) = true
@@ -21,6 +22,7 @@ says_change (Confirm values) = false
 abbrev pub side_changed : WorldState → FeatureAt → Side → Bool
 side_changed w pair side = list_any (λ frame. says_change (said_by pair side frame.bytes)) (half_of w side).frames
 
+-- client or server has sent a Change for the feature at this location
 abbrev pub pair_was_negotiated : WorldState → FeatureAt → Bool
 pair_was_negotiated w pair = side_changed w pair Client || side_changed w pair Server
 
@@ -30,6 +32,7 @@ confirmed_list [] = None
 confirmed_list (value ∷ []) = None
 confirmed_list (value ∷ (first ∷ rest)) = Some (first ∷ rest)
 
+-- the preference list of a Change is all of its values
 abbrev pub list_said : Saying → Option (List ℕ)
 list_said Nothing = None
 list_said (Change values) = Some values
@@ -49,9 +52,11 @@ value_said (Confirm values) = None
 abbrev pub last_value : WorldState → FeatureAt → Option ℕ
 last_value w pair = last_some (λ (frame : SentFrame). value_said (said_by pair pair.location frame.bytes)) (half_of w pair.location).frames
 
+-- a feature that both ends reconcile by preference lists, the server's first (RFC 4340, section 6.3.1)
 abbrev pub IsServerPriority : FeatureAt → Type 0
 IsServerPriority pair = (described pair.feature).is_server_priority ≡ true
 
+-- a feature whose value its location tells, and which the other end has to take (RFC 4340, section 6.3.2)
 abbrev pub IsNotNegotiable : FeatureAt → Type 0
 IsNotNegotiable pair = (described pair.feature).is_server_priority ≡ false
 
@@ -70,6 +75,7 @@ pub record AgreeOn (w : WorldState) (pair : FeatureAt) : Type 0 where
       → last_list_sent w pair Client ≡ Some clients → reconciled servers clients ≡ Some value → (held_at w pair Server).value ≡ value
   pub is_last_sent : IsNotNegotiable pair → IsTrue (pair_was_negotiated w pair) → last_value w pair ≡ Some (held_at w pair pair.location).value
 
+-- for every feature at every location, ends that are both STABLE agree
 abbrev pub Agree : WorldState → Type 0
 Agree w = (pair : FeatureAt) → IsSettled w pair → AgreeOn w pair
 
@@ -94,5 +100,6 @@ pub data Origin (w : WorldState) (pair : FeatureAt) (value : ℕ) : Type 0 where
       → reconciled servers clients ≡ Some value → Origin w pair value
   Told : IsNotNegotiable pair → HasTold w pair value → Origin w pair value
 
+-- no end holds a value that comes from elsewhere
 abbrev pub Given : WorldState → Type 0
 Given w = (pair : FeatureAt) (side : Side) → Origin w pair (held_at w pair side).value

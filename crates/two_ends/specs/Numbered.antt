@@ -16,6 +16,7 @@ use Rattle.two_ends.specs.World.{Half, WorldState, half_of, other}
 use Rattle.two_ends.specs.Frames.{packet_of, options_in, is_reset, number_of_frame}
 use Rattle.two_ends.specs.Pairs.{FeatureAt, times_said}
 
+-- bytes that are no packet are no Reset without a connection either
 abbrev pub is_packet_without_connection : Role → Option Parts → Bool
 is_packet_without_connection role None = false
 is_packet_without_connection role (Some p) = is_without_connection role p.header.kind
@@ -68,6 +69,7 @@ pub record AreSentNumbers (iss count isr gsr : ℕ) : Type 0 where
   pub greatest : IsNumberOf iss count gsr
   pub in_order : first.place ≤ greatest.place
 
+-- an end has received no first number yet, or its ISR and GSR are numbers that the other side sent
 abbrev pub Hears : ℕ → ℕ → EndState → Type 0
 Hears iss count e = IsUnset e ⊎ AreSentNumbers iss count e.marks.isr e.marks.gsr
 

@@ -40,6 +40,7 @@ abbrev pub change_option : Place → ℕ
 change_option Here = 32
 change_option There = 34
 
+-- Confirm L for a feature Here, and Confirm R for one There
 abbrev pub confirm_option : Place → ℕ
 confirm_option Here = 33
 confirm_option There = 35
@@ -49,6 +50,7 @@ abbrev pub values_for : ℕ → List ℕ → Option (List ℕ)
 values_for number [] = None
 values_for number (first ∷ values) = if first == number then Some values else None
 
+-- the values that stand behind the feature number in a Change or a Confirm
 abbrev pub change_or_confirm : Bool → List ℕ → Saying
 change_or_confirm is_change values = if is_change then Change values else Confirm values
 
@@ -57,6 +59,7 @@ abbrev pub said_then : Option (List ℕ) → Bool → Saying → Saying
 said_then None is_change later = later
 said_then (Some values) is_change later = change_or_confirm is_change values
 
+-- of several options for one feature the first counts; a list without one says nothing
 abbrev pub said_in : ℕ → Place → List (Result Entry OptFault) → Saying
 said_in number place [] = Nothing
 said_in number place (Err _ ∷ rest) = said_in number place rest
@@ -74,6 +77,7 @@ abbrev pub one_if_said : Option (List ℕ) → ℕ
 one_if_said None = 0
 one_if_said (Some values) = 1
 
+-- Changes and Confirms for a feature, counted over all options of a packet
 abbrev pub said_times : ℕ → Place → List (Result Entry OptFault) → ℕ
 said_times number place [] = 0
 said_times number place (Err _ ∷ rest) = said_times number place rest
@@ -82,5 +86,6 @@ said_times number place (Ok entry ∷ rest) =
     then one_if_said (values_for number entry.body) + said_times number place rest
     else said_times number place rest
 
+-- how often the frame of a side names the pair in a Change or a Confirm
 abbrev pub times_said : FeatureAt → Side → List ℕ → ℕ
 times_said pair side bytes = said_times (feature_number pair.feature) (place_at side pair.location) (options_in bytes)

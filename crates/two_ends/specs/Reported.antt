@@ -32,6 +32,7 @@ pub record IsOnce (w : WorldState) (side : Side) : Type 0 where
       → slice_index (half_of w side).processed i ≡ slice_index (half_of w side).processed j → i ≡ j
   pub sent : (i : ℕ) → i < length (half_of w side).processed → HasSentNumber w (other side) (slice_index (half_of w side).processed i)
 
+-- neither end processes a number twice, nor one that the other side has not sent
 abbrev pub Once : WorldState → Type 0
 Once w = (side : Side) → IsOnce w side
 

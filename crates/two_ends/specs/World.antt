@@ -32,6 +32,7 @@ pub record Half : Type 0 where
   pub frames : List SentFrame
   pub processed : List ℕ
 
+-- the two sides between which the frames go, with all that either has sent
 pub record WorldState : Type 0 where
   pub client : Half
   pub server : Half
@@ -64,6 +65,7 @@ number_if true (Some number) = number ∷ []
 number_if true None = []
 number_if false number = []
 
+-- the number that a step processed, if any
 abbrev pub newly_processed : EndState → Input → EndState → List ℕ
 newly_processed before given after = number_if (nat_lt (marked_of before) (marked_of after)) (number_given given)
 
@@ -72,6 +74,7 @@ abbrev pub half_with : List SentFrame → EndState → List ℕ → Option (List
 half_with frames after processed frame =
     record { end = after; frames = frames ++ as_sent (length processed) (floor_of after) frame; processed = processed }
 
+-- a side with what a step of its end has added: at most one frame, and at most one number processed
 abbrev pub moved : {Answer : Type 0} → Half → Input → Step Answer → Half
 moved half given step = half_with half.frames step.after (half.processed ++ newly_processed half.end given step.after) step.frame
 
@@ -93,6 +96,7 @@ refusal_of prefer.NotOpen = refusal.NotOpen
 refusal_of prefer.BadList = refusal.BadList
 refusal_of prefer.NotOurs = refusal.NotOurs
 
+-- an outcome, the result of a call, or whether a timer applied
 abbrev pub seen_of : Answer → Seen
 seen_of (input.Received outcome) = seen.Received outcome
 seen_of (input.Opened result) = seen_of_call (λ fault. refusal.NotFresh) result
@@ -107,14 +111,17 @@ abbrev pub half_steps : Half → Input → HalfStep
 half_steps half given =
     record { half = moved half given (end_stepped half.end given); calls = (end_stepped half.end given).calls; seen = seen_of (end_stepped half.end given).answer }
 
+-- one side of the world
 abbrev pub half_of : WorldState → Side → Half
 half_of w Client = w.client
 half_of w Server = w.server
 
+-- the peer of a side
 abbrev pub other : Side → Side
 other Client = Server
 other Server = Client
 
+-- the world with one side replaced, and the other as it was
 abbrev pub with_half : WorldState → Side → Half → WorldState
 with_half w Client half = record w { client = half }
 with_half w Server half = record w { server = half }
@@ -123,6 +130,7 @@ with_half w Server half = record w { server = half }
 abbrev pub is_full : Half → Bool
 is_full half = nat_le (2 ^ 47 - 1) (length half.frames)
 
+-- a side that is full takes no step at all
 abbrev pub unless_full : WorldState → Side → HalfStep → Result WorldStep WorldFault
 unless_full w side step =
     if is_full (half_of w side) then Err fault.Full
@@ -152,6 +160,7 @@ input_of asked.Close said = input.Closes
 input_of asked.Abort said = input.Aborts
 input_of (asked.Fire timer) said = input.Fires timer said.in_flight
 
+-- an event of a schedule, with what the congestion control of the side that acts says to it
 abbrev pub happening_of : Event → Said → Happening
 happening_of event.Open said = Calls Client input.Opens
 happening_of (event.Deliver from index) said = Delivers from index
@@ -161,6 +170,7 @@ happening_of (event.Timer side timer) said = Calls side (input.Fires timer said.
 happening_of (event.Close side) said = Calls side input.Closes
 happening_of (event.Abort side) said = Calls side input.Aborts
 
+-- a call of an end, or a delivery, for which the frame must exist
 abbrev pub takes_place : WorldState → Happening → Result WorldStep WorldFault
 takes_place w (Calls side given) = unless_full w side (half_steps (half_of w side) given)
 takes_place w (Delivers from index) = delivers_frame w from (slice_get (half_of w from).frames index)
@@ -174,6 +184,7 @@ abbrev pub acting_side : Happening → Side
 acting_side (Calls side given) = side
 acting_side (Delivers from index) = other from
 
+-- open is the client's call, and of a delivery the receiving side acts
 abbrev pub actor : Event → Side
 actor event.Open = Client
 actor (event.Deliver from index) = other from
@@ -216,5 +227,6 @@ world_after_all w (now ∷ later) = world_after_all (world_after w (happens w no
 abbrev pub half_at_start : Config → Half
 half_at_start config = record { end = new_end config; frames = []; processed = [] }
 
+-- two sides with their configurations, of which neither has sent a frame
 abbrev pub at_start : Config → Config → WorldState
 at_start client server = record { client = half_at_start client; server = half_at_start server }
