@@ -21,6 +21,7 @@ pub data Answered : Type 0 where
   Confirming : (left : Bool) (feature : ℕ) (body : List ℕ) → Answered
   Ignoring Failing : Answered
 
+-- the answer of the call as plain data: the Confirm letter by letter, or why none goes out
 abbrev pub shown : Answer → Answered
 shown (answer.Confirm out) = Confirming out.left out.feature out.body.items
 shown answer.Ignored = Ignoring
@@ -32,11 +33,13 @@ answered left feature (Confirms body) = Confirming (not left) feature body
 answered left feature (Fatal _) = Failing
 answered left feature _ = Ignoring
 
+-- what a Confirm leads to: the row settles, the connection ends, or the Confirm is ignored
 abbrev pub settling_of : RowAnswer → Settling
 settling_of Settled = settling.Settled
 settling_of (Fatal _) = settling.Fatal
 settling_of _ = settling.Ignored
 
+-- whether the Change of a new preference goes out now or on a later occasion
 abbrev pub opening_of : RowAnswer → Opening
 opening_of Opens = opening.Now
 opening_of _ = opening.Later

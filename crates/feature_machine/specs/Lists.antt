@@ -23,6 +23,7 @@ usual_offer f.EcnIncapable located.Here = offer.Mandatory
 usual_offer f.SendAckVector located.There = offer.Mandatory
 usual_offer _ _ = offer.Nothing
 
+-- what an end that was told nothing wants and offers for one feature at one place
 abbrev pub usual_listed : Feature → Place → Listed
 usual_listed feature place =
     record { feature = feature; place = place; wish = usual_of feature place; offer = usual_offer feature place }
@@ -58,20 +59,25 @@ listed_at lists feature place = slice_index_or lists (index_of feature place) (u
 abbrev pub list_put : List Listed → Feature → Place → Listed → List Listed
 list_put lists feature place listed = slice_set lists (index_of feature place) listed
 
+-- this wish takes the place of the row's, and its offer stays
 abbrev pub with_wish : List Listed → Feature → Place → Wanted → List Listed
 with_wish lists feature place wish = list_put lists feature place (record (listed_at lists feature place) { wish = Some wish })
 
+-- an offer's Change is sent plain or behind Mandatory
 abbrev pub offer_of : Bool → Offer
 offer_of true = offer.Mandatory
 offer_of false = offer.Plain
 
+-- the row is offered, and its wish stays
 abbrev pub with_offer : List Listed → Feature → Place → Bool → List Listed
 with_offer lists feature place mandatory =
     list_put lists feature place (record (listed_at lists feature place) { offer = offer_of mandatory })
 
+-- an entry that keeps its wish, but is not offered
 abbrev pub unoffered : Listed → Listed
 unoffered listed = record listed { offer = offer.Nothing }
 
+-- the same wishes, none of which is offered
 abbrev pub without_offers : List Listed → List Listed
 without_offers lists = map unoffered lists
 

@@ -32,6 +32,7 @@ first_row role listed =
       mandatory = false;
     }
 
+-- the rows of an end before anything was negotiated
 abbrev pub first_rows : Role2 → List Listed → List Row
 first_rows role lists = map (first_row role) lists
 
@@ -58,6 +59,7 @@ abbrev pub OthersStay : List Row → List Row → Feature → Place → Type 0
 OthersStay old new feature place =
     (other : Feature) (there : Place) → index_of other there ≢ index_of feature place → row_at new other there ≡ row_at old other there
 
+-- all rows after an event, and what the one row answers that the event is of
 pub record RowsStep : Type 0 where
   pub rows : List Row
   pub answer : RowAnswer
@@ -78,6 +80,7 @@ abbrev pub changes_known : List Row → Option Feature → Place → List ℕ �
 changes_known rows (Some feature) place body mandatory = stepped rows feature place (Change body mandatory)
 changes_known rows None place body mandatory = record { rows = rows; answer = if mandatory then Fatal 6 else Confirms [] }
 
+-- a Change with this feature number, by L of a feature at the peer and by R of one here
 abbrev pub changes : List Row → Bool → ℕ → List ℕ → Bool → RowsStep
 changes rows left number body mandatory = changes_known rows (feature_numbered number) (place_of left) body mandatory
 
@@ -86,6 +89,7 @@ abbrev pub confirms_known : List Row → Option Feature → Place → List ℕ �
 confirms_known rows (Some feature) place body ack = stepped rows feature place (Confirm body ack)
 confirms_known rows None place body ack = record { rows = rows; answer = Ignored }
 
+-- a Confirm with this feature number and letter, on a packet with this acknowledgement number, if it has one
 abbrev pub confirmed : List Row → Bool → ℕ → List ℕ → Option ℕ → RowsStep
 confirmed rows left number body ack = confirms_known rows (feature_numbered number) (place_of left) body ack
 
@@ -95,6 +99,7 @@ is_asking stand.Stable = false
 is_asking stand.Changing = true
 is_asking stand.Unstable = true
 
+-- the row asks: its Change has to go out, or to go out again
 abbrev pub is_due : Row → Bool
 is_due row = is_asking row.stand
 
@@ -130,5 +135,6 @@ abbrev pub is_next_mandatory : Stand → Row → Bool
 is_next_mandatory stand.Changing row = row.mandatory
 is_next_mandatory _ row = false
 
+-- what an owner sees of a row: its value, and where its negotiation stands
 abbrev pub held_by : Row → Held
 held_by row = record { value = row.value; stand = row.stand }

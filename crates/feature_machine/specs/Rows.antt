@@ -46,6 +46,7 @@ pub data RowAnswer : Type 0 where
   Waits : RowAnswer
   Quiet : RowAnswer
 
+-- the row after one event, and its answer to that
 pub record RowStep : Type 0 where
   pub row : Row
   pub answer : RowAnswer
@@ -65,6 +66,7 @@ abbrev pub is_number : Option Wanted → ℕ → Bool
 is_number (Some (wanted.Number number)) value = number == value
 is_number _ value = false
 
+-- the feature is negotiated by preference lists, of which the server's decides (RFC 4340, section 6.3.1)
 abbrev pub is_server_priority : Row → Bool
 is_server_priority row = (described row.feature).is_server_priority
 
@@ -72,6 +74,7 @@ is_server_priority row = (described row.feature).is_server_priority
 abbrev pub width : Row → ℕ
 width row = (described row.feature).width
 
+-- the feature is located at the peer
 abbrev pub is_there : Place → Bool
 is_there located.Here = false
 is_there located.There = true
@@ -81,10 +84,12 @@ abbrev pub tells_value : Row → List ℕ → Bool
 tells_value row body =
     is_there row.place && length body == width row && is_permitted row.feature row.place (big_number (width row) body)
 
+-- the first entry that both lists have, if there is one
 abbrev pub shared_or_not : Option ℕ → Proposal
 shared_or_not (Some value) = p.Shared value
 shared_or_not None = p.Unshared
 
+-- a Change of a server-priority feature needs at least one value, and is judged by the reconciliation
 abbrev pub list_proposal : Row → List ℕ → Proposal
 list_proposal row [] = p.Invalid
 list_proposal row (value ∷ rest) = shared_or_not (reconciled_by row.role (entries row.active) (value ∷ rest))
@@ -111,16 +116,19 @@ listed_confirmation row value None = if value == row.value then c.Held else c.Wr
 abbrev pub is_acceptable : Row → ℕ → Bool
 is_acceptable row value = has_entry (entries row.active) value || value == row.value
 
+-- a Confirm of a server-priority feature: with a list it is judged by the reconciliation, and without one by its value
 abbrev pub list_confirmation : Row → ℕ → List ℕ → Confirmation
 list_confirmation row value [] = if is_acceptable row value then c.Alone value else c.Wrong
 list_confirmation row value (first ∷ rest) =
     listed_confirmation row value (reconciled_by row.role (entries row.active) (first ∷ rest))
 
+-- a Confirm of a non-negotiable feature has to repeat the number that was told
 abbrev pub number_confirmation : Row → List ℕ → Confirmation
 number_confirmation row body =
     if length body == width row && is_number row.active (big_number (width row) body) then c.Told (big_number (width row) body)
     else c.Wrong
 
+-- an empty Confirm refuses the Change; any other is judged by the kind of the feature
 abbrev pub timely_confirmation : Row → List ℕ → Confirmation
 timely_confirmation row [] = c.Empty
 timely_confirmation row (value ∷ rest) =
@@ -138,6 +146,7 @@ pub data TableEvent : Type 0 where
   Offered : (confirmed : Bool) (offer : Offer) → TableEvent
   Sending : (number : ℕ) (opened : Option ℕ) → TableEvent
 
+-- the event as the negotiation table has it, with its data judged by this row
 abbrev pub heard : Row → RowEvent → TableEvent
 heard row (Change body mandatory) = Proposed (proposal row body) mandatory
 heard row (Confirm body ack) = Confirmed (confirmation row body ack)
@@ -149,24 +158,31 @@ heard row (Sends number) = Sending number row.opened
 abbrev pub confirm_body : Row → List ℕ
 confirm_body row = if is_server_priority row then row.value ∷ entries row.active else big_bytes (width row) row.value
 
+-- an answer that leaves the row as it is
 abbrev pub says : Row → RowAnswer → RowStep
 says row answer = record { row = row; answer = answer }
 
+-- a Confirm of the row's own value
 abbrev pub confirms : Row → RowStep
 confirms row = says row (Confirms (confirm_body row))
 
+-- the row with another value, in the same stand
 abbrev pub holding : Row → ℕ → Row
 holding row value = record row { value = value }
 
+-- the negotiation has ended at this value, in STABLE
 abbrev pub settled : Row → ℕ → RowStep
 settled row value = says (record row { value = value; stand = stand.Stable }) Settled
 
+-- a negotiation begins for this wish: the row is in CHANGING, and no Change of it has a number yet
 abbrev pub opened_with : Row → Option Wanted → Bool → RowStep
 opened_with row wish mandatory = says (record row { stand = stand.Changing; active = wish; opened = None; mandatory = mandatory }) Opens
 
+-- an offer comes up once at most
 abbrev pub without_offer : Row → Row
 without_offer row = record row { offer = offer.Nothing }
 
+-- the wish that waited becomes active, and its first Change has this number
 abbrev pub sent_anew : Row → ℕ → Row
 sent_anew row number =
     record row { stand = stand.Changing; active = row.pending; pending = None; opened = Some number; mandatory = false }

@@ -34,6 +34,7 @@ pub record NeverAsks (row : Row) : Type 0 where
   pub stand : row.stand ≡ stand.Stable
   pub offer : row.offer ≡ offer.Nothing
 
+-- a row's value, wishes and offer fit its feature and place
 pub record IsSoundRow (row : Row) : Type 0 where
   pub value : is_lawful row.feature row.place row.value ≡ true
   pub active : is_active row.feature row.place row.active ≡ true

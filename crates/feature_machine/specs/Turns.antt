@@ -14,6 +14,7 @@ pub record Turn : Type 0 where
   pub place : Place
   pub event : RowEvent
 
+-- an event happens to the row of a feature at a place
 abbrev pub turn : Feature → Place → RowEvent → Turn
 turn feature place event = record { feature = feature; place = place; event = event }
 
@@ -40,5 +41,6 @@ abbrev pub IsLawfulFor : Feature → Place → RowEvent → Type 0
 IsLawfulFor feature place (Prefers wish) = is_wish feature place wish ≡ true
 IsLawfulFor feature place _ = Unit {0}
 
+-- all turns that want something have a wish for their row
 abbrev pub AreLawful : List Turn → Type 0
 AreLawful turns = All (λ given. IsLawfulFor given.feature given.place given.event) turns
