@@ -57,6 +57,7 @@ pub data Part : Type 0 where
   Mandatory : Part
   Listed : Part
 
+-- by its type an option fills the area up, marks the next one, or is a member of the list
 abbrev pub part_of : ℕ → Part
 part_of kind = if kind == padding then Padding else if kind == mandatory then Mandatory else Listed
 

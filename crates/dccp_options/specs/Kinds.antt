@@ -1,51 +1,67 @@
 -- The types of options, by name, and what the table of the standard says of each (RFC 4340, section 5.8, table 3).
 use Rattle.std.specs.Prelude.{ℕ, ◌+◌, Bool, not, ◌&&◌, ◌||◌, ◌==◌, nat_lt, nat_le, if◌then◌else◌}
 
+-- fills up the option area (RFC 4340, section 5.8.1)
 abbrev pub padding : ℕ
 padding = 0
 
+-- marks the option behind it as one that must be understood (RFC 4340, section 5.8.2)
 abbrev pub mandatory : ℕ
 mandatory = 1
 
+-- the receiver asks its peer not to send faster (RFC 4340, section 11.6)
 abbrev pub slow_receiver : ℕ
 slow_receiver = 2
 
+-- Change L: the sender of the option is the feature's location (RFC 4340, section 6.1)
 abbrev pub change_l : ℕ
 change_l = 32
 
+-- Confirm L: the feature's location answers a Change R (RFC 4340, section 6.2)
 abbrev pub confirm_l : ℕ
 confirm_l = 33
 
+-- Change R: the feature's location is the peer of the option's sender (RFC 4340, section 6.1)
 abbrev pub change_r : ℕ
 change_r = 34
 
+-- Confirm R: answers the Change L of the feature's location (RFC 4340, section 6.2)
 abbrev pub confirm_r : ℕ
 confirm_r = 35
 
+-- lets a server keep no state before the handshake is through (RFC 4340, section 8.1.4)
 abbrev pub init_cookie : ℕ
 init_cookie = 36
 
+-- how many packets without data went before this one in a row (RFC 4340, section 7.7)
 abbrev pub ndp_count : ℕ
 ndp_count = 37
 
+-- an Ack Vector whose ECN Nonce Echo is 0 (RFC 4340, section 11.4)
 abbrev pub ack_vector_0 : ℕ
 ack_vector_0 = 38
 
+-- an Ack Vector whose ECN Nonce Echo is 1 (RFC 4340, section 11.4)
 abbrev pub ack_vector_1 : ℕ
 ack_vector_1 = 39
 
+-- tells which received packets had their data dropped, and why (RFC 4340, section 11.7)
 abbrev pub data_dropped : ℕ
 data_dropped = 40
 
+-- a time of the sender that the peer is to echo (RFC 4340, section 13.1)
 abbrev pub timestamp : ℕ
 timestamp = 41
 
+-- the answer to a Timestamp, with the time that its receiver held it (RFC 4340, section 13.3)
 abbrev pub timestamp_echo : ℕ
 timestamp_echo = 42
 
+-- how long ago the acknowledged packet was received (RFC 4340, section 13.2)
 abbrev pub elapsed_time : ℕ
 elapsed_time = 43
 
+-- a CRC of the application data (RFC 4340, section 9.3)
 abbrev pub data_checksum : ℕ
 data_checksum = 44
 

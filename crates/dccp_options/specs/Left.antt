@@ -12,10 +12,12 @@ use Rattle.dccp_options.specs.Vectors.{vector_bytes}
 abbrev pub raw_of : RawOpt → RawOption
 raw_of raw = record { place = raw.place; kind = raw.kind; body = raw.body.now }
 
+-- an option as the list has it, with the bytes of its data in place of their borrow
 abbrev pub entry_of_option : Opt → Entry
 entry_of_option option =
     record { place = option.place; mandatory = option.mandatory; kind = option.kind; body = option.body.now }
 
+-- a reader gives an option of the list or the fault that ends it
 abbrev pub item_of : Result Opt OptFault → Result Entry OptFault
 item_of (Ok option) = Ok (entry_of_option option)
 item_of (Err fault) = Err fault

@@ -35,6 +35,7 @@ abbrev pub joined_report : ℕ → List (List ℕ) → Option Report
 joined_report ack [] = None
 joined_report ack (vector ∷ others) = Some (record { ack = ack; bytes = concat (vector ∷ others) })
 
+-- all Ack Vectors of the packet are one report, which begins at the acknowledgement number
 abbrev pub report_of : ℕ → List (Result Entry OptFault) → Option Report
 report_of ack items = joined_report ack (ack_vectors items)
 
