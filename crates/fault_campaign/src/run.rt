@@ -82,46 +82,47 @@ impl Run {
         (a, b)
     }
 
-    fn go_on(&mut self) -> Result<(), NoMemory>
+    fn go_on(&mut self, again: &mut Again) -> Result<(), NoMemory>
         requires { size self.old.report < 2 ^ 62 }
         ensures { OnOk result (self.new ≡ goes_on self.old) }
     {
         let (a, b) = self.next_words();
-        self.play_drawn(a, b)
+        self.play_drawn(again, a, b)
     }
 
-    // Plays the event of two words. Each kind of event is made where it is played, since the room that an event has for
-    // data is cleared where it is made and moves with it.
+    // Plays the event of two words. Each kind of event is made where it is played, since it would move with its room for
+    // data.
     #[tactic(auto, unfolding(crate::specs::Draws::drawn))]
-    fn play_drawn(&mut self, a: u32, b: u32) -> Result<(), NoMemory>
+    fn play_drawn(&mut self, again: &mut Again, a: u32, b: u32) -> Result<(), NoMemory>
         requires { size self.old.report < 2 ^ 62 }
         ensures { OnOk result (self.new ≡ played self.old (drawn a b (frames_of self.old Side.Client) (frames_of self.old Side.Server))) }
     {
         match a % 32 {
-            0..=11 => self.deliver(Side::Client, b),
-            12..=23 => self.deliver(Side::Server, b),
+            0..=11 => self.deliver(again, Side::Client, b),
+            12..=23 => self.deliver(again, Side::Server, b),
             24 => self.send(Side::Client, b),
             25 => self.send(Side::Server, b),
             26 => self.prefer(Side::Client, b % 8, b / 8),
             27 => self.prefer(Side::Server, b % 8, b / 8),
-            28 => self.fire(Side::Client, drawn_timer(b % 6)),
-            29 => self.fire(Side::Server, drawn_timer(b % 6)),
+            28 => self.fire(again, Side::Client, drawn_timer(b % 6)),
+            29 => self.fire(again, Side::Server, drawn_timer(b % 6)),
             30 => self.end(b % 512),
-            _ => self.fire(Side::Server, Timer::Negotiate),
+            _ => self.fire(again, Side::Server, Timer::Negotiate),
         }
     }
 
     // A frame of this side arrives; where there is none, the client's timer runs out.
-    fn deliver(&mut self, from: Side, b: u32) -> Result<(), NoMemory>
+    fn deliver(&mut self, again: &mut Again, from: Side, b: u32) -> Result<(), NoMemory>
         requires { size self.old.report < 2 ^ 62 }
         ensures { OnOk result (self.new ≡ played self.old (drawn_delivery from (frames_of self.old from) b)) }
     {
         let frames = self.frames(from);
         if frames == 0 {
-            return self.fire(Side::Client, Timer::Request);
+            return self.fire(again, Side::Client, Timer::Request);
         }
         let index = drawn_index(u64::from(b), frames);
-        self.play(&Event::Deliver { from, index })
+        be_delivery(&mut again.delivery, from, index);
+        self.play(&again.delivery)
     }
 
     fn send(&mut self, side: Side, b: u32) -> Result<(), NoMemory>
@@ -138,11 +139,12 @@ impl Run {
         self.play(&preference(side, which, rest))
     }
 
-    fn fire(&mut self, side: Side, timer: Timer) -> Result<(), NoMemory>
+    fn fire(&mut self, again: &mut Again, side: Side, timer: Timer) -> Result<(), NoMemory>
         requires { size self.old.report < 2 ^ 62 }
         ensures { OnOk result (self.new ≡ played self.old (Event.Timer side timer)) }
     {
-        self.play(&Event::Timer { side, timer })
+        be_timer(&mut again.timer, side, timer);
+        self.play(&again.timer)
     }
 
     fn end(&mut self, which: u32) -> Result<(), NoMemory>
@@ -163,6 +165,42 @@ impl Run {
             settled: settled_at(&self.world, Side::Client) + settled_at(&self.world, Side::Server),
             ..self.report
         }
+    }
+}
+
+// Two events that are played again and again, with other parts. An event is large, for it has room for data: making one
+// anew clears that room.
+#[derive(Drop)]
+struct Again {
+    delivery: Event,
+    timer: Event,
+}
+
+fn be_delivery(event: &mut Event, sender: Side, number: u64)
+    ensures { event.new ≡ Event.Deliver sender number }
+{
+    if let Event::Deliver { from, index } = event {
+        *from = sender;
+        *index = number;
+    } else {
+        *event = Event::Deliver {
+            from: sender,
+            index: number,
+        };
+    }
+}
+
+fn be_timer(event: &mut Event, owner: Side, fired: Timer)
+    ensures { event.new ≡ Event.Timer owner fired }
+{
+    if let Event::Timer { side, timer } = event {
+        *side = owner;
+        *timer = fired;
+    } else {
+        *event = Event::Timer {
+            side: owner,
+            timer: fired,
+        };
     }
 }
 
@@ -245,8 +283,12 @@ pub fn run_seed(alloc: Global, seed: u64, events: u32) -> Result<Report, NoMemor
 {
     let mut run = Run::new(alloc, generator(seed))?;
     run.play(&Event::Open)?;
+    let mut again = Again {
+        delivery: Event::Open,
+        timer: Event::Open,
+    };
     for _ in 0..events - 1 {
-        run.go_on()?;
+        run.go_on(&mut again)?;
     }
     Ok(run.report(events))
 }
