@@ -3,19 +3,19 @@ ghost use Rattle.std.specs.Prelude.{◌≡◌, ◌+◌, ◌<◌, ◌≤◌, ℕ,
 ghost use Rattle.feature_machine.specs.Negotiating.{due_keys, is_due};
 ghost use Rattle.feature_machine.specs.declared.row.Row.{Row};
 
-use crate::Negotiation;
+use crate::row::Row;
 use feature_lists::{Feature, Place};
 use std::marker::Model;
 
-/// The rows in CHANGING or UNSTABLE, as they stood when it was made, in the order of the features, Here before There.
+/// The rows in CHANGING or UNSTABLE, in the order of the features, Here before There.
 #[derive(Debug, Drop)]
-pub struct Due {
-    rows: Negotiation,
+pub struct Due<'a> {
+    rows: &'a [Row],
     next: usize,
 }
 
-impl Model for Due {
-    ghost use Rattle.std.specs.Prelude.{List, drop, ◌≤◌};
+impl<'a> Model for Due<'a> {
+    ghost use Rattle.std.specs.Prelude.{List, drop, length, ◌≡◌, ◌≤◌};
     ghost use Rattle.feature_lists.specs.declared.features.Feature.{Feature};
     ghost use Rattle.feature_lists.specs.declared.features.Place.{Place};
 
@@ -23,35 +23,37 @@ impl Model for Due {
 
     ghost use Rattle.feature_machine.specs.Negotiating.{due_keys};
 
-    ghost view = { λ d. due_keys (drop d.next d.rows) };
+    ghost view = { λ d. due_keys (drop d.next d.rows.now) };
 
-    ghost invariant = { λ d. d.next ≤ 18 };
+    ghost invariant = { λ d. (d.next ≤ 18) × (length d.rows.now ≡ 18) };
 }
 
-impl Due {
-    pub(crate) fn of(rows: Negotiation) -> Due
-        ensures { result ≡ due_keys rows }
+impl<'a> Due<'a> {
+    pub(crate) fn of(rows: &'a [Row]) -> Due<'a>
+        requires { length rows.now ≡ 18 }
+        ensures { result ≡ due_keys rows.now }
     {
         Due { rows, next: 0 }
     }
 }
 
 // The first due row from an index on, or 18.
-fn first_due(rows: &Negotiation, from: usize) -> usize
-    requires { from ≤ 18 }
+fn first_due(rows: &[Row], from: usize) -> usize
+    requires whole { length rows.now ≡ 18 }
+    requires starts { from ≤ 18 }
     ensures within { result ≤ 18 }
     ensures passed { due_keys (drop result rows.now) ≡ due_keys (drop from rows.now) }
     ensures due { (row : Row) → result < 18 → slice_get rows.now result ≡ Some row → is_due row ≡ true }
 {
     for index in from..18 {
-        if rows.at(index).is_due() {
+        if rows[index].is_due() {
             return index;
         }
     }
     18
 }
 
-impl Iterator for Due {
+impl<'a> Iterator for Due<'a> {
     type Item = (Feature, Place);
 
     ghost use Rattle.std.specs.Iterator.{YieldsFirst, item_count};
@@ -61,13 +63,13 @@ impl Iterator for Due {
     ghost remaining = { item_count (λ s. s) };
 
     fn next(&mut self) -> Option<(Feature, Place)> {
-        let index = first_due(&self.rows, self.next);
+        let index = first_due(self.rows, self.next);
         if index == 18 {
             self.next = index;
             return None;
         }
         self.next = index + 1;
-        let row = self.rows.at(index);
+        let row = &self.rows[index];
         Some((row.feature, row.place))
     }
 }

@@ -1,5 +1,5 @@
 //! The eighteen rows of an end.
-ghost use Rattle.std.specs.Prelude.{◌≡◌, ◌≢◌, ◌↔◌, ◌⊎◌, ◌<◌, ℕ, true, false, IsNone, IfSome, length, slice_get, Some};
+ghost use Rattle.std.specs.Prelude.{◌≡◌, ◌≢◌, ◌↔◌, ◌⊎◌, ◌<◌, ℕ, true, false, IsNone, IfSome, length};
 ghost use Rattle.feature_lists.specs.Features.{described, feature_number};
 ghost use Rattle.feature_lists.specs.Wishes.{is_ours, is_wish};
 ghost use Rattle.feature_lists.specs.declared.features.Feature.{Feature};
@@ -12,7 +12,7 @@ ghost use Rattle.feature_machine.specs.Sound.{IsRowOf, IsRefusal};
 ghost use Rattle.feature_machine.specs.declared.stands.Stand.TheVariants.{Stable};
 
 use crate::due::Due;
-use crate::offers::Listed;
+use crate::offers::{Listed, Offer};
 use crate::row::{Reply, Row};
 use crate::{Answer, ConfirmOut, Held, Lists, Opening, Role2, Settling, Stand};
 use arrayvec::ArrayVec;
@@ -94,15 +94,6 @@ impl Negotiation {
         Negotiation { rows }
     }
 
-    // The row at an index.
-    pub(crate) fn at(&self, index: usize) -> Row
-        requires { index < 18 }
-        ensures row { slice_get self.now index ≡ Some result }
-        ensures size { length self.now ≡ 18 }
-    {
-        self.rows[index]
-    }
-
     fn row(&self, feature: Feature, place: Place) -> Row
         ensures value { result ≡ row_at self.now feature place }
         ensures its { IsRowOf feature place result }
@@ -171,10 +162,10 @@ impl Negotiation {
     }
 
     /// The rows whose Change is due: those in CHANGING or UNSTABLE, in the order of the features, Here before There.
-    pub fn due(&self) -> Due
+    pub fn due(&self) -> Due<'_>
         ensures { result ≡ due_keys self.now }
     {
-        Due::of(*self)
+        Due::of(&self.rows)
     }
 
     /// A Change L (`left`) or Change R of a newest packet comes, with its data behind the feature number.
@@ -260,6 +251,9 @@ impl Negotiation {
         ensures others { OthersStay self.old self.new feature place }
     {
         let mut row = self.row(feature, place);
+        if row.offer == Offer::Nothing {
+            return false;
+        }
         let opening = row.open_offer(confirmed);
         self.put(feature, place, row);
         opening
