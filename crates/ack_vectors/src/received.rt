@@ -63,7 +63,7 @@ fn newest_whole(records: &HeapCircularBuffer<Record>, n: Seq48) -> Option<Record
 {
     let mut newest = None;
     for record in records.iter() {
-        if record.whole && record.number == n {
+        if record.number == n && record.whole {
             newest = Some(*record);
         }
     }
