@@ -102,6 +102,13 @@ impl Negotiation {
         self.rows[index_of(feature, place)]
     }
 
+    // The offer of a row, without a copy of the row.
+    fn offer(&self, feature: Feature, place: Place) -> Offer
+        ensures { result ≡ (row_at self.now feature place).offer }
+    {
+        self.rows[index_of(feature, place)].offer
+    }
+
     fn put(&mut self, feature: Feature, place: Place, row: Row)
         requires { IsRowOf feature place row }
         ensures { self.new ≡ put self.old feature place row }
@@ -250,10 +257,10 @@ impl Negotiation {
         ensures opening { result ≡ is_opening (stepped self.old feature place (Offers confirmed)).answer }
         ensures others { OthersStay self.old self.new feature place }
     {
-        let mut row = self.row(feature, place);
-        if row.offer == Offer::Nothing {
+        if self.offer(feature, place) == Offer::Nothing {
             return false;
         }
+        let mut row = self.row(feature, place);
         let opening = row.open_offer(confirmed);
         self.put(feature, place, row);
         opening
