@@ -252,7 +252,8 @@ impl Play {
         self.begin_world(alloc)
     }
 
-    // Apart from `make_world`, which each event calls: room for a world is cleared where this is called.
+    // Apart from `make_world`, which each event calls: this takes room for a world.
+    #[inline(never)]
     fn begin_world(&mut self, alloc: Global) -> Result<(), NoMemory>
         requires peers { ArePeers self.old.client self.old.server }
         requires fresh { self.old.world ≡ None }
