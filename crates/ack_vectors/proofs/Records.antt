@@ -1,8 +1,10 @@
 -- Records of sent vectors: which one counts, and what acknowledging does.
-use Rattle.std.proofs.Common.{◌≡◌, ℕ, ◌+◌, ◌-◌, Bool, true, false, ◌||◌, ◌==◌, List, [], ◌∷◌, ◌++◌, length, take, drop, Option, Some, None, if◌then◌else◌, refl, ap, sym, subst, ◌∙◌, arith, inl, inr, ◌⊎◌, ⊎_elim}
+use Rattle.std.proofs.Common.{◌≡◌, ℕ, suc, ◌+◌, ◌-◌, Bool, true, false, ◌||◌, ◌==◌, List, [], ◌∷◌, ◌++◌, length, take, drop, Option, Some, None, if◌then◌else◌, refl, ap, sym, subst, ◌∙◌, arith, inl, inr, ◌⊎◌, ⊎_elim}
 use Rattle.std.specs.Prelude.{is_some}
-use Rattle.std.specs.List.{list_any, Contains}
+use Rattle.std.specs.List.{list_any, Contains, slice_get}
 use Rattle.std.proofs.lemmas.Bool.{cases_Bool, and_parts, eqb-true, or_right}
+use Rattle.std.proofs.Math.Seq.{take-suc}
+use Rattle.std.proofs.lemmas.Option.{get_or_from_slice_get, slice_get_within}
 use Rattle.std.proofs.lemmas.List.{take-append-drop}
 use Rattle.std.proofs.lemmas.List.Elements.{Contains-append_right, Contains-push_cases}
 use Rattle.seq_circle.specs.Circle.{residue}
@@ -15,6 +17,16 @@ use Rattle.ack_vectors.specs.declared.received.Record.{Record}
 pub newest_from-last : (n : ℕ) (found : Option Record) (rs : List Record) (r : Record) → newest_from n found (rs ++ r ∷ []) ≡ (if is_whole_at n r then Some r else newest_from n found rs)
 newest_from-last n found [] r = refl
 newest_from-last n found (q ∷ rs) r = newest_from-last n (if is_whole_at n q then Some q else found) rs r
+
+-- of the records up to one, that one counts if it fits, and else those before it
+pub newest_whole-step : (n k : ℕ) (rs : List Record) (r : Record) → slice_get rs k ≡ Some r
+    → newest_whole n (take (k + 1) rs) ≡ (if is_whole_at n r then Some r else newest_whole n (take k rs))
+newest_whole-step n k rs r there =
+    let next : suc k ≡ k + 1 = omega arith in
+    let more : take (k + 1) rs ≡ take k rs ++ r ∷ [] =
+    subst (λ (m : ℕ). take m rs ≡ take k rs ++ r ∷ []) next
+    (take-suc rs k r (slice_get_within rs k r there) ∙ ap (λ x. take k rs ++ x ∷ []) (get_or_from_slice_get rs k r r there)) in
+    ap (newest_whole n) more ∙ newest_from-last n None (take k rs) r
 
 pub newest_from-some : (n : ℕ) (found : Option Record) (rs : List Record) → is_some (newest_from n found rs) ≡ is_some found || list_any (is_whole_at n) rs
 newest_from-some n found [] = elim (is_some found) as (λ b. b ≡ b || false) [ true ↦ refl | false ↦ refl ]

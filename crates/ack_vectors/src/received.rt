@@ -57,17 +57,25 @@ impl Model for Received {
     ghost invariant = { λ r. r.records.capacity ≡ 64 };
 }
 
-// The newest record of a whole vector under the number.
+// The record is of a whole vector under the number.
+fn is_whole_at(record: &Record, n: Seq48) -> bool
+    ensures { result ≡ is_whole_at n record.now }
+{
+    record.number == n && record.whole
+}
+
+// The newest record of a whole vector under the number. What the peer acknowledges is mostly one of the last.
 fn newest_whole(records: &HeapCircularBuffer<Record>, n: Seq48) -> Option<Record>
     ensures { result ≡ newest_whole n records.now.items }
 {
-    let mut newest = None;
-    for record in records.iter() {
-        if record.number == n && record.whole {
-            newest = Some(*record);
+    for index in (0..records.len()).rev() {
+        if let Some(record) = records.get(index) {
+            if is_whole_at(record, n) {
+                return Some(*record);
+            }
         }
     }
-    newest
+    None
 }
 
 impl Received {

@@ -1,0 +1,32 @@
+use Rattle.std.proofs.Common.{rules, ◌≡◌, ℕ, ◌+◌, ◌-◌, ◌∙◌, sym, subst, arith, take, true, false, Option, slice_get, Some, None, inl, inr}
+use Rattle.std.proofs.lemmas.Option.{slice_get_cases}
+use Rattle.ack_vectors.specs.Kept.{is_whole_at, newest_whole}
+use Rattle.ack_vectors.specs.declared.received.Record.{Record}
+use Rattle.ack_vectors.proofs.Records.{newest_whole-step}
+use Rattle.ack_vectors.proofs.received.newest_whole.Goals as goal
+
+-- the record that is looked at is the last of those that are left
+pub returns-then-is_whole_at : goal.returns-then-is_whole_at
+returns-then-is_whole_at c =
+    let r = c.in-Some.record.now in let items = c.args.records.now.items in
+    let there : slice_get items (c.loop-index.index - 1) ≡ Some r = search rules in
+    let fits : is_whole_at c.args.n r ≡ true = search rules in
+    let one : newest_whole c.args.n (take (c.loop-index.index - 1 + 1) items) ≡ Some r = rw fits at (newest_whole-step c.args.n (c.loop-index.index - 1) items r there) in
+    sym (subst (λ (k : ℕ). newest_whole c.args.n (take k items) ≡ Some r) (omega arith) one) ∙ c.loop-index.invariant
+
+pub loop-index-preserved-else-is_whole_at : goal.loop-index-preserved-else-is_whole_at
+loop-index-preserved-else-is_whole_at c =
+    let r = c.in-Some.record.now in let items = c.args.records.now.items in let left = newest_whole c.args.n (take (c.loop-index.index - 1) items) in
+    let there : slice_get items (c.loop-index.index - 1) ≡ Some r = search rules in
+    let other : is_whole_at c.args.n r ≡ false = search rules in
+    let one : newest_whole c.args.n (take (c.loop-index.index - 1 + 1) items) ≡ left = rw other at (newest_whole-step c.args.n (c.loop-index.index - 1) items r there) in
+    sym (subst (λ (k : ℕ). newest_whole c.args.n (take k items) ≡ left) (omega arith) one) ∙ c.loop-index.invariant
+
+-- a record stands at every index below their number
+pub loop-index-preserved : goal.loop-index-preserved
+loop-index-preserved c =
+    let none : ◌≡◌ {A = Option Record} (slice_get c.args.records.now.items (c.loop-index.index - 1)) None = search rules in
+    elim ((slice_get_cases c.args.records.now.items (c.loop-index.index - 1)).1) [
+      | inl found ↦ let bad : ◌≡◌ {A = Option Record} (Some found.0) None = sym found.2 ∙ none in absurd cc
+      | inr past ↦ absurd omega (arith, past.0)
+    ]
