@@ -1,10 +1,9 @@
 -- A text that is begun still begins what is put behind it.
-use Rattle.std.proofs.Common.{◌≡◌, refl, sym, ap, ◌∙◌, ℕ, ◌/◌, ◌%◌, ◌≤◌, slice_index, List, [], ◌∷◌, ◌++◌, length, length-append, take, arith}
+use Rattle.std.proofs.Common.{◌≡◌, refl, sym, ap, ◌∙◌, ℕ, ◌≤◌, List, [], ◌∷◌, ◌++◌, length, length-append, take, arith}
 use Rattle.std.proofs.lemmas.List.{append-nil}
 use Rattle.std.proofs.lemmas.Grind.{common_steps}
 use Rattle.std.specs.Prelude.{decimal, flat_map}
-use Rattle.hex.specs.Hex.{encode_lower, encode_with, lower_digits}
-use Rattle.schedule_text.specs.Printing.{Keeps, byte_digits, values_text}
+use Rattle.schedule_text.specs.Printing.{Keeps, values_text}
 
 take-front : (old piece : List ℕ) → take (length old) (old ++ piece) ≡ old
 take-front [] piece = refl
@@ -42,12 +41,6 @@ keeps_through old mid new first then_on =
           ∙ ap (take (length old)) then_on.front
           ∙ first.front;
     }
-
--- the digits of bytes, byte by byte
-pub digits_flat : (bytes : List ℕ) → flat_map byte_digits bytes ≡ encode_lower bytes
-unfolding encode_with
-digits_flat [] = refl
-digits_flat (byte ∷ bytes) = ap (λ (rest : List ℕ). slice_index lower_digits (byte / 16) ∷ (slice_index lower_digits (byte % 16) ∷ rest)) (digits_flat bytes)
 
 -- numbers with a comma between each two, as the first and then each with its comma
 values_from : (first : ℕ) (others : List ℕ) → values_text (first ∷ others) ≡ decimal first ++ flat_map (λ (value : ℕ). 44 ∷ decimal value) others

@@ -1,6 +1,7 @@
 pub mod FirstFaults
 pub mod FrameFaults
 pub mod HexBack
+pub mod HexBlocks
 pub mod HexSpelling
 pub mod Keeping
 pub mod LinesBack

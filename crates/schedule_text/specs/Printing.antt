@@ -25,10 +25,6 @@ abbrev pub hex_text : List ℕ → List ℕ
 hex_text [] = codes "-"
 hex_text (byte ∷ bytes) = encode_lower (byte ∷ bytes)
 
--- the two digits of a byte
-abbrev pub byte_digits : ℕ → List ℕ
-byte_digits byte = encode_lower (byte ∷ [])
-
 -- numbers, parted by commas
 abbrev pub values_text : List ℕ → List ℕ
 values_text values = join_with_byte 44 (map decimal values)
