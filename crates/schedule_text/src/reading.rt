@@ -299,6 +299,31 @@ fn open(words: &mut Words<'_>, said: &mut Line) -> Result<(), LineFault>
     Ok(())
 }
 
+// Making an event clears its room for data, so one of the same kind is changed where it stands.
+fn be_delivery(event: &mut Event, sender: Side, number: u64)
+    ensures { event.new ≡ Event.Deliver sender number }
+{
+    if let Event::Deliver { from, index } = event {
+        *from = sender;
+        *index = number;
+    } else {
+        *event = Event::Deliver {
+            from: sender,
+            index: number,
+        };
+    }
+}
+
+fn say_delivery(said: &mut Line, from: Side, index: u64)
+    ensures { said.new ≡ Line.Event (Event.Deliver from index) }
+{
+    if let Line::Event(event) = said {
+        be_delivery(event, from, index);
+    } else {
+        *said = Line::Event(Event::Deliver { from, index });
+    }
+}
+
 fn deliver(words: &mut Words<'_>, said: &mut Line) -> Result<(), LineFault>
     ensures value { MatchResult result
         (λ done. spec.deliver_line (left_of words.old) ≡ Ok said.new)
@@ -307,7 +332,7 @@ fn deliver(words: &mut Words<'_>, said: &mut Line) -> Result<(), LineFault>
 {
     let (from, index) = words.next_word().name()?;
     end(words)?;
-    *said = Line::Event(Event::Deliver { from, index });
+    say_delivery(said, from, index);
     Ok(())
 }
 
@@ -344,6 +369,31 @@ fn prefer(words: &mut Words<'_>, said: &mut Line) -> Result<(), LineFault>
     Ok(())
 }
 
+// The same for a timer.
+fn be_timer(event: &mut Event, whose: Side, which: Timer)
+    ensures { event.new ≡ Event.Timer whose which }
+{
+    if let Event::Timer { side, timer } = event {
+        *side = whose;
+        *timer = which;
+    } else {
+        *event = Event::Timer {
+            side: whose,
+            timer: which,
+        };
+    }
+}
+
+fn say_timer(said: &mut Line, side: Side, timer: Timer)
+    ensures { said.new ≡ Line.Event (Event.Timer side timer) }
+{
+    if let Line::Event(event) = said {
+        be_timer(event, side, timer);
+    } else {
+        *said = Line::Event(Event::Timer { side, timer });
+    }
+}
+
 fn timer(words: &mut Words<'_>, said: &mut Line) -> Result<(), LineFault>
     ensures value { MatchResult result
         (λ done. spec.timer_line (left_of words.old) ≡ Ok said.new)
@@ -353,7 +403,7 @@ fn timer(words: &mut Words<'_>, said: &mut Line) -> Result<(), LineFault>
     let side = words.next_word().side()?;
     let timer = words.next_word().timer()?;
     end(words)?;
-    *said = Line::Event(Event::Timer { side, timer });
+    say_timer(said, side, timer);
     Ok(())
 }
 
