@@ -260,3 +260,8 @@ decodes-flawless text none =
     let whole = flawless-by text (first_other text) refl none in
     let back = decoded 0 text whole.all whole.even in
     (back.bytes, sized-pairs text whole.even ∙ back.decodes)
+
+-- no digits spell no bytes
+pub none_of_none : bytes_of [] ≡ []
+unfolding decode_pairs
+none_of_none = refl

@@ -6,7 +6,7 @@ ghost use Rattle.schedule_text.specs.Digits.{first_other, flaw_of, bytes_of};
 use crate::Payload;
 
 // A line has at most 4,096 bytes, two for each byte that it tells.
-const MOST_BYTES: usize = 2048;
+pub(crate) const MOST_BYTES: usize = 2048;
 
 fn is_hex_digit(byte: u8) -> bool
     ensures { result ≡ is_hex_digit byte }
@@ -33,8 +33,8 @@ pub(crate) fn flaw_of(word: &[u8]) -> Option<usize>
     }
 }
 
-/// Bytes as a payload, which has room for as many as one line has digits for.
-pub(crate) fn payload_of(bytes: &[u8]) -> Payload
+// Bytes as a payload, which has room for as many as one line has digits for.
+fn payload_of(bytes: &[u8]) -> Payload
     requires { length bytes.now ≤ 2048 }
     ensures { result ≡ bytes.now }
 {
@@ -44,7 +44,8 @@ pub(crate) fn payload_of(bytes: &[u8]) -> Payload
     }
 }
 
-fn decode(word: &[u8], room: &mut [u8])
+/// Puts the bytes of digits without a flaw into the room for them.
+pub(crate) fn decode(word: &[u8], room: &mut [u8])
     requires flawless { flaw_of word.now ≡ None }
     requires sized { length room.old ≡ length word.now / 2 }
     ensures { room.new ≡ bytes_of word.now }

@@ -3,6 +3,7 @@ ghost use Rattle.std.specs.Prelude.{◌≡◌, ◌≤◌, length, true, IfOk, If
 ghost use Rattle.schedule_text.specs.Left.{left_of};
 ghost use Rattle.schedule_text.specs.Frames as spec;
 
+use crate::digits::{MOST_BYTES, decode};
 use crate::reading::{clean, end, fault_at, says_nothing};
 use crate::words::Words;
 use crate::{FrameLine, LineFault, LineWhy};
@@ -30,9 +31,12 @@ fn frame(seal: bool, words: &mut Words<'_>) -> Result<Option<FrameLine>, LineFau
     ensures seals { IfOk result (λ said. IfSome said (λ frame. frame.seal ≡ true → 8 ≤ length frame.bytes)) }
 {
     let word = words.next_word();
-    let bytes = word.digits()?;
+    word.are_digits()?;
     end(words)?;
-    sized(seal, word.column, bytes.bytes())
+    let mut bytes = [0; MOST_BYTES];
+    let room = &mut bytes[..word.text.len() / 2];
+    decode(word.text, room);
+    sized(seal, word.column, room)
 }
 
 fn read_digits(words: &mut Words<'_>) -> Result<Option<FrameLine>, LineFault>

@@ -1,15 +1,16 @@
 //! Lines of schedules, read.
-ghost use Rattle.std.specs.Prelude.{◌≡◌, ◌<◌, ◌≤◌, length, OnOk, OnErr, IfSome, MatchResult, Ok, Err};
+ghost use Rattle.std.specs.Prelude.{◌≡◌, ◌<◌, ◌≤◌, length, OnOk, OnErr, IfOk, IfSome, MatchResult, None, Ok, Err};
 ghost use Rattle.schedule_text.specs.Left.{word_of, left_of};
 ghost use Rattle.schedule_text.specs.Words.{later};
+ghost use Rattle.schedule_text.specs.Digits.{flaw_of, bytes_of};
 ghost use Rattle.schedule_text.specs.Reading as spec;
 ghost use Rattle.feature_lists.specs.Wishes.{is_ours, wish_of};
 
-use crate::digits::{bytes_of, flaw_of, payload_of};
+use crate::digits::{bytes_of, flaw_of};
 use crate::names::{Form, form_named, place_named, side_named, timer_of};
 use crate::numbers::{feature_of, frame_index, sequence_number_of, values_of};
 use crate::words::{Word, Words};
-use crate::{Event, Line, LineFault, LineWhy, Payload, Timer, Values};
+use crate::{Event, Line, LineFault, LineWhy, Timer, Values};
 use feature_lists::{Feature, Place, PreferFault, usual, wish};
 use seq_circle::Seq48;
 use two_ends::Side;
@@ -130,30 +131,38 @@ impl Word<'_> {
         }
     }
 
-    // Digits of bytes.
-    pub(crate) fn digits(&self) -> Result<Payload, LineFault>
+    // The word is digits of bytes.
+    pub(crate) fn are_digits(&self) -> Result<(), LineFault>
         requires short { length self.now.text.now ≤ 4096 }
         requires begins { self.now.column ≤ 4098 }
-        ensures { result ≡ spec.digits_word (word_of self.now) }
+        ensures value { MatchResult result
+            (λ done. spec.digits_word (word_of self.now) ≡ Ok (bytes_of self.now.text.now))
+            (λ fault. spec.digits_word (word_of self.now) ≡ Err fault) }
+        ensures flawless { OnOk result (flaw_of self.now.text.now ≡ None) }
     {
         self.present()?;
         match flaw_of(self.text) {
             Some(place) => Err(fault_at(self.column + place as u32, LineWhy::BadHex)),
-            None => Ok(bytes_of(self.text)),
+            None => Ok(()),
         }
     }
 
-    // The same, or a dash for no bytes.
-    fn hex(&self) -> Result<Payload, LineFault>
+    // The word's digits of bytes, or none where a dash stands for no bytes.
+    #[tactic(auto, using(crate::proofs::HexSpelling::none_of_none))]
+    fn hex(&self) -> Result<&[u8], LineFault>
         requires short { length self.now.text.now ≤ 4096 }
         requires begins { self.now.column ≤ 4098 }
-        ensures { result ≡ spec.hex_word (word_of self.now) }
+        ensures value { MatchResult result
+            (λ digits. spec.hex_word (word_of self.now) ≡ Ok (bytes_of digits.now))
+            (λ fault. spec.hex_word (word_of self.now) ≡ Err fault) }
+        ensures flawless { IfOk result (λ digits. flaw_of digits.now ≡ None) }
+        ensures fits { IfOk result (λ digits. length digits.now ≤ 4096) }
     {
         if self.text == b"-".as_slice() {
-            Ok(payload_of(&[]))
-        } else {
-            self.digits()
+            return Ok(&[]);
         }
+        self.are_digits()?;
+        Ok(self.text)
     }
 
     fn mandatory(&self) -> Result<bool, LineFault>
@@ -336,6 +345,36 @@ fn deliver(words: &mut Words<'_>, said: &mut Line) -> Result<(), LineFault>
     Ok(())
 }
 
+// The same for data, by their digits.
+fn be_sending(event: &mut Event, whose: Side, digits: &[u8])
+    requires short { length digits.now ≤ 4096 }
+    requires flawless { flaw_of digits.now ≡ None }
+    ensures { event.new ≡ Event.Send whose (bytes_of digits.now) }
+{
+    if let Event::Send { side, payload } = event {
+        *side = whose;
+        *payload = bytes_of(digits);
+    } else {
+        *event = Event::Send {
+            side: whose,
+            payload: bytes_of(digits),
+        };
+    }
+}
+
+fn say_sending(said: &mut Line, side: Side, digits: &[u8])
+    requires short { length digits.now ≤ 4096 }
+    requires flawless { flaw_of digits.now ≡ None }
+    ensures { said.new ≡ Line.Event (Event.Send side (bytes_of digits.now)) }
+{
+    if let Line::Event(event) = said {
+        be_sending(event, side, digits);
+    } else {
+        let payload = bytes_of(digits);
+        *said = Line::Event(Event::Send { side, payload });
+    }
+}
+
 fn send(words: &mut Words<'_>, said: &mut Line) -> Result<(), LineFault>
     ensures value { MatchResult result
         (λ done. spec.send_line (left_of words.old) ≡ Ok said.new)
@@ -343,9 +382,10 @@ fn send(words: &mut Words<'_>, said: &mut Line) -> Result<(), LineFault>
     ensures kept { OnErr result (said.new ≡ said.old) }
 {
     let side = words.next_word().side()?;
-    let payload = words.next_word().hex()?;
+    let word = words.next_word();
+    let digits = word.hex()?;
     end(words)?;
-    *said = Line::Event(Event::Send { side, payload });
+    say_sending(said, side, digits);
     Ok(())
 }
 
