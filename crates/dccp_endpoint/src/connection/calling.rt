@@ -1,6 +1,6 @@
 //! The calls and timers of an end (RFC 4340, sections 8.1 to 8.3). Each call empties the Outbox first.
-use super::Connection;
 use super::receiving::{is_connected, is_open};
+use super::{Connection, fit};
 use crate::speaking::asking;
 use crate::{AbortFault, CloseFault, OpenFault, SendFault, Timer};
 use dccp_packets::{Kind, Number, Outbox, ResetCode};
@@ -14,12 +14,14 @@ const MOST_DATA: usize = 1024;
 impl Connection {
     ghost use Rattle.std.specs.Prelude.{◌≡◌, ◌≢◌, ◌↔◌, ◌⊎◌, ◌≤◌, ◌<◌, Bool, [], None, Ok, Err, OnErr, true, false, length};
     ghost use Rattle.dccp_states.specs.declared.phase.Role.TheVariants as role;
-    ghost use Rattle.dccp_endpoint.specs.Calling.{aborts, aborts_now, applies, asks_all, asks_now, closes, closes_now, fires, has_keys, lacks_vectors, opens, opens_as, prefers, prefers_wish, requests, send_fault};
+    ghost use Rattle.dccp_endpoint.specs.Calling.{aborts, aborts_now, applies, asks_all, asks_now, closes, closes_now, fires, has_keys, lacks_vectors, opens, opens_as, preferring, prefers, prefers_wish, requests, send_fault};
     ghost use Rattle.dccp_endpoint.specs.End.{is_connected};
     ghost use Rattle.dccp_endpoint.specs.Speaking.{AreDue};
     ghost use Rattle.feature_lists.specs.Wishes.{is_wish, wish_of};
     ghost use Rattle.feature_lists.specs.declared.wishes.PreferFault.TheVariants as prefer;
-    ghost use Rattle.feature_machine.specs.Negotiating.{due_keys};
+    ghost use Rattle.feature_machine.specs.Answers.{opening_of};
+    ghost use Rattle.feature_machine.specs.Negotiating.{IsNegotiation, due_keys, row_at};
+    ghost use Rattle.feature_machine.specs.Rows.{Prefers, row_step};
     ghost use Rattle.dccp_endpoint.specs.Drafts.{alone};
     ghost use Rattle.dccp_packets.specs.declared.header.Kind.TheVariants as kind;
     ghost use Rattle.dccp_packets.specs.declared.header.Number.TheVariants.{Long};
@@ -156,12 +158,21 @@ impl Connection {
         requires wish { is_wish feature place wish ≡ true }
         ensures { record { after = self.new; frame = out.new; calls = []; answer = Ok (tt {0}) } ≡ prefers_wish self.old (feature, place) (Ok wish) }
     {
-        let mut rows = *self.rows();
-        let opening = rows.prefer(feature, place, wish);
-        self.store(&rows);
-        if opening == Opening::Now {
+        if self.want(feature, place, wish) == Opening::Now {
             self.ask_now(&[(feature, place)], out);
         }
+    }
+
+    // The row has this wish from now on, and the windows stay as wide as the rows say.
+    fn want(&mut self, feature: Feature, place: Place, wish: Wanted) -> Opening
+        requires { is_wish feature place wish ≡ true }
+        ensures wish { self.new ≡ preferring self.old (feature, place) wish }
+        ensures opening { result ≡ opening_of (row_step (row_at self.old.rows feature place) (Prefers wish)).answer }
+        ensures sound { IsNegotiation self.old.rows }
+    {
+        let opening = self.rows.prefer(feature, place, wish);
+        fit(&mut self.marks, &self.rows);
+        opening
     }
 
     // An Ack with the Changes of these rows, which ask.
