@@ -1,7 +1,8 @@
 //! A schedule while it is played.
 ghost use Rattle.std.specs.Prelude.{◌≡◌, ◌++◌, ◌+◌, ◌^◌, ◌<◌, length, ℕ, List, is_some, if◌then◌else◌, IfOk, OnOk, Some, Ok, Err};
 ghost use Rattle.dccp_command.specs.RunLines.{end_lines};
-ghost use Rattle.dccp_command.specs.Transcript.{first_play, world_of, ArePeers, IsReady, IsBehind, ShowsEvent, event_shown, Judges, judged, by_line, behind, configures, says_plain, with_iss, with_set, with_offered, config_without_offers, wishing, offering, in_place, says_event, whole_line, no_such_frame};
+ghost use Rattle.dccp_command.specs.Transcript.{first_play, world_of, ArePeers, IsReady, IsBehind, ShowsEvent, event_shown, Judges, judged, by_line, behind};
+ghost use Rattle.dccp_command.specs.Transcript.{configures, says_plain, with_iss, with_set, with_offered, config_without_offers, wishing, offering, in_place, says_event, whole_line, no_such_frame};
 ghost use Rattle.dccp_io.specs.Lines.{ends_within};
 ghost use Rattle.dccp_endpoint.specs.Drafts.{Fits};
 ghost use Rattle.feature_lists.specs.Wishes.{wish_of};

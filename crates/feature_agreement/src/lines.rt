@@ -31,10 +31,10 @@ pub fn taking_a_change_is_a_move()
 /// A whole Confirm of the feature is taken from a newest packet, which acknowledges one of this end's frames: one move,
 /// whatever the row makes of it.
 pub fn taking_a_confirm_is_a_move()
-    ensures { (iss greatest count : ℕ) (row : Row) (there frames : List Carried) (body : List ℕ) (ack : ℕ)
-        → greatest < count → IsSoundRow row → IsBegun iss row → IsNumber iss ack
+    ensures { (iss last count : ℕ) (row : Row) (there frames : List Carried) (body : List ℕ) (ack : ℕ)
+        → last < count → IsSoundRow row → IsBegun iss row → IsNumber iss ack
         → carried_at there count ≡ confirm_in row.feature (count_of iss ack) body → IsTrue (is_whole_confirm row.feature body)
-        → RowMoves row there (side_of iss row greatest frames) (after_confirm iss row count frames body ack) }
+        → RowMoves row there (side_of iss row last frames) (after_confirm iss row count frames body ack) }
 {}
 
 /// What the end prefers is one move: in STABLE together with the frame that opens the row, else alone.

@@ -84,7 +84,8 @@ impl Connection {
     ghost use Rattle.dccp_endpoint.specs.Heeding.{due_of, heeding_or, unheeded};
     ghost use Rattle.dccp_endpoint.specs.Speaking.{HaveRoom};
     ghost use Rattle.dccp_endpoint.specs.Incoming.{is_newest};
-    ghost use Rattle.dccp_endpoint.specs.Receiving.{receives, takes, checks_header, is_of_connection, course, Goes, the_steps, through, finds_connection, is_own_service, accepts_request, started, acknowledges_in_window, answers, takes_answer, raises, checks_numbers, ends_by_reset, is_unexpected, is_other_service, checks_type, heeded, reads_options, moved_to, processes};
+    ghost use Rattle.dccp_endpoint.specs.Receiving.{receives, takes, checks_header, is_of_connection, course, Goes, the_steps, through, finds_connection, is_own_service, accepts_request, started};
+    ghost use Rattle.dccp_endpoint.specs.Receiving.{acknowledges_in_window, answers, takes_answer, raises, checks_numbers, ends_by_reset, is_unexpected, is_other_service, checks_type, heeded, reads_options, moved_to, processes};
     ghost use Rattle.dccp_endpoint.specs.Reporting.{counts_data, delivered_if, delivers, looked_up, looks_up, marks};
     ghost use Rattle.run_list.specs.MarkedSet.{answer_to};
     ghost use Rattle.dccp_endpoint.specs.Inputs.{Arrives};
