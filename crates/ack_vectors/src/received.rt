@@ -58,10 +58,10 @@ impl Model for Received {
 }
 
 // The record is of a whole vector under the number.
-fn is_whole_at(record: &Record, n: Seq48) -> bool
-    ensures { result ≡ is_whole_at n record.now }
+fn is_whole_at(sent: &Record, n: Seq48) -> bool
+    ensures { result ≡ is_whole_at n sent.now }
 {
-    record.number == n && record.whole
+    sent.number == n && sent.whole
 }
 
 // The newest record of a whole vector under the number. What the peer acknowledges is mostly one of the last.
