@@ -60,11 +60,12 @@ impl Play {
     /// Plays one line, which has its newline, or answers why it is refused. The faults that need more than the line are
     /// judged here, each at its place among those of the line itself: the limit of bytes before them, and behind them
     /// that it has to stand before all events (but before what an end may wish), the limit of events, and a frame that
-    /// was not sent.
+    /// was not sent. `said` is room for what the line says, and it does not matter what stands there before.
     pub(crate) fn judge(
         &mut self,
         alloc: Global,
         line: &[u8],
+        said: &mut Line,
         text: &mut Vec<u8>,
     ) -> Result<Result<(), LineFault>, NoMemory>
         requires { IsReady self.old line.now }
@@ -74,10 +75,9 @@ impl Play {
         if !ends_within(self.read, line) {
             return Ok(Err(whole_line(LineWhy::TooMuchInput)));
         }
-        let mut said = Line::Nothing;
-        match read_line_into(without_newline(line), &mut said) {
+        match read_line_into(without_newline(line), said) {
             Err(fault) => Ok(Err(self.in_place(fault))),
-            Ok(()) => self.say(alloc, line, &said, text),
+            Ok(()) => self.say(alloc, line, said, text),
         }
     }
 

@@ -13,6 +13,7 @@ use crate::play::Play;
 use crate::top::Status;
 use ccid_two::Kinds;
 use dccp_io::{Lines, Sink, Source};
+use schedule_text::Line;
 use seq_circle::NoMemory;
 use std::alloc::Global;
 use two_ends::every_run_is_safe;
@@ -22,6 +23,7 @@ fn play_next<S: Source + Drop>(
     alloc: Global,
     lines: &mut Lines<S>,
     play: &mut Play,
+    said: &mut Line,
     text: &mut Vec<u8>,
 ) -> Result<Turn, NoMemory>
     requires peers { ArePeers play.old.client play.old.server }
@@ -33,7 +35,7 @@ fn play_next<S: Source + Drop>(
     match lines.find() {
         Err(stop) => Ok(Turn::stopped(stop)),
         Ok(false) => Ok(Turn::Ended),
-        Ok(true) => Ok(Turn::judged(play.judge(alloc, lines.line(), text)?)),
+        Ok(true) => Ok(Turn::judged(play.judge(alloc, lines.line(), said, text)?)),
     }
 }
 
@@ -71,10 +73,12 @@ pub(crate) fn play_lines<S: Source + Drop, K: Sink>(
     // The law, which `safe` follows from.
     every_run_is_safe::<Kinds>();
     let mut play = Play::new();
+    // Room for one line, which is cleared once.
+    let mut said = Line::Nothing;
     let mut text = Vec::new(alloc);
     loop {
         let number = play.number;
-        match play_next(alloc, lines, &mut play, &mut text) {
+        match play_next(alloc, lines, &mut play, &mut said, &mut text) {
             Ok(Turn::Accepted) => {
                 if flush_if_full(output, &mut text).is_err() {
                     return Status::Write;
