@@ -1,7 +1,7 @@
 //! The lines that `run` and `replay` write.
-ghost use Rattle.std.specs.Prelude.{◌≡◌, ◌++◌, OnOk, Some};
+ghost use Rattle.std.specs.Prelude.{◌≡◌, ◌++◌, codes, OnOk, Some};
 ghost use Rattle.schedule_text.specs.Names.{side_name};
-ghost use Rattle.schedule_text.specs.Printing.{side_letter, frame_name};
+ghost use Rattle.schedule_text.specs.Printing.{side_letter};
 ghost use Rattle.dccp_command.specs.Text.{phase_name, stand_mark};
 ghost use Rattle.dccp_command.specs.RunLines.{arrived, bytes_line, sent_frame_line, sent_line, held_text, row_text, end_name, end_counts, end_rows, end_line, end_lines};
 
@@ -33,12 +33,13 @@ fn side_name(side: Side) -> &'static [u8]
     }
 }
 
-fn side_letter(side: Side) -> &'static [u8]
-    ensures { result.now ≡ side_letter side }
+// How the line of a frame that this side sent begins, up to the frame's index.
+fn sent_by(side: Side) -> &'static [u8]
+    ensures { result.now ≡ codes "sent " ++ side_letter side }
 {
     match side {
-        Side::Client => b"c",
-        Side::Server => b"s",
+        Side::Client => b"sent c",
+        Side::Server => b"sent s",
     }
 }
 
@@ -68,13 +69,6 @@ fn stand_mark(stand: Stand) -> &'static [u8]
     }
 }
 
-fn put_frame_name(text: &mut Vec<u8>, side: Side, index: u64) -> Result<(), NoMemory>
-    ensures { OnOk result (text.new.items ≡ text.old.items ++ frame_name side index) }
-{
-    put(text, side_letter(side))?;
-    put_number(text, index)
-}
-
 /// The bytes of the frame that an event brought to an end; none for a call.
 pub(crate) fn arrived<'a>(world: &'a World<Kinds>, event: &Event) -> &'a [u8]
     ensures { result.now ≡ arrived world.now.world event.now }
@@ -97,8 +91,8 @@ pub(crate) fn put_frame_line(
 ) -> Result<(), NoMemory>
     ensures { OnOk result (text.new.items ≡ text.old.items ++ bytes_line side index bytes.now) }
 {
-    put(text, b"sent ")?;
-    put_frame_name(text, side, index)?;
+    put(text, sent_by(side))?;
+    put_number(text, index)?;
     put(text, b" ")?;
     put_hex(text, bytes)?;
     put(text, b"\n")
