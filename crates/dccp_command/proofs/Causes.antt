@@ -1,5 +1,5 @@
 -- Why a call of the tool ends, where counts did not fall before.
-use Rattle.std.proofs.Common.{arith, ◌≡◌, ◌≢◌, ◌⊎◌, refl, inl, inr, ℕ, ◌≤◌, ◌<◌}
+use Rattle.std.proofs.Common.{arith, ◌≡◌, ◌≢◌, ◌⊎◌, refl, inl, inr, ℕ, ◌≤◌}
 use Rattle.dccp_io.specs.Counts.{Rose}
 use Rattle.dccp_command.specs.Top.{IsAnswered, SinkFailed, EndsForCause}
 use Rattle.dccp_command.specs.declared.top.Status.{Status}

@@ -1,5 +1,5 @@
 -- A configuration with another wish.
-use Rattle.std.proofs.Common.{◌≡◌, ◌↔◌, refl, sym, ap, ◌∙◌, List, Result, Ok, Err, IfOk, OnErr}
+use Rattle.std.proofs.Common.{◌≡◌, ◌↔◌, refl, Result, Ok, Err, IfOk, OnErr}
 use Rattle.std.specs.Prelude.{IsOk}
 use Rattle.dccp_endpoint.specs.Drafts.{Fits}
 use Rattle.dccp_endpoint.specs.declared.config.Config.{Config}

@@ -1,9 +1,9 @@
 -- What a reader of lines says of what is left, in the terms of its first line.
-use Rattle.std.proofs.Common.{arith, ◌≡◌, refl, sym, ap, ◌∙◌, subst, ℕ, suc, ◌+◌, ◌-◌, ◌≤◌, ◌<◌, min, Bool, true, false, ◌&&◌, nat_lt, nat_le, if◌then◌else◌, ◌==◌, List, [], ◌∷◌, length, take, drop, Option, Result, Ok, Err}
+use Rattle.std.proofs.Common.{arith, ◌≡◌, refl, sym, ap, ◌∙◌, subst, ℕ, suc, ◌-◌, ◌≤◌, ◌<◌, min, Bool, true, false, ◌&&◌, nat_lt, nat_le, if◌then◌else◌, ◌==◌, List, [], ◌∷◌, length, take, Err}
 use Rattle.std.proofs.lemmas.Bool.Decides.{nat_tests}
 use Rattle.std.proofs.lemmas.List.{length-take, take_all}
 use Rattle.std.specs.Prelude.{slice_index, is_some}
-use Rattle.dccp_io.specs.Lines.{newline, text_length, first_line, ends_within, next_in_bytes, Next, End, Line, Long, Much}
+use Rattle.dccp_io.specs.Lines.{newline, text_length, first_line, ends_within, next_in_bytes, Line, Long, Much}
 use Rattle.dccp_io.proofs.NextLine.{text_length-fits}
 use Rattle.schedule_text.specs.Frames.{read_frame, read_clean_frame}
 use Rattle.schedule_text.specs.Reading.{◌>>◌, fault_at, first_other, text_or_other, read_clean, read_line}

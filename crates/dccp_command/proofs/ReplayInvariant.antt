@@ -1,5 +1,5 @@
 -- A replay while it is played: what was put into the text, and what is left, make the whole.
-use Rattle.std.proofs.Common.{◌≡◌, refl, sym, ap, ◌∙◌, ℕ, ◌+◌, ◌≤◌, ◌<◌, List, [], ◌∷◌, ◌++◌, length, Bool, true, false, append_assoc, zero-add, length-append, Option, Some, None, Ok, Err, arith}
+use Rattle.std.proofs.Common.{◌≡◌, refl, sym, ap, ◌∙◌, ℕ, ◌+◌, ◌≤◌, ◌<◌, List, [], ◌∷◌, ◌++◌, length, Bool, true, false, append_assoc, zero-add, length-append, Option, Some, None, Ok, arith}
 use Rattle.two_ends.specs.declared.event.Side.{Side}
 use Rattle.two_ends.specs.declared.event.Side.TheVariants.{Client, Server}
 use Rattle.schedule_text.specs.declared.line.LineFault.{LineFault}
@@ -7,7 +7,7 @@ use Rattle.dccp_endpoint.specs.Calling.{opens}
 use Rattle.dccp_command.specs.declared.replay.Replay.{Replay}
 use Rattle.dccp_io.specs.Lines.{lines_of}
 use Rattle.dccp_command.specs.RunLines.{end_line, refusal_line}
-use Rattle.dccp_command.specs.Replay.{Verdict, Accepted, Refused, judged, Judges, IsBehind, Replayed, onto, ends_at, continues_with, replayed_from, first_replay, count, begun_from, begun_replay, begun_with, replay_of_input, replay_text, is_refused, accepted_bytes}
+use Rattle.dccp_command.specs.Replay.{Verdict, Accepted, Refused, judged, Judges, IsBehind, Replayed, onto, ends_at, continues_with, replayed_from, first_replay, count, begun_from, begun_replay, replay_of_input, replay_text, is_refused, accepted_bytes}
 
 -- Before a line: the text so far goes before that of the lines that are left, and the counters are at most the bytes read.
 pub record ReplayInvariant (side : Side) (plain : Bool) (replay : Replay) (rest text input : List ℕ) : Type 0 where

@@ -1,21 +1,16 @@
 -- A loop over the lines of an input: what was written, what stands in the text and what is left make the whole.
-use Rattle.std.proofs.Common.{arith, ◌≡◌, ◌⊎◌, refl, sym, ap, ◌∙◌, subst, inl, inr, ℕ, suc, ◌+◌, ◌≤◌, ◌<◌, Bool, true, false, List, [], ◌∷◌, ◌++◌, length, take, drop, Option, Some, None, Result, Ok, Err, IfSome, append_assoc}
+use Rattle.std.proofs.Common.{arith, ◌≡◌, refl, sym, ap, ◌∙◌, subst, inr, ℕ, suc, ◌+◌, ◌<◌, Bool, true, false, List, [], ◌∷◌, ◌++◌, length, drop, Option, Some, None, IfSome, append_assoc}
 use Rattle.std.proofs.lemmas.List.{drop-drop, drop_min, take-append-drop}
-use Rattle.std.proofs.lemmas.Option.{IfSome_then}
-use Rattle.std.specs.Prelude.{option_map}
 use Rattle.std.specs.Io.KnownBytes.{append_known, prepend_known}
-use Rattle.dccp_io.specs.Counts.{Rose}
 use Rattle.dccp_io.specs.Fronts.{GivesAtMost}
-use Rattle.dccp_io.specs.Lines.{LinesState, Finds, Stops, CausesStop, rest_of_input, next_in_bytes, Line, Long, Much, text_length, first_line, ends_within, lines_of}
-use Rattle.dccp_io.specs.declared.lines.Stop.{Stop}
-use Rattle.dccp_io.specs.declared.lines.Stop.TheVariants as stop
+use Rattle.dccp_io.specs.Lines.{LinesState, rest_of_input, next_in_bytes, Line, text_length, first_line, lines_of}
 use Rattle.dccp_io.proofs.LineList.{lines-cut}
 use Rattle.dccp_io.proofs.NextLine.{first_line_length}
-use Rattle.dccp_command.specs.Loops.{RefusesLine, Leaves, GoesThrough}
-use Rattle.dccp_command.specs.Top.{HasTaken, HasBegun, IsAnswered, IsCutOff, Answers, IsMovedOut}
+use Rattle.dccp_command.specs.Loops.{Leaves, GoesThrough}
+use Rattle.dccp_command.specs.Top.{HasBegun, IsCutOff, Answers, IsMovedOut}
 use Rattle.dccp_command.specs.declared.top.Status.{Status}
 use Rattle.dccp_command.specs.declared.top.Status.TheVariants as status
-use Rattle.dccp_command.proofs.FirstLine.{is-line, is-long, is-much}
+use Rattle.dccp_command.proofs.FirstLine.{is-line}
 use Rattle.dccp_command.proofs.Ending.{append-none, append-twice, begun-longer, begun-behind, none-left, not-both, answers-early, unwritten}
 
 -- Before a turn behind `read` bytes, where `left` is what is left of the input and `text` was not written yet.

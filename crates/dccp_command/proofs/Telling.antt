@@ -10,7 +10,7 @@ use Rattle.dccp_states.specs.declared.reply.Reply.{Reply}
 use Rattle.dccp_states.specs.declared.reply.Reply.TheVariants as reply
 use Rattle.run_list.specs.MarkedSet.{answer_to}
 use Rattle.run_list.specs.declared.answers.Marked.{Marked}
-use Rattle.dccp_endpoint.specs.Calling.{aborts, closes, fires, opens, prefers, sends_payload}
+use Rattle.dccp_endpoint.specs.Calling.{aborts, closes, opens, prefers, sends_payload}
 use Rattle.dccp_endpoint.specs.Controlled.{End, EndStep, with_control}
 use Rattle.dccp_endpoint.specs.End.{EndState, with_rows}
 use Rattle.dccp_endpoint.specs.Heeding.{Due, Heeding}

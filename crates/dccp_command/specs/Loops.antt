@@ -1,5 +1,5 @@
 -- What the steps of `run` and `replay` do over the lines of their input (own).
-use Rattle.std.specs.Prelude.{◌≡◌, ◌≢◌, ℕ, ◌≤◌, ◌<◌, ◌++◌, Bool, true, false, List, length, drop, Option, Some, IfSome, Result, Ok, Err}
+use Rattle.std.specs.Prelude.{◌≡◌, ℕ, ◌≤◌, ◌<◌, Bool, true, false, List, length, drop, Option, Some, IfSome, Result, Ok, Err}
 use Rattle.dccp_io.specs.Fronts.{GivesAtMost}
 use Rattle.dccp_io.specs.Lines.{LinesState, Finds, rest_of_input, first_line}
 use Rattle.dccp_io.specs.declared.lines.Stop.{Stop}

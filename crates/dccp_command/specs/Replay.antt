@@ -3,7 +3,7 @@
 use Rattle.std.specs.Prelude.{◌≡◌, ℕ, ◌+◌, ◌^◌, ◌<◌, ◌≤◌, ◌++◌, Bool, true, false, if◌then◌else◌, List, [], ◌∷◌, length, codes, Option, Some, None, Result, Ok, Err}
 use Rattle.ccid_two.specs.Kinds.{Both, at_first, kinds_control}
 use Rattle.dccp_endpoint.specs.Calling.{opens}
-use Rattle.dccp_endpoint.specs.Controlled.{End, EndStep, begins, with_control}
+use Rattle.dccp_endpoint.specs.Controlled.{EndStep, begins, with_control}
 use Rattle.dccp_endpoint.specs.Receiving.{receives}
 use Rattle.dccp_endpoint.specs.Steps.{Step}
 use Rattle.dccp_endpoint.specs.Usual.{usual}

@@ -1,5 +1,5 @@
 -- The turn in which the reader stopped, and the one in which a line was judged.
-use Rattle.std.proofs.Common.{rules, ◌≡◌, sym, subst, ℕ, List, Bool, true, Result, Ok, Err}
+use Rattle.std.proofs.Common.{rules, ◌≡◌, sym, subst, ℕ, List, Bool, true, Ok}
 use Rattle.dccp_io.specs.Lines.{Finds}
 use Rattle.dccp_command.specs.declared.lines.Turn.{Turn}
 use Rattle.dccp_command.specs.Loops.{Replays}

@@ -1,5 +1,5 @@
 -- The ends were safe after each event of the input that was lent to the reader of lines.
-use Rattle.std.proofs.Common.{◌≡◌, ℕ, List, Option, Some, IfSome, subst}
+use Rattle.std.proofs.Common.{ℕ, List, Option, IfSome, subst}
 use Rattle.dccp_command.specs.Top.{IsAnswered}
 use Rattle.dccp_command.specs.Transcript.{SafeThroughout}
 use Rattle.dccp_command.proofs.Streaming.{rest-at-first}
