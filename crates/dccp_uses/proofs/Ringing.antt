@@ -5,7 +5,7 @@ use Rattle.dccp_endpoint.specs.Calling.{fires}
 use Rattle.dccp_endpoint.specs.Controlled.{End, EndStep, has_in_flight, with_control}
 use Rattle.dccp_endpoint.specs.declared.calls.Timer.{Timer}
 use Rattle.dccp_endpoint.specs.declared.calls.Timer.TheVariants as timers
-use Rattle.dccp_uses.specs.Alarms.{alarm_after, alarm_of, arranged, first_wait, has_run_out, next_wait, rung, runs_in, set_back}
+use Rattle.dccp_uses.specs.Alarms.{alarm_after, alarm_of, arranged, first_wait, has_run_out, next_wait, rung, runs_in, set_back, starting_wait}
 use Rattle.dccp_uses.specs.Handing.{Hands, HandsAll}
 use Rattle.dccp_uses.specs.Session.{Does, NothingIsDue, SessionState, condition_of, every_timer, rings, rings_each, tells_end}
 use Rattle.dccp_uses.specs.declared.alarms.Alarm.{Alarm}
@@ -27,7 +27,7 @@ arranged-runs : (alarms : Alarms) (timer : Timer) (c : Condition) (now : â„•) â†
 arranged-runs alarms timers.Request c now quiet = after-runs (runs_in timers.Request c) alarms.request (first_wait timers.Request) now (omega arith) quiet
 arranged-runs alarms timers.Ack c now quiet = after-runs (runs_in timers.Ack c) alarms.ack (first_wait timers.Ack) now (omega arith) quiet
 arranged-runs alarms timers.Negotiate c now quiet = after-runs (runs_in timers.Negotiate c) alarms.negotiate (first_wait timers.Negotiate) now (omega arith) quiet
-arranged-runs alarms timers.Rto c now quiet = after-runs (runs_in timers.Rto c) alarms.rto (first_wait timers.Rto) now (omega arith) quiet
+arranged-runs alarms timers.Rto c now quiet = after-runs (runs_in timers.Rto c) alarms.rto (starting_wait alarms timers.Rto) now (omega arith) quiet
 arranged-runs alarms timers.Close c now quiet = after-runs (runs_in timers.Close c) alarms.close (first_wait timers.Close) now (omega arith) quiet
 arranged-runs alarms timers.TimeWait c now quiet = after-runs (runs_in timers.TimeWait c) alarms.time_wait (first_wait timers.TimeWait) now (omega arith) quiet
 

@@ -1,5 +1,5 @@
--- When the timers of an end run out (RFC 4340, sections 3.4, 6.6.3, 8.1.1, 8.1.5 and 8.3; RFC 4341, section 5). Times are in
--- milliseconds. Where the standard leaves a wait open it is own.
+-- When the timers of an end run out (RFC 4340, sections 3.4, 6.6.3, 8.1.1, 8.1.5 and 8.3; RFC 4341, section 5, which
+-- leads to RFC 2988). Times are in milliseconds. Where the standard leaves a wait open it is own.
 use Rattle.std.specs.Prelude.{ℕ, ◌≤◌, ◌-◌, ◌*◌, ◌==◌, ◌&&◌, if◌then◌else◌, max, min, Bool, true, false, Option, Some, None}
 use Rattle.dccp_endpoint.specs.Calling.{applies_in}
 use Rattle.dccp_endpoint.specs.declared.calls.Timer.{Timer}
@@ -16,10 +16,6 @@ time_left alarm now = alarm.wait - (now - alarm.since)
 abbrev pub has_run_out : Option Alarm → ℕ → Bool
 has_run_out None now = false
 has_run_out (Some alarm) now = time_left alarm now == 0
-
--- none of the six timers runs
-abbrev pub no_alarms : Alarms
-no_alarms = record { request = None; ack = None; negotiate = None; rto = None; close = None; time_wait = None }
 
 -- the alarm of a timer, if it runs
 abbrev pub alarm_of : Alarms → Timer → Option Alarm
@@ -50,9 +46,20 @@ first_wait timers.Rto = 1000
 first_wait timers.Close = 400
 first_wait timers.TimeWait = 240000
 
--- each wait is twice the one before, up to 64 seconds (sections 6.6.3, 8.1.1 and 8.3)
+-- none of the six timers runs, and the timer rto has not run out since something was acknowledged
+abbrev pub no_alarms : Alarms
+no_alarms =
+    record { request = None; ack = None; negotiate = None; rto = None; close = None; time_wait = None; rto_wait = first_wait timers.Rto }
+
+-- each wait is twice the one before, up to 64 seconds (sections 6.6.3, 8.1.1 and 8.3; RFC 2988, sections 2.5 and 5.5)
 abbrev pub next_wait : ℕ → ℕ
 next_wait wait = max 1 (2 * min wait 32000)
+
+-- The wait with which a timer begins: its first, but that of the timer rto stays as long as its timeouts have made it, and is never below
+-- its first (RFC 2988, sections 2.4 and 5.5).
+abbrev pub starting_wait : Alarms → Timer → ℕ
+starting_wait alarms timers.Rto = max (first_wait timers.Rto) alarms.rto_wait
+starting_wait alarms timer = first_wait timer
 
 -- A timer runs where the end would do something when it runs out; the timer negotiate runs also where no row asks.
 abbrev pub runs_in : Timer → Condition → Bool
@@ -65,9 +72,9 @@ alarm_after false old wait now = None
 alarm_after true (Some alarm) wait now = Some alarm
 alarm_after true None wait now = Some (record { since = now; wait = wait })
 
--- the alarm of a timer as this condition needs it: it goes on, begins with its first wait, or is none
+-- the alarm of a timer as this condition needs it: it goes on, begins, or is none
 abbrev pub arranged_alarm : Alarms → Timer → Condition → ℕ → Option Alarm
-arranged_alarm alarms timer c now = alarm_after (runs_in timer c) (alarm_of alarms timer) (first_wait timer) now
+arranged_alarm alarms timer c now = alarm_after (runs_in timer c) (alarm_of alarms timer) (starting_wait alarms timer) now
 
 -- the alarms of an end in this condition
 abbrev pub arranged : Alarms → Condition → ℕ → Alarms
@@ -79,6 +86,7 @@ arranged alarms c now =
       rto = arranged_alarm alarms timers.Rto c now;
       close = arranged_alarm alarms timers.Close c now;
       time_wait = arranged_alarm alarms timers.TimeWait c now;
+      rto_wait = alarms.rto_wait;
     }
 
 -- a timer that has run out waits longer the next time
@@ -86,8 +94,10 @@ abbrev pub set_back : Option Alarm → ℕ → Option Alarm
 set_back None now = None
 set_back (Some alarm) now = Some (record { since = now; wait = next_wait alarm.wait })
 
--- the alarms once a timer has run out
+-- The alarms once a timer has run out: it is set back, and the timer rto then also begins with twice its wait, even where nothing is in
+-- flight any more (RFC 4341, section 5; RFC 2988, section 5.5).
 abbrev pub rung : Alarms → Timer → ℕ → Alarms
+rung alarms timers.Rto now = record alarms { rto = set_back alarms.rto now; rto_wait = next_wait alarms.rto_wait }
 rung alarms timer now = with_alarm alarms timer (set_back (alarm_of alarms timer) now)
 
 -- an alarm that is set back already begins anew, and one in its first wait goes on
@@ -95,9 +105,10 @@ abbrev pub first_again : Option Alarm → ℕ → Option Alarm
 first_again None wait = None
 first_again (Some alarm) wait = if alarm.wait == wait then Some alarm else None
 
--- Where something came out of flight, the timer rto begins anew (RFC 4341, section 5).
+-- Where a packet that arrived took something out of flight, the timer rto begins anew, with its first wait (RFC 4341, section 5; RFC 2988,
+-- section 5.3).
 abbrev pub with_progress : Alarms → Bool → Alarms
-with_progress alarms true = record alarms { rto = None }
+with_progress alarms true = record alarms { rto = None; rto_wait = first_wait timers.Rto }
 with_progress alarms false = alarms
 
 -- Where data were delivered, an Ack goes out no later than after the first wait of its timer.

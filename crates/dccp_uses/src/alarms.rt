@@ -1,6 +1,6 @@
 //! When each timer of an end runs out. The times are those of whoever owns the end, in milliseconds from any beginning.
 ghost use Rattle.std.specs.Prelude.{◌≡◌};
-ghost use Rattle.dccp_uses.specs.Alarms.{alarm_after, alarm_of, arranged, arranged_alarm, first_again, first_wait, has_run_out, time_left, next_wait, no_alarms, rung, runs_in, set_back, sooner, with_delivery, with_progress};
+ghost use Rattle.dccp_uses.specs.Alarms.{alarm_after, alarm_of, arranged, arranged_alarm, first_again, first_wait, has_run_out, time_left, next_wait, no_alarms, rung, runs_in, set_back, sooner, starting_wait, with_delivery, with_progress};
 
 use dccp_endpoint::{Phase, Timer};
 
@@ -46,13 +46,16 @@ pub struct Alarms {
     pub close: Option<Alarm>,
     /// TIMEWAIT is over.
     pub time_wait: Option<Alarm>,
+    /// The wait with which the timer rto begins: twice as long after each time that it has run out, up to 64 seconds,
+    /// and its first again once a packet that arrives takes something out of flight.
+    pub rto_wait: u64,
 }
 
 impl Alarms {
     ghost use Rattle.std.specs.Prelude.{◌≡◌};
     ghost use Rattle.dccp_uses.specs.Alarms.{IsNoSooner, until_first};
 
-    /// None of them runs.
+    /// None of them runs, and rto will begin with its first wait.
     pub fn none() -> Alarms
         ensures { result ≡ no_alarms }
     {
@@ -63,6 +66,7 @@ impl Alarms {
             rto: None,
             close: None,
             time_wait: None,
+            rto_wait: first_wait(Timer::Rto),
         }
     }
 
@@ -136,6 +140,16 @@ fn next_wait(wait: u64) -> u64
     (2 * wait.min(32_000)).max(1)
 }
 
+// The wait with which a timer begins.
+fn starting_wait(alarms: &Alarms, timer: Timer) -> u64
+    ensures { result ≡ starting_wait alarms.now timer }
+{
+    match timer {
+        Timer::Rto => first_wait(timer).max(alarms.rto_wait),
+        _ => first_wait(timer),
+    }
+}
+
 // Whether a timer runs.
 fn runs_in(timer: Timer, condition: &Condition) -> bool
     ensures { result ≡ runs_in timer condition.now }
@@ -166,7 +180,7 @@ fn arranged_alarm(alarms: &Alarms, timer: Timer, condition: &Condition, now: u64
     alarm_after(
         runs_in(timer, condition),
         alarms.of(timer),
-        first_wait(timer),
+        starting_wait(alarms, timer),
         now,
     )
 }
@@ -182,6 +196,7 @@ pub(crate) fn arranged(alarms: &Alarms, condition: &Condition, now: u64) -> Alar
         rto: arranged_alarm(alarms, Timer::Rto, condition, now),
         close: arranged_alarm(alarms, Timer::Close, condition, now),
         time_wait: arranged_alarm(alarms, Timer::TimeWait, condition, now),
+        rto_wait: alarms.rto_wait,
     }
 }
 
@@ -198,7 +213,7 @@ fn set_back(alarm: Option<Alarm>, now: u64) -> Option<Alarm>
     }
 }
 
-/// The timers once this one has run out.
+/// The timers once this one has run out. The timer rto also begins with a longer wait from now on.
 pub(crate) fn rung(alarms: &Alarms, timer: Timer, now: u64) -> Alarms
     ensures { result ≡ rung alarms.now timer now }
 {
@@ -208,7 +223,10 @@ pub(crate) fn rung(alarms: &Alarms, timer: Timer, now: u64) -> Alarms
         Timer::Request => alarms.request = again,
         Timer::Ack => alarms.ack = again,
         Timer::Negotiate => alarms.negotiate = again,
-        Timer::Rto => alarms.rto = again,
+        Timer::Rto => {
+            alarms.rto = again;
+            alarms.rto_wait = next_wait(alarms.rto_wait);
+        }
         Timer::Close => alarms.close = again,
         Timer::TimeWait => alarms.time_wait = again,
     }
@@ -225,13 +243,15 @@ fn first_again(alarm: Option<Alarm>, wait: u64) -> Option<Alarm>
     }
 }
 
-/// The timers where something came out of flight, or not: the timer rto begins anew.
+/// The timers where a packet that arrived took something out of flight, or not: the timer rto begins anew, with its
+/// first wait.
 pub(crate) fn with_progress(alarms: &Alarms, progress: bool) -> Alarms
     ensures { result ≡ with_progress alarms.now progress }
 {
     let mut alarms = *alarms;
     if progress {
         alarms.rto = None;
+        alarms.rto_wait = first_wait(Timer::Rto);
     }
     alarms
 }

@@ -1,8 +1,8 @@
 //! A client and a server with a wire in each direction, as their two owners drive them.
 use super::wire::Wire;
-use crate::{News, Session, accept};
+use crate::{Alarm, News, Session, accept};
 use ccid_two::Kinds;
-use dccp_endpoint::{Config, Congestion, Feature, Held, Phase, Place, Role, SendFault};
+use dccp_endpoint::{Config, Congestion, Feature, Held, Phase, Place, Role, SendFault, Timer};
 use std::alloc::Global;
 use std::test::Fail;
 
@@ -32,12 +32,30 @@ impl Pair<Kinds> {
     }
 }
 
+// A server's session, where a stranger's datagram opens a connection.
+pub(crate) fn accepted(
+    alloc: Global,
+    config: Config,
+    datagram: &[u8],
+    now: u64,
+    wire: &mut Wire,
+) -> Result<Option<Session<Kinds>>, Fail> {
+    let congestion = Kinds::new(alloc)?;
+    Ok(accept(alloc, config, congestion, datagram, now, wire)?)
+}
+
+// A client that has sent nothing.
+fn client<C: Congestion + Drop>(alloc: Global, congestion: C) -> Result<Session<C>, Fail> {
+    if !congestion.knows(2) {
+        return Err(Fail::from("a congestion control that knows CCID 2"));
+    }
+    Ok(Session::new(alloc, Config::usual(Role::Client), congestion)?)
+}
+
 impl<C: Congestion + Drop> Pair<C> {
+    /// Both ends have opened, over wires like this one.
     pub(crate) fn with(alloc: Global, congestion: C, to_server: Wire) -> Result<Pair<C>, Fail> {
-        if !congestion.knows(2) {
-            return Err(Fail::from("a congestion control that knows CCID 2"));
-        }
-        let client = Session::new(alloc, Config::usual(Role::Client), congestion)?;
+        let client = client(alloc, congestion)?;
         let to_client = to_server.other();
         let mut pair = Pair {
             alloc,
@@ -50,18 +68,24 @@ impl<C: Congestion + Drop> Pair<C> {
             server_ended: None,
             got: Vec::new(alloc),
         };
-        pair.client.open(pair.now, &mut pair.to_server)?;
-        for _ in 0..2_000 {
-            if pair.phases() == (Phase::Open, Phase::Open) {
-                break;
-            }
-            pair.go_on(1)?;
-        }
+        pair.open()?;
         Ok(pair)
     }
 }
 
 impl<C: Congestion> Pair<C> {
+    // The client asks, and turns go by until both ends are open.
+    fn open(&mut self) -> Result<(), Fail> {
+        self.client.open(self.now, &mut self.to_server)?;
+        for _ in 0..2_000 {
+            if self.phases() == (Phase::Open, Phase::Open) {
+                break;
+            }
+            self.turn(TURN)?;
+        }
+        Ok(())
+    }
+
     pub(crate) fn phases(&self) -> (Phase, Phase) {
         let server = match &self.server {
             Some(server) => server.end().phase(),
@@ -73,46 +97,49 @@ impl<C: Congestion> Pair<C> {
     /// So many turns go by.
     pub(crate) fn go_on(&mut self, turns: usize) -> Result<(), Fail> {
         for _ in 0..turns {
-            self.turn()?;
+            self.turn(TURN)?;
         }
         Ok(())
     }
 
     /// So many milliseconds go by in one turn.
     pub(crate) fn pass(&mut self, time: u64) -> Result<(), Fail> {
-        self.now = self.now.saturating_add(time);
-        self.turn()
+        self.turn(time)
     }
 
-    // A frame arrives at each side, if there is one, and the timers get the time.
-    fn turn(&mut self) -> Result<(), Fail> {
-        self.now = self.now.saturating_add(TURN);
+    // So many milliseconds go by, a frame arrives at each side, if there is one, and the timers get the time.
+    fn turn(&mut self, time: u64) -> Result<(), Fail> {
+        self.now = self.now.saturating_add(time);
         if let Some(datagram) = self.to_server.take() {
             self.serve(&datagram)?;
         }
         if let Some(datagram) = self.to_client.take() {
             self.hear(&datagram);
         }
+        self.tick();
+        Ok(())
+    }
+
+    fn tick(&mut self) {
         self.client.tick(self.now, &mut self.to_server);
         if let Some(server) = &mut self.server {
             server.tick(self.now, &mut self.to_client);
         }
-        Ok(())
     }
 
     // The server's owner: a datagram belongs to the connection, or may open one.
     fn serve(&mut self, datagram: &[u8]) -> Result<(), Fail> {
+        if self.server.is_some() {
+            return self.serve_on(datagram);
+        }
+        let config = Config::usual(Role::Server);
+        self.server = accepted(self.alloc, config, datagram, self.now, &mut self.to_client)?;
+        Ok(())
+    }
+
+    // A datagram of the connection.
+    fn serve_on(&mut self, datagram: &[u8]) -> Result<(), Fail> {
         let Some(server) = &mut self.server else {
-            let congestion = Kinds::new(self.alloc)?;
-            let config = Config::usual(Role::Server);
-            self.server = accept(
-                self.alloc,
-                config,
-                congestion,
-                datagram,
-                self.now,
-                &mut self.to_client,
-            )?;
             return Ok(());
         };
         match server.arrived(datagram, self.now, &mut self.to_client) {
@@ -140,6 +167,21 @@ impl<C: Congestion> Pair<C> {
                 "data that may not be sent",
             )),
         }
+    }
+
+    /// All frames that are on their way to the server are lost.
+    pub(crate) fn lose(&mut self) {
+        self.to_server.lose();
+    }
+
+    /// How long it is until the client's first timer runs out.
+    pub(crate) fn until_first(&self) -> Option<u64> {
+        self.client.until_first(self.now)
+    }
+
+    /// The alarm of a timer of the client.
+    pub(crate) fn alarm(&self, timer: Timer) -> Option<Alarm> {
+        self.client.alarms().of(timer)
     }
 
     pub(crate) fn room(&self) -> u32 {

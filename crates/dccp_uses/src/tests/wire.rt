@@ -60,6 +60,11 @@ impl Wire {
         Some(self.frames.remove(place))
     }
 
+    /// All frames on it are lost.
+    pub(crate) fn lose(&mut self) {
+        self.frames.clear();
+    }
+
     fn keep(&mut self, frame: &[u8]) {
         let mut bytes = Vec::new(self.alloc);
         if bytes.extend_from_slice(frame).is_ok() {
