@@ -46,6 +46,10 @@ pub record CanWork (workers : ℕ) (job : Job) (view : View) : Type 0 where
   pub some : 1 ≤ job.events
   pub most : job.events ≤ 4096
 
+-- So many workers may begin, with what one of them holds of these claims.
+abbrev pub MayBegin : ℕ → Job → TableId → Held → Type 0
+MayBegin workers job claims now = (1 ≤ workers) × (workers ≤ 16) × (now.claims ≡ claims) × CanWork workers job now.view
+
 -- What they end with: all seeds of their numbers were run, and a claim was in vain.
 pub record IsWholeReport (job : Job) (view : View) (report : Report) : Type 0 where
   pub sum : report ≡ claimed_report job.first job.events view.numbers

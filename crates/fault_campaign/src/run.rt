@@ -77,9 +77,7 @@ impl Run {
         ensures second { result.1 ≡ word (behind_word self.old.words) }
         ensures rest { self.new ≡ record self.old { words = behind_two self.old.words } }
     {
-        let a = next_word(&mut self.words);
-        let b = next_word(&mut self.words);
-        (a, b)
+        (next_word(&mut self.words), next_word(&mut self.words))
     }
 
     fn go_on(&mut self, again: &mut Again) -> Result<(), NoMemory>
@@ -226,10 +224,9 @@ fn place_at(side: Side, location: Side) -> Place
     ensures { result ≡ place_at side location }
 {
     if side == location {
-        Place::Here
-    } else {
-        Place::There
+        return Place::Here;
     }
+    Place::There
 }
 
 // Both ends call the feature at this side settled.

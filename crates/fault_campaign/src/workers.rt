@@ -2,7 +2,7 @@
 ghost use Rattle.std.specs.Prelude.{◌≡◌, ◌+◌, ◌^◌, ◌<◌, ◌≤◌, IfOk};
 ghost use Rattle.std.specs.Thread.{IsSync};
 ghost use Rattle.fault_campaign.specs.Reports.{size};
-ghost use Rattle.fault_campaign.specs.Totals.{CanWork, HaveWorked, both_reports, totals};
+ghost use Rattle.fault_campaign.specs.Totals.{CanWork, HaveWorked, MayBegin, both_reports, totals};
 
 use crate::{Gate, Report, run_seed};
 use campaign_claims::{
@@ -63,10 +63,7 @@ fn work_beside<R: Threads + Sync, G: Gate + Sync>(
     job: Job,
     workers: u8,
 ) -> (Claimer, Result<Report, NoMemory>)
-    requires some { 1 ≤ workers }
-    requires most { workers ≤ 16 }
-    requires same { claimer.claims ≡ claims.now }
-    requires can { CanWork workers job claimer.view }
+    requires { MayBegin workers job claims.now claimer }
     ensures { HaveWorked workers job claims.now claimer.view result.0 result.1 }
 {
     if workers == 1 {
@@ -83,14 +80,12 @@ fn work_beside<R: Threads + Sync, G: Gate + Sync>(
         rt,
         move || -> (Claimer, Result<Report, NoMemory>)
             requires row { IsSync R.row × IsSync G.row }
-            requires same { claimer.claims ≡ claims.now }
-            requires can { (1 ≤ more) × (more ≤ 16) × CanWork more job claimer.view }
+            requires may { MayBegin more job claims.now claimer }
             ensures { HaveWorked more job claims.entry.now claimer.view result.0 result.1 }
         { work_beside(rt, alloc, gate, claims, claimer, job, more) },
         move || -> (Claimer, Result<Report, NoMemory>)
             requires row { IsSync R.row × IsSync G.row }
-            requires same { other.claims ≡ claims.now }
-            requires can { (1 ≤ few) × (few ≤ 16) × CanWork few job other.view }
+            requires may { MayBegin few job claims.now other }
             ensures { HaveWorked few job claims.entry.now other.view result.0 result.1 }
         { work_beside(rt, alloc, gate, claims, other, job, few) },
     );
