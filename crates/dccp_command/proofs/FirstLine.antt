@@ -10,6 +10,7 @@ use Rattle.schedule_text.specs.Reading.{◌>>◌, fault_at, first_other, text_or
 use Rattle.schedule_text.specs.declared.line.LineWhy.TheVariants as why
 use Rattle.dccp_command.specs.Lines.{too_long, without_newline}
 use Rattle.dccp_command.specs.Replay as replay
+use Rattle.dccp_command.specs.Replay.{judged as frame_judged}
 use Rattle.dccp_command.specs.Transcript.{Refused, judged, by_line, whole_line}
 use Rattle.dccp_command.specs.declared.play.Play.{Play}
 use Rattle.dccp_command.specs.declared.replay.Replay.{Replay}
@@ -108,22 +109,26 @@ and-false false = refl
 
 pub long-refused : (play : Play) (bytes : List ℕ) → ends_within play.read (first_line bytes) ≡ true → 4097 ≤ text_length bytes
     → judged play (first_line bytes) ≡ Refused too_long
+unfolding judged
 long-refused play bytes within long =
     ap (λ (b : Bool). if b then by_line play (first_line bytes) (read_line (without_newline (first_line bytes))) else Refused (whole_line why.TooMuchInput)) within
     ∙ ap (by_line play (first_line bytes)) (read-long (without_newline (first_line bytes)) (text-long bytes long))
     ∙ ap (λ (b : Bool). Refused (if b then whole_line why.HeaderLate else too_long)) (and-false (is_some play.world))
 
 pub much-refused : (play : Play) (bytes : List ℕ) → ends_within play.read (first_line bytes) ≡ false → judged play (first_line bytes) ≡ Refused (whole_line why.TooMuchInput)
+unfolding judged
 much-refused play bytes past =
     ap (λ (b : Bool). if b then by_line play (first_line bytes) (read_line (without_newline (first_line bytes))) else Refused (whole_line why.TooMuchInput)) past
 
 pub long-frame-refused : (before : Replay) (bytes : List ℕ) → ends_within before.read (first_line bytes) ≡ true → 4097 ≤ text_length bytes
     → replay.judged before (first_line bytes) ≡ replay.Refused too_long
+unfolding frame_judged
 long-frame-refused before bytes within long =
     ap (λ (b : Bool). if b then replay.by_line before (first_line bytes) (read_frame (without_newline (first_line bytes))) else replay.Refused (whole_line why.TooMuchInput)) within
     ∙ ap (replay.by_line before (first_line bytes)) (read-long-frame (without_newline (first_line bytes)) (text-long bytes long))
 
 pub much-frame-refused : (before : Replay) (bytes : List ℕ) → ends_within before.read (first_line bytes) ≡ false
     → replay.judged before (first_line bytes) ≡ replay.Refused (whole_line why.TooMuchInput)
+unfolding frame_judged
 much-frame-refused before bytes past =
     ap (λ (b : Bool). if b then replay.by_line before (first_line bytes) (read_frame (without_newline (first_line bytes))) else replay.Refused (whole_line why.TooMuchInput)) past

@@ -3,8 +3,11 @@ pub mod Configuring
 pub mod Ending
 pub mod FirstLine
 pub mod HexText
+pub mod LineLoop
 pub mod LoopInvariant
+pub mod PlayTurns
 pub mod ReplayInvariant
+pub mod ReplayTurns
 pub mod RowTexts
 pub mod Settings
 pub mod Showing

@@ -28,6 +28,7 @@ usual-peers = record {
 }
 
 pub at-start : (play : Play) (input : List ℕ) → play ≡ first_play → LoopInvariant play input [] input
+unfolding performed
 at-start play input start = record {
   events = [];
   same = ap (λ (first : Play). performed_from first (lines_of input)) (sym start);

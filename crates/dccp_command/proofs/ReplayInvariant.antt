@@ -34,6 +34,7 @@ begun-sent first Server = omega arith
 
 pub at-start : (side : Side) (plain : Bool) (replay : Replay) (text input : List ℕ) → replay ≡ (begun_replay side plain).replay → text ≡ [] ++ (begun_replay side plain).text
     → ReplayInvariant side plain replay input text input
+unfolding replay_of_input
 at-start side plain replay text input start put =
     let number : replay.number ≡ 1 = ap (λ (first : Replay). first.number) start ∙ begun-number (first_replay side plain) side in
     let read : replay.read ≡ 0 = ap (λ (first : Replay). first.read) start ∙ begun-read (first_replay side plain) side in

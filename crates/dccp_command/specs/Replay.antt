@@ -116,7 +116,7 @@ by_line replay piece (Ok None) = Accepted [] (behind replay piece)
 by_line replay piece (Ok (Some frame)) = by_frame replay piece (arriving replay.side frame)
 
 -- A line with its newline. The bytes of the input are judged before the line by itself.
-abbrev pub judged : Replay → List ℕ → Verdict
+unfoldable pub judged : Replay → List ℕ → Verdict
 judged replay piece =
     if ends_within replay.read piece then by_line replay piece (read_frame (without_newline piece)) else Refused (whole_line why.TooMuchInput)
 
@@ -166,7 +166,7 @@ abbrev pub begun_with : Begun → List (List ℕ) → Replayed
 begun_with begun pieces = onto begun.text (replayed_from begun.replay pieces)
 
 -- what an input comes to, whose frames arrive at a new end of this side
-abbrev pub replay_of_input : Side → Bool → List ℕ → Replayed
+unfoldable pub replay_of_input : Side → Bool → List ℕ → Replayed
 replay_of_input side plain input = begun_with (begun_replay side plain) (lines_of input)
 
 -- What `replay` writes of an input.

@@ -1,7 +1,8 @@
 -- What the tool's one call may leave written, and why it ends (own).
-use Rattle.std.specs.Prelude.{◌≡◌, ◌⊎◌, ℕ, Bool, true, false, List, [], ◌++◌, take, Option, Some}
+use Rattle.std.specs.Prelude.{◌≡◌, ◌⊎◌, ℕ, Bool, true, false, List, [], ◌++◌, take, drop, Option, Some}
 use Rattle.std.specs.Io.KnownBytes.{append_known}
 use Rattle.dccp_io.specs.Counts.{Rose}
+use Rattle.dccp_io.specs.Fronts.{GivesAtMost}
 use Rattle.dccp_command.specs.declared.top.Status.{Status}
 use Rattle.dccp_command.specs.declared.top.Status.TheVariants as status
 
@@ -21,6 +22,10 @@ IsMovedOut before after text kept = (moved : List ℕ) × (after ≡ append_know
 abbrev pub SinkFailed : ℕ → ℕ → ℕ → ℕ → Type 0
 SinkFailed faults faults_after takes takes_after = Rose faults faults_after ⊎ Rose takes takes_after
 
+-- the counts of one sink, before and after
+abbrev pub SinkFails : {K : Type 0} → (K → ℕ) → (K → ℕ) → K → K → Type 0
+SinkFails faults empty_takes before after = SinkFailed (faults before) (faults after) (empty_takes before) (empty_takes after)
+
 -- A text was written as far as the sink took it, and whole unless the sink failed.
 pub record IsWritten (text : List ℕ) (before after : Option (List ℕ)) (sink_failed : Type 0) : Type 0 where
   pub front : HasBegun before after text
@@ -33,6 +38,10 @@ IsAnswered result = (result ≡ status.Done) ⊎ (result ≡ status.Input)
 -- A fault or want of memory ended the job.
 abbrev pub IsCutOff : Status → Type 0
 IsCutOff result = (result ≡ status.Read) ⊎ ((result ≡ status.Write) ⊎ (result ≡ status.Memory))
+
+-- Where an input is refused, at most so many bytes were read behind those that were accepted.
+abbrev pub StopsWithin : ℕ → ℕ → List ℕ → Status → Option (List ℕ) → Type 0
+StopsWithin most accepted bytes result left = result ≡ status.Input → GivesAtMost most (Some (drop accepted bytes)) left
 
 -- What a form that reads its input owes, where that input has this text and is refused or not: an answer is the whole text, what was
 -- cut off is a front of it, Done leaves nothing to read, and Done and Input say whether the input was refused.

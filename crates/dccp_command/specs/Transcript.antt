@@ -180,7 +180,7 @@ line_is_within play piece = ends_within play.read piece
 
 -- A line with its newline. Its faults are judged in this order: the bytes of the input, the line by itself up to its words, that it
 -- stands before all events, what an end may wish, the count of events, the frame that it names.
-abbrev pub judged : Play → List ℕ → Verdict
+unfoldable pub judged : Play → List ℕ → Verdict
 judged play piece =
     if line_is_within play piece then by_line play piece (read_line (without_newline piece)) else Refused (whole_line why.TooMuchInput)
 
@@ -242,7 +242,7 @@ performed_from play [] = ends_at play (end_lines (world_of play)) false
 performed_from play (piece ∷ pieces) = continues_with play (judged play piece) (λ next. performed_from next pieces)
 
 -- what an input comes to, played from the two usual ends
-abbrev pub performed : List ℕ → Performance
+unfoldable pub performed : List ℕ → Performance
 performed input = performed_from first_play (lines_of input)
 
 -- What `run` writes of an input.

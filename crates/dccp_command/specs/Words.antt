@@ -1,5 +1,5 @@
 -- What the words after the program's name ask for (own).
-use Rattle.std.specs.Prelude.{ℕ, Bool, true, false, ◌&&◌, List, [], ◌∷◌, codes, Option, Some, None, option_and_then, if◌then◌else◌, String, string_bytes}
+use Rattle.std.specs.Prelude.{◌≡◌, ℕ, Bool, true, false, ◌&&◌, List, [], ◌∷◌, codes, Option, Some, None, option_and_then, if◌then◌else◌, String, string_bytes}
 use Rattle.std.specs.Str.{bytes_eq}
 use Rattle.std.specs.declared.alloc.Global.{Global}
 use Rattle.two_ends.specs.declared.event.Side.{Side}
@@ -57,7 +57,7 @@ takes_no_word form [] = Some form
 takes_no_word form (word ∷ words) = None
 
 -- The form that the words have: `run`, `replay`, `campaign` or `show`.
-abbrev pub form_of : List (String Global) → Option Form
+unfoldable pub form_of : List (String Global) → Option Form
 form_of [] = None
 form_of (first ∷ words) =
     if is_word first (codes "run") then takes_no_word form.Run words
@@ -69,3 +69,16 @@ form_of (first ∷ words) =
 -- The line that answers all other words.
 abbrev pub usage : List ℕ
 usage = codes "usage: dccp run | replay --side server|client [--plain] | campaign --first F --seeds N --events E --workers W | show\n"
+
+-- For `run`, over a source that tells its bytes, something holds of them.
+abbrev pub OnRun : List (String Global) → Option (List ℕ) → (List ℕ → Type 0) → Type 0
+OnRun words told Holds = form_of words ≡ Some form.Run → (bytes : List ℕ) → told ≡ Some bytes → Holds bytes
+
+-- the same for `replay`, of a side with its offers or without
+abbrev pub OnReplay : List (String Global) → Option (List ℕ) → (Side → Bool → List ℕ → Type 0) → Type 0
+OnReplay words told Holds =
+    (side : Side) (plain : Bool) → form_of words ≡ Some (form.Replay side plain) → (bytes : List ℕ) → told ≡ Some bytes → Holds side plain bytes
+
+-- and for `show`
+abbrev pub OnShow : List (String Global) → Option (List ℕ) → (List ℕ → Type 0) → Type 0
+OnShow words told Holds = form_of words ≡ Some form.Show → (bytes : List ℕ) → told ≡ Some bytes → Holds bytes

@@ -5,11 +5,10 @@ ghost use Rattle.schedule_text.specs.Numbers.{is_digit, digits_after, number_bel
 fn digit_of(byte: u8) -> Option<u64>
     ensures { result ≡ (if is_digit byte then Some (byte - 48) else None) }
 {
-    if byte.is_ascii_digit() {
-        Some(u64::from(byte - b'0'))
-    } else {
-        None
+    if !byte.is_ascii_digit() {
+        return None;
     }
+    Some(u64::from(byte - b'0'))
 }
 
 fn digits_up_to(most: u64, text: &[u8]) -> Option<u64>

@@ -61,6 +61,7 @@ impl Play {
     /// judged here, each at its place among those of the line itself: the limit of bytes before them, and behind them
     /// that it has to stand before all events (but before what an end may wish), the limit of events, and a frame that
     /// was not sent. `said` is room for what the line says, and it does not matter what stands there before.
+    #[tactic(auto, unfolding(crate::specs::Transcript::judged))]
     pub(crate) fn judge(
         &mut self,
         alloc: Global,

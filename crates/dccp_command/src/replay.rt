@@ -97,6 +97,7 @@ impl Replay {
 
     /// Replays one line, which has its newline, or answers why it is refused. The limit of bytes is judged before the
     /// line itself.
+    #[tactic(auto, unfolding(crate::specs::Replay::judged))]
     pub(crate) fn judge(
         &mut self,
         line: &[u8],

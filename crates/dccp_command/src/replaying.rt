@@ -3,7 +3,7 @@ ghost use Rattle.std.specs.Prelude.{◌≡◌, ◌≢◌, ◌+◌, ◌≤◌, �
 ghost use Rattle.dccp_io.specs.Counts.{Rose};
 ghost use Rattle.dccp_io.specs.Lines.{rest_of_input};
 ghost use Rattle.dccp_command.specs.Loops.{Replays, Leaves, GoesThrough};
-ghost use Rattle.dccp_command.specs.Replay.{replay_text, is_refused, accepted_bytes};
+ghost use Rattle.dccp_command.specs.Replay.{begun_replay, replay_text, is_refused, accepted_bytes};
 ghost use Rattle.dccp_command.specs.RunLines.{end_line};
 ghost use Rattle.dccp_command.specs.Top.{SinkFailed, EndsForCause};
 
@@ -48,6 +48,42 @@ fn end<K: Sink>(output: &mut K, replay: &Replay, text: &mut Vec<u8>) -> Status
     leave(output, text, false)
 }
 
+// The loop over the lines. What it works on is lent, so that none of its ends has anything to drop.
+fn replay_all<S: Source + Drop, K: Sink>(
+    side: Side,
+    plain: bool,
+    lines: &mut Lines<S>,
+    output: &mut K,
+    replay: &mut Replay,
+    text: &mut Vec<u8>,
+) -> Status
+    requires begun { replay.old ≡ (begun_replay side plain).replay }
+    requires put { text.old.items ≡ (begun_replay side plain).text }
+    requires given { lines.old.given ≡ 0 }
+    requires unstopped { lines.old.stop ≡ None }
+    ensures words { result ≢ Status.Words }
+    ensures replays { IfSome (rest_of_input S.left lines.old) (λ bytes. GoesThrough (replay_text side plain bytes) (is_refused side plain bytes)
+        (accepted_bytes side plain bytes) bytes result (S.left lines.new.source) (K.taken output.old) (K.taken output.new)) }
+    ensures same_lender { S.lender lines.new.source ≡ S.lender lines.old.source }
+    ensures cause { EndsForCause result (Rose (S.faults lines.old.source) (S.faults lines.new.source))
+        (SinkFailed (K.faults output.old) (K.faults output.new) (K.empty_takes output.old) (K.empty_takes output.new)) }
+{
+    loop {
+        let number = replay.number;
+        match replay_next(lines, replay, text) {
+            Ok(Turn::Accepted) => {
+                if flush_if_full(output, text).is_err() {
+                    return Status::Write;
+                }
+            }
+            Ok(Turn::Ended) => return end(output, replay, text),
+            Ok(Turn::Refused(fault)) => return refuse(output, text, number, fault),
+            Ok(Turn::Failed) => return cut_off(output, text, Status::Read),
+            Err(NoMemory) => return Status::Memory,
+        }
+    }
+}
+
 /// Replays the lines of an input, one by one as they are read, until it ends or a line is refused. The text is written
 /// in blocks, and whole at the end.
 pub(crate) fn replay_lines<S: Source + Drop, K: Sink>(
@@ -70,18 +106,5 @@ pub(crate) fn replay_lines<S: Source + Drop, K: Sink>(
     let Ok(mut replay) = Replay::begin(alloc, side, plain, &mut text) else {
         return Status::Memory;
     };
-    loop {
-        let number = replay.number;
-        match replay_next(lines, &mut replay, &mut text) {
-            Ok(Turn::Accepted) => {
-                if flush_if_full(output, &mut text).is_err() {
-                    return Status::Write;
-                }
-            }
-            Ok(Turn::Ended) => return end(output, &replay, &mut text),
-            Ok(Turn::Refused(fault)) => return refuse(output, &mut text, number, fault),
-            Ok(Turn::Failed) => return cut_off(output, &text, Status::Read),
-            Err(NoMemory) => return Status::Memory,
-        }
-    }
+    replay_all(side, plain, lines, output, &mut replay, &mut text)
 }

@@ -1,5 +1,5 @@
 //! `show`: a capture's records, one by one.
-ghost use Rattle.std.specs.Prelude.{◌≡◌, ◌≢◌, ℕ, ◌+◌, ◌<◌, ◌^◌, List, drop, ◌++◌, Some, None, IfSome, OnOk, OnErr};
+ghost use Rattle.std.specs.Prelude.{◌≡◌, ◌≢◌, ℕ, ◌+◌, ◌<◌, ◌^◌, List, [], drop, ◌++◌, Some, None, IfSome, OnOk, OnErr};
 ghost use Rattle.dccp_io.specs.Counts.{Rose};
 ghost use Rattle.capture_reader.specs.Records.{entry_of, records_from};
 ghost use Rattle.capture_reader.specs.State.{Passed, rest};
@@ -108,6 +108,39 @@ fn finish<K: Sink>(
     }
 }
 
+// The loop over the records. What it works on is lent, so that none of its ends has anything to drop.
+fn show_all<S: Source + Drop, K: Sink>(
+    captures: &mut Captures<S>,
+    output: &mut K,
+    tally: &mut Tally,
+    text: &mut Vec<u8>,
+) -> Status
+    requires fresh { tally.old ≡ first_tally }
+    requires empty { text.old.items ≡ [] }
+    requires number { captures.old.number ≡ 0 }
+    requires given { captures.old.given ≡ 24 }
+    requires unended { captures.old.fault ≡ None }
+    ensures words { result ≢ Status.Words }
+    ensures shows { IfSome (rest S.left captures.old) (λ bytes. ShowsRecords (records_from captures.old.format 0 0 24 bytes) bytes result
+        (S.left captures.new.source) (K.taken output.old) (K.taken output.new)) }
+    ensures same_lender { S.lender captures.new.source ≡ S.lender captures.old.source }
+    ensures cause { EndsForCause result (Rose (S.faults captures.old.source) (S.faults captures.new.source))
+        (SinkFailed (K.faults output.old) (K.faults output.new) (K.empty_takes output.old) (K.empty_takes output.new)) }
+{
+    loop {
+        match show_next(captures, tally, text) {
+            Ok(Turn::Shown) => {
+                if flush_if_full(output, text).is_err() {
+                    return Status::Write;
+                }
+            }
+            Ok(Turn::Ended(end)) => return finish(output, text, tally, end),
+            Ok(Turn::Failed) => return cut_off(output, text, Status::Read),
+            Err(NoMemory) => return cut_off(output, text, Status::Memory),
+        }
+    }
+}
+
 // Shows the records behind the file header.
 fn show_records<S: Source + Drop, K: Sink>(
     alloc: Global,
@@ -126,18 +159,7 @@ fn show_records<S: Source + Drop, K: Sink>(
 {
     let mut tally = Tally::new(alloc);
     let mut text = Vec::new(alloc);
-    loop {
-        match show_next(captures, &mut tally, &mut text) {
-            Ok(Turn::Shown) => {
-                if flush_if_full(output, &mut text).is_err() {
-                    return Status::Write;
-                }
-            }
-            Ok(Turn::Ended(end)) => return finish(output, &mut text, &tally, end),
-            Ok(Turn::Failed) => return cut_off(output, &text, Status::Read),
-            Err(NoMemory) => return cut_off(output, &text, Status::Memory),
-        }
-    }
+    show_all(captures, output, &mut tally, &mut text)
 }
 
 // Ends where the file header was refused.

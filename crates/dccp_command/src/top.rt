@@ -1,14 +1,13 @@
 //! The tool's one call.
 ghost use Rattle.std.specs.Prelude.{◌≡◌, ◌≢◌, ◌↔◌, ℕ, Bool, List, drop, Some, None, if◌then◌else◌};
 ghost use Rattle.dccp_io.specs.Counts.{Rose};
-ghost use Rattle.dccp_io.specs.Fronts.{GivesAtMost};
 ghost use Rattle.capture_reader.specs.State.{Passed};
 ghost use Rattle.dccp_command.specs.Transcript.{transcript, is_refused, accepted_bytes, SafeThroughout};
 ghost use Rattle.dccp_command.specs.Replay as replay;
 ghost use Rattle.dccp_command.specs.CampaignText.{AnswersUnread, campaign_text};
 ghost use Rattle.dccp_command.specs.CaptureText.{capture_text, is_faulty, records_end};
-ghost use Rattle.dccp_command.specs.Words.{form_of, usage};
-ghost use Rattle.dccp_command.specs.Top.{SinkFailed, IsWritten, IsAnswered, Answers, EndsForCause};
+ghost use Rattle.dccp_command.specs.Words.{OnRun, OnReplay, OnShow, form_of, usage};
+ghost use Rattle.dccp_command.specs.Top.{SinkFails, IsWritten, IsAnswered, Answers, StopsWithin, EndsForCause};
 
 use crate::campaign_words::Campaign;
 use crate::campaigning::run_campaign;
@@ -58,43 +57,30 @@ pub fn dccp<R: Threads + Sync, G: Gate + Sync, S: Source, K: Sink>(
     input: &mut S,
     output: &mut K,
 ) -> Status
-    // Words that are none of the forms come to the usage line, as far as the sink takes it, and no byte is read.
+    // Words that are none of the forms come to the usage line, as far as the sink takes it.
     ensures words { (result ≡ Status.Words) ↔ (form_of words.now ≡ None) }
     ensures unread { form_of words.now ≡ None → input.new ≡ input.old }
-    ensures usage { form_of words.now ≡ None → IsWritten usage (K.taken output.old) (K.taken output.new)
-        (SinkFailed (K.faults output.old) (K.faults output.new) (K.empty_takes output.old) (K.empty_takes output.new)) }
+    ensures usage { form_of words.now ≡ None → IsWritten usage (K.taken output.old) (K.taken output.new) (SinkFails K.faults K.empty_takes output.old output.new) }
 
-    // `run`, over an input that the source tells: what is written and how it ends, and what held of the two ends
-    // meanwhile.
-    ensures transcript { form_of words.now ≡ Some Form.Run → (bytes : List ℕ) → S.left input.old ≡ Some bytes
-        → Answers (transcript bytes) (is_refused bytes) result (S.left input.new) (K.taken output.old) (K.taken output.new) }
-    ensures safe { form_of words.now ≡ Some Form.Run → (bytes : List ℕ) → S.left input.old ≡ Some bytes → IsAnswered result → SafeThroughout bytes }
-    // Where a line is refused, the input was read hardly further than the last accepted line.
-    ensures run_past { form_of words.now ≡ Some Form.Run → (bytes : List ℕ) → S.left input.old ≡ Some bytes → result ≡ Status.Input
-        → GivesAtMost 16384 (Some (drop (accepted_bytes bytes) bytes)) (S.left input.new) }
-
-    // `replay`, over an input that the source tells: what is written and how it ends.
-    ensures replayed { (side : Side) (plain : Bool) → form_of words.now ≡ Some (Form.Replay side plain) → (bytes : List ℕ) → S.left input.old ≡ Some bytes
-        → Answers (replay.replay_text side plain bytes) (replay.is_refused side plain bytes) result (S.left input.new) (K.taken output.old) (K.taken output.new) }
-    ensures replay_past { (side : Side) (plain : Bool) → form_of words.now ≡ Some (Form.Replay side plain) → (bytes : List ℕ) → S.left input.old ≡ Some bytes
-        → result ≡ Status.Input → GivesAtMost 16384 (Some (drop (replay.accepted_bytes side plain bytes) bytes)) (S.left input.new) }
-
-    // `show`, over an input that the source tells: what is written and how it ends, and, where the capture has a fault,
-    // how far past its last whole record the input was read.
-    ensures shown { form_of words.now ≡ Some Form.Show → (bytes : List ℕ) → S.left input.old ≡ Some bytes
-        → Answers (capture_text bytes) (is_faulty bytes) result (S.left input.new) (K.taken output.old) (K.taken output.new) }
-    ensures past { form_of words.now ≡ Some Form.Show → (bytes : List ℕ) → S.left input.old ≡ Some bytes → result ≡ Status.Input
-        → Passed 524288 (Some (drop (records_end bytes) bytes)) (S.left input.new) }
-
-    // `campaign`: nothing is read, and what is written and how it ends, for every gate.
+    // What the other forms write, how they end, how far a refused input was read, and what held of both ends of `run`.
+    ensures transcript { OnRun words.now (S.left input.old) (λ bytes.
+        Answers (transcript bytes) (is_refused bytes) result (S.left input.new) (K.taken output.old) (K.taken output.new)) }
+    ensures safe { OnRun words.now (S.left input.old) (λ bytes. IsAnswered result → SafeThroughout bytes) }
+    ensures run_past { OnRun words.now (S.left input.old) (λ bytes. StopsWithin 16384 (accepted_bytes bytes) bytes result (S.left input.new)) }
+    ensures replayed { OnReplay words.now (S.left input.old) (λ side plain bytes.
+        Answers (replay.replay_text side plain bytes) (replay.is_refused side plain bytes) result (S.left input.new) (K.taken output.old) (K.taken output.new)) }
+    ensures replay_past { OnReplay words.now (S.left input.old) (λ side plain bytes.
+        StopsWithin 16384 (replay.accepted_bytes side plain bytes) bytes result (S.left input.new)) }
+    ensures shown { OnShow words.now (S.left input.old) (λ bytes.
+        Answers (capture_text bytes) (is_faulty bytes) result (S.left input.new) (K.taken output.old) (K.taken output.new)) }
+    ensures past { OnShow words.now (S.left input.old) (λ bytes. result ≡ Status.Input → Passed 524288 (Some (drop (records_end bytes) bytes)) (S.left input.new)) }
     ensures campaign_unread { (campaign : Campaign) → form_of words.now ≡ Some (Form.Campaign campaign) → input.new ≡ input.old }
     ensures totals { (campaign : Campaign) → form_of words.now ≡ Some (Form.Campaign campaign)
-        → AnswersUnread (campaign_text campaign) result (K.taken output.old) (K.taken output.new)
-        (SinkFailed (K.faults output.old) (K.faults output.new) (K.empty_takes output.old) (K.empty_takes output.new)) }
+        → AnswersUnread (campaign_text campaign) result (K.taken output.old) (K.taken output.new) (SinkFails K.faults K.empty_takes output.old output.new) }
 
     // Why any form ended.
-    ensures cause { (form : Form) → form_of words.now ≡ Some form → EndsForCause result (Rose (S.faults input.old) (S.faults input.new))
-        (SinkFailed (K.faults output.old) (K.faults output.new) (K.empty_takes output.old) (K.empty_takes output.new)) }
+    ensures cause { (form : Form) → form_of words.now ≡ Some form
+        → EndsForCause result (Rose (S.faults input.old) (S.faults input.new)) (SinkFails K.faults K.empty_takes output.old output.new) }
 {
     match form_of(words) {
         Some(Form::Run) => run(alloc, input, output),
@@ -107,8 +93,7 @@ pub fn dccp<R: Threads + Sync, G: Gate + Sync, S: Source, K: Sink>(
 
 fn refuse_words<K: Sink>(output: &mut K) -> Status
     ensures words { result ≡ Status.Words }
-    ensures usage { IsWritten usage (K.taken output.old) (K.taken output.new)
-        (SinkFailed (K.faults output.old) (K.faults output.new) (K.empty_takes output.old) (K.empty_takes output.new)) }
+    ensures usage { IsWritten usage (K.taken output.old) (K.taken output.new) (SinkFails K.faults K.empty_takes output.old output.new) }
 {
     let _ = write_all(output, USAGE);
     Status::Words
@@ -119,10 +104,8 @@ fn run<S: Source, K: Sink>(alloc: Global, input: &mut S, output: &mut K) -> Stat
     ensures transcript { (bytes : List ℕ) → S.left input.old ≡ Some bytes
         → Answers (transcript bytes) (is_refused bytes) result (S.left input.new) (K.taken output.old) (K.taken output.new) }
     ensures safe { (bytes : List ℕ) → S.left input.old ≡ Some bytes → IsAnswered result → SafeThroughout bytes }
-    ensures past { (bytes : List ℕ) → S.left input.old ≡ Some bytes → result ≡ Status.Input
-        → GivesAtMost 16384 (Some (drop (accepted_bytes bytes) bytes)) (S.left input.new) }
-    ensures cause { EndsForCause result (Rose (S.faults input.old) (S.faults input.new))
-        (SinkFailed (K.faults output.old) (K.faults output.new) (K.empty_takes output.old) (K.empty_takes output.new)) }
+    ensures past { (bytes : List ℕ) → S.left input.old ≡ Some bytes → StopsWithin 16384 (accepted_bytes bytes) bytes result (S.left input.new) }
+    ensures cause { EndsForCause result (Rose (S.faults input.old) (S.faults input.new)) (SinkFails K.faults K.empty_takes output.old output.new) }
 {
     let Ok(mut lines) = Lines::new(alloc, &mut *input) else {
         return Status::Memory;
@@ -142,10 +125,9 @@ fn replay<S: Source, K: Sink>(
     ensures words { result ≢ Status.Words }
     ensures replayed { (bytes : List ℕ) → S.left input.old ≡ Some bytes
         → Answers (replay.replay_text side plain bytes) (replay.is_refused side plain bytes) result (S.left input.new) (K.taken output.old) (K.taken output.new) }
-    ensures past { (bytes : List ℕ) → S.left input.old ≡ Some bytes → result ≡ Status.Input
-        → GivesAtMost 16384 (Some (drop (replay.accepted_bytes side plain bytes) bytes)) (S.left input.new) }
-    ensures cause { EndsForCause result (Rose (S.faults input.old) (S.faults input.new))
-        (SinkFailed (K.faults output.old) (K.faults output.new) (K.empty_takes output.old) (K.empty_takes output.new)) }
+    ensures past { (bytes : List ℕ) → S.left input.old ≡ Some bytes
+        → StopsWithin 16384 (replay.accepted_bytes side plain bytes) bytes result (S.left input.new) }
+    ensures cause { EndsForCause result (Rose (S.faults input.old) (S.faults input.new)) (SinkFails K.faults K.empty_takes output.old output.new) }
 {
     let Ok(mut lines) = Lines::new(alloc, &mut *input) else {
         return Status::Memory;

@@ -1,11 +1,11 @@
 //! The loop over a schedule's lines.
-ghost use Rattle.std.specs.Prelude.{◌≡◌, ◌≢◌, ◌+◌, ◌≤◌, ◌++◌, false, None, IfSome};
+ghost use Rattle.std.specs.Prelude.{◌≡◌, ◌≢◌, ◌+◌, ◌≤◌, ◌++◌, [], false, None, IfSome};
 ghost use Rattle.dccp_io.specs.Counts.{Rose};
 ghost use Rattle.dccp_io.specs.Lines.{rest_of_input};
 ghost use Rattle.dccp_command.specs.Loops.{Plays, Leaves, GoesThrough};
 ghost use Rattle.dccp_command.specs.RunLines.{end_lines};
 ghost use Rattle.dccp_command.specs.Top.{IsAnswered, SinkFailed, EndsForCause};
-ghost use Rattle.dccp_command.specs.Transcript.{ArePeers, world_of, transcript, is_refused, accepted_bytes, SafeThroughout};
+ghost use Rattle.dccp_command.specs.Transcript.{ArePeers, first_play, world_of, transcript, is_refused, accepted_bytes, SafeThroughout};
 
 use crate::blocks::{cut_off, flush_if_full};
 use crate::lines::{Turn, leave, refuse};
@@ -53,6 +53,45 @@ fn end<K: Sink>(alloc: Global, output: &mut K, play: &mut Play, text: &mut Vec<u
     leave(output, text, false)
 }
 
+// The loop over the lines. What it works on is lent, so that none of its ends has anything to drop.
+fn play_all<S: Source + Drop, K: Sink>(
+    alloc: Global,
+    lines: &mut Lines<S>,
+    output: &mut K,
+    play: &mut Play,
+    said: &mut Line,
+    text: &mut Vec<u8>,
+) -> Status
+    requires fresh { play.old ≡ first_play }
+    requires empty { text.old.items ≡ [] }
+    requires given { lines.old.given ≡ 0 }
+    requires unstopped { lines.old.stop ≡ None }
+    ensures words { result ≢ Status.Words }
+    ensures plays { IfSome (rest_of_input S.left lines.old) (λ bytes. GoesThrough (transcript bytes) (is_refused bytes) (accepted_bytes bytes) bytes result
+        (S.left lines.new.source) (K.taken output.old) (K.taken output.new)) }
+    ensures safe { IfSome (rest_of_input S.left lines.old) (λ bytes. IsAnswered result → SafeThroughout bytes) }
+    ensures same_lender { S.lender lines.new.source ≡ S.lender lines.old.source }
+    ensures cause { EndsForCause result (Rose (S.faults lines.old.source) (S.faults lines.new.source))
+        (SinkFailed (K.faults output.old) (K.faults output.new) (K.empty_takes output.old) (K.empty_takes output.new)) }
+{
+    // The law, which `safe` follows from.
+    every_run_is_safe::<Kinds>();
+    loop {
+        let number = play.number;
+        match play_next(alloc, lines, play, said, text) {
+            Ok(Turn::Accepted) => {
+                if flush_if_full(output, text).is_err() {
+                    return Status::Write;
+                }
+            }
+            Ok(Turn::Ended) => return end(alloc, output, play, text),
+            Ok(Turn::Refused(fault)) => return refuse(output, text, number, fault),
+            Ok(Turn::Failed) => return cut_off(output, text, Status::Read),
+            Err(NoMemory) => return Status::Memory,
+        }
+    }
+}
+
 /// Plays the lines of an input, one by one as they are read, until it ends or a line is refused. The text is written in
 /// blocks, and whole at the end.
 pub(crate) fn play_lines<S: Source + Drop, K: Sink>(
@@ -70,24 +109,9 @@ pub(crate) fn play_lines<S: Source + Drop, K: Sink>(
     ensures cause { EndsForCause result (Rose (S.faults lines.old.source) (S.faults lines.new.source))
         (SinkFailed (K.faults output.old) (K.faults output.new) (K.empty_takes output.old) (K.empty_takes output.new)) }
 {
-    // The law, which `safe` follows from.
-    every_run_is_safe::<Kinds>();
     let mut play = Play::new();
     // Room for one line, which is cleared once.
     let mut said = Line::Nothing;
     let mut text = Vec::new(alloc);
-    loop {
-        let number = play.number;
-        match play_next(alloc, lines, &mut play, &mut said, &mut text) {
-            Ok(Turn::Accepted) => {
-                if flush_if_full(output, &mut text).is_err() {
-                    return Status::Write;
-                }
-            }
-            Ok(Turn::Ended) => return end(alloc, output, &mut play, &mut text),
-            Ok(Turn::Refused(fault)) => return refuse(output, &mut text, number, fault),
-            Ok(Turn::Failed) => return cut_off(output, &text, Status::Read),
-            Err(NoMemory) => return Status::Memory,
-        }
-    }
+    play_all(alloc, lines, output, &mut play, &mut said, &mut text)
 }

@@ -98,6 +98,7 @@ fn campaigns(words: &[String]) -> Option<Form>
 }
 
 /// The job that the words ask for, or None where they are none of the forms.
+#[tactic(auto, unfolding(crate::specs::Words::form_of))]
 pub(crate) fn form_of(words: &[String]) -> Option<Form>
     ensures value { result ≡ form_of words.now }
     ensures within { (campaign : Campaign) → result ≡ Some (Form.Campaign campaign) → IsWithinBounds campaign }

@@ -3,7 +3,7 @@ use Rattle.std.proofs.Common.{◌≡◌, ◌+◌, ◌-◌, ◌*◌, ◌≤◌, �
 use Rattle.capture_reader.specs.Records.{records_from}
 use Rattle.capture_reader.specs.State.{rest}
 use Rattle.dccp_command.proofs.Showing.{Along}
-use Rattle.dccp_command.proofs.show.show_records.Given as goal
+use Rattle.dccp_command.proofs.show.show_all.Given as goal
 
 abbrev pub invariant-loop-output : goal.invariant-loop-output
 invariant-loop-output g l = record {
