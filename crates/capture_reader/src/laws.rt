@@ -1,7 +1,8 @@
 //! What the definition of a capture's records says of whole inputs.
-ghost use Rattle.std.specs.Prelude.{◌≡◌, ◌↔◌, ℕ, List, Option};
+ghost use Rattle.std.specs.Prelude.{◌≡◌, ◌↔◌, ℕ, List, Option, Some, None};
 ghost use Rattle.capture_reader.specs.declared.fault.CaptureFault.{CaptureFault};
-ghost use Rattle.capture_reader.specs.Records.{RecordParts, captured};
+ghost use Rattle.capture_reader.specs.declared.fault.CaptureFault.TheVariants as fault;
+ghost use Rattle.capture_reader.specs.Records.{RecordParts, captured, missing};
 ghost use Rattle.capture_reader.specs.Capture.{IsCapture};
 
 /// Each input has one list of records and one end, a fault or none, and these are the ones that are read: records of a
@@ -10,4 +11,19 @@ ghost use Rattle.capture_reader.specs.Capture.{IsCapture};
 pub fn a_capture_has_one_list_of_records()
     ensures { (bytes : List ℕ) (records : List RecordParts) (end : Option CaptureFault)
         → IsCapture bytes records end ↔ (captured bytes ≡ record { records = records; end = end }) }
+{}
+
+/// A needed byte that is not there is missed before one that does not count (own), by values. The first of three
+/// numbers is how many bytes are needed, the second how many count, and the third how many are there.
+pub fn cut_short_comes_before_too_large()
+    ensures whole { missing 16 4294967272 16 ≡ None }
+    ensures cut { missing 16 4294967272 15 ≡ Some fault.CutShort }
+    ensures all_count { missing 16 16 16 ≡ None }
+    ensures both { missing 16 15 14 ≡ Some fault.CutShort }
+    ensures one_more { missing 16 15 15 ≡ Some fault.TooLarge }
+    ensures far { missing 16 15 400 ≡ Some fault.TooLarge }
+    ensures none_counts { missing 16 0 1 ≡ Some fault.TooLarge }
+    ensures nothing { missing 0 0 0 ≡ None }
+    ensures body { missing 100 4 4 ≡ Some fault.TooLarge }
+    ensures short_body { missing 100 4 3 ≡ Some fault.CutShort }
 {}
