@@ -102,11 +102,8 @@ impl Flight {
     pub fn is_reported(&self, number: Seq48) -> bool
         ensures { IsTrue result ↔ Has self.now number Reported }
     {
-        let entry = Entry {
-            number,
-            standing: Standing::Reported,
-        };
-        is_in(&self.entries, &entry)
+        let standing = Standing::Reported;
+        is_in(&self.entries, &Entry { number, standing })
     }
 
     /// Notes a packet that was sent. The 2,049th drives the oldest out.

@@ -30,10 +30,8 @@ pub(crate) fn arrive(end: &mut End, bytes: &[u8], out: &mut Outbox) -> u64 {
     if bytes.len() > 2044 {
         return 0;
     }
-    match end.receive(bytes, out) {
-        Outcome::Took { delivered: Some(_) } => 1,
-        _ => 0,
-    }
+    let outcome = end.receive(bytes, out);
+    u64::from(matches!(outcome, Outcome::Took { delivered: Some(_) }))
 }
 
 // Two ends, and the box of each. `delivered` counts the data that either delivered.

@@ -79,10 +79,7 @@ fn checked(frame: &[u8]) -> u64 {
     if frame.len() < 8 || frame.len() > 65_535 {
         return 0;
     }
-    match check(&PSEUDO, frame) {
-        Ok(()) => 1,
-        Err(_) => 0,
-    }
+    u64::from(check(&PSEUDO, frame).is_ok())
 }
 
 fn one(pass: Pass, frame: &[u8]) -> u64 {

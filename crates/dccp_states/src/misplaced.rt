@@ -9,11 +9,10 @@ use dccp_packets::PacketType;
 fn is_for_the_other_role(role: Role, kind: PacketType) -> bool
     ensures { result ≡ is_for_the_other_role role kind }
 {
-    matches!(
-        (role, kind),
-        (Role::Server, PacketType::CloseReq | PacketType::Response)
-            | (Role::Client, PacketType::Request)
-    )
+    match role {
+        Role::Server => matches!(kind, PacketType::CloseReq | PacketType::Response),
+        Role::Client => kind == PacketType::Request,
+    }
 }
 
 // Tells whether the phase is OPEN or comes after it (RFC 4340, section 4.3).

@@ -167,11 +167,10 @@ fn runs_in(timer: Timer, condition: &Condition) -> bool
 fn alarm_after(runs: bool, old: Option<Alarm>, wait: u64, now: u64) -> Option<Alarm>
     ensures { result ≡ alarm_after runs old wait now }
 {
-    match old {
-        _ if !runs => None,
-        Some(alarm) => Some(alarm),
-        None => Some(Alarm { since: now, wait }),
+    if !runs {
+        return None;
     }
+    Some(old.unwrap_or(Alarm { since: now, wait }))
 }
 
 fn arranged_alarm(alarms: &Alarms, timer: Timer, condition: &Condition, now: u64) -> Option<Alarm>

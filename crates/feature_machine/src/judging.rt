@@ -182,11 +182,10 @@ impl Row {
     pub(crate) fn confirmation(&self, body: &[u8], ack: &Option<Seq48>) -> Confirmation
         ensures { result ≡ confirmation self.now body.now ack.now }
     {
-        if self.answers_opening(ack) {
-            self.timely_confirmation(body)
-        } else {
-            Confirmation::Late
+        if !self.answers_opening(ack) {
+            return Confirmation::Late;
         }
+        self.timely_confirmation(body)
     }
 
     fn answers_opening(&self, ack: &Option<Seq48>) -> bool

@@ -102,8 +102,7 @@ impl Lists {
         ensures wish { IfSome result (λ wish. is_wish feature place wish ≡ true) }
         ensures lists { IsLists self.now }
     {
-        let listed = self.at(feature, place);
-        listed.wish
+        self.at(feature, place).wish
     }
 
     // What is listed for a row.

@@ -108,8 +108,7 @@ impl Row {
     {
         match self.stand {
             Stand::Stable => false,
-            Stand::Changing => true,
-            Stand::Unstable => true,
+            Stand::Changing | Stand::Unstable => true,
         }
     }
 

@@ -53,10 +53,8 @@ fn put_mark(line: &mut Line, mandatory: bool) -> Result<(), NoMemory>
     ensures before { line.new.before ≡ line.old.before }
     ensures ok { OnOk result (line.new.line ≡ line.old.line ++ mark_text mandatory) }
 {
-    if mandatory {
-        return line.put(b"mandatory ");
-    }
-    Ok(())
+    let mark: &[u8] = if mandatory { b"mandatory " } else { b"" };
+    line.put(mark)
 }
 
 fn put_item(line: &mut Line, item: &Result<Opt<'_>, OptFault>) -> Result<(), NoMemory>

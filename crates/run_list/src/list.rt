@@ -44,9 +44,7 @@ impl RunList {
     pub fn new(alloc: Global) -> Result<RunList, NoMemory>
         ensures { IfOk result (λ set. set ≡ empty_from 0) }
     {
-        let Some(floor) = Seq48::new(0) else {
-            return Err(NoMemory);
-        };
+        let floor = Seq48::new(0).ok_or(NoMemory)?;
         let runs = all_free(alloc, floor)?;
         Ok(RunList { floor, runs })
     }

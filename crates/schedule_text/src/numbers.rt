@@ -19,11 +19,10 @@ const FEATURES: u64 = 10;
 fn digit_of(byte: u8) -> Option<u64>
     ensures { result ≡ (if is_digit byte then Some (byte - 48) else None) }
 {
-    if byte.is_ascii_digit() {
-        Some(u64::from(byte - b'0'))
-    } else {
-        None
+    if !byte.is_ascii_digit() {
+        return None;
     }
+    Some(u64::from(byte - b'0'))
 }
 
 fn digits_below(limit: u64, word: &[u8]) -> Option<u64>

@@ -110,8 +110,7 @@ fn put_delivery(text: &mut Vec<u8>, from: Side, index: u64) -> Result<(), NoMemo
 {
     put(text, b"deliver ")?;
     put(text, side_letter(from))?;
-    put_number(text, index)?;
-    Ok(())
+    put_number(text, index)
 }
 
 fn put_send(text: &mut Vec<u8>, side: Side, payload: &[u8]) -> Result<(), NoMemory>
@@ -313,8 +312,7 @@ fn put_told(text: &mut Vec<u8>, line: u64, event: &Event) -> Result<(), NoMemory
 {
     put_number(text, line)?;
     put(text, b" ")?;
-    put_event(text, event)?;
-    Ok(())
+    put_event(text, event)
 }
 
 // Puts what was seen, behind its event, and the line's end.
@@ -386,8 +384,7 @@ fn put_numbered(text: &mut Vec<u8>, line: u64, seen: &Seen, input: &[u8]) -> Res
     ensures err { OnErr result (Keeps text.old.items text.new.items) }
 {
     put_number(text, line)?;
-    put_result(text, input, seen)?;
-    Ok(())
+    put_result(text, input, seen)
 }
 
 /// Appends the line `K: RESULT` of a replay's frame, under the number K of its line in the input, and a newline (own).

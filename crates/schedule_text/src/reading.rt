@@ -29,80 +29,58 @@ impl Word<'_> {
         ensures { result ≡ spec.present (word_of self.now) }
     {
         if self.text.is_empty() {
-            Err(fault_at(self.column, LineWhy::Missing))
-        } else {
-            Ok(())
+            return Err(fault_at(self.column, LineWhy::Missing));
         }
+        Ok(())
     }
 
     fn form(&self) -> Result<Form, LineFault>
         ensures { result ≡ spec.form_word (word_of self.now) }
     {
         self.present()?;
-        match form_named(self.text) {
-            Some(form) => Ok(form),
-            None => Err(fault_at(self.column, LineWhy::UnknownWord)),
-        }
+        form_named(self.text).ok_or(fault_at(self.column, LineWhy::UnknownWord))
     }
 
     fn side(&self) -> Result<Side, LineFault>
         ensures { result ≡ spec.side_word (word_of self.now) }
     {
         self.present()?;
-        match side_named(self.text) {
-            Some(side) => Ok(side),
-            None => Err(fault_at(self.column, LineWhy::UnknownWord)),
-        }
+        side_named(self.text).ok_or(fault_at(self.column, LineWhy::UnknownWord))
     }
 
     fn place(&self) -> Result<Place, LineFault>
         ensures { result ≡ spec.place_word (word_of self.now) }
     {
         self.present()?;
-        match place_named(self.text) {
-            Some(place) => Ok(place),
-            None => Err(fault_at(self.column, LineWhy::UnknownWord)),
-        }
+        place_named(self.text).ok_or(fault_at(self.column, LineWhy::UnknownWord))
     }
 
     fn timer(&self) -> Result<Timer, LineFault>
         ensures { result ≡ spec.timer_word (word_of self.now) }
     {
         self.present()?;
-        match timer_of(self.text) {
-            Some(timer) => Ok(timer),
-            None => Err(fault_at(self.column, LineWhy::UnknownWord)),
-        }
+        timer_of(self.text).ok_or(fault_at(self.column, LineWhy::UnknownWord))
     }
 
     fn number(&self) -> Result<Seq48, LineFault>
         ensures { result ≡ spec.number_word (word_of self.now) }
     {
         self.present()?;
-        match sequence_number_of(self.text) {
-            Some(number) => Ok(number),
-            None => Err(fault_at(self.column, LineWhy::BadNumber)),
-        }
+        sequence_number_of(self.text).ok_or(fault_at(self.column, LineWhy::BadNumber))
     }
 
     fn feature(&self) -> Result<Feature, LineFault>
         ensures { result ≡ spec.feature_word (word_of self.now) }
     {
         self.present()?;
-        match feature_of(self.text) {
-            Some(feature) => Ok(feature),
-            None => Err(fault_at(self.column, LineWhy::BadNumber)),
-        }
+        feature_of(self.text).ok_or(fault_at(self.column, LineWhy::BadNumber))
     }
 
     fn values(&self) -> Result<Values, LineFault>
         ensures { result ≡ spec.values_word (word_of self.now) }
     {
         self.present()?;
-        match values_of(self.text) {
-            Some(values) => Ok(values),
-            None => Err(fault_at(self.column, LineWhy::BadNumber)),
-        }
+        values_of(self.text).ok_or(fault_at(self.column, LineWhy::BadNumber))
     }
 
     // The frame of this sender with this index.
