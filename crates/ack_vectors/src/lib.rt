@@ -7,8 +7,6 @@
 
 mod laws;
 mod received;
-#[cfg(test)]
-mod tests;
 mod writing;
 
 pub use crate::laws::{

@@ -11,11 +11,9 @@ mod format;
 mod gather;
 mod laws;
 mod record;
-#[cfg(test)]
-mod tests;
 
 pub use crate::captures::Captures;
 pub use crate::fault::CaptureFault;
 pub use crate::format::{Format, Order};
-pub use crate::laws::a_capture_has_one_list_of_records;
+pub use crate::laws::{a_capture_has_one_list_of_records, cut_short_comes_before_too_large};
 pub use crate::record::Record;

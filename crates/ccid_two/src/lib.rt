@@ -7,8 +7,6 @@
 
 mod kinds;
 mod laws;
-#[cfg(test)]
-mod tests;
 mod window;
 
 pub use crate::kinds::{Kind, Kinds};

@@ -9,8 +9,6 @@ mod cursor;
 mod fixed;
 mod flight;
 mod laws;
-#[cfg(test)]
-mod tests;
 mod walk;
 
 pub use crate::congestion::Congestion;

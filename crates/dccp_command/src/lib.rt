@@ -9,23 +9,15 @@
 mod blocks;
 mod campaign_words;
 mod campaigning;
-#[cfg(test)]
-mod campaigns;
 mod capture_lines;
 mod fault;
 mod lines;
-#[cfg(test)]
-mod negotiations;
 mod numbers;
 mod play;
 mod replay;
 mod replaying;
-#[cfg(test)]
-mod replays;
 mod run_lines;
 mod show;
-#[cfg(test)]
-mod tests;
 mod text;
 mod top;
 mod transcript;

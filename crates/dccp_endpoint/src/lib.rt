@@ -22,8 +22,6 @@ mod incoming;
 mod laws;
 mod outcome;
 mod speaking;
-#[cfg(test)]
-mod tests;
 
 pub use crate::calls::{AbortFault, CloseFault, OpenFault, SendFault, Timer};
 pub use crate::config::{Config, Ports};

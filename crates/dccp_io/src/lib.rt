@@ -6,16 +6,12 @@
 
 mod calls;
 mod laws;
-#[cfg(test)]
-mod line_tests;
 mod lines;
 mod memory;
 mod read_ahead;
 mod standard;
 mod streams;
 mod sure;
-#[cfg(test)]
-mod tests;
 mod whole;
 
 pub use crate::laws::{lines_follow_one_another, the_first_line_stands_next};

@@ -278,14 +278,6 @@ impl<S: Source + Drop> Lines<S> {
         }
     }
 
-    // The reader, as it stands behind so many bytes of lines that were given.
-    #[cfg(test)]
-    pub(crate) fn behind(self, given: u64) -> Lines<S> {
-        let mut lines = self;
-        lines.given = given.min(MOST_BYTES);
-        lines
-    }
-
     /// The source, as it then stands.
     pub fn into_source(self) -> S
         ensures { result ≡ self.source }

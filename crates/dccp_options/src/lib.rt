@@ -11,8 +11,6 @@ mod laws;
 mod list;
 mod option;
 mod report;
-#[cfg(test)]
-mod tests;
 mod writer;
 
 pub use crate::laws::{

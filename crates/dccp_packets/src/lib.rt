@@ -10,8 +10,6 @@ mod kinds;
 mod laws;
 mod reading;
 mod reset_code;
-#[cfg(test)]
-mod tests;
 mod writing;
 
 pub use crate::frame::{Frame, MOST_FRAME_BYTES, Outbox};

@@ -1,386 +1,349 @@
-//! Sessions over a wire that loses frames and takes them out of order. What is looked at is what an owner sees: phases,
-//! news, data and the values of features.
+//! Sessions over wires in memory. What is looked at is what an owner sees: phases, news, data and the values of
+//! features.
 //!
-//! A story is told by a function that borrows its pair or session, a step at a time: the proof of a long function takes
-//! many times as long as those of its parts.
-use crate::alarms::arranged;
-use crate::{Alarm, Alarms, Condition, News, OneAtATime, Session};
+//! A story is told by a function that borrows its pair. A test holds no pair: the proof of a loop that does takes many
+//! times as long.
+use crate::{News, OneAtATime};
 use ccid_two::Kinds;
-use dccp_endpoint::{Config, Congestion, Feature, Held, Phase, Place, Role, Stand, Timer};
+use dccp_endpoint::{Congestion, Feature, Held, Phase, Role, Stand, Timer};
 use std::alloc::Global;
-use std::process::Abort;
-use std::test::Fail;
 
 mod pair;
 mod wire;
 
-use pair::{Pair, accepted};
+use pair::Pair;
 use wire::Wire;
 
-// How many draws of losses each story is told with.
-const SEEDS: u64 = 5;
-
-fn expect_phases<C: Congestion>(rt: &impl Abort, pair: &Pair<C>, phase: Phase, seed: u64) {
-    assert_eq!(rt; pair.phases(), (phase, phase), "seed {seed}");
+#[derive(Clone, Copy)]
+enum Story {
+    Opening,
+    Data,
+    ClientCloses,
+    ServerCloses,
+    Renegotiation,
+    FirstWaits,
+    Requests,
+    Timeouts,
+    LongDatagrams,
+    Service,
+    OtherService,
 }
 
-fn stays_open<C: Congestion>(rt: &impl Abort, pair: &mut Pair<C>, seed: u64) -> Result<(), Fail> {
-    expect_phases(rt, pair, Phase::Open, seed);
-    pair.go_on(20)?;
-    expect_phases(rt, pair, Phase::Open, seed);
-    Ok(())
-}
-
-#[test]
-fn both_ends_open(rt: HostRuntime) -> Result<(), Fail> {
-    for seed in 0..SEEDS {
-        let mut pair = Pair::opened(rt.alloc(), seed)?;
-        stays_open(&rt, &mut pair, seed)?;
-    }
-    Ok(())
+fn stays_open<C: Congestion>(pair: &mut Pair<C>) -> bool {
+    pair.go_on(20) && pair.are(Phase::Open)
 }
 
 // Sixty payloads are offered while the turns go by, each of one byte with its number: how many went out.
-fn sends_sixty<C: Congestion>(pair: &mut Pair<C>) -> Result<u8, Fail> {
+fn sends_sixty<C: Congestion>(pair: &mut Pair<C>) -> Option<u8> {
     let mut next = 0u8;
     for _ in 0..200 {
-        if next < 60 && pair.send(&[next])? {
-            next += 1;
+        if next < 60 {
+            match pair.send(&[next]) {
+                Some(true) => next += 1,
+                Some(false) => {}
+                None => return None,
+            }
         }
-        pair.go_on(1)?;
+        if !pair.go_on(1) {
+            return None;
+        }
     }
-    Ok(next)
+    Some(next)
 }
 
 fn times_in(got: &[u8], number: u8) -> usize {
     got.iter().filter(|other| **other == number).count()
 }
 
-fn expect_once(rt: &impl Abort, got: &[u8], number: u8, sent: u8, seed: u64) {
-    assert!(rt; number < sent, "seed {seed}");
-    assert_eq!(rt; times_in(got, number), 1, "seed {seed}, {number}");
-}
-
-fn expect_each_once(rt: &impl Abort, got: &[u8], sent: u8, seed: u64) {
+// None comes twice, and none that was not sent. Three of four frames get through.
+fn are_once(got: &[u8], sent: u8) -> bool {
     for number in got {
-        expect_once(rt, got, *number, sent, seed);
+        if sent <= *number || times_in(got, *number) != 1 {
+            return false;
+        }
     }
-    // Three of four frames get through.
-    assert!(rt; 5 < got.len(), "seed {seed}");
+    5 < got.len()
 }
 
-// None comes twice, and none that was not sent.
-#[test]
-fn data_come_once_at_most(rt: HostRuntime) -> Result<(), Fail> {
-    for seed in 0..SEEDS {
-        let mut pair = Pair::opened(rt.alloc(), seed)?;
-        let sent = sends_sixty(&mut pair)?;
-        expect_each_once(&rt, pair.delivered(), sent, seed);
+fn delivers_once<C: Congestion>(pair: &mut Pair<C>) -> bool {
+    match sends_sixty(pair) {
+        Some(sent) => are_once(pair.delivered(), sent),
+        None => false,
     }
-    Ok(())
 }
 
 // Where the Reset that answers the client's Close is lost, its next Close finds no connection: code 3.
-fn expect_ended<C: Congestion>(rt: &impl Abort, pair: &Pair<C>, seed: u64) {
-    let (client, server) = pair.ended();
-    assert!(rt; matches!(client, Some(1 | 3)), "seed {seed}");
-    assert_eq!(rt; server, Some(1), "seed {seed}");
+fn has_ended<C: Congestion>(pair: &Pair<C>) -> bool {
+    matches!(pair.client_ended(), Some(1 | 3)) && pair.server_ended() == Some(1)
 }
 
-fn closes<C: Congestion>(
-    rt: &impl Abort,
-    pair: &mut Pair<C>,
-    role: Role,
-    seed: u64,
-) -> Result<(), Fail> {
-    pair.close(role)?;
-    pair.go_on(300)?;
-    expect_ended(rt, pair, seed);
-    // Two lifetimes of a segment later.
-    pair.pass(240_000)?;
-    expect_phases(rt, pair, Phase::Closed, seed);
-    Ok(())
+// TIMEWAIT is over two lifetimes of a segment later.
+fn closes<C: Congestion>(pair: &mut Pair<C>, role: Role) -> bool {
+    pair.close(role)
+        && pair.go_on(300)
+        && has_ended(pair)
+        && pair.pass(240_000)
+        && pair.are(Phase::Closed)
 }
 
-#[test]
-fn either_side_closes(rt: HostRuntime) -> Result<(), Fail> {
-    for seed in 0..SEEDS {
-        for role in [Role::Client, Role::Server] {
-            let mut pair = Pair::opened(rt.alloc(), seed)?;
-            closes(&rt, &mut pair, role, seed)?;
-        }
-    }
-    Ok(())
-}
-
-fn expect_settled(rt: &impl Abort, held: Held, seed: u64) {
-    assert_eq!(rt; (held.value, held.stand), (4, Stand::Stable), "seed {seed}");
+fn is_four(held: Held) -> bool {
+    held.value == 4 && held.stand == Stand::Stable
 }
 
 // The client asks for an Ack for every fourth data packet.
-fn settles<C: Congestion>(rt: &impl Abort, pair: &mut Pair<C>, seed: u64) -> Result<(), Fail> {
-    pair.prefer(Feature::AckRatio, Place::Here, &[4])?;
-    pair.go_on(200)?;
-    let (client, server) = pair.held(Feature::AckRatio)?;
-    expect_settled(rt, client, seed);
-    expect_settled(rt, server, seed);
-    Ok(())
-}
-
-#[test]
-fn a_feature_is_renegotiated(rt: HostRuntime) -> Result<(), Fail> {
-    for seed in 0..SEEDS {
-        let mut pair = Pair::opened(rt.alloc(), seed)?;
-        settles(&rt, &mut pair, seed)?;
-    }
-    Ok(())
-}
-
-// A client that has asked for its service, at this time.
-fn asking(alloc: Global, now: u64, wire: &mut Wire) -> Result<Session<Kinds>, Fail> {
-    let congestion = Kinds::new(alloc)?;
-    let mut session = Session::new(alloc, Config::usual(Role::Client), congestion)?;
-    session.open(now, wire)?;
-    Ok(session)
-}
-
-fn tick<C: Congestion>(session: &mut Session<C>, now: u64, wire: &mut Wire) -> usize {
-    session.tick(now, wire);
-    wire.len()
-}
-
-// How many frames have gone out by then, and how long it is until the next one.
-fn expect_sent<C: Congestion>(
-    rt: &impl Abort,
-    session: &mut Session<C>,
-    wire: &mut Wire,
-    now: u64,
-    expected: (usize, u64),
-) {
-    assert_eq!(rt; tick(session, now, wire), expected.0, "{now}");
-    assert_eq!(rt; session.until_first(now), Some(expected.1), "{now}");
-}
-
-// Just before a Request goes out, when it does, how many have then, and the next wait.
-const REQUESTS: [(u64, u64, usize, u64); 8] = [
-    (5_999, 6_000, 2, 2_000),
-    (7_999, 8_000, 3, 4_000),
-    (11_999, 12_000, 4, 8_000),
-    (19_999, 20_000, 5, 16_000),
-    (35_999, 36_000, 6, 32_000),
-    (67_999, 68_000, 7, 64_000),
-    (131_999, 132_000, 8, 64_000),
-    (195_999, 196_000, 9, 64_000),
-];
-
-fn asks_again<C: Congestion>(rt: &impl Abort, session: &mut Session<C>, wire: &mut Wire) {
-    for (early, at, sent, wait) in REQUESTS {
-        assert!(rt; tick(session, early, wire) < sent, "{early}");
-        expect_sent(rt, session, wire, at, (sent, wait));
-        // Once.
-        expect_sent(rt, session, wire, at, (sent, wait));
-    }
-}
-
-// Each wait is twice the last, from a second up to 64 (RFC 4340, section 8.1.1).
-#[test]
-fn the_request_goes_out_again(rt: HostRuntime) -> Result<(), Fail> {
-    let mut wire = Wire::whole(rt.alloc());
-    let mut session = asking(rt.alloc(), 5_000, &mut wire)?;
-    expect_sent(&rt, &mut session, &mut wire, 5_000, (1, 1_000));
-    expect_sent(&rt, &mut session, &mut wire, 5_100, (1, 900));
-    asks_again(&rt, &mut session, &mut wire);
-    Ok(())
-}
-
-// Where a timer begins in this condition, and that it goes on.
-fn expect_first_wait(rt: &impl Abort, condition: &Condition, timer: Timer, wait: u64) {
-    let alarms = arranged(&Alarms::none(), condition, 7);
-    assert_eq!(rt;
-        alarms.of(timer),
-        Some(Alarm { since: 7, wait }),
-        "{timer:?} in {condition:?}"
-    );
-    assert_eq!(rt;
-        arranged(&alarms, condition, 9),
-        alarms,
-        "{timer:?} goes on"
-    );
+fn settles<C: Congestion>(pair: &mut Pair<C>) -> bool {
+    pair.prefer(Feature::AckRatio, &[4])
+        && pair.go_on(200)
+        && is_four(pair.held(Feature::AckRatio))
+        && pair.told(Feature::AckRatio).is_some_and(is_four)
 }
 
 // The waits of RFC 4340, sections 8.1.1, 8.1.5 and 8.3, with round trips of 200 milliseconds and segments that live for
-// two minutes (section 3.4); and a second for a Confirm and for a report.
-#[test]
-fn a_timer_begins_with_its_first_wait(rt: HostRuntime) -> Result<(), Fail> {
-    let cases = [
-        (Phase::Request, false, Timer::Request, 1_000),
-        (Phase::PartOpen, false, Timer::Ack, 200),
-        (Phase::Open, false, Timer::Ack, 200),
-        (Phase::Open, false, Timer::Negotiate, 1_000),
-        (Phase::Open, true, Timer::Rto, 1_000),
-        (Phase::CloseReq, false, Timer::Close, 400),
-        (Phase::Closing, true, Timer::Close, 400),
-        (Phase::TimeWait, false, Timer::TimeWait, 240_000),
-    ];
-    for (phase, in_flight, timer, wait) in cases {
-        expect_first_wait(&rt, &Condition { phase, in_flight }, timer, wait);
+// two minutes (section 3.4); and a second for a Confirm and for a report: the first that is amiss.
+fn first_wait_amiss<C: Congestion>(pair: &mut Pair<C>) -> usize {
+    if pair.wait_of(Role::Client, Timer::Request) != Some(1_000) {
+        return 1;
     }
-    Ok(())
+    // In PARTOPEN.
+    if !pair.go_on(1) || pair.wait_of(Role::Client, Timer::Ack) != Some(200) {
+        return 2;
+    }
+    if !pair.opens() || pair.wait_of(Role::Server, Timer::Ack) != Some(200) {
+        return 3;
+    }
+    if pair.wait_of(Role::Server, Timer::Negotiate) != Some(1_000) {
+        return 4;
+    }
+    if pair.send(&[1]) != Some(true) || pair.wait_of(Role::Client, Timer::Rto) != Some(1_000) {
+        return 5;
+    }
+    closing_wait_amiss(pair)
 }
 
-// An owner waits for this long, and has no answer.
-fn hears_nothing<C: Congestion>(
-    rt: &impl Abort,
-    pair: &mut Pair<C>,
-    wait: u64,
-) -> Result<(), Fail> {
-    pair.lose();
-    pair.pass(wait.saturating_sub(1))?;
-    assert_eq!(rt; pair.until_first(), Some(1), "{wait}");
-    pair.pass(1)
+// The server is in CLOSEREQ, the client in CLOSING and then in TIMEWAIT.
+fn closing_wait_amiss<C: Congestion>(pair: &mut Pair<C>) -> usize {
+    if !pair.close(Role::Server) || pair.wait_of(Role::Server, Timer::Close) != Some(400) {
+        return 6;
+    }
+    if !pair.go_on(1) || pair.wait_of(Role::Client, Timer::Close) != Some(400) {
+        return 7;
+    }
+    if !pair.go_on(5) || pair.wait_of(Role::Client, Timer::TimeWait) != Some(240_000) {
+        return 8;
+    }
+    0
 }
 
-// Data go out, and are acknowledged or not; afterwards nothing is in flight.
-fn expect_wait<C: Congestion>(
-    rt: &impl Abort,
-    pair: &mut Pair<C>,
-    is_acknowledged: bool,
-    wait: u64,
-) -> Result<(), Fail> {
-    assert!(rt; pair.send(&[1])?, "{wait}");
-    assert_eq!(rt; pair.until_first(), Some(wait));
-    if is_acknowledged {
-        pair.go_on(10)?;
-    } else {
-        hears_nothing(rt, pair, wait)?;
+// So many frames have gone out, and the next one does after this wait.
+fn has_sent<C: Congestion>(pair: &Pair<C>, sent: usize, wait: u64) -> bool {
+    pair.sent() == sent && pair.until_first() == Some(wait)
+}
+
+// After this wait a Request goes out, not before, and once.
+fn asks_again<C: Congestion>(pair: &mut Pair<C>, wait: u64, sent: usize, next: u64) -> bool {
+    pair.wait(wait.saturating_sub(1));
+    let early = pair.sent();
+    pair.wait(1);
+    let once = has_sent(pair, sent, next);
+    pair.wait(0);
+    early < sent && once && has_sent(pair, sent, next)
+}
+
+// How long it is until a Request goes out, how many have then, and the next wait.
+const REQUESTS: [(u64, usize, u64); 8] = [
+    (900, 2, 2_000),
+    (2_000, 3, 4_000),
+    (4_000, 4, 8_000),
+    (8_000, 5, 16_000),
+    (16_000, 6, 32_000),
+    (32_000, 7, 64_000),
+    (64_000, 8, 64_000),
+    (64_000, 9, 64_000),
+];
+
+// Each wait is twice the last, from a second up to 64 (RFC 4340, section 8.1.1): the first Request that is amiss.
+fn request_amiss<C: Congestion>(pair: &mut Pair<C>) -> usize {
+    let begins = has_sent(pair, 1, 1_000);
+    pair.wait(100);
+    if !begins || !has_sent(pair, 1, 900) {
+        return 1;
     }
-    assert_eq!(rt; pair.alarm(Timer::Rto), None, "{wait}");
-    Ok(())
+    for (wait, sent, next) in REQUESTS {
+        if !asks_again(pair, wait, sent, next) {
+            return sent;
+        }
+    }
+    0
 }
 
 // The waits of the other timers grow to 64 seconds, so that the first to run out is rto.
-fn idles<C: Congestion>(rt: &impl Abort, pair: &mut Pair<C>) -> Result<(), Fail> {
+fn idles<C: Congestion>(pair: &mut Pair<C>) -> bool {
     for _ in 0..10 {
-        pair.pass(64_000)?;
+        if !pair.pass(64_000) {
+            return false;
+        }
     }
-    assert_eq!(rt; pair.until_first(), Some(64_000));
-    Ok(())
+    pair.until_first() == Some(64_000)
 }
 
-// Whether data are acknowledged, and how long that is waited for.
-const REPORTS: [(bool, u64); 7] = [
-    (false, 1_000),
-    (false, 2_000),
-    (true, 4_000),
-    (true, 1_000),
-    (false, 1_000),
-    (true, 2_000),
-    (true, 1_000),
+// An owner waits for this long, and has no answer.
+fn hears_nothing<C: Congestion>(pair: &mut Pair<C>, wait: u64) -> bool {
+    pair.lose();
+    pair.pass(wait.saturating_sub(1)) && pair.until_first() == Some(1) && pair.pass(1)
+}
+
+// Data go out, and are acknowledged or not; afterwards nothing is in flight.
+fn is_awaited<C: Congestion>(pair: &mut Pair<C>, is_acknowledged: bool, wait: u64) -> bool {
+    if pair.send(&[1]) != Some(true) || pair.until_first() != Some(wait) {
+        return false;
+    }
+    let came = if is_acknowledged {
+        pair.go_on(10)
+    } else {
+        hears_nothing(pair, wait)
+    };
+    came && pair.wait_of(Role::Client, Timer::Rto).is_none()
+}
+
+// Which data, whether they are acknowledged, and how long that is waited for.
+const REPORTS: [(usize, bool, u64); 7] = [
+    (1, false, 1_000),
+    (2, false, 2_000),
+    (3, true, 4_000),
+    (4, true, 1_000),
+    (5, false, 1_000),
+    (6, true, 2_000),
+    (7, true, 1_000),
 ];
 
-fn times_out<C: Congestion>(rt: &impl Abort, pair: &mut Pair<C>) -> Result<(), Fail> {
-    idles(rt, pair)?;
-    for (is_acknowledged, wait) in REPORTS {
-        expect_wait(rt, pair, is_acknowledged, wait)?;
+// A timeout leaves nothing in flight, so the timer stops; the next data begin it with twice its wait (RFC 2988, section
+// 5.5), until an acknowledgement brings the first wait back (section 5.3): the first data that are amiss.
+fn report_amiss<C: Congestion>(pair: &mut Pair<C>) -> usize {
+    if !idles(pair) {
+        return 8;
+    }
+    for (number, is_acknowledged, wait) in REPORTS {
+        if !is_awaited(pair, is_acknowledged, wait) {
+            return number;
+        }
     }
     // The three others were lost.
-    assert_eq!(rt; pair.delivered().len(), 4);
-    Ok(())
+    if pair.delivered().len() == 4 { 0 } else { 9 }
 }
 
-// A timeout leaves nothing in flight, so the timer stops; the next data begin it with twice its wait (RFC 2988, section
-// 5.5), until an acknowledgement brings the first wait back (section 5.3).
+// A datagram that is too long is not heard, and one that says nothing changes nothing.
+fn heeds_no_zeros<C: Congestion>(pair: &mut Pair<C>) -> bool {
+    matches!(pair.hear(&[0; 2_045]), News::TooLong)
+        && matches!(pair.hear(&[0; 2_044]), News::Quiet)
+        && has_sent(pair, 1, 1_000)
+}
+
+// A server takes a Request for its service, and the client acknowledges the Response.
+fn is_taken<C: Congestion>(pair: &mut Pair<C>) -> bool {
+    pair.go_on(1) && pair.is_served() && pair.sent() == 1
+}
+
+// It takes none for another service, and the client hears the code Bad Service Code (RFC 4340, section 5.6).
+fn is_refused<C: Congestion>(pair: &mut Pair<C>) -> bool {
+    pair.go_on(1) && !pair.is_served() && pair.client_ended() == Some(8)
+}
+
+fn amiss_if(came: bool) -> usize {
+    usize::from(!came)
+}
+
+// The row of a story that is amiss, or 0; 10 where the ends do not open.
+fn amiss<C: Congestion>(pair: &mut Pair<C>, story: Story) -> usize {
+    match story {
+        Story::Opening => amiss_if(pair.opens() && stays_open(pair)),
+        Story::Data => amiss_if(pair.opens() && delivers_once(pair)),
+        Story::ClientCloses => amiss_if(pair.opens() && closes(pair, Role::Client)),
+        Story::ServerCloses => amiss_if(pair.opens() && closes(pair, Role::Server)),
+        Story::Renegotiation => amiss_if(pair.opens() && settles(pair)),
+        Story::FirstWaits => first_wait_amiss(pair),
+        Story::Requests => request_amiss(pair),
+        Story::Timeouts => { if pair.opens() { report_amiss(pair) } else { 10 } }
+        Story::LongDatagrams => amiss_if(heeds_no_zeros(pair)),
+        Story::Service => amiss_if(is_taken(pair)),
+        Story::OtherService => amiss_if(is_refused(pair)),
+    }
+}
+
+// A client of the usual kind asks a server of this service.
+fn asking(alloc: Global, draws: Option<u64>, service: u32) -> Option<Pair<Kinds>> {
+    match Kinds::new(alloc) {
+        Ok(congestion) => Pair::asking(alloc, congestion, Wire::new(alloc, draws), service),
+        Err(_) => None,
+    }
+}
+
+// The same of a new pair; 11 where there is none.
+fn told(alloc: Global, draws: Option<u64>, service: u32, story: Story) -> usize {
+    match asking(alloc, draws, service) {
+        Some(mut pair) => amiss(&mut pair, story),
+        None => 11,
+    }
+}
+
+const OVER_LOSSES: [(&str, Story); 5] = [
+    ("both ends open", Story::Opening),
+    ("data come once at most", Story::Data),
+    ("the client closes", Story::ClientCloses),
+    ("the server closes", Story::ServerCloses),
+    ("a feature is renegotiated", Story::Renegotiation),
+];
+
 #[test]
-fn a_timeout_doubles_the_next_wait(rt: HostRuntime) -> Result<(), Fail> {
-    let congestion = Kinds::new(rt.alloc())?;
-    let mut pair = Pair::with(rt.alloc(), congestion, Wire::whole(rt.alloc()))?;
-    times_out(&rt, &mut pair)
+fn stories_over_a_wire_that_loses(rt: HostRuntime) {
+    for seed in 0..5 {
+        for (name, story) in OVER_LOSSES {
+            let row = told(rt.alloc(), Some(seed), 42, story);
+            assert!(rt; row == 0, "{name}, seed {seed}");
+        }
+    }
 }
 
-fn hears<C: Congestion>(session: &mut Session<C>, datagram: &[u8], wire: &mut Wire) -> News {
-    session.arrived(datagram, 10, wire)
-}
-
-// A datagram that changes nothing, and what its owner is told.
-fn expect_unchanged<C: Congestion>(
-    rt: &impl Abort,
-    session: &mut Session<C>,
-    datagram: &[u8],
-    news: News,
-    wire: &mut Wire,
-) {
-    let (alarms, marks) = (session.alarms(), session.end().marks());
-    assert_eq!(rt; hears(session, datagram, wire), news);
-    assert_eq!(rt; (session.alarms(), session.end().marks()), (alarms, marks));
-    assert_eq!(rt; wire.len(), 1);
-}
+// The service that the server has.
+const IN_ORDER: [(&str, u32, Story); 6] = [
+    ("a timer begins with its first wait", 42, Story::FirstWaits),
+    ("the Request goes out again", 42, Story::Requests),
+    ("a timeout doubles the next wait", 42, Story::Timeouts),
+    ("a long datagram changes nothing", 42, Story::LongDatagrams),
+    ("a Request is a connection", 42, Story::Service),
+    ("of another service it is none", 43, Story::OtherService),
+];
 
 #[test]
-fn a_long_datagram_changes_nothing(rt: HostRuntime) -> Result<(), Fail> {
-    let mut wire = Wire::whole(rt.alloc());
-    let mut session = asking(rt.alloc(), 0, &mut wire)?;
-    expect_unchanged(&rt, &mut session, &[0; 2_045], News::TooLong, &mut wire);
-    expect_unchanged(&rt, &mut session, &[0; 2_044], News::Quiet, &mut wire);
-    Ok(())
+fn stories_in_order(rt: HostRuntime) {
+    for (name, service, story) in IN_ORDER {
+        let row = told(rt.alloc(), None, service, story);
+        assert!(rt; row == 0, "{name}: {row}");
+    }
 }
 
-// A server of this service hears a Request: whether it has a connection then.
-fn is_taken(alloc: Global, service: u32, request: &[u8], wire: &mut Wire) -> Result<bool, Fail> {
-    let mut config = Config::usual(Role::Server);
-    config.service = service;
-    Ok(accepted(alloc, config, request, 0, wire)?.is_some())
+fn sends_by_ones<C: Congestion>(pair: &mut Pair<C>) -> bool {
+    pair.opens()
+        && pair.room() == 1
+        && pair.send(&[1]) == Some(true)
+        && pair.room() == 0
+        && pair.send(&[2]) == Some(false)
+        && pair.go_on(10)
+        && pair.room() == 1
+        && pair.delivered() == [1].as_slice()
 }
 
-fn expect_taken(
-    rt: &impl Abort,
-    alloc: Global,
-    service: u32,
-    request: &[u8],
-    expected: bool,
-) -> Result<(), Fail> {
-    let mut wire = Wire::whole(alloc);
-    assert_eq!(rt;
-        is_taken(alloc, service, request, &mut wire)?,
-        expected,
-        "service {service}"
-    );
-    assert!(rt; wire.take().is_some(), "service {service}");
-    Ok(())
-}
-
-fn request(alloc: Global) -> Result<Vec<u8>, Fail> {
-    let mut wire = Wire::whole(alloc);
-    let _session = asking(alloc, 0, &mut wire)?;
-    Ok(wire.take().ok_or("a Request")?)
-}
-
-// A server takes nothing but a Request for its service, and answers each datagram of a stranger.
-#[test]
-fn a_request_is_a_connection(rt: HostRuntime) -> Result<(), Fail> {
-    let request = request(rt.alloc())?;
-    expect_taken(&rt, rt.alloc(), 42, &request, true)?;
-    expect_taken(&rt, rt.alloc(), 43, &request, false)
-}
-
-fn expect_room<C: Congestion>(rt: &impl Abort, pair: &Pair<C>, room: u32) {
-    assert_eq!(rt; pair.room(), room);
-}
-
-fn sends_by_ones<C: Congestion>(rt: &impl Abort, pair: &mut Pair<C>) -> Result<(), Fail> {
-    expect_room(rt, pair, 1);
-    assert!(rt; pair.send(&[1])?);
-    expect_room(rt, pair, 0);
-    assert!(rt; !pair.send(&[2])?);
-    pair.go_on(10)?;
-    expect_room(rt, pair, 1);
-    assert_eq!(rt; pair.delivered(), [1].as_slice());
-    Ok(())
+fn goes_by_ones(alloc: Global) -> bool {
+    let Ok(congestion) = OneAtATime::new(alloc) else {
+        return false;
+    };
+    match Pair::asking(alloc, congestion, Wire::new(alloc, None), 42) {
+        Some(mut pair) => sends_by_ones(&mut pair),
+        None => false,
+    }
 }
 
 // The window of an own congestion control is one packet: the second has to wait for the report of the first.
 #[test]
-fn one_packet_at_a_time(rt: HostRuntime) -> Result<(), Fail> {
-    let congestion = OneAtATime::new(rt.alloc())?;
-    let mut pair = Pair::with(rt.alloc(), congestion, Wire::whole(rt.alloc()))?;
-    sends_by_ones(&rt, &mut pair)
+fn one_packet_at_a_time(rt: HostRuntime) {
+    assert!(rt; goes_by_ones(rt.alloc()), "one at a time");
 }

@@ -2,14 +2,15 @@
 //! wish, at both roles (RFC 4340, section 6, and the table of this profile); each packet type at a client before
 //! `open`, and what a server that has asked for a Close answers to types that its peer may not send (RFC 4340, section
 //! 8.5).
-use ccid_two::Kinds;
-use dccp_endpoint::{Config, Held, Outcome, Role, Stand, Timer, Why};
+use crate::ends::{
+    Endpoint, closes, fires, meets, new_end, plain, prefers, tell_frame, tell_packet,
+};
+use crate::tables::{Table, holds, pieces, tell_held, values};
+use dccp_endpoint::{Role, Timer};
 use dccp_packets::Outbox;
 use feature_lists::{Feature, Place};
 use std::alloc::Global;
 use std::test::Fail;
-
-type Endpoint = dccp_endpoint::Endpoint<Kinds>;
 
 // A row is what an end in OPEN has asked for, each wish as `here/8/1,2`, and `again` where its Change goes out again;
 // then a packet that arrives. Behind the colon stands the answer, what the end then holds for what it asked last (`*`
@@ -151,238 +152,120 @@ const AFTER_CLOSE_REQ: &str = "\
     9c4013890700260f03000000000003ed00000000000007d00000002a: synced 1005, CloseReq, 13899c400600193a11000000000007d300000000000003ed\n\
     9c40138906001f3d0b000000000003ed00000000000007d0: synced 1005, CloseReq, 13899c400600193a11000000000007d300000000000003ed\n";
 
-fn place(text: &str) -> Option<Place> {
-    match text {
-        "here" => Some(Place::Here),
-        "there" => Some(Place::There),
-        _ => None,
-    }
-}
-
-// A feature at a place, and the values that are wished for it.
-fn pieces(word: &str) -> Option<(Feature, Place, &str)> {
-    let (there, rest) = word.split_once("/")?;
-    let (number, list) = rest.split_once("/")?;
-    Some((Feature::of(number.parse().ok()?)?, place(there)?, list))
-}
-
-fn values(alloc: Global, list: &str) -> Result<Vec<u64>, Fail> {
-    let mut values = Vec::new(alloc);
-    for number in list.split(",") {
-        values.push(number.parse().ok().ok_or("a number")?)?;
-    }
-    Ok(values)
-}
-
-// Each of these makes one call of an end, whose clauses then stand in one proof.
-fn asks(end: &mut Endpoint, feature: Feature, place: Place, values: &[u64], out: &mut Outbox) {
-    let _result = end.prefer(feature, place, values, out);
-}
-
-fn asks_again(end: &mut Endpoint, out: &mut Outbox) {
-    let _fired = end.timer(Timer::Negotiate, out);
-}
-
-fn opens(end: &mut Endpoint, out: &mut Outbox) {
-    let _result = end.open(out);
-}
-
-fn closes(end: &mut Endpoint, out: &mut Outbox) {
-    let _result = end.close(out);
-}
-
-fn received(end: &mut Endpoint, bytes: &[u8], out: &mut Outbox) -> Option<Outcome> {
-    if 2044 < bytes.len() {
-        return None;
-    }
-    Some(end.receive(bytes, out))
-}
-
-// The packets of the plain handshake that arrive at an end.
-fn opening(role: Role) -> [&'static str; 2] {
-    match role {
-        Role::Server => [
-            "9c401389050031ec01000000000003e80000002a",
-            "9c4013890600234107000000000003e900000000000007d0",
-        ],
-        Role::Client => [
-            "13899c400700261403000000000007d000000000000003e80000002a",
-            "13899c400600234107000000000007d100000000000003e8",
-        ],
-    }
-}
-
-// An end that offers nothing.
-fn new_end(alloc: Global, role: Role) -> Result<Endpoint, Fail> {
-    let mut config = Config::usual(role);
-    config.plain();
-    let congestion = Kinds::new(alloc)?;
-    Ok(Endpoint::new(alloc, config, congestion)?)
-}
-
-// The handshake leads it to OPEN.
-fn meets(alloc: Global, end: &mut Endpoint, role: Role) -> Result<(), Fail> {
+// What the end answers to a packet, holds for what it asked last, and sends.
+fn tell_answer(
+    alloc: Global,
+    end: &mut Endpoint,
+    packet: &str,
+    (feature, place): (Feature, Place),
+    told: &mut String,
+) -> Result<(), Fail> {
     let mut out = Outbox::new();
-    opens(end, &mut out);
-    for packet in opening(role) {
-        let bytes = hex::decode(alloc, packet)?;
-        received(end, &bytes, &mut out);
+    tell_packet(alloc, end, packet, &mut out, told)?;
+    told.push_str(",")?;
+    tell_held(end.held(feature, place), told)?;
+    told.push_str(",")?;
+    tell_frame(alloc, &out, told)
+}
+
+// Whether a word asks for something. What it asked for is kept.
+fn asks(
+    alloc: Global,
+    end: &mut Endpoint,
+    word: &str,
+    asked: &mut (Feature, Place),
+) -> Result<bool, Fail> {
+    let mut out = Outbox::new();
+    if word == "again" {
+        return Ok(fires(end, Timer::Negotiate, &mut out));
+    }
+    let Some((feature, place, list)) = pieces(word) else {
+        return Ok(false);
+    };
+    *asked = (feature, place);
+    Ok(prefers(end, feature, place, &values(alloc, list)?, &mut out).is_ok())
+}
+
+fn tell_asked(
+    alloc: Global,
+    end: &mut Endpoint,
+    words: &str,
+    told: &mut String,
+) -> Result<(), Fail> {
+    let mut asked = (Feature::Ccid, Place::Here);
+    for word in words.split_whitespace() {
+        if !asks(alloc, end, word, &mut asked)? {
+            tell_answer(alloc, end, word, asked, told)?;
+        }
     }
     Ok(())
 }
 
-fn outcome_text(alloc: Global, outcome: &Outcome) -> Result<String, Fail> {
-    match *outcome {
-        Outcome::Took { delivered: None } => Ok(format!(in alloc; "took")?),
-        Outcome::SentReset { code, detail } => {
-            let [first, second, third] = detail;
-            Ok(format!(in alloc; "sent reset {code} {first} {second} {third}")?)
-        }
-        Outcome::Synced(acknowledged) => {
-            let number = acknowledged.get();
-            Ok(format!(in alloc; "synced {number}")?)
-        }
-        Outcome::Dropped(Why::StrayReset) => Ok(format!(in alloc; "dropped StrayReset")?),
-        _ => Err(Fail::from("another outcome")),
+struct Asking(Role);
+
+impl Table for Asking {
+    fn tell(&self, alloc: Global, words: &str, told: &mut String) -> Result<(), Fail> {
+        let mut end = new_end(alloc, plain(self.0))?;
+        meets(alloc, &mut end, self.0)?;
+        tell_asked(alloc, &mut end, words, told)
     }
-}
-
-fn held_text(alloc: Global, held: Held) -> Result<String, Fail> {
-    let value = held.value;
-    let mark = match held.stand {
-        Stand::Stable => "",
-        Stand::Changing => "*",
-        Stand::Unstable => "!",
-    };
-    Ok(format!(in alloc; "{value}{mark}")?)
-}
-
-// The frame that was sent, or `-`.
-fn frame_text(alloc: Global, out: &Outbox) -> Result<String, Fail> {
-    match out.frame() {
-        Some(frame) => Ok(hex::encode(alloc, frame.bytes())?),
-        None => Ok(format!(in alloc; "-")?),
-    }
-}
-
-// What the end answers to a packet, holds for a feature at a place then, and sends.
-fn answer(
-    alloc: Global,
-    end: &mut Endpoint,
-    packet: &str,
-    asked: (Feature, Place),
-) -> Result<String, Fail> {
-    let bytes = hex::decode(alloc, packet)?;
-    let mut out = Outbox::new();
-    let outcome = received(end, &bytes, &mut out).ok_or("no packet is longer")?;
-    let text = outcome_text(alloc, &outcome)?;
-    let held = held_text(alloc, end.held(asked.0, asked.1))?;
-    let sent = frame_text(alloc, &out)?;
-    Ok(format!(in alloc; "{text}, {held}, {sent}")?)
-}
-
-// What comes of a row's words. The end stands with the caller, so that no early return has it to drop.
-fn told(alloc: Global, end: &mut Endpoint, role: Role, words: &str) -> Result<String, Fail> {
-    let mut out = Outbox::new();
-    let mut asked = (Feature::Ccid, Place::Here);
-    meets(alloc, end, role)?;
-    for word in words.split_whitespace() {
-        if word == "again" {
-            asks_again(end, &mut out);
-        } else if let Some((feature, place, list)) = pieces(word) {
-            asks(end, feature, place, &values(alloc, list)?, &mut out);
-            asked = (feature, place);
-        } else {
-            return answer(alloc, end, word, asked);
-        }
-    }
-    Err(Fail::from("a row has a packet"))
 }
 
 // What the end answers to a packet, its phase then, and what it sends.
-fn reply(alloc: Global, end: &mut Endpoint, packet: &str) -> Result<String, Fail> {
-    let bytes = hex::decode(alloc, packet)?;
+fn tell_reply(
+    alloc: Global,
+    end: &mut Endpoint,
+    packet: &str,
+    told: &mut String,
+) -> Result<(), Fail> {
     let mut out = Outbox::new();
-    let outcome = received(end, &bytes, &mut out).ok_or("no packet is longer")?;
-    let text = outcome_text(alloc, &outcome)?;
+    tell_packet(alloc, end, packet, &mut out, told)?;
     let phase = end.phase();
-    let sent = frame_text(alloc, &out)?;
-    Ok(format!(in alloc; "{text}, {phase:?}, {sent}")?)
+    write!(told, ", {phase:?},")?;
+    tell_frame(alloc, &out, told)
 }
 
-fn reply_of_a_new_client(alloc: Global, packet: &str) -> Result<String, Fail> {
-    let mut end = new_end(alloc, Role::Client)?;
-    reply(alloc, &mut end, packet)
+struct NewClient;
+
+impl Table for NewClient {
+    fn tell(&self, alloc: Global, words: &str, told: &mut String) -> Result<(), Fail> {
+        let mut end = new_end(alloc, plain(Role::Client))?;
+        tell_reply(alloc, &mut end, words, told)
+    }
 }
 
-// The handshake, a close, and the packet.
-fn closing_reply(alloc: Global, end: &mut Endpoint, packet: &str) -> Result<String, Fail> {
+fn tell_closing(
+    alloc: Global,
+    end: &mut Endpoint,
+    packet: &str,
+    told: &mut String,
+) -> Result<(), Fail> {
     meets(alloc, end, Role::Server)?;
-    let mut out = Outbox::new();
-    closes(end, &mut out);
-    reply(alloc, end, packet)
+    let _closed = closes(end, &mut Outbox::new());
+    tell_reply(alloc, end, packet, told)
 }
 
-fn reply_of_a_closing_server(alloc: Global, packet: &str) -> Result<String, Fail> {
-    let mut end = new_end(alloc, Role::Server)?;
-    closing_reply(alloc, &mut end, packet)
-}
+struct ClosingServer;
 
-fn row(alloc: Global, role: Role, words: &str) -> Result<String, Fail> {
-    let mut end = new_end(alloc, role)?;
-    told(alloc, &mut end, role, words)
-}
-
-// Which end a table's rows are for.
-#[derive(Clone, Copy)]
-enum Start {
-    Asks(Role),
-    NewClient,
-    ClosingServer,
-}
-
-fn answer_at(alloc: Global, start: Start, words: &str) -> Result<String, Fail> {
-    match start {
-        Start::Asks(role) => row(alloc, role, words),
-        Start::NewClient => reply_of_a_new_client(alloc, words),
-        Start::ClosingServer => reply_of_a_closing_server(alloc, words),
+impl Table for ClosingServer {
+    fn tell(&self, alloc: Global, words: &str, told: &mut String) -> Result<(), Fail> {
+        let mut end = new_end(alloc, plain(Role::Server))?;
+        tell_closing(alloc, &mut end, words, told)
     }
-}
-
-// The first row of which something else comes, with that.
-fn first_wrong(alloc: Global, start: Start, rows: &str) -> Result<Option<String>, Fail> {
-    for line in rows.lines() {
-        if line.starts_with("#") {
-            continue;
-        }
-        let (words, wanted) = line.split_once(": ").ok_or("a row has a colon")?;
-        let got = answer_at(alloc, start, words)?;
-        if got.as_str() != wanted {
-            return Ok(Some(format!(in alloc; "{words}: {got}")?));
-        }
-    }
-    Ok(None)
 }
 
 #[test]
 fn what_meets_a_wish(rt: HostRuntime) -> Result<(), Fail> {
-    let wrong = first_wrong(rt.alloc(), Start::Asks(Role::Server), AT_A_SERVER)?;
-    assert!(rt; wrong.is_none(), "{wrong:?}");
-    let wrong = first_wrong(rt.alloc(), Start::Asks(Role::Client), AT_A_CLIENT)?;
-    assert!(rt; wrong.is_none(), "{wrong:?}");
-    Ok(())
+    holds(rt.alloc(), &Asking(Role::Server), AT_A_SERVER)?;
+    holds(rt.alloc(), &Asking(Role::Client), AT_A_CLIENT)
 }
 
 #[test]
 fn packets_before_open(rt: HostRuntime) -> Result<(), Fail> {
-    let wrong = first_wrong(rt.alloc(), Start::NewClient, BEFORE_OPEN)?;
-    assert!(rt; wrong.is_none(), "{wrong:?}");
-    Ok(())
+    holds(rt.alloc(), &NewClient, BEFORE_OPEN)
 }
 
 #[test]
 fn unexpected_in_closereq(rt: HostRuntime) -> Result<(), Fail> {
-    let wrong = first_wrong(rt.alloc(), Start::ClosingServer, AFTER_CLOSE_REQ)?;
-    assert!(rt; wrong.is_none(), "{wrong:?}");
-    Ok(())
+    holds(rt.alloc(), &ClosingServer, AFTER_CLOSE_REQ)
 }

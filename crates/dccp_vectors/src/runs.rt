@@ -2,6 +2,7 @@
 //!
 //! A word is `start`, `mark` or `raise` with a number. Behind the number may stand a step up or down and how many such
 //! calls there are: `mark=0+2*1024` marks every second number from 0 to 2,046.
+use crate::tables::{Table, holds};
 use run_list::{PlainRuns, RunCall, RunList, Runs, replay_runs};
 use seq_circle::Seq48;
 use std::alloc::Global;
@@ -50,107 +51,107 @@ const ROWS: &str = "\
     start=5000 mark=6309 mark=5068 mark=5496+1*15 mark=5270-1*35 mark=6057-1*28 mark=5211 mark=6571 mark=7967+3*19 mark=5881 mark=5329 mark=6120+1*2 mark=6421-2*37 raise=3940 raise=6245 mark=5198 mark=6920 mark=7215 mark=7281 mark=7428 mark=5138 mark=7267 mark=5185-2*16 raise=3605 mark=6748+2*16: 161 6245\n\
     start=70000 mark=73130 mark=73388 mark=71946+3*32 mark=71716-3*30 mark=71441 mark=70018 mark=71085 mark=72801 mark=73567 mark=72756+1*21 mark=71474 mark=72434 mark=75149 mark=71101 mark=72728 mark=71876 mark=75926 mark=70191-3*25 mark=74305-3*31 mark=71432 mark=73619 mark=70061 mark=71916 mark=70309 mark=72622 mark=71784+2*33 mark=74970 mark=73204-1*24 mark=70966-3*14 mark=72183-1*39: 123 73879\n";
 
-// A step up or down.
+// A number, a step up or down, and how many such calls there are.
 #[derive(Clone, Copy)]
-struct Step {
+struct Steps {
+    first: Seq48,
     up: bool,
     by: u64,
     times: u32,
 }
 
-fn parsed(text: &str) -> Result<u64, Fail> {
-    Ok(text.parse::<u64>().ok().ok_or("a number")?)
-}
-
-fn number(text: &str) -> Result<Seq48, Fail> {
-    Ok(Seq48::new(parsed(text)?).ok_or("a number is below 2^48")?)
-}
-
-fn step_of(text: &str, up: bool) -> Result<Step, Fail> {
-    let (by, times) = text.split_once("*").ok_or("a step has its times")?;
-    let times = times.parse::<u32>().ok().ok_or("times")?;
-    Ok(Step {
+fn steps_of(first: &str, up: bool, by: &str, times: &str) -> Option<Steps> {
+    Some(Steps {
+        first: Seq48::new(first.parse().ok()?)?,
         up,
-        by: parsed(by)?,
-        times,
+        by: by.parse().ok()?,
+        times: times.parse().ok()?,
     })
 }
 
-// The first number, and the steps from it.
-fn steps(text: &str) -> Result<(Seq48, Step), Fail> {
-    if let Some((first, rest)) = text.split_once("+") {
-        return Ok((number(first)?, step_of(rest, true)?));
-    }
-    if let Some((first, rest)) = text.split_once("-") {
-        return Ok((number(first)?, step_of(rest, false)?));
-    }
-    let once = Step {
-        up: true,
-        by: 0,
-        times: 1,
+fn read_steps(text: &str) -> Option<Steps> {
+    let Some((from, times)) = text.split_once("*") else {
+        return steps_of(text, true, "0", "1");
     };
-    Ok((number(text)?, once))
+    match from.split_once("+") {
+        Some((first, by)) => steps_of(first, true, by, times),
+        None => {
+            let (first, by) = from.split_once("-")?;
+            steps_of(first, false, by, times)
+        }
+    }
 }
 
-fn call(kind: &str, n: Seq48) -> Result<RunCall, Fail> {
+fn call(kind: &str, n: Seq48) -> Option<RunCall> {
     match kind {
-        "start" => Ok(RunCall::Start(n)),
-        "mark" => Ok(RunCall::Mark(n)),
-        "raise" => Ok(RunCall::Raise(n)),
-        _ => Err(Fail::from("a call is start, mark or raise")),
+        "start" => Some(RunCall::Start(n)),
+        "mark" => Some(RunCall::Mark(n)),
+        "raise" => Some(RunCall::Raise(n)),
+        _ => None,
     }
+}
+
+fn put_call(calls: &mut Vec<RunCall>, kind: &str, n: Seq48) -> Result<(), Fail> {
+    calls.push(call(kind, n).ok_or("a call is start, mark or raise")?)?;
+    Ok(())
 }
 
 // Puts the calls of a word behind the others.
 fn put_calls(calls: &mut Vec<RunCall>, word: &str) -> Result<(), Fail> {
     let (kind, numbers) = word.split_once("=").ok_or("a word has a number")?;
-    let (first, step) = steps(numbers)?;
-    let mut n = first;
-    for _ in 0..step.times {
-        calls.push(call(kind, n)?)?;
-        n = if step.up {
-            n.add(step.by)
+    let steps = read_steps(numbers).ok_or("a number, and a step")?;
+    let mut n = steps.first;
+    for _ in 0..steps.times {
+        put_call(calls, kind, n)?;
+        n = if steps.up {
+            n.add(steps.by)
         } else {
-            n.sub(step.by)
+            n.sub(steps.by)
         };
     }
     Ok(())
 }
 
 // How many marks are New, and the floor.
-fn told<R: Runs>(alloc: Global, runs: &mut R, calls: &[RunCall]) -> Result<String, Fail> {
+fn tell_runs<R: Runs>(runs: &mut R, calls: &[RunCall], told: &mut String) -> Result<(), Fail> {
     if calls.len() > 1_000_000 {
         return Err(Fail::from("a row has at most a million calls"));
     }
     let new = replay_runs(runs, calls);
     let floor = runs.floor().get();
-    Ok(format!(in alloc; "{new} {floor}")?)
+    Ok(write!(told, "{new} {floor}")?)
 }
 
-// What a row tells, over linked runs and over a plain row of them.
-fn both(alloc: Global, row: &str) -> Result<(String, String), Fail> {
+fn calls_of(alloc: Global, words: &str) -> Result<Vec<RunCall>, Fail> {
     let mut calls = Vec::new(alloc);
-    for word in row.split_whitespace() {
+    for word in words.split_whitespace() {
         put_calls(&mut calls, word)?;
     }
-    let mut linked = RunList::new(alloc)?;
-    let mut plain = PlainRuns::new(alloc)?;
-    let one = told(alloc, &mut linked, &calls)?;
-    let other = told(alloc, &mut plain, &calls)?;
-    Ok((one, other))
+    Ok(calls)
+}
+
+// Linked runs.
+struct Linked;
+
+impl Table for Linked {
+    fn tell(&self, alloc: Global, words: &str, told: &mut String) -> Result<(), Fail> {
+        let mut runs = RunList::new(alloc)?;
+        tell_runs(&mut runs, &calls_of(alloc, words)?, told)
+    }
+}
+
+// A plain row of runs.
+struct Plain;
+
+impl Table for Plain {
+    fn tell(&self, alloc: Global, words: &str, told: &mut String) -> Result<(), Fail> {
+        let mut runs = PlainRuns::new(alloc)?;
+        tell_runs(&mut runs, &calls_of(alloc, words)?, told)
+    }
 }
 
 #[test]
 fn each_list_of_calls(rt: HostRuntime) -> Result<(), Fail> {
-    let mut count = 0u32;
-    for line in ROWS.lines() {
-        let (row, wanted) = line.split_once(": ").ok_or("a row has a colon")?;
-        let row = row.trim_start();
-        let (linked, plain) = both(rt.alloc(), row)?;
-        assert!(rt; linked.as_str() == wanted, "{row}: linked {linked}");
-        assert!(rt; plain.as_str() == wanted, "{row}: plain {plain}");
-        count = count.wrapping_add(1);
-    }
-    assert_eq!(rt; count, 40);
-    Ok(())
+    holds(rt.alloc(), &Linked, ROWS)?;
+    holds(rt.alloc(), &Plain, ROWS)
 }

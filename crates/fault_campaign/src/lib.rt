@@ -12,8 +12,6 @@ mod gate;
 mod laws;
 mod report;
 mod run;
-#[cfg(test)]
-mod tests;
 mod workers;
 
 pub use crate::gate::{Gate, OpenGate};

@@ -8,8 +8,6 @@ mod features;
 mod laws;
 mod prefs;
 mod reconciliation;
-#[cfg(test)]
-mod tests;
 mod wishes;
 
 pub use crate::features::{Feature, Place, initial};

@@ -15,10 +15,6 @@ mod offers;
 mod row;
 mod rows;
 mod stands;
-#[cfg(test)]
-mod table_tests;
-#[cfg(test)]
-mod tests;
 
 pub use crate::answers::{Answer, ConfirmOut, Opening, Settling};
 pub use crate::due::Due;

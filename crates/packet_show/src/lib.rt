@@ -5,8 +5,6 @@
 //! before, and for the text, which grows in place.
 #![tactic(auto)]
 
-#[cfg(test)]
-mod cases;
 mod flows;
 mod laws;
 mod line;
@@ -15,8 +13,6 @@ mod network;
 mod numbers;
 mod options;
 mod packet;
-#[cfg(test)]
-mod tests;
 
 pub use crate::flows::{Flows, Shown};
 pub use crate::laws::a_flow_has_both_directions;

@@ -12,8 +12,6 @@ mod list;
 mod plain;
 mod plain_edits;
 mod runs;
-#[cfg(test)]
-mod tests;
 mod walking;
 
 pub use crate::answers::Marked;

@@ -13,10 +13,6 @@ mod names;
 mod numbers;
 mod printing;
 mod reading;
-#[cfg(test)]
-mod result_tests;
-#[cfg(test)]
-mod tests;
 mod text;
 mod words;
 

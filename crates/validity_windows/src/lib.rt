@@ -6,8 +6,6 @@
 
 mod laws;
 mod marks;
-#[cfg(test)]
-mod tests;
 mod verdict;
 
 pub use crate::laws::{

@@ -2,13 +2,12 @@
 use crate::Network;
 use std::alloc::Global;
 
-/// Keeps frames until they are taken. It loses one of four, and gives them in any order; or all in order, where it is
-/// whole.
+/// Keeps frames until they are taken. It loses one of four, and gives them in any order, by these draws; or loses none,
+/// and gives all in order, where nothing is drawn.
 #[derive(Drop)]
 pub(crate) struct Wire {
     alloc: Global,
     frames: Vec<Vec<u8>>,
-    // None where nothing is lost.
     draws: Option<u64>,
 }
 
@@ -22,27 +21,19 @@ fn draw(draws: &mut Option<u64>) -> Option<usize> {
 }
 
 impl Wire {
-    pub(crate) fn losing(alloc: Global, seed: u64) -> Wire {
+    pub(crate) fn new(alloc: Global, draws: Option<u64>) -> Wire {
         Wire {
             alloc,
             frames: Vec::new(alloc),
-            draws: Some(seed),
-        }
-    }
-
-    pub(crate) fn whole(alloc: Global) -> Wire {
-        Wire {
-            alloc,
-            frames: Vec::new(alloc),
-            draws: None,
+            draws,
         }
     }
 
     /// A wire of this kind for the other direction.
     pub(crate) fn other(&self) -> Wire {
         match self.draws {
-            Some(seed) => Wire::losing(self.alloc, seed.wrapping_add(1_000)),
-            None => Wire::whole(self.alloc),
+            Some(seed) => Wire::new(self.alloc, Some(seed.wrapping_add(1_000))),
+            None => Wire::new(self.alloc, None),
         }
     }
 

@@ -1,0 +1,10 @@
+//! The tests of dccp_packets, dccp_options and validity_windows, on their public calls. They stand in a crate of their
+//! own since a crate with tests is proved twice, with them and without.
+#![tactic(auto)]
+
+#[cfg(test)]
+mod options;
+#[cfg(test)]
+mod packets;
+#[cfg(test)]
+mod windows;

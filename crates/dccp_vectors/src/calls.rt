@@ -1,0 +1,222 @@
+//! Each public call of an end, with ample memory. What an end answers to which packet, and in which phase, is told by
+//! the replays and schedules of examples/.
+//!
+//! Each word makes one call. Behind the colon stand its answer and, where it may send one, the frame, or `-`. `marks`
+//! shows GSS, GSR and OSR; `floor` the floor and how many numbers were taken; `window` the window and what is in flight.
+use crate::ends::{
+    Endpoint, aborts, closes, fires, new_end, opens, plain, prefers, sends, tell_frame, tell_packet,
+};
+use crate::tables::{Table, holds, pieces, tell_held, values};
+use dccp_endpoint::{Config, Role, Timer};
+use dccp_packets::Outbox;
+use feature_lists::{Feature, Place};
+use seq_circle::Seq48;
+use std::alloc::Global;
+use std::fmt::Debug;
+use std::test::Fail;
+
+const AT_A_CLIENT: &str = "\
+    phase/ open/ open/ phase/: Closed ok 9c401389050031ec01000000000003e80000002a NotFresh - Request\n";
+
+// A server does not open.
+const AT_A_SERVER: &str = "\
+    # A handshake: what was sent and received, the floor, and how many numbers were taken\n\
+    open/ packet/9c401389050031ec01000000000003e80000002a packet/9c4013890600234107000000000003e900000000000007d0 marks/ floor/ phase/: NotFresh - took 13899c400700261403000000000007d000000000000003e80000002a took 13899c400600234007000000000007d100000000000003e9 2001 1001 1001 1000 2 Open\n\
+    # A timer that applies and one that does not, a close and an abort, each twice\n\
+    packet/9c401389050031ec01000000000003e80000002a packet/9c4013890600234107000000000003e900000000000007d0 timer/ack timer/close close/ close/ abort/ abort/ phase/: took 13899c400700261403000000000007d000000000000003e80000002a took 13899c400600234007000000000007d100000000000003e9 true 13899c400600233f07000000000007d200000000000003e9 false - ok 13899c4006001f3e0b000000000007d300000000000003e9 NotOpen - ok 13899c40070018390f000000000007d400000000000003e902000000 NotLive - Closed\n\
+    # A feature's value, asked for too early, not permitted, and asked for\n\
+    prefer/here/1/2 packet/9c401389050031ec01000000000003e80000002a packet/9c4013890600234107000000000003e900000000000007d0 prefer/here/1/3 prefer/there/1/248 held/there/1/: NotOpen - took 13899c400700261403000000000007d000000000000003e80000002a took 13899c400600234007000000000007d100000000000003e9 BadList - ok 13899c400700fe3e07000000000007d200000000000003e9220401f8 2*\n\
+    # The client will send Ack Vectors. A Sync does not report the two packets, and an Ack does\n\
+    send/aa packet/9c40138906000ae301000000000003e80000002a20040601 packet/9c4013890600234107000000000003e900000000000007d0 send/aa send/bb packet/9c4013890700f23611000000000003ea00000000000007d226030000 window/ packet/9c4013890700fb3407000000000003eb00000000000007d326030100 window/ reported/2003 reported/2001: NotOpen - took 13899c400900fa0503000000000007d000000000000003e80000002a2305060101000000 took 13899c400600234007000000000007d100000000000003e9 ok 13899c400400812e05000000000007d2aa ok 13899c400400702d05000000000007d3bb took 13899c400600173c13000000000007d400000000000003ea 4 2 took - 5 0 true false\n\
+    # Four packets fill the window\n\
+    packet/9c40138906000ae301000000000003e80000002a20040601 packet/9c4013890600234107000000000003e900000000000007d0 send/aa send/bb send/cc send/dd send/ee: took 13899c400900fa0503000000000007d000000000000003e80000002a2305060101000000 took 13899c400600234007000000000007d100000000000003e9 ok 13899c400400812e05000000000007d2aa ok 13899c400400702d05000000000007d3bb ok 13899c4004005f2c05000000000007d4cc ok 13899c4004004e2b05000000000007d5dd WindowFull -\n";
+
+// A server whose list of CCIDs begins with 248 offers it with Mandatory.
+const OF_AN_OFFER: &str = "\
+    packet/9c401389050031ec01000000000003e80000002a: took 13899c40090025e803000000000007d000000000000003e80000002a01200501f8020000\n";
+
+fn tell_result<E: Debug + Drop>(
+    alloc: Global,
+    answer: Result<(), E>,
+    out: &Outbox,
+    told: &mut String,
+) -> Result<(), Fail> {
+    match answer {
+        Ok(()) => told.push_str(" ok")?,
+        Err(fault) => write!(told, " {fault:?}")?,
+    }
+    tell_frame(alloc, out, told)
+}
+
+fn timer(text: &str) -> Option<Timer> {
+    match text {
+        "ack" => Some(Timer::Ack),
+        "close" => Some(Timer::Close),
+        _ => None,
+    }
+}
+
+fn tell_timer(
+    alloc: Global,
+    end: &mut Endpoint,
+    text: &str,
+    out: &mut Outbox,
+    told: &mut String,
+) -> Result<(), Fail> {
+    let fired = fires(end, timer(text).ok_or("a timer")?, out);
+    write!(told, " {fired}")?;
+    tell_frame(alloc, out, told)
+}
+
+fn tell_preference(
+    alloc: Global,
+    end: &mut Endpoint,
+    word: &str,
+    out: &mut Outbox,
+    told: &mut String,
+) -> Result<(), Fail> {
+    let (feature, place, list) = pieces(word).ok_or("a feature, a place and values")?;
+    let answer = prefers(end, feature, place, &values(alloc, list)?, out);
+    tell_result(alloc, answer, out, told)
+}
+
+fn tell_sending(
+    alloc: Global,
+    end: &mut Endpoint,
+    data: &str,
+    out: &mut Outbox,
+    told: &mut String,
+) -> Result<(), Fail> {
+    let data = hex::decode(alloc, data)?;
+    tell_result(alloc, sends(end, &data, out), out, told)
+}
+
+fn tell_arrival(
+    alloc: Global,
+    end: &mut Endpoint,
+    packet: &str,
+    out: &mut Outbox,
+    told: &mut String,
+) -> Result<(), Fail> {
+    tell_packet(alloc, end, packet, out, told)?;
+    tell_frame(alloc, out, told)
+}
+
+fn tell_marks(end: &Endpoint, told: &mut String) -> Result<(), Fail> {
+    let marks = end.marks();
+    let (sent, received, first) = (marks.gss.get(), marks.gsr.get(), marks.osr.get());
+    Ok(write!(told, " {sent} {received} {first}")?)
+}
+
+fn tell_floor(end: &Endpoint, told: &mut String) -> Result<(), Fail> {
+    let floor = end.floor().get();
+    let marked = end.marked();
+    Ok(write!(told, " {floor} {marked}")?)
+}
+
+fn tell_window(end: &Endpoint, told: &mut String) -> Result<(), Fail> {
+    let window = end.window();
+    let flying = end.in_flight();
+    Ok(write!(told, " {window} {flying}")?)
+}
+
+fn is_reported(end: &Endpoint, number: &str) -> Option<bool> {
+    Some(end.is_reported(Seq48::new(number.parse().ok()?)?))
+}
+
+fn tell_reported(end: &Endpoint, number: &str, told: &mut String) -> Result<(), Fail> {
+    let reported = is_reported(end, number).ok_or("a number")?;
+    Ok(write!(told, " {reported}")?)
+}
+
+fn tell_row(end: &Endpoint, word: &str, told: &mut String) -> Result<(), Fail> {
+    let (feature, place, _) = pieces(word).ok_or("a feature and a place")?;
+    tell_held(end.held(feature, place), told)
+}
+
+fn tell_phase(end: &Endpoint, told: &mut String) -> Result<(), Fail> {
+    let phase = end.phase();
+    Ok(write!(told, " {phase:?}")?)
+}
+
+// What the end shows.
+fn tell_shown(end: &Endpoint, verb: &str, rest: &str, told: &mut String) -> Result<(), Fail> {
+    match verb {
+        "marks" => tell_marks(end, told),
+        "floor" => tell_floor(end, told),
+        "window" => tell_window(end, told),
+        "reported" => tell_reported(end, rest, told),
+        "held" => tell_row(end, rest, told),
+        "phase" => tell_phase(end, told),
+        _ => Err(Fail::from("no such word")),
+    }
+}
+
+fn tell_call(
+    alloc: Global,
+    end: &mut Endpoint,
+    word: &str,
+    out: &mut Outbox,
+    told: &mut String,
+) -> Result<(), Fail> {
+    let (verb, rest) = word.split_once("/").ok_or("a word has its verb")?;
+    match verb {
+        "open" => tell_result(alloc, opens(end, out), out, told),
+        "close" => tell_result(alloc, closes(end, out), out, told),
+        "abort" => tell_result(alloc, aborts(end, out), out, told),
+        "timer" => tell_timer(alloc, end, rest, out, told),
+        "prefer" => tell_preference(alloc, end, rest, out, told),
+        "send" => tell_sending(alloc, end, rest, out, told),
+        "packet" => tell_arrival(alloc, end, rest, out, told),
+        _ => tell_shown(end, verb, rest, told),
+    }
+}
+
+fn tell_calls(
+    alloc: Global,
+    end: &mut Endpoint,
+    words: &str,
+    told: &mut String,
+) -> Result<(), Fail> {
+    let mut out = Outbox::new();
+    for word in words.split_whitespace() {
+        tell_call(alloc, end, word, &mut out, told)?;
+    }
+    Ok(())
+}
+
+#[derive(Clone, Copy)]
+struct Calls(Config);
+
+impl Table for Calls {
+    fn tell(&self, alloc: Global, words: &str, told: &mut String) -> Result<(), Fail> {
+        let mut end = new_end(alloc, self.0)?;
+        tell_calls(alloc, &mut end, words, told)
+    }
+}
+
+#[test]
+fn at_a_client(rt: HostRuntime) -> Result<(), Fail> {
+    holds(rt.alloc(), &Calls(plain(Role::Client)), AT_A_CLIENT)
+}
+
+#[test]
+fn at_a_server(rt: HostRuntime) -> Result<(), Fail> {
+    holds(rt.alloc(), &Calls(plain(Role::Server)), AT_A_SERVER)
+}
+
+fn offering() -> Option<Config> {
+    let mut config = plain(Role::Server);
+    config.set(Feature::Ccid, Place::Here, &[248, 2]).ok()?;
+    config.offer(Feature::Ccid, Place::Here, true).ok()?;
+    Some(config)
+}
+
+#[test]
+fn of_an_offer(rt: HostRuntime) -> Result<(), Fail> {
+    holds(
+        rt.alloc(),
+        &Calls(offering().ok_or("an offer")?),
+        OF_AN_OFFER,
+    )
+}

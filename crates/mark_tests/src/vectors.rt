@@ -1,0 +1,208 @@
+//! Cases as lists of calls, each with its answer. One helper makes all calls: a proof follows each value that a function
+//! holds through each of its steps.
+use ack_vectors::{Received, VectorBytes};
+use run_list::Marked;
+use seq_circle::Seq48;
+use std::alloc::Global;
+use std::test::Fail;
+
+// The number before 0.
+const LAST: u64 = 281_474_976_710_655;
+
+// A call of a set, and what has to come of it.
+#[derive(Clone, Copy)]
+enum Call {
+    // Begins at this floor.
+    Start(u64),
+    // Takes this number.
+    Take(u64, Marked),
+    // Takes each number of a step's distance from the first up to the second, and each is new.
+    TakeEach(u64, u64, usize),
+    // Writes these bytes at this number, and whether they are the whole vector.
+    Write(u64, &'static [u8], bool),
+    // Writes as many bytes as there is room for at this number: 0x00 and 0xc0 in turn.
+    WriteInTurn(u64),
+    // Records a packet by its number and what it acknowledges, and whether its vector is whole.
+    Send(u64, u64, bool),
+    // Records so many packets from 0 on, each with a whole vector at this number.
+    SendEach(u64, u64),
+    // Tells whether a whole vector is recorded under this number.
+    Ack(u64, bool),
+    // The floor is this one.
+    Floor(u64),
+}
+
+fn start(received: &mut Received, first: u64) -> Option<bool> {
+    received.start(Seq48::new(first)?);
+    Some(true)
+}
+
+fn take(received: &mut Received, number: u64, answer: Marked) -> Option<bool> {
+    Some(received.took(Seq48::new(number)?) == answer)
+}
+
+fn take_each(received: &mut Received, first: u64, past: u64, step: usize) -> Option<bool> {
+    for number in (first..past).step_by(step.max(1)) {
+        if take(received, number, Marked::New) != Some(true) {
+            return None;
+        }
+    }
+    Some(true)
+}
+
+fn write(received: &Received, number: u64, bytes: &[u8], whole: bool) -> Option<bool> {
+    let mut out = VectorBytes::new();
+    let is_whole = received.write(&mut out, Seq48::new(number)?);
+    Some(is_whole == whole && out.as_slice() == bytes)
+}
+
+fn are_in_turn(bytes: &[u8]) -> bool {
+    for (at, byte) in bytes.iter().enumerate() {
+        if *byte != if at % 2 == 0 { 0x00 } else { 0xc0 } {
+            return false;
+        }
+    }
+    true
+}
+
+fn write_in_turn(received: &Received, number: u64) -> Option<bool> {
+    let mut out = VectorBytes::new();
+    let is_whole = received.write(&mut out, Seq48::new(number)?);
+    Some(!is_whole && out.len() == 253 && are_in_turn(out.as_slice()))
+}
+
+fn send(received: &mut Received, number: u64, ack: u64, whole: bool) -> Option<bool> {
+    received.sent(Seq48::new(number)?, Seq48::new(ack)?, whole);
+    Some(true)
+}
+
+fn send_each(received: &mut Received, count: u64, ack: u64) -> Option<bool> {
+    for number in 0..count {
+        send(received, number, ack, true)?;
+    }
+    Some(true)
+}
+
+fn ack(received: &mut Received, number: u64, answer: bool) -> Option<bool> {
+    Some(received.peer_acked(Seq48::new(number)?) == answer)
+}
+
+// Whether a call comes to what it has to. None where a number is too large, which no list has.
+fn holds(received: &mut Received, call: Call) -> Option<bool> {
+    match call {
+        Call::Start(first) => start(received, first),
+        Call::Take(number, answer) => take(received, number, answer),
+        Call::TakeEach(first, past, step) => take_each(received, first, past, step),
+        Call::Write(number, bytes, whole) => write(received, number, bytes, whole),
+        Call::WriteInTurn(number) => write_in_turn(received, number),
+        Call::Send(number, ack, whole) => send(received, number, ack, whole),
+        Call::SendEach(count, ack) => send_each(received, count, ack),
+        Call::Ack(number, answer) => ack(received, number, answer),
+        Call::Floor(number) => Some(received.floor().get() == number),
+    }
+}
+
+// The place of the first of these calls that comes to something else.
+fn first_other(received: &mut Received, calls: &[Call]) -> Option<usize> {
+    for (place, call) in calls.iter().enumerate() {
+        if holds(received, *call) != Some(true) {
+            return Some(place);
+        }
+    }
+    None
+}
+
+// Makes these calls of a new set, one after another.
+fn play(alloc: Global, calls: &[Call]) -> Result<(), Fail> {
+    let mut received = Received::new(alloc).ok().ok_or("no memory")?;
+    match first_other(&mut received, calls) {
+        None => Ok(()),
+        Some(place) => Err(Fail::new(format_args!("call {place}"))),
+    }
+}
+
+const VECTOR_OF_RECEIVED: [Call; 5] = [
+    Call::Start(88),
+    Call::TakeEach(88, 99, 1),
+    Call::Take(100, Marked::New),
+    Call::Write(100, &[0x00, 0xc0, 0x0a], true),
+    Call::Write(87, &[], true),
+];
+
+#[test]
+fn vector_of_received(rt: HostRuntime) -> Result<(), Fail> {
+    play(rt.alloc(), &VECTOR_OF_RECEIVED)
+}
+
+const FULL_RUN_OF_64: [Call; 5] = [
+    Call::Start(1),
+    Call::TakeEach(1, 65, 1),
+    Call::Write(64, &[0x3f], true),
+    Call::Take(65, Marked::New),
+    Call::Write(65, &[0x3f, 0x00], true),
+];
+
+#[test]
+fn full_run_of_64(rt: HostRuntime) -> Result<(), Fail> {
+    play(rt.alloc(), &FULL_RUN_OF_64)
+}
+
+const FLOOR_RISES_BY_RECORD: [Call; 12] = [
+    Call::Start(10),
+    Call::TakeEach(10, 12, 1),
+    Call::Take(13, Marked::New),
+    Call::Take(11, Marked::Again),
+    Call::Write(13, &[0x00, 0xc0, 0x01], true),
+    Call::Send(50, 13, true),
+    Call::Ack(49, false),
+    Call::Ack(50, true),
+    Call::Floor(14),
+    Call::Take(12, Marked::BelowFloor),
+    Call::Take(15, Marked::New),
+    Call::Write(15, &[0x00, 0xc0], true),
+];
+
+#[test]
+fn floor_rises_by_record(rt: HostRuntime) -> Result<(), Fail> {
+    play(rt.alloc(), &FLOOR_RISES_BY_RECORD)
+}
+
+const VECTOR_CUT_AT_253: [Call; 9] = [
+    Call::Start(0),
+    Call::TakeEach(0, 4_096, 2),
+    Call::Floor(2_047),
+    Call::WriteInTurn(4_094),
+    Call::Send(9, 4_094, false),
+    Call::Ack(9, false),
+    Call::Floor(2_047),
+    Call::Take(2_046, Marked::BelowFloor),
+    Call::Take(2_047, Marked::New),
+];
+
+#[test]
+fn vector_cut_at_253(rt: HostRuntime) -> Result<(), Fail> {
+    play(rt.alloc(), &VECTOR_CUT_AT_253)
+}
+
+// Records over the wrap of numbers: a 65th drops the oldest, of two under one number the newer counts, and no record is
+// kept over a start.
+const RECORDS_IN_THE_RING: [Call; 13] = [
+    Call::Start(LAST),
+    Call::Take(LAST, Marked::New),
+    Call::Take(0, Marked::New),
+    Call::Write(0, &[0x01], true),
+    Call::SendEach(65, LAST),
+    Call::Ack(0, false),
+    Call::Ack(1, true),
+    Call::Floor(0),
+    Call::Send(64, 0, true),
+    Call::Ack(64, true),
+    Call::Floor(1),
+    Call::Start(7),
+    Call::Ack(64, false),
+];
+
+#[test]
+fn records_in_the_ring(rt: HostRuntime) -> Result<(), Fail> {
+    play(rt.alloc(), &RECORDS_IN_THE_RING)
+}

@@ -1,0 +1,87 @@
+//! Each call once, and what no text of `examples/` can say: bytes above 127, the greatest index, and values that other
+//! code makes. `examples/` has each fault of each word, the longest lines, each form of an event and each result.
+use schedule_text::{
+    Event, Line, LineFault, LineWhy, Payload, Seen, Values, print_event, print_result, print_seen,
+    read_frame, read_line, read_line_into,
+};
+use std::test::Fail;
+
+const fn not_text(column: u32) -> Option<LineFault> {
+    Some(LineFault {
+        column,
+        why: LineWhy::NotText,
+    })
+}
+
+#[test]
+fn bytes_above_127(rt: HostRuntime) {
+    assert!(rt;
+        read_line(b"x y z \xc3\xa9").err() == not_text(7),
+        "of a schedule"
+    );
+    assert!(rt; read_frame(b"#\xff").err() == not_text(2), "of a replay");
+}
+
+// Whether the event of this line is printed behind the text.
+fn is_printed(line: &[u8], text: &mut Vec<u8>) -> bool {
+    let mut said = Line::Nothing;
+    match (read_line_into(line, &mut said), &said) {
+        (Ok(()), Line::Event(event)) => print_event(event, text).is_ok(),
+        _ => false,
+    }
+}
+
+// Whether the timers' results are printed behind the text, in a schedule and in a replay.
+fn are_told(text: &mut Vec<u8>) -> bool {
+    print_seen(7, &Event::Open, &Seen::Fired(true), b"", text).is_ok()
+        && print_result(8, &Seen::Fired(false), b"", text).is_ok()
+}
+
+#[test]
+fn what_is_printed(rt: HostRuntime) -> Result<(), Fail> {
+    let mut text = Vec::new(rt.alloc());
+    assert!(rt;
+        is_printed(b"deliver c140737488355327", &mut text),
+        "the greatest index"
+    );
+    assert!(rt; are_told(&mut text), "results");
+    assert!(rt; text.as_slice() == b"deliver c1407374883553277 open: fired\n8: idle\n".as_slice());
+    Ok(())
+}
+
+// The bytes of a frame, and whether its checksum is to be set.
+fn is_frame(line: &[u8], seal: bool, bytes: &[u8]) -> bool {
+    match read_frame(line) {
+        Ok(Some(frame)) => frame.seal == seal && frame.bytes.bytes() == bytes,
+        _ => false,
+    }
+}
+
+#[test]
+fn frames_with_and_without_seal(rt: HostRuntime) {
+    assert!(rt; is_frame(b"fF", false, &[255]), "without");
+    assert!(rt;
+        is_frame(
+            b"seal 0011223344556677",
+            true,
+            &[0, 17, 34, 51, 68, 85, 102, 119]
+        ),
+        "with"
+    );
+}
+
+// How many of so many numbers find room.
+fn kept(numbers: u64) -> usize {
+    let mut values = Values::new();
+    for number in 0..numbers {
+        let _ = values.push(number);
+    }
+    values.numbers().len()
+}
+
+#[test]
+fn payloads_and_values_have_their_room(rt: HostRuntime) {
+    assert!(rt; Payload::of(&[1; 2049]).is_none(), "2,049 bytes");
+    assert!(rt; Payload::of(&[1; 2048]).is_some(), "2,048 bytes");
+    assert!(rt; kept(10) == 9, "ten values");
+}

@@ -1,0 +1,14 @@
+//! The tests of fault_campaign and dccp_command, on their public calls. They stand in a crate of their own since a crate
+//! with tests is proved twice, with them and without.
+#![tactic(auto)]
+
+#[cfg(test)]
+mod calls;
+#[cfg(test)]
+mod campaigns;
+#[cfg(test)]
+mod replays;
+#[cfg(test)]
+mod schedules;
+#[cfg(test)]
+mod seeds;

@@ -1,0 +1,369 @@
+//! Whole calls of the forms `run` and `show`: pieces of any length, lines that are refused, and streams that fail. What
+//! a text can say by itself is played from `examples/`.
+use crate::calls::{Answer, Case, Streams, answer_to, comes, expect_in_pieces};
+use dccp_command::Status;
+use fault_campaign::OpenGate;
+use std::alloc::Global;
+use std::test::Fail;
+use std::thread::Threads;
+
+/// The line that answers words which are none of the forms.
+pub(crate) const USAGE: &str =
+    "usage: dccp run | replay --side server|client [--plain] | campaign --first F --seeds N --events E --workers W | show\n";
+
+pub(crate) const HANDSHAKE: &str = "plain\nopen\ndeliver c0\ndeliver s0\ndeliver c1\n";
+
+// With a newline at the end, and without.
+const HANDSHAKES: [Case; 2] = [
+    Case {
+        words: "run",
+        input: HANDSHAKE,
+        status: Status::Done,
+        text: "2 open: ok\n\
+sent c0 9c401389050031ec01000000000003e80000002a\n\
+3 deliver c0: took\n\
+sent s0 13899c400700261403000000000007d000000000000003e80000002a\n\
+4 deliver s0: took\n\
+sent c1 9c4013890600234107000000000003e900000000000007d0\n\
+5 deliver c1: took\n\
+sent s1 13899c400600234007000000000007d100000000000003e9\n\
+end client PARTOPEN window 4 flight 0 1=2/2 2=0/0 3=100/100 4=0/0 5=2/2 6=0/0 7=0/0 8=0/0 9=0/0\n\
+end server OPEN window 4 flight 0 1=2/2 2=0/0 3=100/100 4=0/0 5=2/2 6=0/0 7=0/0 8=0/0 9=0/0\n",
+    },
+    Case {
+        words: "run",
+        input: "plain\nopen\ndeliver c0\ndeliver s0\ndeliver c1\ndeliver s1",
+        status: Status::Done,
+        text: "2 open: ok\n\
+sent c0 9c401389050031ec01000000000003e80000002a\n\
+3 deliver c0: took\n\
+sent s0 13899c400700261403000000000007d000000000000003e80000002a\n\
+4 deliver s0: took\n\
+sent c1 9c4013890600234107000000000003e900000000000007d0\n\
+5 deliver c1: took\n\
+sent s1 13899c400600234007000000000007d100000000000003e9\n\
+6 deliver s1: took\n\
+end client OPEN window 4 flight 0 1=2/2 2=0/0 3=100/100 4=0/0 5=2/2 6=0/0 7=0/0 8=0/0 9=0/0\n\
+end server OPEN window 4 flight 0 1=2/2 2=0/0 3=100/100 4=0/0 5=2/2 6=0/0 7=0/0 8=0/0 9=0/0\n",
+    },
+];
+
+#[test]
+fn plain_handshake(rt: HostRuntime) -> Result<(), Fail> {
+    for case in &HANDSHAKES {
+        expect_in_pieces(&rt, rt.alloc(), case)?;
+    }
+    Ok(())
+}
+
+// Whether a schedule is refused and its answer ends with this line.
+fn is_refused<R: Threads + Sync>(
+    rt: &R,
+    alloc: Global,
+    schedule: &str,
+    want: &str,
+) -> Result<bool, Fail> {
+    let bytes = schedule.as_bytes();
+    let answer = answer_to(rt, alloc, &OpenGate, &Streams::of(4096), "run", bytes)?;
+    Ok(answer.status == Status::Input && answer.text.ends_with(want.as_bytes()))
+}
+
+// The faults of a line by itself, some behind a schedule that has begun.
+const LINES: [(&str, &str); 17] = [
+    ("plain\n#\t\n", "line 2 column 2: NotText\n"),
+    ("set\x7f", "line 1 column 4: NotText\n"),
+    ("send\n", "line 1 column 6: Missing\n"),
+    ("#\nsend client  x\n", "line 2 column 13: Missing\n"),
+    ("send client abc\n", "line 1 column 16: BadHex\n"),
+    ("set\n", "line 1 column 5: Missing\n"),
+    ("#\nprefer client  x\n", "line 2 column 15: Missing\n"),
+    ("settle\n", "line 1 column 1: UnknownWord\n"),
+    ("set client here 1 3\n", "line 1 column 19: BadList\n"),
+    (
+        "plain\nset client there 3 200\n",
+        "line 2 column 20: NotOurs\n",
+    ),
+    (
+        "offer server there 5 mandatory\n",
+        "line 1 column 20: NotOurs\n",
+    ),
+    (" plain\n", "line 1 column 1: Missing\n"),
+    ("deliver\n", "line 1 column 9: Missing\n"),
+    ("deliver x0\n", "line 1 column 9: UnknownWord\n"),
+    ("deliver c00\n", "line 1 column 9: BadNumber\n"),
+    (
+        "iss server 281474976710656",
+        "line 1 column 12: BadNumber\n",
+    ),
+    ("plain\nopen \n", "line 2 column 6: Trailing\n"),
+];
+
+#[test]
+fn faults_of_a_line(rt: HostRuntime) -> Result<(), Fail> {
+    for (schedule, want) in &LINES {
+        assert!(rt; is_refused(&rt, rt.alloc(), schedule, want)?, "{schedule}");
+    }
+    Ok(())
+}
+
+// The faults that need the lines before, and which of two comes first.
+const PLACES: [(&str, &str); 14] = [
+    ("plain\nopen\nplain\n", "line 3 column 1: HeaderLate\n"),
+    (
+        "plain\nopen\niss client 1\n",
+        "line 3 column 1: HeaderLate\n",
+    ),
+    (
+        "plain\nopen\niss client 1 2\n",
+        "line 3 column 14: Trailing\n",
+    ),
+    (
+        "open\nset client here 3 200\n",
+        "line 2 column 1: HeaderLate\n",
+    ),
+    (
+        "open\nset client there 3 200\n",
+        "line 2 column 1: HeaderLate\n",
+    ),
+    (
+        "open\nset client here 1 3\n",
+        "line 2 column 1: HeaderLate\n",
+    ),
+    (
+        "open\nset client here 1 3 x\n",
+        "line 2 column 21: Trailing\n",
+    ),
+    (
+        "open\noffer client there 3\n",
+        "line 2 column 1: HeaderLate\n",
+    ),
+    (
+        "open\noffer client here 1 mandatory\n",
+        "line 2 column 1: HeaderLate\n",
+    ),
+    (
+        "send client 00\niss client 1\n",
+        "line 2 column 1: HeaderLate\n",
+    ),
+    (
+        "timer server rto\ndeliver s0\n",
+        "line 2 column 9: NoSuchFrame\n",
+    ),
+    ("timer server rto 1\n", "line 1 column 18: Trailing\n"),
+    (
+        "deliver c140737488355327\n",
+        "line 1 column 9: NoSuchFrame\n",
+    ),
+    (
+        "close client\ndeliver s0\n",
+        "line 2 column 9: NoSuchFrame\n",
+    ),
+];
+
+#[test]
+fn faults_of_a_place(rt: HostRuntime) -> Result<(), Fail> {
+    for (schedule, want) in &PLACES {
+        assert!(rt; is_refused(&rt, rt.alloc(), schedule, want)?, "{schedule}");
+    }
+    Ok(())
+}
+
+/// Whether words over the handshake come to the usage line.
+pub(crate) fn shows_usage<R: Threads + Sync>(
+    rt: &R,
+    alloc: Global,
+    words: &'static str,
+) -> Result<bool, Fail> {
+    let case = Case {
+        words,
+        input: HANDSHAKE,
+        status: Status::Words,
+        text: USAGE,
+    };
+    comes(rt, alloc, &Streams::of(7), &case)
+}
+
+// None, and what comes close to a form without options.
+const OTHER_WORDS: [&str; 5] = ["", "walk", "run,x", "Run", "show,x"];
+
+#[test]
+fn refused_words(rt: HostRuntime) -> Result<(), Fail> {
+    for words in &OTHER_WORDS {
+        assert!(rt; shows_usage(&rt, rt.alloc(), words)?, "{words}");
+    }
+    Ok(())
+}
+
+// Streams that fail, with the status and the text of the handshake over them.
+const FAILING: [(&str, Streams, Status, &str); 4] = [
+    (
+        "the first read",
+        Streams {
+            failing_reads: &[1],
+            failing_writes: &[],
+            given: 7,
+            taken: 4096,
+        },
+        Status::Read,
+        "",
+    ),
+    // The first two lines were read then, and the second is `open`.
+    (
+        "the third read",
+        Streams {
+            failing_reads: &[3],
+            failing_writes: &[],
+            given: 7,
+            taken: 4096,
+        },
+        Status::Read,
+        "2 open: ok\nsent c0 9c401389050031ec01000000000003e80000002a\n",
+    ),
+    (
+        "the third write",
+        Streams {
+            failing_reads: &[],
+            failing_writes: &[3],
+            given: 7,
+            taken: 1,
+        },
+        Status::Write,
+        "2 ",
+    ),
+    (
+        "a sink that takes nothing",
+        Streams {
+            failing_reads: &[],
+            failing_writes: &[],
+            given: 7,
+            taken: 0,
+        },
+        Status::Write,
+        "",
+    ),
+];
+
+// Whether the handshake ends so over these streams.
+fn ends<R: Threads + Sync>(
+    rt: &R,
+    alloc: Global,
+    streams: &Streams,
+    status: Status,
+    text: &'static str,
+) -> Result<bool, Fail> {
+    let case = Case {
+        words: "run",
+        input: HANDSHAKE,
+        status,
+        text,
+    };
+    comes(rt, alloc, streams, &case)
+}
+
+#[test]
+fn failing_streams(rt: HostRuntime) -> Result<(), Fail> {
+    for (name, streams, status, text) in &FAILING {
+        assert!(rt; ends(&rt, rt.alloc(), streams, *status, text)?, "{name}");
+    }
+    Ok(())
+}
+
+// The second write fails.
+const SECOND_WRITE: Streams = Streams {
+    failing_reads: &[],
+    failing_writes: &[2],
+    given: 7,
+    taken: 131_072,
+};
+
+// Whether a call whose second write failed has written a text of so many bytes, with this front.
+fn is_block(answer: &Answer, front: &str, least: usize, most: usize) -> bool {
+    let written = &answer.text;
+    let begins = answer.status == Status::Write && written.starts_with(front.as_bytes());
+    begins && least <= written.len() && written.len() < most
+}
+
+fn many_openings(alloc: Global) -> Result<Vec<u8>, Fail> {
+    let mut schedule = Vec::new(alloc);
+    for _ in 0..3000 {
+        schedule.extend_from_slice(b"open\n")?;
+    }
+    Ok(schedule)
+}
+
+// The text of a schedule goes out in blocks of at least 4,096 bytes: neither line by line nor when it is whole. Each
+// further line is `N open: refused NotFresh`.
+#[test]
+fn blocks_of_a_schedule(rt: HostRuntime) -> Result<(), Fail> {
+    let schedule = many_openings(rt.alloc())?;
+    let answer = answer_to(&rt, rt.alloc(), &OpenGate, &SECOND_WRITE, "run", &schedule)?;
+    assert!(rt; is_block(&answer, "1 open: ok\nsent c0 ", 4096, 25 * 3000));
+    Ok(())
+}
+
+// A capture's file header, a record of the client's Request in IPv4, and its line.
+const FILE_HEADER: &str = "d4c3b2a1020004000000000000000000ffff000065000000";
+
+const RECORD: &str = "0100000020a107002800000028000000\
+4500002800010000402166b20a0000010a0000029c401389050031ec01000000000003e80000002a";
+
+const RECORD_LINE: &str =
+    "1 1.500000 flow 1 10.0.0.1 40000 > 10.0.0.2 5001 Request seq 1000 service 42 data 0 sum ok\n";
+
+const ONE_RECORD: &str =
+    "1 1.500000 flow 1 10.0.0.1 40000 > 10.0.0.2 5001 Request seq 1000 service 42 data 0 sum ok\n\
+records 1 shown 1 skipped 0 flows 1\n";
+
+// A capture of that record so many times.
+fn capture_of(alloc: Global, count: usize) -> Result<Vec<u8>, Fail> {
+    let item = hex::decode(alloc, RECORD)?;
+    let mut capture = hex::decode(alloc, FILE_HEADER)?;
+    for _ in 0..count {
+        capture.extend_from_slice(&item)?;
+    }
+    Ok(capture)
+}
+
+fn shown<R: Threads + Sync>(
+    rt: &R,
+    alloc: Global,
+    streams: &Streams,
+    capture: &[u8],
+) -> Result<Answer, Fail> {
+    answer_to(rt, alloc, &OpenGate, streams, "show", capture)
+}
+
+#[test]
+fn capture_of_one_packet(rt: HostRuntime) -> Result<(), Fail> {
+    let capture = capture_of(rt.alloc(), 1)?;
+    for most in [1, 7, 4096] {
+        let answer = shown(&rt, rt.alloc(), &Streams::of(most), &capture)?;
+        assert!(rt; answer.is(Status::Done, ONE_RECORD), "{most} bytes a call");
+    }
+    Ok(())
+}
+
+// The lines of whole records are written where the source fails inside the second.
+#[test]
+fn failing_source_of_a_capture(rt: HostRuntime) -> Result<(), Fail> {
+    let streams = Streams {
+        failing_reads: &[13],
+        failing_writes: &[],
+        given: 7,
+        taken: 4096,
+    };
+    let capture = capture_of(rt.alloc(), 1000)?;
+    let answer = shown(&rt, rt.alloc(), &streams, &capture)?;
+    assert!(rt; answer.is(Status::Read, RECORD_LINE));
+    Ok(())
+}
+
+// The text of a capture goes out in blocks: neither line by line nor when it is whole.
+#[test]
+fn blocks_of_a_capture(rt: HostRuntime) -> Result<(), Fail> {
+    let capture = capture_of(rt.alloc(), 1000)?;
+    let answer = shown(&rt, rt.alloc(), &SECOND_WRITE, &capture)?;
+    let size = RECORD_LINE.len();
+    assert!(rt; is_block(&answer, RECORD_LINE, 10 * size, 900 * size));
+    Ok(())
+}
