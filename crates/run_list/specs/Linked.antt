@@ -1,6 +1,7 @@
 -- Runs as they are linked: one chain of nodes from the greatest run down, and one of free nodes. Index 1,024 stands for no node.
 use Rattle.std.specs.Prelude.{◌≡◌, ℕ, ◌+◌, ◌<◌, ◌≤◌, ◌==◌, nat_lt, List, [], ◌∷◌, zero, suc, length, slice_index_or, if◌then◌else◌}
 use Rattle.run_list.specs.declared.walking.Stretch.{Stretch}
+use Rattle.run_list.specs.declared.linked.Linked.{Linked}
 use Rattle.run_list.specs.declared.linked.Node.{Node}
 use Rattle.run_list.specs.Runs.{Touches, bound_after}
 use Rattle.seq_circle.specs.Circle.{distance}
@@ -76,6 +77,10 @@ pub record IsLinked (nodes : List Node) (first free : ℕ) : Type 0 where
   pub spare_path : IsPath nodes free spare 1024
   pub once : (i : ℕ) → i < 1024 → times_listed i used + times_listed i spare ≡ 1
   pub all : length used + length spare ≡ 1024
+
+-- the same of a set's nodes
+abbrev pub AreLinked : Linked → Type 0
+AreLinked runs = IsLinked runs.nodes.items runs.first runs.free
 
 -- a place in the chain: the links lead from the first node to `at`, behind `before`, and from there on to no node
 pub record IsPlace (nodes : List Node) (first before at : ℕ) : Type 0 where

@@ -4,7 +4,7 @@ ghost use Rattle.std.specs.Bool.{OnTrue, OnFalse};
 ghost use Rattle.seq_circle.specs.Circle.{distance, IsBefore};
 ghost use Rattle.run_list.specs.MarkedSet.{has, is_from};
 ghost use Rattle.run_list.specs.Runs.{AreLaid, numbers_of, Adds};
-ghost use Rattle.run_list.specs.Linked.{IsChained, IsParted, IsLinked, IsPlaceFor, IsPlaceBelow, Points, node_at, runs_from};
+ghost use Rattle.run_list.specs.Linked.{AreLinked, IsChained, IsParted, IsPlaceFor, IsPlaceBelow, Points, node_at, runs_from};
 
 use seq_circle::{NoMemory, Seq48};
 use std::alloc::Global;
@@ -40,7 +40,7 @@ struct Place {
 
 // All nodes are free.
 pub(crate) fn all_free(alloc: Global, zero: Seq48) -> Result<Linked, NoMemory>
-    ensures linked { IfOk result (λ made. IsLinked made.nodes.items made.first made.free) }
+    ensures linked { IfOk result (λ made. AreLinked made) }
     ensures empty { IfOk result (λ made. runs_from made.nodes.items made.first ≡ []) }
 {
     let empty = Node {
@@ -117,11 +117,11 @@ fn point(runs: &mut Linked, before: u16, to: u16)
 
 // Links a run of `n` alone between `before` and `at`.
 fn link(runs: &mut Linked, floor: Seq48, before: u16, at: u16, n: Seq48)
-    requires linked { IsLinked runs.old.nodes.items runs.old.first runs.old.free }
+    requires linked { AreLinked runs.old }
     requires laid { AreLaid floor 2048 (runs_from runs.old.nodes.items runs.old.first) }
     requires place { IsPlaceFor floor n runs.old.nodes.items runs.old.first before at }
     requires below { AreLaid floor (distance floor n - 1) (runs_from runs.old.nodes.items at) }
-    ensures linked { IsLinked runs.new.nodes.items runs.new.first runs.new.free }
+    ensures linked { AreLinked runs.new }
     ensures adds { Adds floor 2048 n (runs_from runs.old.nodes.items runs.old.first) (runs_from runs.new.nodes.items runs.new.first) }
 {
     let new = runs.free;
@@ -136,12 +136,12 @@ fn link(runs: &mut Linked, floor: Seq48, before: u16, at: u16, n: Seq48)
 
 // Puts `n` on top of the run at `at`, which ends right below it.
 fn extend_up(runs: &mut Linked, floor: Seq48, before: u16, at: u16, n: Seq48)
-    requires linked { IsLinked runs.old.nodes.items runs.old.first runs.old.free }
+    requires linked { AreLinked runs.old }
     requires laid { AreLaid floor 2048 (runs_from runs.old.nodes.items runs.old.first) }
     requires place { IsPlaceFor floor n runs.old.nodes.items runs.old.first before at }
     requires within { at < 1024 }
     requires right_below { distance floor (node_at runs.old.nodes.items at).hi + 1 ≡ distance floor n }
-    ensures linked { IsLinked runs.new.nodes.items runs.new.first runs.new.free }
+    ensures linked { AreLinked runs.new }
     ensures adds { Adds floor 2048 n (runs_from runs.old.nodes.items runs.old.first) (runs_from runs.new.nodes.items runs.new.first) }
 {
     let node = runs.nodes[usize::from(at)];
@@ -155,12 +155,12 @@ fn extend_up(runs: &mut Linked, floor: Seq48, before: u16, at: u16, n: Seq48)
 // Puts `n` under the run at `at`, which begins right above it, and joins that with the next run where it ends right
 // below.
 fn extend_down(runs: &mut Linked, floor: Seq48, before: u16, at: u16, n: Seq48)
-    requires linked { IsLinked runs.old.nodes.items runs.old.first runs.old.free }
+    requires linked { AreLinked runs.old }
     requires laid { AreLaid floor 2048 (runs_from runs.old.nodes.items runs.old.first) }
     requires place { IsPlaceFor floor n runs.old.nodes.items runs.old.first before at }
     requires within { at < 1024 }
     requires right_above { distance floor n + (node_at runs.old.nodes.items at).count ≡ distance floor (node_at runs.old.nodes.items at).hi }
-    ensures linked { IsLinked runs.new.nodes.items runs.new.first runs.new.free }
+    ensures linked { AreLinked runs.new }
     ensures adds { Adds floor 2048 n (runs_from runs.old.nodes.items runs.old.first) (runs_from runs.new.nodes.items runs.new.first) }
 {
     let node = runs.nodes[usize::from(at)];
@@ -188,8 +188,8 @@ fn extend_down(runs: &mut Linked, floor: Seq48, before: u16, at: u16, n: Seq48)
 pub(crate) fn put(runs: &mut Linked, floor: Seq48, n: Seq48) -> bool
     requires near { distance floor n < 2048 }
     requires laid { AreLaid floor 2048 (runs_from runs.old.nodes.items runs.old.first) }
-    requires linked { IsLinked runs.old.nodes.items runs.old.first runs.old.free }
-    ensures linked { IsLinked runs.new.nodes.items runs.new.first runs.new.free }
+    requires linked { AreLinked runs.old }
+    ensures linked { AreLinked runs.new }
     ensures adds { OnTrue result (Adds floor 2048 n (runs_from runs.old.nodes.items runs.old.first) (runs_from runs.new.nodes.items runs.new.first)) }
     ensures there { OnFalse result (has (numbers_of (runs_from runs.old.nodes.items runs.old.first)) n ≡ true) }
     ensures stays { OnFalse result (runs_from runs.new.nodes.items runs.new.first ≡ runs_from runs.old.nodes.items runs.old.first) }
@@ -217,7 +217,7 @@ pub(crate) fn put(runs: &mut Linked, floor: Seq48, n: Seq48) -> bool
 // Frees the nodes from one on.
 fn release(runs: &mut Linked, from: u16)
     requires parted { IsParted runs.old.nodes.items runs.old.first runs.old.free from }
-    ensures linked { IsLinked runs.new.nodes.items runs.new.first runs.new.free }
+    ensures linked { AreLinked runs.new }
     ensures stays { runs_from runs.new.nodes.items runs.new.first ≡ runs_from runs.old.nodes.items runs.old.first }
 {
     let mut at = from;
@@ -231,8 +231,8 @@ fn release(runs: &mut Linked, from: u16)
 
 // Frees all nodes.
 pub(crate) fn clear(runs: &mut Linked)
-    requires linked { IsLinked runs.old.nodes.items runs.old.first runs.old.free }
-    ensures linked { IsLinked runs.new.nodes.items runs.new.first runs.new.free }
+    requires linked { AreLinked runs.old }
+    ensures linked { AreLinked runs.new }
     ensures empty { runs_from runs.new.nodes.items runs.new.first ≡ [] }
 {
     let from = runs.first;
@@ -244,8 +244,8 @@ pub(crate) fn clear(runs: &mut Linked)
 pub(crate) fn cut(runs: &mut Linked, floor: Seq48, to: Seq48)
     requires before { IsBefore floor to }
     requires laid { AreLaid floor 2048 (runs_from runs.old.nodes.items runs.old.first) }
-    requires linked { IsLinked runs.old.nodes.items runs.old.first runs.old.free }
-    ensures linked { IsLinked runs.new.nodes.items runs.new.first runs.new.free }
+    requires linked { AreLinked runs.old }
+    ensures linked { AreLinked runs.new }
     ensures laid { AreLaid to 2048 (runs_from runs.new.nodes.items runs.new.first) }
     ensures numbers { numbers_of (runs_from runs.new.nodes.items runs.new.first) ≡ filter (is_from to) (numbers_of (runs_from runs.old.nodes.items runs.old.first)) }
 {

@@ -29,14 +29,14 @@ impl Model for RunList {
     ghost use Rattle.std.specs.Prelude.{◌<◌, ◌^◌};
     ghost use Rattle.run_list.specs.MarkedSet.{MarkedSet};
     ghost use Rattle.run_list.specs.Runs.{AreLaid, numbers_of};
-    ghost use Rattle.run_list.specs.Linked.{IsLinked, runs_from};
+    ghost use Rattle.run_list.specs.Linked.{AreLinked, runs_from};
 
     ghost Value = { MarkedSet };
 
     ghost view = { λ r. record { floor = r.floor; numbers = numbers_of (runs_from r.runs.nodes.items r.runs.first) } };
 
     ghost invariant = { λ r. (r.floor < 2 ^ 48) × AreLaid r.floor 2048 (runs_from r.runs.nodes.items r.runs.first)
-        × IsLinked r.runs.nodes.items r.runs.first r.runs.free };
+        × AreLinked r.runs };
 }
 
 impl RunList {
