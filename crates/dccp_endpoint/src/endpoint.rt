@@ -182,7 +182,8 @@ impl<C: Congestion> Endpoint<C> {
     pub fn open(&mut self, out: &mut Outbox) -> Result<(), OpenFault>
         ensures step { record { after = self.new; frame = out.new; answer = result } ≡ with_control C.control self.old.congestion (opens self.old.state) }
         ensures not_fresh { (result ≡ Err OpenFault.NotFresh) ↔ ((self.old.state.config.role ≡ Role.Server) ⊎ (self.old.state.opened ≡ true)) }
-        ensures refused { OnErr result ((self.new ≡ self.old) × (out.new ≡ None)) }
+        ensures refused { OnErr result (self.new ≡ self.old) }
+        ensures sends_nothing { OnErr result (out.new ≡ None) }
     {
         self.connection.open(out)
     }
@@ -202,7 +203,8 @@ impl<C: Congestion> Endpoint<C> {
         ensures window_full { (result ≡ Err SendFault.WindowFull) ↔ ((self.old.state.phase ≡ Phase.Open) × (length payload.now ≤ 1024)
             × ((value_in self.old.state.rows feature.Ccid place.Here ≢ 2) ⊎ (value_in self.old.state.rows feature.SendAckVector place.There ≡ 1))
             × (window_of C.control self.old.congestion ≤ in_flight_of C.control self.old.congestion)) }
-        ensures refused { OnErr result ((self.new ≡ self.old) × (out.new ≡ None)) }
+        ensures refused { OnErr result (self.new ≡ self.old) }
+        ensures sends_nothing { OnErr result (out.new ≡ None) }
     {
         out.clear();
         let may_send = self.congestion.may_send();
@@ -219,7 +221,8 @@ impl<C: Congestion> Endpoint<C> {
     pub fn close(&mut self, out: &mut Outbox) -> Result<(), CloseFault>
         ensures step { record { after = self.new; frame = out.new; answer = result } ≡ with_control C.control self.old.congestion (closes self.old.state) }
         ensures not_open { (result ≡ Err CloseFault.NotOpen) ↔ ((self.old.state.phase ≢ Phase.PartOpen) × (self.old.state.phase ≢ Phase.Open)) }
-        ensures refused { OnErr result ((self.new ≡ self.old) × (out.new ≡ None)) }
+        ensures refused { OnErr result (self.new ≡ self.old) }
+        ensures sends_nothing { OnErr result (out.new ≡ None) }
     {
         self.connection.close(out)
     }
@@ -230,7 +233,8 @@ impl<C: Congestion> Endpoint<C> {
     pub fn abort(&mut self, out: &mut Outbox) -> Result<(), AbortFault>
         ensures step { record { after = self.new; frame = out.new; answer = result } ≡ with_control C.control self.old.congestion (aborts self.old.state) }
         ensures not_live { (result ≡ Err AbortFault.NotLive) ↔ ((self.old.state.phase ≡ Phase.Closed) ⊎ (self.old.state.phase ≡ Phase.Listen) ⊎ (self.old.state.phase ≡ Phase.TimeWait)) }
-        ensures refused { OnErr result ((self.new ≡ self.old) × (out.new ≡ None)) }
+        ensures refused { OnErr result (self.new ≡ self.old) }
+        ensures sends_nothing { OnErr result (out.new ≡ None) }
     {
         self.connection.abort(out)
     }
@@ -249,7 +253,8 @@ impl<C: Congestion> Endpoint<C> {
         ensures not_open { (result ≡ Err PreferFault.NotOpen) ↔ ((self.old.state.phase ≢ Phase.PartOpen) × (self.old.state.phase ≢ Phase.Open)) }
         ensures bad_list { (result ≡ Err PreferFault.BadList) ↔ ((is_connected self.old.state.phase ≡ true) × (wish_of feature place values.now ≡ Err prefer.BadList)) }
         ensures not_ours { (result ≡ Err PreferFault.NotOurs) ↔ ((is_connected self.old.state.phase ≡ true) × (wish_of feature place values.now ≡ Err prefer.NotOurs)) }
-        ensures refused { OnErr result ((self.new ≡ self.old) × (out.new ≡ None)) }
+        ensures refused { OnErr result (self.new ≡ self.old) }
+        ensures sends_nothing { OnErr result (out.new ≡ None) }
     {
         self.connection.prefer(feature, place, values, out)
     }
@@ -269,7 +274,8 @@ impl<C: Congestion> Endpoint<C> {
     pub fn timer(&mut self, timer: Timer, out: &mut Outbox) -> bool
         ensures step { record { after = self.new; frame = out.new; answer = result } ≡ with_control C.control self.old.congestion (fires self.old.state timer (has_in_flight C.control self.old.congestion)) }
         ensures applies { result ≡ applies timer self.old.state (has_in_flight C.control self.old.congestion) }
-        ensures idle { result ≡ false → (self.new ≡ self.old) × (out.new ≡ None) }
+        ensures idle { result ≡ false → self.new ≡ self.old }
+        ensures sends_nothing { result ≡ false → out.new ≡ None }
     {
         match timer {
             Timer::Rto => self.time_out(out),
@@ -282,7 +288,8 @@ impl<C: Congestion> Endpoint<C> {
     fn time_out(&mut self, out: &mut Outbox) -> bool
         ensures step { record { after = self.new; frame = out.new; answer = result } ≡ with_control C.control self.old.congestion (fires self.old.state timers.Rto (has_in_flight C.control self.old.congestion)) }
         ensures applies { result ≡ applies timers.Rto self.old.state (has_in_flight C.control self.old.congestion) }
-        ensures idle { result ≡ false → (self.new ≡ self.old) × (out.new ≡ None) }
+        ensures idle { result ≡ false → self.new ≡ self.old }
+        ensures sends_nothing { result ≡ false → out.new ≡ None }
     {
         out.clear();
         if !is_open(self.connection.phase()) || self.congestion.in_flight() == 0 {

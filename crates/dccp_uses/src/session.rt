@@ -112,7 +112,8 @@ impl<C: Congestion> Session<C> {
     pub fn open<N: Network>(&mut self, now: u64, network: &mut N) -> Result<(), OpenFault>
         ensures does { Does N.sends (calls C.control now self.old (with_control C.control self.old.end.congestion (opens self.old.end.state)))
             self.new network.old network.new result }
-        ensures refused { OnErr result ((self.new ≡ self.old) × (network.new ≡ network.old)) }
+        ensures refused { OnErr result (self.new ≡ self.old) }
+        ensures sends_nothing { OnErr result (network.new ≡ network.old) }
     {
         let mut out = Outbox::new();
         self.end.open(&mut out)?;
@@ -131,7 +132,8 @@ impl<C: Congestion> Session<C> {
     ) -> Result<(), SendFault>
         ensures does { Does N.sends (calls C.control now self.old (with_control C.control self.old.end.congestion
             (sends_payload self.old.end.state payload.now (may_send C.control self.old.end.congestion)))) self.new network.old network.new result }
-        ensures refused { OnErr result ((self.new ≡ self.old) × (network.new ≡ network.old)) }
+        ensures refused { OnErr result (self.new ≡ self.old) }
+        ensures sends_nothing { OnErr result (network.new ≡ network.old) }
     {
         let mut out = Outbox::new();
         self.end.send(payload, &mut out)?;
@@ -152,7 +154,8 @@ impl<C: Congestion> Session<C> {
     ) -> Result<(), PreferFault>
         ensures does { Does N.sends (calls_anew C.control now self.old (with_control C.control self.old.end.congestion
             (prefers self.old.end.state (feature, place) values.now))) self.new network.old network.new result }
-        ensures refused { OnErr result ((self.new ≡ self.old) × (network.new ≡ network.old)) }
+        ensures refused { OnErr result (self.new ≡ self.old) }
+        ensures sends_nothing { OnErr result (network.new ≡ network.old) }
     {
         let mut out = Outbox::new();
         self.end.prefer(feature, place, values, &mut out)?;
@@ -166,7 +169,8 @@ impl<C: Congestion> Session<C> {
     pub fn close<N: Network>(&mut self, now: u64, network: &mut N) -> Result<(), CloseFault>
         ensures does { Does N.sends (calls C.control now self.old (with_control C.control self.old.end.congestion (closes self.old.end.state)))
             self.new network.old network.new result }
-        ensures refused { OnErr result ((self.new ≡ self.old) × (network.new ≡ network.old)) }
+        ensures refused { OnErr result (self.new ≡ self.old) }
+        ensures sends_nothing { OnErr result (network.new ≡ network.old) }
     {
         let mut out = Outbox::new();
         self.end.close(&mut out)?;
@@ -179,7 +183,8 @@ impl<C: Congestion> Session<C> {
     pub fn abort<N: Network>(&mut self, now: u64, network: &mut N) -> Result<(), AbortFault>
         ensures does { Does N.sends (calls C.control now self.old (with_control C.control self.old.end.congestion (aborts self.old.end.state)))
             self.new network.old network.new result }
-        ensures refused { OnErr result ((self.new ≡ self.old) × (network.new ≡ network.old)) }
+        ensures refused { OnErr result (self.new ≡ self.old) }
+        ensures sends_nothing { OnErr result (network.new ≡ network.old) }
     {
         let mut out = Outbox::new();
         self.end.abort(&mut out)?;

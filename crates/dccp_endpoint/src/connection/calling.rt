@@ -34,7 +34,8 @@ impl Connection {
     pub(crate) fn open(&mut self, out: &mut Outbox) -> Result<(), OpenFault>
         ensures step { record { after = self.new; frame = out.new; calls = []; answer = result } ≡ opens self.old }
         ensures not_fresh { (result ≡ Err OpenFault.NotFresh) ↔ ((self.old.config.role ≡ Role.Server) ⊎ (self.old.opened ≡ true)) }
-        ensures refused { OnErr result ((self.new ≡ self.old) × (out.new ≡ None)) }
+        ensures refused { OnErr result (self.new ≡ self.old) }
+        ensures sends_nothing { OnErr result (out.new ≡ None) }
     {
         out.clear();
         match (self.config.role, self.opened) {
@@ -69,7 +70,8 @@ impl Connection {
     pub(crate) fn close(&mut self, out: &mut Outbox) -> Result<(), CloseFault>
         ensures step { record { after = self.new; frame = out.new; calls = []; answer = result } ≡ closes self.old }
         ensures not_open { (result ≡ Err CloseFault.NotOpen) ↔ ((self.old.phase ≢ Phase.PartOpen) × (self.old.phase ≢ Phase.Open)) }
-        ensures refused { OnErr result ((self.new ≡ self.old) × (out.new ≡ None)) }
+        ensures refused { OnErr result (self.new ≡ self.old) }
+        ensures sends_nothing { OnErr result (out.new ≡ None) }
     {
         out.clear();
         match self.phase {
@@ -102,7 +104,8 @@ impl Connection {
     pub(crate) fn abort(&mut self, out: &mut Outbox) -> Result<(), AbortFault>
         ensures step { record { after = self.new; frame = out.new; calls = []; answer = result } ≡ aborts self.old }
         ensures not_live { (result ≡ Err AbortFault.NotLive) ↔ ((self.old.phase ≡ Phase.Closed) ⊎ (self.old.phase ≡ Phase.Listen) ⊎ (self.old.phase ≡ Phase.TimeWait)) }
-        ensures refused { OnErr result ((self.new ≡ self.old) × (out.new ≡ None)) }
+        ensures refused { OnErr result (self.new ≡ self.old) }
+        ensures sends_nothing { OnErr result (out.new ≡ None) }
     {
         out.clear();
         match self.phase {
@@ -141,7 +144,8 @@ impl Connection {
         ensures not_open { (result ≡ Err PreferFault.NotOpen) ↔ ((self.old.phase ≢ Phase.PartOpen) × (self.old.phase ≢ Phase.Open)) }
         ensures bad_list { (result ≡ Err PreferFault.BadList) ↔ ((is_connected self.old.phase ≡ true) × (wish_of feature place values.now ≡ Err prefer.BadList)) }
         ensures not_ours { (result ≡ Err PreferFault.NotOurs) ↔ ((is_connected self.old.phase ≡ true) × (wish_of feature place values.now ≡ Err prefer.NotOurs)) }
-        ensures refused { OnErr result ((self.new ≡ self.old) × (out.new ≡ None)) }
+        ensures refused { OnErr result (self.new ≡ self.old) }
+        ensures sends_nothing { OnErr result (out.new ≡ None) }
     {
         out.clear();
         if !is_connected(self.phase) {
@@ -194,7 +198,8 @@ impl Connection {
         requires { timer ≢ Timer.Rto }
         ensures step { (in_flight : Bool) → record { after = self.new; frame = out.new; calls = []; answer = result } ≡ fires self.old timer in_flight }
         ensures applies { (in_flight : Bool) → result ≡ applies timer self.old in_flight }
-        ensures idle { result ≡ false → (self.new ≡ self.old) × (out.new ≡ None) }
+        ensures idle { result ≡ false → self.new ≡ self.old }
+        ensures sends_nothing { result ≡ false → out.new ≡ None }
     {
         out.clear();
         let ack = self.marks.gsr;
