@@ -1,5 +1,5 @@
 -- What `show` writes of a capture: the lines of its records, and then how many there were or the fault that ended them (own).
-use Rattle.std.specs.Prelude.{ℕ, ◌+◌, ◌++◌, Bool, is_some, List, [], ◌∷◌, length, codes, decimal, Option, Some, None}
+use Rattle.std.specs.Prelude.{ℕ, ◌+◌, ◌<◌, ◌^◌, ◌++◌, Bool, is_some, List, [], ◌∷◌, length, codes, decimal, Option, Some, None}
 use Rattle.capture_reader.specs.declared.fault.CaptureFault.{CaptureFault}
 use Rattle.capture_reader.specs.declared.fault.CaptureFault.TheVariants as fault
 use Rattle.capture_reader.specs.Records.{RecordParts, captured}
@@ -23,6 +23,10 @@ fault_name fault.TooLarge = codes "TooLarge"
 -- before the first record
 abbrev pub first_tally : Tally
 first_tally = record { shown = 0; skipped = 0; flows = [] }
+
+-- how many records there were has 64 bits
+abbrev pub CountsFit : Tally → Type 0
+CountsFit tally = tally.shown + tally.skipped < 2 ^ 64
 
 -- one record more, with a line or skipped, and the flows that were seen then
 abbrev pub counted_record : Tally → Shown → List Flow → Tally

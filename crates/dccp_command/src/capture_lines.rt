@@ -1,6 +1,6 @@
 //! The last line that `show` writes.
-ghost use Rattle.std.specs.Prelude.{◌≡◌, ◌++◌, ◌+◌, ◌<◌, ◌^◌, OnOk};
-ghost use Rattle.dccp_command.specs.CaptureText.{labelled_number, fault_name, counts_line, fault_line, last_line};
+ghost use Rattle.std.specs.Prelude.{◌≡◌, ◌++◌, OnOk};
+ghost use Rattle.dccp_command.specs.CaptureText.{CountsFit, labelled_number, fault_name, counts_line, fault_line, last_line};
 
 use crate::show::Tally;
 use crate::text::{put, put_number};
@@ -31,7 +31,7 @@ pub(crate) fn put_counted(text: &mut Vec<u8>, word: &[u8], number: u64) -> Resul
 }
 
 fn put_counts(text: &mut Vec<u8>, tally: &Tally) -> Result<(), NoMemory>
-    requires { tally.now.shown + tally.now.skipped < 2 ^ 64 }
+    requires { CountsFit tally.now }
     ensures { OnOk result (text.new.items ≡ text.old.items ++ counts_line tally.now) }
 {
     put_counted(text, b"records ", tally.shown + tally.skipped)?;
@@ -42,7 +42,7 @@ fn put_counts(text: &mut Vec<u8>, tally: &Tally) -> Result<(), NoMemory>
 }
 
 fn put_fault(text: &mut Vec<u8>, tally: &Tally, fault: CaptureFault) -> Result<(), NoMemory>
-    requires { tally.now.shown + tally.now.skipped < 2 ^ 64 }
+    requires { CountsFit tally.now }
     ensures { OnOk result (text.new.items ≡ text.old.items ++ fault_line tally.now fault) }
 {
     put(text, b"capture ")?;
@@ -58,7 +58,7 @@ pub(crate) fn put_last_line(
     tally: &Tally,
     end: Option<CaptureFault>,
 ) -> Result<(), NoMemory>
-    requires { tally.now.shown + tally.now.skipped < 2 ^ 64 }
+    requires { CountsFit tally.now }
     ensures { OnOk result (text.new.items ≡ text.old.items ++ last_line tally.now end) }
 {
     match end {

@@ -3,7 +3,7 @@ ghost use Rattle.std.specs.Prelude.{◌≡◌, ◌≢◌, ℕ, ◌+◌, ◌<◌,
 ghost use Rattle.dccp_io.specs.Counts.{Rose};
 ghost use Rattle.capture_reader.specs.Records.{entry_of, records_from};
 ghost use Rattle.capture_reader.specs.State.{Passed, rest};
-ghost use Rattle.dccp_command.specs.CaptureText.{first_tally, tallied, record_text, last_line, capture_text, is_faulty, records_end};
+ghost use Rattle.dccp_command.specs.CaptureText.{CountsFit, first_tally, tallied, record_text, last_line, capture_text, is_faulty, records_end};
 ghost use Rattle.dccp_command.specs.Show.{Turns, Closes, ShowsHeaderFault, ShowsRecords};
 ghost use Rattle.dccp_command.specs.Top.{SinkFailed, Answers, EndsForCause};
 
@@ -90,7 +90,7 @@ fn finish<K: Sink>(
     tally: &Tally,
     end: Option<CaptureFault>,
 ) -> Status
-    requires { tally.now.shown + tally.now.skipped < 2 ^ 64 }
+    requires { CountsFit tally.now }
     ensures words { result ≢ Status.Words }
     ensures read { result ≢ Status.Read }
     ensures closes { Closes (text.old.items ++ last_line tally.now end) end result (K.taken output.old) (K.taken output.new) }

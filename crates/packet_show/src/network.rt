@@ -1,6 +1,6 @@
 //! DCCP in captured records: Ethernet, IPv4 (RFC 791, section 3.1) and IPv6 (RFC 8200, section 3).
 ghost use Rattle.std.specs.Prelude.{◌≡◌, ◌+◌, ◌≤◌, length, take, drop, option_map, IfSome};
-ghost use Rattle.packet_show.specs.Network.{carried_by, bytes_at, version, v4_header, v4_total, is_unfragmented, is_v4, behind_v4, in_v4, v6_payload, is_v6, behind_v6, in_v6, in_ip, in_frame, in_ethernet, carried};
+ghost use Rattle.packet_show.specs.Network.{FitsIp, carried_by, bytes_at, version, v4_header, v4_total, is_unfragmented, is_v4, behind_v4, in_v4, v6_payload, is_v6, behind_v6, in_v6, in_ip, in_frame, in_ethernet, carried};
 ghost use Rattle.dccp_packets.specs.Grammar.{number_at};
 
 use byteorder::{BigEndian, ByteOrder};
@@ -129,7 +129,7 @@ fn behind_v4(bytes: &[u8]) -> Datagram<'_>
     requires header { v4_header bytes.now ≤ length bytes.now }
     requires total { v4_header bytes.now ≤ v4_total bytes.now }
     ensures value { carried_by result ≡ behind_v4 bytes.now }
-    ensures fits { length result.bytes.now ≤ 65535 }
+    ensures fits { FitsIp result }
 {
     let header = v4_header(bytes);
     let total = v4_total(bytes);
@@ -144,7 +144,7 @@ fn behind_v4(bytes: &[u8]) -> Datagram<'_>
 
 fn in_v4(bytes: &[u8]) -> Option<Datagram<'_>>
     ensures value { option_map carried_by result ≡ in_v4 bytes.now }
-    ensures fits { IfSome result (λ d. length d.bytes.now ≤ 65535) }
+    ensures fits { IfSome result FitsIp }
 {
     if !is_v4(bytes) {
         return None;
@@ -169,7 +169,7 @@ fn is_v6(bytes: &[u8]) -> bool
 fn behind_v6(bytes: &[u8]) -> Datagram<'_>
     requires { 40 ≤ length bytes.now }
     ensures value { carried_by result ≡ behind_v6 bytes.now }
-    ensures fits { length result.bytes.now ≤ 65535 }
+    ensures fits { FitsIp result }
 {
     let payload = v6_payload(bytes);
     let from = v6_address(bytes, 8);
@@ -183,7 +183,7 @@ fn behind_v6(bytes: &[u8]) -> Datagram<'_>
 
 fn in_v6(bytes: &[u8]) -> Option<Datagram<'_>>
     ensures value { option_map carried_by result ≡ in_v6 bytes.now }
-    ensures fits { IfSome result (λ d. length d.bytes.now ≤ 65535) }
+    ensures fits { IfSome result FitsIp }
 {
     if !is_v6(bytes) {
         return None;
@@ -193,7 +193,7 @@ fn in_v6(bytes: &[u8]) -> Option<Datagram<'_>>
 
 fn in_ip(bytes: &[u8]) -> Option<Datagram<'_>>
     ensures value { option_map carried_by result ≡ in_ip bytes.now }
-    ensures fits { IfSome result (λ d. length d.bytes.now ≤ 65535) }
+    ensures fits { IfSome result FitsIp }
 {
     if is_v4(bytes) {
         return in_v4(bytes);
@@ -203,7 +203,7 @@ fn in_ip(bytes: &[u8]) -> Option<Datagram<'_>>
 
 fn in_frame(kind: u16, bytes: &[u8]) -> Option<Datagram<'_>>
     ensures value { option_map carried_by result ≡ in_frame kind bytes.now }
-    ensures fits { IfSome result (λ d. length d.bytes.now ≤ 65535) }
+    ensures fits { IfSome result FitsIp }
 {
     match kind {
         TYPE_IPV4 => in_v4(bytes),
@@ -214,7 +214,7 @@ fn in_frame(kind: u16, bytes: &[u8]) -> Option<Datagram<'_>>
 
 fn in_ethernet(bytes: &[u8]) -> Option<Datagram<'_>>
     ensures value { option_map carried_by result ≡ in_ethernet bytes.now }
-    ensures fits { IfSome result (λ d. length d.bytes.now ≤ 65535) }
+    ensures fits { IfSome result FitsIp }
 {
     if bytes.len() < ETHERNET_HEADER {
         return None;
@@ -229,7 +229,7 @@ fn in_ethernet(bytes: &[u8]) -> Option<Datagram<'_>>
 /// protocol 33, a fragment, or an IP header that was not captured whole or does not hold together.
 pub(crate) fn carried(link: u32, bytes: &[u8]) -> Option<Datagram<'_>>
     ensures value { option_map carried_by result ≡ carried link bytes.now }
-    ensures fits { IfSome result (λ d. length d.bytes.now ≤ 65535) }
+    ensures fits { IfSome result FitsIp }
 {
     match link {
         ETHERNET => in_ethernet(bytes),

@@ -106,7 +106,7 @@ fn why_name(why: Why) -> &'static [u8]
 
 fn put_delivery(text: &mut Vec<u8>, from: Side, index: u64) -> Result<(), NoMemory>
     ensures ok { OnOk result (text.new.items ≡ text.old.items ++ event_text (Event.Deliver from index)) }
-    ensures err { OnErr result (Keeps text.old.items text.new.items) }
+    ensures front { Keeps text.old.items text.new.items }
 {
     put(text, b"deliver ")?;
     put(text, side_letter(from))?;
@@ -115,7 +115,7 @@ fn put_delivery(text: &mut Vec<u8>, from: Side, index: u64) -> Result<(), NoMemo
 
 fn put_send(text: &mut Vec<u8>, side: Side, payload: &[u8]) -> Result<(), NoMemory>
     ensures ok { OnOk result (text.new.items ≡ text.old.items ++ event_text (Event.Send side payload.now)) }
-    ensures err { OnErr result (Keeps text.old.items text.new.items) }
+    ensures front { Keeps text.old.items text.new.items }
 {
     put(text, b"send ")?;
     put(text, side_name(side))?;
@@ -127,7 +127,7 @@ fn put_send(text: &mut Vec<u8>, side: Side, payload: &[u8]) -> Result<(), NoMemo
 #[tactic(auto, using(crate::proofs::Keeping::keeps_itself, crate::proofs::Keeping::keeps_on, crate::proofs::Keeping::keeps_more, crate::proofs::Keeping::keeps_through))]
 fn put_more_values(text: &mut Vec<u8>, values: &[u64]) -> Result<(), NoMemory>
     ensures ok { OnOk result (text.new.items ≡ text.old.items ++ flat_map (λ value. 44 ∷ decimal value) values.now) }
-    ensures err { OnErr result (Keeps text.old.items text.new.items) }
+    ensures front { Keeps text.old.items text.new.items }
 {
     for value in values {
         put(text, b",")?;
@@ -138,7 +138,7 @@ fn put_more_values(text: &mut Vec<u8>, values: &[u64]) -> Result<(), NoMemory>
 
 fn put_values(text: &mut Vec<u8>, values: &[u64]) -> Result<(), NoMemory>
     ensures ok { OnOk result (text.new.items ≡ text.old.items ++ values_text values.now) }
-    ensures err { OnErr result (Keeps text.old.items text.new.items) }
+    ensures front { Keeps text.old.items text.new.items }
 {
     let Some((first, others)) = values.split_first() else {
         return Ok(());
@@ -156,7 +156,7 @@ fn put_preference(
     values: &[u64],
 ) -> Result<(), NoMemory>
     ensures ok { OnOk result (text.new.items ≡ text.old.items ++ event_text (Event.Prefer side feature place values.now)) }
-    ensures err { OnErr result (Keeps text.old.items text.new.items) }
+    ensures front { Keeps text.old.items text.new.items }
 {
     put_named(text, b"prefer ", side_name(side))?;
     put_named(text, b" ", place_name(place))?;
@@ -168,7 +168,7 @@ fn put_preference(
 
 fn put_timer(text: &mut Vec<u8>, side: Side, timer: Timer) -> Result<(), NoMemory>
     ensures ok { OnOk result (text.new.items ≡ text.old.items ++ event_text (Event.Timer side timer)) }
-    ensures err { OnErr result (Keeps text.old.items text.new.items) }
+    ensures front { Keeps text.old.items text.new.items }
 {
     put(text, b"timer ")?;
     put(text, side_name(side))?;
@@ -179,7 +179,7 @@ fn put_timer(text: &mut Vec<u8>, side: Side, timer: Timer) -> Result<(), NoMemor
 
 fn put_close(text: &mut Vec<u8>, side: Side) -> Result<(), NoMemory>
     ensures ok { OnOk result (text.new.items ≡ text.old.items ++ event_text (Event.Close side)) }
-    ensures err { OnErr result (Keeps text.old.items text.new.items) }
+    ensures front { Keeps text.old.items text.new.items }
 {
     put(text, b"close ")?;
     put(text, side_name(side))?;
@@ -188,7 +188,7 @@ fn put_close(text: &mut Vec<u8>, side: Side) -> Result<(), NoMemory>
 
 fn put_abort(text: &mut Vec<u8>, side: Side) -> Result<(), NoMemory>
     ensures ok { OnOk result (text.new.items ≡ text.old.items ++ event_text (Event.Abort side)) }
-    ensures err { OnErr result (Keeps text.old.items text.new.items) }
+    ensures front { Keeps text.old.items text.new.items }
 {
     put(text, b"abort ")?;
     put(text, side_name(side))?;
@@ -197,7 +197,7 @@ fn put_abort(text: &mut Vec<u8>, side: Side) -> Result<(), NoMemory>
 
 fn put_event(text: &mut Vec<u8>, event: &Event) -> Result<(), NoMemory>
     ensures ok { OnOk result (text.new.items ≡ text.old.items ++ event_text event.now) }
-    ensures err { OnErr result (Keeps text.old.items text.new.items) }
+    ensures front { Keeps text.old.items text.new.items }
 {
     match event {
         Event::Open => put(text, b"open"),
@@ -218,7 +218,7 @@ fn put_event(text: &mut Vec<u8>, event: &Event) -> Result<(), NoMemory>
 // Puts the name of what came before it, as `refused `.
 fn put_named(text: &mut Vec<u8>, what: &[u8], name: &[u8]) -> Result<(), NoMemory>
     ensures ok { OnOk result (text.new.items ≡ text.old.items ++ (what.now ++ name.now)) }
-    ensures err { OnErr result (Keeps text.old.items text.new.items) }
+    ensures front { Keeps text.old.items text.new.items }
 {
     put(text, what)?;
     put(text, name)?;
@@ -227,7 +227,7 @@ fn put_named(text: &mut Vec<u8>, what: &[u8], name: &[u8]) -> Result<(), NoMemor
 
 fn put_counted(text: &mut Vec<u8>, what: &[u8], number: u64) -> Result<(), NoMemory>
     ensures ok { OnOk result (text.new.items ≡ text.old.items ++ (what.now ++ decimal number)) }
-    ensures err { OnErr result (Keeps text.old.items text.new.items) }
+    ensures front { Keeps text.old.items text.new.items }
 {
     put(text, what)?;
     put_number(text, number)?;
@@ -237,7 +237,7 @@ fn put_counted(text: &mut Vec<u8>, what: &[u8], number: u64) -> Result<(), NoMem
 #[tactic(auto, using(crate::proofs::Keeping::keeps_itself, crate::proofs::Keeping::keeps_on, crate::proofs::Keeping::keeps_more, crate::proofs::Keeping::keeps_through))]
 fn put_detail(text: &mut Vec<u8>, detail: &[u8; 3]) -> Result<(), NoMemory>
     ensures ok { OnOk result (text.new.items ≡ text.old.items ++ flat_map spec.decimal_byte detail.now) }
-    ensures err { OnErr result (Keeps text.old.items text.new.items) }
+    ensures front { Keeps text.old.items text.new.items }
 {
     for byte in detail {
         put_counted(text, b" ", u64::from(*byte))?;
@@ -247,7 +247,7 @@ fn put_detail(text: &mut Vec<u8>, detail: &[u8; 3]) -> Result<(), NoMemory>
 
 fn put_reset(text: &mut Vec<u8>, code: u8, detail: &[u8; 3]) -> Result<(), NoMemory>
     ensures ok { OnOk result (text.new.items ≡ text.old.items ++ spec.reset_text code detail.now) }
-    ensures err { OnErr result (Keeps text.old.items text.new.items) }
+    ensures front { Keeps text.old.items text.new.items }
 {
     put_counted(text, b"sent reset ", u64::from(code))?;
     put_detail(text, detail)?;
@@ -256,7 +256,7 @@ fn put_reset(text: &mut Vec<u8>, code: u8, detail: &[u8; 3]) -> Result<(), NoMem
 
 fn put_data(text: &mut Vec<u8>, bytes: &[u8]) -> Result<(), NoMemory>
     ensures ok { OnOk result (text.new.items ≡ text.old.items ++ spec.data_text bytes.now) }
-    ensures err { OnErr result (Keeps text.old.items text.new.items) }
+    ensures front { Keeps text.old.items text.new.items }
 {
     put(text, b"took data ")?;
     put_hex(text, bytes)?;
@@ -270,7 +270,7 @@ fn put_taken(
 ) -> Result<(), NoMemory>
     requires { spec.IsPlaceIn input.now delivered }
     ensures ok { OnOk result (text.new.items ≡ text.old.items ++ spec.taken_text input.now delivered) }
-    ensures err { OnErr result (Keeps text.old.items text.new.items) }
+    ensures front { Keeps text.old.items text.new.items }
 {
     match delivered {
         None => put(text, b"took"),
@@ -281,7 +281,7 @@ fn put_taken(
 fn put_outcome(text: &mut Vec<u8>, input: &[u8], outcome: &Outcome) -> Result<(), NoMemory>
     requires { spec.HasItsData input.now outcome.now }
     ensures ok { OnOk result (text.new.items ≡ text.old.items ++ spec.outcome_text input.now outcome.now) }
-    ensures err { OnErr result (Keeps text.old.items text.new.items) }
+    ensures front { Keeps text.old.items text.new.items }
 {
     match *outcome {
         Outcome::Took { delivered } => put_taken(text, input, delivered),
@@ -295,7 +295,7 @@ fn put_outcome(text: &mut Vec<u8>, input: &[u8], outcome: &Outcome) -> Result<()
 fn put_seen(text: &mut Vec<u8>, input: &[u8], seen: &Seen) -> Result<(), NoMemory>
     requires { spec.IsSeenOf input.now seen.now }
     ensures ok { OnOk result (text.new.items ≡ text.old.items ++ spec.seen_text input.now seen.now) }
-    ensures err { OnErr result (Keeps text.old.items text.new.items) }
+    ensures front { Keeps text.old.items text.new.items }
 {
     match seen {
         Seen::Called(Ok(())) => put(text, b"ok"),
@@ -308,7 +308,7 @@ fn put_seen(text: &mut Vec<u8>, input: &[u8], seen: &Seen) -> Result<(), NoMemor
 
 fn put_told(text: &mut Vec<u8>, line: u64, event: &Event) -> Result<(), NoMemory>
     ensures ok { OnOk result (text.new.items ≡ text.old.items ++ spec.told_text line event.now) }
-    ensures err { OnErr result (Keeps text.old.items text.new.items) }
+    ensures front { Keeps text.old.items text.new.items }
 {
     put_number(text, line)?;
     put(text, b" ")?;
@@ -319,7 +319,7 @@ fn put_told(text: &mut Vec<u8>, line: u64, event: &Event) -> Result<(), NoMemory
 fn put_result(text: &mut Vec<u8>, input: &[u8], seen: &Seen) -> Result<(), NoMemory>
     requires { spec.IsSeenOf input.now seen.now }
     ensures ok { OnOk result (text.new.items ≡ text.old.items ++ spec.result_text input.now seen.now) }
-    ensures err { OnErr result (Keeps text.old.items text.new.items) }
+    ensures front { Keeps text.old.items text.new.items }
 {
     put(text, b": ")?;
     put_seen(text, input, seen)?;
@@ -336,7 +336,7 @@ fn put_line(
 ) -> Result<(), NoMemory>
     requires { spec.IsSeenOf input.now seen.now }
     ensures ok { OnOk result (text.new.items ≡ text.old.items ++ spec.seen_line line event.now seen.now input.now) }
-    ensures err { OnErr result (Keeps text.old.items text.new.items) }
+    ensures front { Keeps text.old.items text.new.items }
 {
     put_told(text, line, event)?;
     put_result(text, input, seen)?;
@@ -381,7 +381,7 @@ pub fn print_seen(
 fn put_numbered(text: &mut Vec<u8>, line: u64, seen: &Seen, input: &[u8]) -> Result<(), NoMemory>
     requires { spec.IsSeenOf input.now seen.now }
     ensures ok { OnOk result (text.new.items ≡ text.old.items ++ spec.result_line line seen.now input.now) }
-    ensures err { OnErr result (Keeps text.old.items text.new.items) }
+    ensures front { Keeps text.old.items text.new.items }
 {
     put_number(text, line)?;
     put_result(text, input, seen)

@@ -4,6 +4,7 @@ ghost use Rattle.schedule_text.specs.Left.{word_of, left_of};
 ghost use Rattle.schedule_text.specs.Words.{later};
 ghost use Rattle.schedule_text.specs.Digits.{flaw_of, bytes_of};
 ghost use Rattle.schedule_text.specs.Reading as spec;
+ghost use Rattle.schedule_text.specs.Reading.{form_word, side_word, place_word, timer_word, number_word, feature_word, values_word};
 ghost use Rattle.feature_lists.specs.Wishes.{is_ours, wish_of};
 
 use crate::digits::{bytes_of, flaw_of};
@@ -35,49 +36,49 @@ impl Word<'_> {
     }
 
     fn form(&self) -> Result<Form, LineFault>
-        ensures { result ≡ spec.form_word (word_of self.now) }
+        ensures { result ≡ form_word (word_of self.now) }
     {
         self.present()?;
         form_named(self.text).ok_or(fault_at(self.column, LineWhy::UnknownWord))
     }
 
     fn side(&self) -> Result<Side, LineFault>
-        ensures { result ≡ spec.side_word (word_of self.now) }
+        ensures { result ≡ side_word (word_of self.now) }
     {
         self.present()?;
         side_named(self.text).ok_or(fault_at(self.column, LineWhy::UnknownWord))
     }
 
     fn place(&self) -> Result<Place, LineFault>
-        ensures { result ≡ spec.place_word (word_of self.now) }
+        ensures { result ≡ place_word (word_of self.now) }
     {
         self.present()?;
         place_named(self.text).ok_or(fault_at(self.column, LineWhy::UnknownWord))
     }
 
     fn timer(&self) -> Result<Timer, LineFault>
-        ensures { result ≡ spec.timer_word (word_of self.now) }
+        ensures { result ≡ timer_word (word_of self.now) }
     {
         self.present()?;
         timer_of(self.text).ok_or(fault_at(self.column, LineWhy::UnknownWord))
     }
 
     fn number(&self) -> Result<Seq48, LineFault>
-        ensures { result ≡ spec.number_word (word_of self.now) }
+        ensures { result ≡ number_word (word_of self.now) }
     {
         self.present()?;
         sequence_number_of(self.text).ok_or(fault_at(self.column, LineWhy::BadNumber))
     }
 
     fn feature(&self) -> Result<Feature, LineFault>
-        ensures { result ≡ spec.feature_word (word_of self.now) }
+        ensures { result ≡ feature_word (word_of self.now) }
     {
         self.present()?;
         feature_of(self.text).ok_or(fault_at(self.column, LineWhy::BadNumber))
     }
 
     fn values(&self) -> Result<Values, LineFault>
-        ensures { result ≡ spec.values_word (word_of self.now) }
+        ensures { result ≡ values_word (word_of self.now) }
     {
         self.present()?;
         values_of(self.text).ok_or(fault_at(self.column, LineWhy::BadNumber))
