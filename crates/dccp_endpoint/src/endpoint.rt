@@ -117,7 +117,7 @@ impl<C: Congestion> Endpoint<C> {
     ghost use Rattle.dccp_endpoint.specs.Receiving.{receives};
     ghost use Rattle.dccp_endpoint.specs.declared.calls.Timer.TheVariants as timers;
 
-    /// The phase.
+    /// Where the connection stands.
     pub fn phase(&self) -> Phase
         ensures { result ≡ self.now.state.phase }
     {

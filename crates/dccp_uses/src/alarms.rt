@@ -25,7 +25,7 @@ impl Alarm {
 /// What the timers of an end go by, after something happened to it.
 #[derive(Clone, Copy, Debug, PartialEq, Eq)]
 pub struct Condition {
-    /// The phase.
+    /// Where its connection stands.
     pub phase: Phase,
     /// Whether data packets are in flight.
     pub in_flight: bool,

@@ -71,7 +71,7 @@ fn place_of(left: bool) -> Place
     if left { Place::There } else { Place::Here }
 }
 
-// Makes the rows of what is listed.
+// Fills each row with its feature's initial value and what is listed for it.
 fn fill(rows: &mut [Row], role: Role2, listed: &[Listed])
     requires { length rows.old ≡ length listed.now }
     ensures { rows.new ≡ first_rows role listed.now }

@@ -101,7 +101,7 @@ impl RunList {
         }
     }
 
-    /// The floor.
+    /// The floor: no number before it is in the set, and none is marked.
     pub fn floor(&self) -> Seq48
         ensures value { result ≡ self.now.floor }
         ensures sound { IsSound self.now }

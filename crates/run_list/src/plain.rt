@@ -99,7 +99,7 @@ impl PlainRuns {
         }
     }
 
-    /// The floor.
+    /// The floor: no number before it is in the set, and none is marked.
     pub fn floor(&self) -> Seq48
         ensures value { result ≡ self.now.floor }
         ensures sound { IsSound self.now }

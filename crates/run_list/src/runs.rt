@@ -32,7 +32,7 @@ pub trait Runs {
     fn raise(&mut self, to: Seq48)
         ensures { set self.new ≡ raised (set self.old) to };
 
-    /// The floor.
+    /// The floor: no number before it is in the set, and none is marked.
     fn floor(&self) -> Seq48
         ensures value { result ≡ (set self.now).floor }
         ensures sound { IsSound (set self.now) };
