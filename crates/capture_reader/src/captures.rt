@@ -1,4 +1,4 @@
-//! The reader.
+//! The reader of a capture: records one after another, over a block of fixed length.
 ghost use Rattle.std.specs.Prelude.{◌≡◌, ◌≢◌, ◌+◌, ◌-◌, ◌*◌, ◌≤◌, ◌<◌, ◌^◌, [], length, None, Some, IfSome, MatchResult, IfOk, IfErr, OnErr};
 ghost use Rattle.dccp_io.specs.Counts.{Rose};
 ghost use Rattle.dccp_io.specs.Ahead.{ahead_of};
@@ -111,7 +111,7 @@ fn read_body<S: Source>(
     ensures same { ahead_of ahead.new (S.left source.new) ≡ ahead_of ahead.old (S.left source.old) }
     ensures read { BodyRead S.left S.faults captured room ahead.old ahead.new source.old source.new result }
 {
-    // That the bytes fit the block is what reading their number tells.
+    // Reading their number gives the prover that the bytes fit the block.
     let _held = ahead.len();
     let count = captured as usize;
     if MOST_CAPTURED < count {
@@ -137,16 +137,11 @@ fn read_record<S: Source>(
     ensures keeps { KeepsTheSource S.faults S.lender ahead.old ahead.new source.old source.new }
     ensures read { RecordRead S.left S.faults order room ahead.old ahead.new source.old source.new result }
 {
-    match read_header(source, ahead, order, room) {
-        Err(fault) => Err(fault),
-        Ok(None) => Ok(None),
-        Ok(Some(header)) => {
-            match read_body(source, ahead, header.captured, room - RECORD_HEADER as u64) {
-                Err(fault) => Err(fault),
-                Ok(_) => Ok(Some(header)),
-            }
-        }
-    }
+    let Some(header) = read_header(source, ahead, order, room)? else {
+        return Ok(None);
+    };
+    read_body(source, ahead, header.captured, room - RECORD_HEADER as u64)?;
+    Ok(Some(header))
 }
 
 impl<S: Source + Drop> Captures<S> {

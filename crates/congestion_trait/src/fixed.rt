@@ -1,4 +1,4 @@
-//! The fixed window.
+//! A congestion control whose window never changes.
 ghost use Rattle.std.specs.Prelude.{◌≡◌, [], IfOk};
 ghost use Rattle.congestion_trait.specs.Fixed.{fixed_control};
 

@@ -1,4 +1,4 @@
-//! The flight list.
+//! The flight list: packets that were sent and what was heard of them.
 ghost use Rattle.std.specs.Prelude.{◌≡◌, ℕ, ◌+◌, ◌-◌, ◌^◌, ◌<◌, ◌≤◌, [], ◌∷◌, ◌++◌, ◌↔◌, IsTrue, Contains, length, IfOk, Option, if◌then◌else◌};
 ghost use Rattle.std.specs.Option.{option_to_list};
 ghost use Rattle.dccp_options.specs.Vectors.{state_at};

@@ -3,7 +3,7 @@ use Rattle.std.proofs.Common.{◌≡◌, refl, sym, ap, ◌∙◌, subst, lit<, 
 use Rattle.dccp_endpoint.specs.Usual.{usual}
 use Rattle.dccp_states.specs.declared.phase.Role.TheVariants as role
 use Rattle.feature_machine.proofs.Listing.{usual_are_lists}
-use Rattle.two_ends.specs.declared.event.Event.{Event}
+use Rattle.world_events.specs.declared.event.Event.{Event}
 use Rattle.schedule_text.specs.declared.line.LineFault.{LineFault}
 use Rattle.dccp_command.specs.declared.play.Play.{Play}
 use Rattle.dccp_io.specs.Lines.{lines_of}

@@ -8,7 +8,7 @@ use Rattle.dccp_endpoint.specs.declared.config.Config.{Config}
 use Rattle.dccp_states.specs.declared.phase.Role.TheVariants as role
 use Rattle.two_ends.specs.Controlled.{begins_with, plays}
 use Rattle.two_ends.specs.Safe.{Safe}
-use Rattle.two_ends.specs.declared.event.Event.{Event}
+use Rattle.world_events.specs.declared.event.Event.{Event}
 use Rattle.dccp_io.specs.Counts.{Rose}
 use Rattle.dccp_io.specs.Fronts.{TakesFront}
 use Rattle.dccp_io.specs.Lines.{LinesState, rest_of_input}

@@ -7,7 +7,7 @@ use Rattle.dccp_io.specs.Fronts.{TakesFront}
 use Rattle.dccp_io.specs.Lines.{LinesState, rest_of_input}
 use Rattle.dccp_io.specs.declared.lines.Stop.TheVariants as stop
 use Rattle.schedule_text.specs.declared.line.LineFault.{LineFault}
-use Rattle.two_ends.specs.declared.event.Side.{Side}
+use Rattle.world_events.specs.declared.event.Side.{Side}
 use Rattle.dccp_command.specs.declared.lines.Turn.{Turn}
 use Rattle.dccp_command.specs.declared.lines.Turn.TheVariants as turn
 use Rattle.dccp_command.specs.declared.replay.Replay.{Replay}

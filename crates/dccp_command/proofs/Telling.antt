@@ -21,21 +21,22 @@ use Rattle.dccp_endpoint.specs.Reporting.{counts_data, delivered_if, delivers}
 use Rattle.dccp_endpoint.specs.Steps.{Step, idle}
 use Rattle.dccp_endpoint.specs.declared.exit.Exit.{Exit}
 use Rattle.dccp_endpoint.specs.declared.exit.Exit.TheVariants as exits
-use Rattle.dccp_endpoint.specs.declared.outcome.Fault.{Fault}
-use Rattle.dccp_endpoint.specs.declared.outcome.Outcome.{Outcome}
-use Rattle.dccp_endpoint.specs.declared.outcome.Outcome.TheVariants.{Took}
-use Rattle.dccp_endpoint.specs.declared.outcome.Why.{Why}
+use Rattle.end_answers.specs.declared.outcome.Fault.{Fault}
+use Rattle.end_answers.specs.declared.outcome.Outcome.{Outcome}
+use Rattle.end_answers.specs.declared.outcome.Outcome.TheVariants.{Took}
+use Rattle.end_answers.specs.declared.outcome.Why.{Why}
 use Rattle.two_ends.specs.Controlled.{Controlled, ControlledStep, congestion_of, controlled, controls, happens_to, said_by}
-use Rattle.two_ends.specs.World.{Half, HalfStep, Said, WorldState, WorldStep, actor, delivers_frame as arrives_at, half_of, half_steps, happens, is_full, other, refusal_of, seen_of_call, send_refusal_of, with_half}
-use Rattle.two_ends.specs.declared.event.Event.{Event}
-use Rattle.two_ends.specs.declared.event.Event.TheVariants as event
-use Rattle.two_ends.specs.declared.event.Refusal.{Refusal}
-use Rattle.two_ends.specs.declared.event.Refusal.TheVariants as refusal
-use Rattle.two_ends.specs.declared.event.Seen.{Seen}
-use Rattle.two_ends.specs.declared.event.Side.{Side}
-use Rattle.two_ends.specs.declared.event.Side.TheVariants.{Client, Server}
-use Rattle.two_ends.specs.declared.event.WorldFault.{WorldFault}
-use Rattle.two_ends.specs.declared.event.WorldFault.TheVariants as fault
+use Rattle.two_ends.specs.World.{Half, HalfStep, Said, WorldState, WorldStep, delivers_frame as arrives_at, half_of, half_steps, happens, is_full, refusal_of, seen_of_call, send_refusal_of, with_half}
+use Rattle.world_events.specs.Actors.{actor, other}
+use Rattle.world_events.specs.declared.event.Event.{Event}
+use Rattle.world_events.specs.declared.event.Event.TheVariants as event
+use Rattle.world_events.specs.declared.event.Refusal.{Refusal}
+use Rattle.world_events.specs.declared.event.Refusal.TheVariants as refusal
+use Rattle.world_events.specs.declared.event.Seen.{Seen}
+use Rattle.world_events.specs.declared.event.Side.{Side}
+use Rattle.world_events.specs.declared.event.Side.TheVariants.{Client, Server}
+use Rattle.world_events.specs.declared.event.WorldFault.{WorldFault}
+use Rattle.world_events.specs.declared.event.WorldFault.TheVariants as fault
 use Rattle.two_ends.specs.declared.frames.SentFrame.{SentFrame}
 use Rattle.schedule_text.specs.Results.{HasItsData, IsPlaceIn, IsSeenOf}
 use Rattle.dccp_command.specs.RunLines.{arrived, sent_bytes}

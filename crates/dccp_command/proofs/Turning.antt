@@ -9,7 +9,7 @@ use Rattle.dccp_io.specs.declared.lines.Stop.{Stop}
 use Rattle.dccp_io.specs.declared.lines.Stop.TheVariants as stop
 use Rattle.schedule_text.specs.declared.line.LineFault.{LineFault}
 use Rattle.schedule_text.specs.declared.line.LineWhy.TheVariants as why
-use Rattle.two_ends.specs.declared.event.Side.{Side}
+use Rattle.world_events.specs.declared.event.Side.{Side}
 use Rattle.dccp_command.specs.declared.play.Play.{Play}
 use Rattle.dccp_command.specs.declared.replay.Replay.{Replay}
 use Rattle.dccp_command.specs.declared.top.Status.{Status}

@@ -13,13 +13,13 @@ abbrev pub count_line : List ℕ → ℕ → List ℕ
 count_line name count = labelled_number name count ++ codes "\n"
 
 -- what was run and sent
-abbrev pub run_text : Report → List ℕ
+unfoldable pub run_text : Report → List ℕ
 run_text r =
     count_line (codes "seeds ") r.seeds ++ count_line (codes "events ") r.events ++ count_line (codes "client_frames ") r.client_frames
     ++ count_line (codes "server_frames ") r.server_frames
 
 -- the frames that arrived, by what became of them
-abbrev pub arrival_text : Report → List ℕ
+unfoldable pub arrival_text : Report → List ℕ
 arrival_text r =
     count_line (codes "took ") r.took ++ count_line (codes "delivered ") r.delivered ++ count_line (codes "dropped ") r.dropped
     ++ count_line (codes "synced ") r.synced ++ count_line (codes "was_reset ") r.was_reset ++ count_line (codes "sent_reset ") r.sent_reset

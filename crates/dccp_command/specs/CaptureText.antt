@@ -24,7 +24,7 @@ fault_name fault.TooLarge = codes "TooLarge"
 abbrev pub first_tally : Tally
 first_tally = record { shown = 0; skipped = 0; flows = [] }
 
--- how many records there were has 64 bits
+-- The number of all records is below 2^64.
 abbrev pub CountsFit : Tally → Type 0
 CountsFit tally = tally.shown + tally.skipped < 2 ^ 64
 

@@ -7,15 +7,15 @@ use Rattle.dccp_endpoint.specs.Controlled.{EndStep, begins, with_control}
 use Rattle.dccp_endpoint.specs.Receiving.{receives}
 use Rattle.dccp_endpoint.specs.Steps.{Step}
 use Rattle.dccp_endpoint.specs.Usual.{usual}
-use Rattle.dccp_endpoint.specs.declared.calls.OpenFault.{OpenFault}
+use Rattle.end_answers.specs.declared.calls.OpenFault.{OpenFault}
 use Rattle.dccp_endpoint.specs.declared.config.Config.{Config}
-use Rattle.dccp_endpoint.specs.declared.outcome.Outcome.{Outcome}
+use Rattle.end_answers.specs.declared.outcome.Outcome.{Outcome}
 use Rattle.dccp_states.specs.declared.phase.Role.{Role}
 use Rattle.dccp_states.specs.declared.phase.Role.TheVariants as role
 use Rattle.dccp_sum.specs.Checksum.{sealed}
-use Rattle.two_ends.specs.declared.event.Seen.TheVariants as seen
-use Rattle.two_ends.specs.declared.event.Side.{Side}
-use Rattle.two_ends.specs.declared.event.Side.TheVariants.{Client, Server}
+use Rattle.world_events.specs.declared.event.Seen.TheVariants as seen
+use Rattle.world_events.specs.declared.event.Side.{Side}
+use Rattle.world_events.specs.declared.event.Side.TheVariants.{Client, Server}
 use Rattle.schedule_text.specs.Frames.{read_frame}
 use Rattle.schedule_text.specs.Results.{result_line}
 use Rattle.schedule_text.specs.declared.line.FrameLine.{FrameLine}

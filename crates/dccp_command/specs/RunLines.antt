@@ -12,10 +12,10 @@ use Rattle.feature_machine.specs.declared.stands.Held.{Held}
 use Rattle.two_ends.specs.Controlled.{Controlled, end_of_side}
 use Rattle.two_ends.specs.World.{WorldState, half_of}
 use Rattle.two_ends.specs.declared.frames.SentFrame.{SentFrame}
-use Rattle.two_ends.specs.declared.event.Side.{Side}
-use Rattle.two_ends.specs.declared.event.Side.TheVariants.{Client, Server}
-use Rattle.two_ends.specs.declared.event.Event.{Event}
-use Rattle.two_ends.specs.declared.event.Event.TheVariants as event
+use Rattle.world_events.specs.declared.event.Side.{Side}
+use Rattle.world_events.specs.declared.event.Side.TheVariants.{Client, Server}
+use Rattle.world_events.specs.declared.event.Event.{Event}
+use Rattle.world_events.specs.declared.event.Event.TheVariants as event
 use Rattle.schedule_text.specs.Names.{side_name}
 use Rattle.schedule_text.specs.Printing.{frame_name}
 use Rattle.schedule_text.specs.declared.line.LineFault.{LineFault}

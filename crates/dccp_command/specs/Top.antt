@@ -22,7 +22,7 @@ IsMovedOut before after text kept = (moved : List ℕ) × (after ≡ append_know
 abbrev pub SinkFailed : ℕ → ℕ → ℕ → ℕ → Type 0
 SinkFailed faults faults_after takes takes_after = Rose faults faults_after ⊎ Rose takes takes_after
 
--- the counts of one sink, before and after
+-- The same for one sink, from a call's beginning to its end.
 abbrev pub SinkFails : {K : Type 0} → (K → ℕ) → (K → ℕ) → K → K → Type 0
 SinkFails faults empty_takes before after = SinkFailed (faults before) (faults after) (empty_takes before) (empty_takes after)
 

@@ -12,14 +12,15 @@ use Rattle.feature_machine.specs.Lists as listed
 use Rattle.feature_machine.specs.Lists.{with_wish, with_offer}
 use Rattle.ccid_two.specs.Kinds.{Both, at_first, kinds_control}
 use Rattle.two_ends.specs.Controlled.{Controlled, ControlledStep, begins_with, happens_to, plays}
-use Rattle.two_ends.specs.World.{actor, half_of}
+use Rattle.two_ends.specs.World.{half_of}
+use Rattle.world_events.specs.Actors.{actor}
 use Rattle.dccp_endpoint.specs.Drafts.{Fits}
 use Rattle.two_ends.specs.Safe.{Safe}
-use Rattle.two_ends.specs.declared.event.Event.{Event}
-use Rattle.two_ends.specs.declared.event.Side.{Side}
-use Rattle.two_ends.specs.declared.event.Side.TheVariants.{Client, Server}
-use Rattle.two_ends.specs.declared.event.WorldFault.{WorldFault}
-use Rattle.two_ends.specs.declared.event.WorldFault.TheVariants as fault
+use Rattle.world_events.specs.declared.event.Event.{Event}
+use Rattle.world_events.specs.declared.event.Side.{Side}
+use Rattle.world_events.specs.declared.event.Side.TheVariants.{Client, Server}
+use Rattle.world_events.specs.declared.event.WorldFault.{WorldFault}
+use Rattle.world_events.specs.declared.event.WorldFault.TheVariants as fault
 use Rattle.schedule_text.specs.Reading.{read_line}
 use Rattle.schedule_text.specs.Results.{seen_line}
 use Rattle.schedule_text.specs.declared.line.Line.{Line}

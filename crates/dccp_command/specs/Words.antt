@@ -2,8 +2,8 @@
 use Rattle.std.specs.Prelude.{◌≡◌, ℕ, Bool, true, false, ◌&&◌, List, [], ◌∷◌, codes, Option, Some, None, option_and_then, if◌then◌else◌, String, string_bytes}
 use Rattle.std.specs.Str.{bytes_eq}
 use Rattle.std.specs.declared.alloc.Global.{Global}
-use Rattle.two_ends.specs.declared.event.Side.{Side}
-use Rattle.two_ends.specs.declared.event.Side.TheVariants.{Client, Server}
+use Rattle.world_events.specs.declared.event.Side.{Side}
+use Rattle.world_events.specs.declared.event.Side.TheVariants.{Client, Server}
 use Rattle.dccp_command.specs.CampaignWords.{campaign_of}
 use Rattle.dccp_command.specs.declared.words.Form.{Form}
 use Rattle.dccp_command.specs.declared.words.Form.TheVariants as form

@@ -22,6 +22,7 @@ fn put_count(text: &mut Vec<u8>, name: &[u8], count: u64) -> Result<(), NoMemory
     put(text, b"\n")
 }
 
+#[tactic(auto, unfolding(crate::specs::CampaignText::run_text))]
 fn put_run(text: &mut Vec<u8>, report: &Report) -> Result<(), NoMemory>
     ensures { OnOk result (text.new.items ≡ text.old.items ++ run_text report.now) }
 {
@@ -31,6 +32,7 @@ fn put_run(text: &mut Vec<u8>, report: &Report) -> Result<(), NoMemory>
     put_count(text, b"server_frames ", report.server_frames)
 }
 
+#[tactic(auto, unfolding(crate::specs::CampaignText::arrival_text))]
 fn put_arrivals(text: &mut Vec<u8>, report: &Report) -> Result<(), NoMemory>
     ensures { OnOk result (text.new.items ≡ text.old.items ++ arrival_text report.now) }
 {

@@ -1,7 +1,7 @@
 //! A schedule while it is played.
 ghost use Rattle.std.specs.Prelude.{◌≡◌, ◌++◌, ◌+◌, ◌^◌, ◌<◌, length, ℕ, List, is_some, if◌then◌else◌, IfOk, OnOk, Some, Ok, Err};
 ghost use Rattle.dccp_command.specs.RunLines.{end_lines};
-ghost use Rattle.dccp_command.specs.Transcript.{first_play, world_of, ArePeers, IsReady, IsBehind, ShowsEvent, event_shown, Judges, judged, by_line, behind};
+ghost use Rattle.dccp_command.specs.Transcript.{first_play, starts, world_of, ArePeers, IsReady, IsBehind, ShowsEvent, event_shown, Judges, judged, by_line, behind};
 ghost use Rattle.dccp_command.specs.Transcript.{configures, says_plain, with_iss, with_set, with_offered, config_without_offers, wishing, offering, in_place, says_event, whole_line, no_such_frame};
 ghost use Rattle.dccp_io.specs.Lines.{ends_within};
 ghost use Rattle.dccp_endpoint.specs.Drafts.{Fits};
@@ -243,7 +243,7 @@ impl Play {
         Ok(answer)
     }
 
-    // Makes the world of the two configurations, where none is made yet. Each end may use CCID 2 and 248.
+    // Makes the world of the two configurations, where none is made yet.
     fn make_world(&mut self, alloc: Global) -> Result<(), NoMemory>
         requires { ArePeers self.old.client self.old.server }
         ensures { OnOk result (self.new ≡ record self.old { world = Some (world_of self.old) }) }
@@ -261,10 +261,7 @@ impl Play {
         requires fresh { self.old.world ≡ None }
         ensures { OnOk result (self.new ≡ record self.old { world = Some (world_of self.old) }) }
     {
-        let for_client = Kinds::new(alloc)?;
-        let for_server = Kinds::new(alloc)?;
-        let world = World::new(alloc, self.client, self.server, for_client, for_server)?;
-        self.world = Some(world);
+        self.world = Some(first_world(alloc, self.client, self.server)?);
         Ok(())
     }
 
@@ -318,6 +315,16 @@ fn lists_fit(config: &Config)
     ensures { IsLists config.now.lists }
 {
     let _ = config.lists.wish(Feature::Ccid, Place::Here);
+}
+
+// The world of two configurations, to which nothing has happened. Each end may use CCID 2 and 248.
+fn first_world(alloc: Global, client: Config, server: Config) -> Result<World<Kinds>, NoMemory>
+    requires { ArePeers client server }
+    ensures { IfOk result (λ world. world ≡ starts client server) }
+{
+    let for_client = Kinds::new(alloc)?;
+    let for_server = Kinds::new(alloc)?;
+    World::new(alloc, client, server, for_client, for_server)
 }
 
 // Lets an event happen and puts its lines, or answers why its line is refused.

@@ -1,4 +1,4 @@
-//! The tool's one call.
+//! The tool's one call: a form of its words over a source and two sinks.
 ghost use Rattle.std.specs.Prelude.{◌≡◌, ◌≢◌, ◌↔◌, ℕ, Bool, List, drop, Some, None, if◌then◌else◌};
 ghost use Rattle.dccp_io.specs.Counts.{Rose};
 ghost use Rattle.capture_reader.specs.State.{Passed};

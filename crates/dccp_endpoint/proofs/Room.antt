@@ -49,7 +49,7 @@ use Rattle.dccp_endpoint.specs.Reporting.{vector_items}
 use Rattle.dccp_endpoint.specs.Saying.{ConfirmsHaveRoom, once_if}
 use Rattle.dccp_endpoint.specs.Speaking.{HaveRoom, asking, change_item, change_items, change_type, confirm_item, confirm_items, confirm_type, confirming, is_confirmed, saying, wish_bytes}
 use Rattle.dccp_endpoint.specs.Turns.{Key}
-use Rattle.dccp_endpoint.specs.declared.outcome.Fault.{Fault}
+use Rattle.end_answers.specs.declared.outcome.Fault.{Fault}
 use Rattle.dccp_endpoint.proofs.Frames.{fixed_part_is_short}
 use Rattle.dccp_endpoint.proofs.OneRow.{found, letter_to, spot, spot-below}
 use Rattle.ack_vectors.specs.Vector.{all_bytes, option_room, set_states, vector}

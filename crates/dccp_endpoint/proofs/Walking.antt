@@ -52,11 +52,11 @@ use Rattle.dccp_endpoint.specs.Reporting.{counts_data, delivered_if, delivers, i
 use Rattle.dccp_endpoint.specs.Speaking.{asking, confirm_items, confirming, has_confirms, is_confirmed, saying}
 use Rattle.dccp_endpoint.specs.Steps.{Step, in_phase, detail_of, idle, next_number, sends, with_calls, without_detail}
 use Rattle.dccp_endpoint.specs.Turns.{Key, offerings, sendings}
-use Rattle.dccp_endpoint.specs.declared.outcome.Fault.{Fault}
-use Rattle.dccp_endpoint.specs.declared.outcome.Outcome.{Outcome}
-use Rattle.dccp_endpoint.specs.declared.outcome.Outcome.TheVariants.{Dropped, Synced, Took, WasReset}
-use Rattle.dccp_endpoint.specs.declared.outcome.Why.{Why}
-use Rattle.dccp_endpoint.specs.declared.outcome.Why.TheVariants as why
+use Rattle.end_answers.specs.declared.outcome.Fault.{Fault}
+use Rattle.end_answers.specs.declared.outcome.Outcome.{Outcome}
+use Rattle.end_answers.specs.declared.outcome.Outcome.TheVariants.{Dropped, Synced, Took, WasReset}
+use Rattle.end_answers.specs.declared.outcome.Why.{Why}
+use Rattle.end_answers.specs.declared.outcome.Why.TheVariants as why
 use Rattle.dccp_endpoint.proofs.Deriving.{Ready, Told, ack-caused, calling, calling-caused, front_of, caused, effect_with, hearing, left, next-caused, offered_keys, offered_turns, offering, plain-caused, quiet, rest, silent-caused, told-by, wide, wide-proper, widened}
 use Rattle.dccp_endpoint.proofs.Heard.{heeds-turns, uncounted}
 use Rattle.dccp_endpoint.proofs.Lawful.{offered-sound, rows-kept}

@@ -29,10 +29,10 @@ use Rattle.dccp_packets.specs.ResetCodes.{number_of_code}
 use Rattle.dccp_packets.specs.declared.reset_code.ResetCode.TheVariants as codes
 use Rattle.dccp_endpoint.specs.Reporting.{delivered_if, delivers, looked_up, unacked_after}
 use Rattle.dccp_endpoint.specs.Steps.{detail_of, without_detail}
-use Rattle.dccp_endpoint.specs.declared.outcome.Fault.{Fault}
-use Rattle.dccp_endpoint.specs.declared.outcome.Outcome.{Outcome}
-use Rattle.dccp_endpoint.specs.declared.outcome.Outcome.TheVariants.{Took, Dropped, Synced, WasReset, SentReset}
-use Rattle.dccp_endpoint.specs.declared.outcome.Why.TheVariants as why
+use Rattle.end_answers.specs.declared.outcome.Fault.{Fault}
+use Rattle.end_answers.specs.declared.outcome.Outcome.{Outcome}
+use Rattle.end_answers.specs.declared.outcome.Outcome.TheVariants.{Took, Dropped, Synced, WasReset, SentReset}
+use Rattle.end_answers.specs.declared.outcome.Why.TheVariants as why
 
 -- the packet's checksum does not fit
 pub record HasWrongSum (e : EndState) (bytes : List ℕ) (fault : SumFault) : Type 0 where

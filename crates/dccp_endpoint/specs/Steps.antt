@@ -6,7 +6,7 @@ use Rattle.dccp_packets.specs.declared.header.Kind.TheVariants as kind
 use Rattle.dccp_states.specs.declared.phase.Phase.{Phase}
 use Rattle.dccp_endpoint.specs.Drafts.{Draft, alone, frame_of}
 use Rattle.dccp_endpoint.specs.End.{EndState}
-use Rattle.dccp_endpoint.specs.declared.outcome.Fault.{Fault}
+use Rattle.end_answers.specs.declared.outcome.Fault.{Fault}
 
 -- An end after a step, the frame that it sends, if any, the calls that are due to its congestion control, in order, and its answer.
 pub record Step (Answer : Type 0) : Type 0 where

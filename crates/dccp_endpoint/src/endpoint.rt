@@ -115,7 +115,7 @@ impl<C: Congestion> Endpoint<C> {
     ghost use Rattle.dccp_endpoint.specs.Inputs.{Arrives};
     ghost use Rattle.dccp_endpoint.specs.Outcomes.{HasCause, HasEffectOf, HasNoOtherCause};
     ghost use Rattle.dccp_endpoint.specs.Receiving.{receives};
-    ghost use Rattle.dccp_endpoint.specs.declared.calls.Timer.TheVariants as timers;
+    ghost use Rattle.end_answers.specs.declared.calls.Timer.TheVariants as timers;
 
     /// Where the connection stands.
     pub fn phase(&self) -> Phase

@@ -11,7 +11,6 @@
 //! control.
 #![tactic(auto)]
 
-mod calls;
 mod config;
 mod connection;
 mod endpoint;
@@ -20,10 +19,8 @@ mod faults;
 mod heeding;
 mod incoming;
 mod laws;
-mod outcome;
 mod speaking;
 
-pub use crate::calls::{AbortFault, CloseFault, OpenFault, SendFault, Timer};
 pub use crate::config::{Config, Ports};
 pub use crate::endpoint::Endpoint;
 pub(crate) use crate::exit::Exit;
@@ -31,11 +28,11 @@ pub use crate::laws::{
     every_step_has_one_effect, own_frames_are_read, own_packets_say_one_thing_of_a_row,
     own_packets_speak_once, packets_say_one_thing_to_a_row,
 };
-pub use crate::outcome::{Fault, Outcome, Why};
 pub use congestion_trait::Congestion;
 pub use dccp_packets::{Frame, MOST_FRAME_BYTES, Malformed, Outbox, ResetCode};
 pub use dccp_states::{Phase, Role};
 pub use dccp_sum::{Pseudo, SumFault};
+pub use end_answers::{AbortFault, CloseFault, Fault, OpenFault, Outcome, SendFault, Timer, Why};
 pub use feature_lists::{Feature, Place, PreferFault};
 pub use feature_machine::{Held, Lists, Stand};
 pub use seq_circle::{NoMemory, Seq48};

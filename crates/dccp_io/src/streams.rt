@@ -1,4 +1,4 @@
-//! The two traits.
+//! Where bytes come from and where they go, as contracts see it.
 ghost use Rattle.std.specs.Prelude.{◌≡◌, ℕ, ◌<◌, ◌≤◌, ◌↔◌, List, [], length, take, Option, IfOk, OnErr, IfSome};
 ghost use Rattle.std.specs.Io.KnownBytes.{prepend_known, append_known};
 ghost use Rattle.dccp_io.specs.Counts.{Rose};

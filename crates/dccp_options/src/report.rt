@@ -106,7 +106,7 @@ impl<'a> AckReport<'a> {
         ensures ack_fits { self.now.ack < 2 ^ 48 }
         ensures bytes_fit { length self.now.bytes ≤ 1008 }
     {
-        // The clause on the number is what reading it tells.
+        // `get` gives the prover that the number is below 2^48.
         let _number = self.ack.get();
         ReportRuns {
             hi: self.ack,

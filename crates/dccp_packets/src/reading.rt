@@ -1,4 +1,4 @@
-//! Reading packets.
+//! A packet's parts from its bytes, or why the bytes are refused.
 ghost use Rattle.std.specs.Prelude.{◌≡◌, ◌<◌, ◌≤◌, length, MatchResult, IfOk, IsTrue};
 ghost use Rattle.dccp_packets.specs.Grammar.{decoded, is_valid, HeaderFits};
 

@@ -6,15 +6,16 @@ use Rattle.std.proofs.lemmas.Bool.Decides.{nat_tests}
 use Rattle.std.proofs.lemmas.Nat.{mod_below}
 use Rattle.std.proofs.lemmas.Option.{slice_get_cases}
 use Rattle.ccid_two.specs.Kinds.{Both, kinds_control}
-use Rattle.dccp_endpoint.specs.declared.calls.Timer.TheVariants as timer
+use Rattle.end_answers.specs.declared.calls.Timer.TheVariants as timer
 use Rattle.two_ends.specs.Controlled.{Controlled, congestion_of, controls, happens_to, said_by}
-use Rattle.two_ends.specs.World.{HalfStep, WorldState, WorldStep, Happening, Calls, Delivers, Said, actor, delivers_frame, half_of, half_steps, happening_of, is_full, other, takes_place, unless_full, with_half}
-use Rattle.two_ends.specs.declared.event.Event.{Event}
-use Rattle.two_ends.specs.declared.event.Event.TheVariants as event
-use Rattle.two_ends.specs.declared.event.Side.{Side}
-use Rattle.two_ends.specs.declared.event.Side.TheVariants.{Client, Server}
-use Rattle.two_ends.specs.declared.event.WorldFault.{WorldFault}
-use Rattle.two_ends.specs.declared.event.WorldFault.TheVariants as fault
+use Rattle.two_ends.specs.World.{HalfStep, WorldState, WorldStep, Happening, Calls, Delivers, Said, delivers_frame, half_of, half_steps, happening_of, is_full, takes_place, unless_full, with_half}
+use Rattle.world_events.specs.Actors.{actor, other}
+use Rattle.world_events.specs.declared.event.Event.{Event}
+use Rattle.world_events.specs.declared.event.Event.TheVariants as event
+use Rattle.world_events.specs.declared.event.Side.{Side}
+use Rattle.world_events.specs.declared.event.Side.TheVariants.{Client, Server}
+use Rattle.world_events.specs.declared.event.WorldFault.{WorldFault}
+use Rattle.world_events.specs.declared.event.WorldFault.TheVariants as fault
 use Rattle.two_ends.specs.declared.frames.SentFrame.{SentFrame}
 use Rattle.fault_campaign.specs.Draws.{behind_word, drawn, drawn_delivery, drawn_index, ending, event_numbered, generator, preference, word}
 use Rattle.fault_campaign.specs.Seeded.{Running, begun_run, next_event, seeded}

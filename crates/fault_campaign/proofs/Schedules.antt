@@ -11,9 +11,9 @@ use Rattle.dccp_states.specs.declared.phase.Role.TheVariants as role
 use Rattle.feature_machine.proofs.Listing.{usual_are_lists}
 use Rattle.two_ends.specs.Controlled.{Controlled, ControlledStep, begins_with, controlled_after, happens_to, plays}
 use Rattle.two_ends.specs.Safe.{Safe}
-use Rattle.two_ends.specs.declared.event.Event.{Event}
-use Rattle.two_ends.specs.declared.event.Event.TheVariants.{Open}
-use Rattle.two_ends.specs.declared.event.WorldFault.{WorldFault}
+use Rattle.world_events.specs.declared.event.Event.{Event}
+use Rattle.world_events.specs.declared.event.Event.TheVariants.{Open}
+use Rattle.world_events.specs.declared.event.WorldFault.{WorldFault}
 use Rattle.fault_campaign.specs.Draws.{behind_two, behind_word, generator, initial_number, word}
 use Rattle.fault_campaign.specs.Seeded.{Running, after_event, begun_run, goes_on, goes_on_for, next_event, next_events, opened_run, played, seeded, seeded_events, usual_from}
 

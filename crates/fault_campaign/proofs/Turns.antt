@@ -1,14 +1,16 @@
--- The loop of a run: one event after another.
-use Rattle.std.proofs.Common.{◌≡◌, sym, ap, subst, ◌∙◌, ℕ, suc, ◌+◌, ◌-◌, ◌^◌, ◌≤◌, ◌<◌, Ok, arith}
+-- The loop of a run: one event after another, of which each counts twice at most.
+use Rattle.std.proofs.Common.{◌≡◌, sym, ap, subst, ◌∙◌, ℕ, suc, ◌+◌, ◌*◌, ◌-◌, ◌^◌, ◌≤◌, ◌<◌, Result, Ok, Err, arith}
 use Rattle.rand_pcg.specs.Lcg.{Lcg}
 use Rattle.ccid_two.specs.Kinds.{Both, kinds_control}
-use Rattle.two_ends.specs.Controlled.{Controlled, happens_to}
-use Rattle.two_ends.specs.declared.event.Event.{Event}
-use Rattle.two_ends.specs.declared.event.Seen.{Seen}
+use Rattle.two_ends.specs.Controlled.{Controlled, ControlledStep, happens_to}
+use Rattle.world_events.specs.declared.event.Event.{Event}
+use Rattle.world_events.specs.declared.event.Seen.{Seen}
+use Rattle.world_events.specs.declared.event.WorldFault.{WorldFault}
+use Rattle.fault_campaign.specs.Draws.{behind_two}
 use Rattle.fault_campaign.specs.Reports.{size, with_seen}
-use Rattle.fault_campaign.specs.Seeded.{Running, after_event, begun_run, goes_on, goes_on_for, opened_run, played, run_report, seeded, seeded_report}
+use Rattle.fault_campaign.specs.Seeded.{Running, after_event, begun_run, goes_on, goes_on_for, next_event, opened_run, played, run_report, seeded_report}
 use Rattle.fault_campaign.specs.declared.report.Report.{Report}
-use Rattle.fault_campaign.proofs.Short.{IsShort, after-next, after-open, at-first}
+use Rattle.fault_campaign.proofs.Short.{after-open, at-first, seen-size}
 
 abbrev made : Lcg → Controlled Both → Report → Running
 made words world report = record { words = words; world = world; report = report }
@@ -20,31 +22,48 @@ unfolding played
 plays words world after report counted event seen happens counts =
     ap (made words after) counts ∙ sym (ap (after_event (made words world report)) happens)
 
--- after the first event and so many more
-pub record IsUnderWay (seed events more : ℕ) (run : Running) : Type 0 where
-  pub rest : goes_on_for (events - 1 - more) run ≡ seeded seed events
-  pub short : IsShort (more + 1) run
+-- after so many of all further events
+pub record IsUnderWay (all done : ℕ) (first run : Running) : Type 0 where
+  pub rest : goes_on_for (all - done) run ≡ goes_on_for all first
+  pub few : size run.report + 2 * (all - done) < 2 ^ 62
 
-pub at-start : (seed events : ℕ) (run : Running) → run ≡ opened_run seed → IsUnderWay seed events 0 run
-at-start seed events run is =
-    let all : events - 1 - 0 ≡ events - 1 = omega arith in
-    subst (IsUnderWay seed events 0) (sym is)
-    (record { rest = ap (λ (n : ℕ). goes_on_for n (opened_run seed)) all; short = after-open seed })
+pub at-start : (all : ℕ) (run : Running) → size run.report + 2 * all < 2 ^ 62 → IsUnderWay all 0 run run
+at-start all run few =
+    let none : all - 0 ≡ all = omega arith in
+    record { rest = ap (λ (n : ℕ). goes_on_for n run) none; few = omega (arith, few) }
 
 pub starts-little : (g : Lcg) (run : Running) → run ≡ begun_run g → size run.report < 2 ^ 62
 starts-little g run is = subst (λ (r : Running). size r.report < 2 ^ 62) (sym is) (omega (arith, (at-first g).counted))
 
-pub one-turn : (seed events more : ℕ) (run next : Running) → more < events - 1 → next ≡ goes_on run → IsUnderWay seed events more run → IsUnderWay seed events (more + 1) next
-one-turn seed events more run next near is before =
-    let less : events - 1 - more ≡ suc (events - 1 - (more + 1)) = omega arith in
-    subst (IsUnderWay seed events (more + 1)) (sym is)
-    (record { rest = sym (ap (λ (n : ℕ). goes_on_for n run) less) ∙ before.rest; short = after-next (more + 1) run before.short })
+event-size : (run : Running) (result : Result (ControlledStep Both) WorldFault) → size (after_event run result).report ≤ size run.report + 2
+event-size run (Ok step) = seen-size run.report step.seen
+event-size run (Err fault) = omega arith
 
-pub at-end : (seed events more : ℕ) (run : Running) → events - 1 ≤ more → IsUnderWay seed events more run → run_report run events ≡ seeded_report seed events
+goes-on-size : (run : Running) → size (goes_on run).report ≤ size run.report + 2
+unfolding played
+goes-on-size run = event-size (record run { words = behind_two run.words }) (happens_to kinds_control run.world (next_event run))
+
+pub counts-little : (all done : ℕ) (first run : Running) → IsUnderWay all done first run → size run.report < 2 ^ 62
+counts-little all done first run before = omega (arith, before.few)
+
+pub one-turn : (all done : ℕ) (first run next : Running) → done < all → next ≡ goes_on run → IsUnderWay all done first run → IsUnderWay all (done + 1) first next
+one-turn all done first run next near is before =
+    let less : all - done ≡ suc (all - (done + 1)) = omega arith in
+    let size_of_next = goes-on-size run in
+    subst (IsUnderWay all (done + 1) first) (sym is)
+    (record { rest = sym (ap (λ (n : ℕ). goes_on_for n run) less) ∙ before.rest; few = omega (arith, before.few, size_of_next) })
+
+pub at-end : (all done : ℕ) (first run : Running) → all ≤ done → IsUnderWay all done first run → run ≡ goes_on_for all first
+at-end all done first run over before =
+    let none : 0 ≡ all - done = omega arith in
+    ap (λ (n : ℕ). goes_on_for n run) none ∙ before.rest
+
+-- the events behind the first
+pub opened-few : (seed events : ℕ) (run : Running) → events ≤ 4096 → run ≡ opened_run seed → size run.report + 2 * (events - 1) < 2 ^ 62
+opened-few seed events run most is =
+    subst (λ (r : Running). size r.report + 2 * (events - 1) < 2 ^ 62) (sym is) (omega (arith, (after-open seed).counted))
+
+pub reported : (seed events : ℕ) (opened run : Running) → opened ≡ opened_run seed → run ≡ goes_on_for (events - 1) opened → run_report run events ≡ seeded_report seed events
 unfolding seeded_report
-at-end seed events more run over before =
-    let none : 0 ≡ events - 1 - more = omega arith in
-    ap (λ (r : Running). run_report r events) (ap (λ (n : ℕ). goes_on_for n run) none ∙ before.rest)
-
-pub counts-little : (seed events more : ℕ) (run : Running) → more ≤ events → events ≤ 4096 → IsUnderWay seed events more run → size run.report < 2 ^ 62
-counts-little seed events more run near most before = omega (arith, before.short.counted)
+reported seed events opened run begun is =
+    ap (λ (r : Running). run_report r events) (is ∙ ap (goes_on_for (events - 1)) begun)

@@ -4,14 +4,14 @@ use Rattle.byteorder.specs.Endian.{big_bytes}
 use Rattle.rand_core.specs.Pcg32Seed.{pcg32_seed}
 use Rattle.rand_pcg.specs.Lcg.{Lcg}
 use Rattle.rand_pcg.specs.Pcg.{pcg32, pcg32_of_seed}
-use Rattle.dccp_endpoint.specs.declared.calls.Timer.{Timer}
-use Rattle.dccp_endpoint.specs.declared.calls.Timer.TheVariants as timer
+use Rattle.end_answers.specs.declared.calls.Timer.{Timer}
+use Rattle.end_answers.specs.declared.calls.Timer.TheVariants as timer
 use Rattle.feature_lists.specs.declared.features.Feature.TheVariants.{Ccid, SequenceWindow, AckRatio, MinCsCov}
 use Rattle.feature_lists.specs.declared.features.Place.TheVariants.{Here, There}
-use Rattle.two_ends.specs.declared.event.Event.{Event}
-use Rattle.two_ends.specs.declared.event.Event.TheVariants as event
-use Rattle.two_ends.specs.declared.event.Side.{Side}
-use Rattle.two_ends.specs.declared.event.Side.TheVariants.{Client, Server}
+use Rattle.world_events.specs.declared.event.Event.{Event}
+use Rattle.world_events.specs.declared.event.Event.TheVariants as event
+use Rattle.world_events.specs.declared.event.Side.{Side}
+use Rattle.world_events.specs.declared.event.Side.TheVariants.{Client, Server}
 
 -- the generator of a seed
 unfoldable pub generator : ℕ → Lcg

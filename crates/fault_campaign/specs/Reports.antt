@@ -4,12 +4,12 @@ use Rattle.feature_lists.specs.declared.features.Feature.{Feature}
 use Rattle.feature_lists.specs.declared.features.Feature.TheVariants as feature
 use Rattle.feature_machine.specs.declared.stands.Stand.{Stand}
 use Rattle.feature_machine.specs.declared.stands.Stand.TheVariants.{Stable, Changing, Unstable}
-use Rattle.dccp_endpoint.specs.declared.outcome.Outcome.{Outcome}
-use Rattle.dccp_endpoint.specs.declared.outcome.Outcome.TheVariants.{Took, Dropped, Synced, WasReset, SentReset}
-use Rattle.two_ends.specs.declared.event.Seen.{Seen}
-use Rattle.two_ends.specs.declared.event.Seen.TheVariants.{Called, Fired, Received}
-use Rattle.two_ends.specs.declared.event.Side.{Side}
-use Rattle.two_ends.specs.declared.event.Side.TheVariants.{Client, Server}
+use Rattle.end_answers.specs.declared.outcome.Outcome.{Outcome}
+use Rattle.end_answers.specs.declared.outcome.Outcome.TheVariants.{Took, Dropped, Synced, WasReset, SentReset}
+use Rattle.world_events.specs.declared.event.Seen.{Seen}
+use Rattle.world_events.specs.declared.event.Seen.TheVariants.{Called, Fired, Received}
+use Rattle.world_events.specs.declared.event.Side.{Side}
+use Rattle.world_events.specs.declared.event.Side.TheVariants.{Client, Server}
 use Rattle.two_ends.specs.Pairs.{FeatureAt, held_at}
 use Rattle.two_ends.specs.World.{WorldState}
 use Rattle.fault_campaign.specs.declared.report.Report.{Report}

@@ -9,11 +9,11 @@ use Rattle.dccp_states.specs.declared.phase.Role.{Role}
 use Rattle.dccp_states.specs.declared.phase.Role.TheVariants as role
 use Rattle.two_ends.specs.Controlled.{Controlled, ControlledStep, begins_with, happens_to}
 use Rattle.two_ends.specs.World.{half_of}
-use Rattle.two_ends.specs.declared.event.Event.{Event}
-use Rattle.two_ends.specs.declared.event.Event.TheVariants.{Open}
-use Rattle.two_ends.specs.declared.event.Side.{Side}
-use Rattle.two_ends.specs.declared.event.Side.TheVariants.{Client, Server}
-use Rattle.two_ends.specs.declared.event.WorldFault.{WorldFault}
+use Rattle.world_events.specs.declared.event.Event.{Event}
+use Rattle.world_events.specs.declared.event.Event.TheVariants.{Open}
+use Rattle.world_events.specs.declared.event.Side.{Side}
+use Rattle.world_events.specs.declared.event.Side.TheVariants.{Client, Server}
+use Rattle.world_events.specs.declared.event.WorldFault.{WorldFault}
 use Rattle.fault_campaign.specs.Draws.{generator, word, behind_word, behind_two, initial_number, drawn}
 use Rattle.fault_campaign.specs.Reports.{nothing, with_seen, settled_of}
 use Rattle.fault_campaign.specs.declared.report.Report.{Report}

@@ -1,6 +1,6 @@
 //! What two words of the generator make happen.
 ghost use Rattle.std.specs.Prelude.{◌≡◌, ◌<◌, ◌≤◌, length};
-ghost use Rattle.two_ends.specs.declared.event.Event.{Event};
+ghost use Rattle.world_events.specs.declared.event.Event.{Event};
 ghost use Rattle.fault_campaign.specs.Draws.{behind_two, behind_word, drawn_index, drawn_timer, ending, generator, initial_number, preference, sending, word};
 
 use dccp_endpoint::Timer;

@@ -3,7 +3,7 @@ ghost use Rattle.std.specs.Prelude.{◌≡◌, ℕ, ◌+◌, ◌-◌, ◌*◌, �
 ghost use Rattle.ccid_two.specs.Kinds.{kinds_control};
 ghost use Rattle.two_ends.specs.Controlled.{happens_to, plays};
 ghost use Rattle.two_ends.specs.Safe.{Safe};
-ghost use Rattle.two_ends.specs.declared.event.Event.TheVariants.{Open};
+ghost use Rattle.world_events.specs.declared.event.Event.TheVariants.{Open};
 ghost use Rattle.fault_campaign.specs.Draws.{generator};
 ghost use Rattle.fault_campaign.specs.Reports.{size};
 ghost use Rattle.fault_campaign.specs.Seeded.{begun_run, next_event, seeded, seeded_events, seeded_report};

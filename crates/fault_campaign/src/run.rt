@@ -1,8 +1,8 @@
 //! The run of a seed.
-ghost use Rattle.std.specs.Prelude.{◌≡◌, ◌^◌, ◌<◌, ◌≤◌, IfOk, OnOk};
+ghost use Rattle.std.specs.Prelude.{◌≡◌, ◌+◌, ◌*◌, ◌^◌, ◌<◌, ◌≤◌, IfOk, OnOk};
 ghost use Rattle.fault_campaign.specs.Reports.{is_settled, is_stable, settled_at, settles, size};
 ghost use Rattle.fault_campaign.specs.Draws.{behind_two, behind_word, drawn, drawn_delivery, ending, preference, sending, word};
-ghost use Rattle.fault_campaign.specs.Seeded.{begun_run, frames_of, goes_on, played, run_report, seeded_report, usual_from};
+ghost use Rattle.fault_campaign.specs.Seeded.{begun_run, frames_of, goes_on, goes_on_for, played, run_report, seeded_report, usual_from};
 ghost use Rattle.two_ends.specs.Pairs.{place_at};
 
 use crate::Report;
@@ -86,6 +86,17 @@ impl Run {
     {
         let (a, b) = self.next_words();
         self.play_drawn(again, a, b)
+    }
+
+    // So many further events.
+    fn go_on_for(&mut self, again: &mut Again, more: u32) -> Result<(), NoMemory>
+        requires { size self.old.report + 2 * more < 2 ^ 62 }
+        ensures { OnOk result (self.new ≡ goes_on_for more self.old) }
+    {
+        for _ in 0..more {
+            self.go_on(again)?;
+        }
+        Ok(())
     }
 
     // Plays the event of two words. Each kind of event is made where it is played, since it would move with its room for
@@ -284,8 +295,6 @@ pub fn run_seed(alloc: Global, seed: u64, events: u32) -> Result<Report, NoMemor
         delivery: Event::Open,
         timer: Event::Open,
     };
-    for _ in 0..events - 1 {
-        run.go_on(&mut again)?;
-    }
+    run.go_on_for(&mut again, events - 1)?;
     Ok(run.report(events))
 }

@@ -1,115 +1,202 @@
+//! Cases as lists of calls, each with its answer. One helper makes all calls: a proof follows each value that a function
+//! holds through each of its steps.
 use congestion_trait::{Congestion, FixedWindow, Flight, FlightNews};
 use dccp_options::{AckReport, options};
 use seq_circle::Seq48;
+use std::alloc::Global;
 use std::test::Fail;
 
 // The last number of the circle.
 const LAST: u64 = 281_474_976_710_655;
 
-fn seq(n: u64) -> Result<Seq48, Fail> {
-    Ok(Seq48::new(n).ok_or("below 2^48")?)
+// A call of a flight list, and what has to come of it.
+#[derive(Clone, Copy)]
+enum Call {
+    // Sends each number from the first up to the second.
+    Send(u64, u64),
+    // Hands over two Ack Vectors of a byte each at this number, with this mark. What comes of it are so many that are
+    // acknowledged, and whether there is congestion.
+    Tell(u64, [u8; 2], Option<u64>, u32, bool),
+    Out(u32),
+    IsReported(u64, bool),
+    Clear,
+}
+
+fn send(flight: &mut Flight, first: u64, past: u64) -> Option<bool> {
+    for number in first..past {
+        flight.sent(Seq48::new(number)?);
+    }
+    Some(true)
 }
 
 // What the flight list makes of two Ack Vectors of a byte each.
 fn told(
     flight: &mut Flight,
-    ack: u64,
-    first: u8,
-    second: u8,
+    ack: Seq48,
+    bytes: [u8; 2],
     mark: Option<Seq48>,
-) -> Result<FlightNews, Fail> {
-    let area = [38, 3, first, 38, 3, second];
-    let Some(report) = AckReport::of(seq(ack)?, options(&area, false)) else {
-        return Err(Fail::from("no vector"));
-    };
-    Ok(flight.report(&report, mark))
+) -> Option<FlightNews> {
+    let area = [38, 3, bytes[0], 38, 3, bytes[1]];
+    let report = AckReport::of(ack, options(&area, false))?;
+    Some(flight.report(&report, mark))
+}
+
+fn told_at(flight: &mut Flight, ack: u64, bytes: [u8; 2], mark: Option<u64>) -> Option<FlightNews> {
+    let ack = Seq48::new(ack)?;
+    match mark {
+        Some(mark) => told(flight, ack, bytes, Some(Seq48::new(mark)?)),
+        None => told(flight, ack, bytes, None),
+    }
+}
+
+fn is_reported(flight: &Flight, number: u64, answer: bool) -> Option<bool> {
+    Some(flight.is_reported(Seq48::new(number)?) == answer)
+}
+
+fn clear(flight: &mut Flight) -> Option<bool> {
+    flight.clear();
+    Some(true)
+}
+
+// Whether a call comes to what it has to. None where a number is too large, which no list has.
+fn holds(flight: &mut Flight, call: Call) -> Option<bool> {
+    match call {
+        Call::Send(first, past) => send(flight, first, past),
+        Call::Tell(ack, bytes, mark, acked, congested) => Some(
+            told_at(flight, ack, bytes, mark)? == FlightNews { acked, congested },
+        ),
+        Call::Out(count) => Some(flight.out() == count),
+        Call::IsReported(number, answer) => is_reported(flight, number, answer),
+        Call::Clear => clear(flight),
+    }
+}
+
+// The place of the first of these calls that comes to something else.
+fn first_other(flight: &mut Flight, calls: &[Call]) -> Option<usize> {
+    for (place, call) in calls.iter().enumerate() {
+        if holds(flight, *call) != Some(true) {
+            return Some(place);
+        }
+    }
+    None
+}
+
+// Makes these calls of a new list, one after another.
+fn play(alloc: Global, calls: &[Call]) -> Result<(), Fail> {
+    let mut flight = Flight::new(alloc)?;
+    match first_other(&mut flight, calls) {
+        None => Ok(()),
+        Some(place) => Err(Fail::new(format_args!("call {place}"))),
+    }
 }
 
 // 10 to 15 are out. 17 and 16 lie outside the list, and 15 is marked. Two later ones make nothing lost, and three do;
 // what the mark covers is no congestion. A lost one that is reported after all is acknowledged, and in flight stays.
+const SEVERAL_VECTORS: [Call; 9] = [
+    Call::Send(10, 16),
+    Call::Tell(17, [0x01, 0x40], Some(9), 0, true),
+    Call::Out(5),
+    Call::Tell(14, [0x00, 0xc0], Some(9), 1, false),
+    Call::Out(4),
+    Call::Tell(13, [0x00, 0xc2], Some(15), 1, false),
+    Call::Out(0),
+    Call::Tell(11, [0x00, 0xc0], Some(9), 1, false),
+    Call::Out(0),
+];
+
 #[test]
 fn several_vectors_and_numbers_outside(rt: HostRuntime) -> Result<(), Fail> {
-    let mut flight = Flight::new(rt.alloc())?;
-    for n in 10..16 {
-        flight.sent(seq(n)?);
-    }
-    let steps = [
-        (17, 0x01, 0x40, 9, 0, true, 5),
-        (14, 0x00, 0xc0, 9, 1, false, 4),
-        (13, 0x00, 0xc2, 15, 1, false, 0),
-        (11, 0x00, 0xc0, 9, 1, false, 0),
-    ];
-    for (ack, first, second, mark, acked, congested, out) in steps {
-        let news = told(&mut flight, ack, first, second, Some(seq(mark)?))?;
-        assert_eq!(rt; news, FlightNews { acked, congested }, "{ack}");
-        assert_eq!(rt; flight.out(), out, "{ack}");
-    }
-    Ok(())
+    play(rt.alloc(), &SEVERAL_VECTORS)
 }
 
 // 2 and 1 are received, and then 0: the two before the wrap are lost, of which only the second is past the mark.
+const ROUND_THE_CIRCLE: [Call; 6] = [
+    Call::Send(LAST - 1, LAST),
+    Call::Send(LAST, LAST + 1),
+    Call::Send(0, 3),
+    Call::Tell(2, [0x01, 0xc2], None, 2, false),
+    Call::Tell(0, [0x00, 0xc1], Some(LAST - 1), 1, true),
+    Call::Out(0),
+];
+
 #[test]
 fn round_the_circle(rt: HostRuntime) -> Result<(), Fail> {
-    let mut flight = Flight::new(rt.alloc())?;
-    for n in [LAST - 1, LAST, 0, 1, 2] {
-        flight.sent(seq(n)?);
-    }
-    let news = told(&mut flight, 2, 0x01, 0xc2, None)?;
-    assert_eq!(rt;
-        news,
-        FlightNews {
-            acked: 2,
-            congested: false
-        }
-    );
-    let news = told(&mut flight, 0, 0x00, 0xc1, Some(seq(LAST - 1)?))?;
-    assert_eq!(rt;
-        news,
-        FlightNews {
-            acked: 1,
-            congested: true
-        }
-    );
-    assert_eq!(rt; flight.out(), 0);
-    Ok(())
+    play(rt.alloc(), &ROUND_THE_CIRCLE)
 }
+
+// Of 2,049 numbers the first has left when 1 and 0 are reported.
+const OLDEST_ENTRIES_LEAVE: [Call; 9] = [
+    Call::Send(0, 2049),
+    Call::Out(2048),
+    Call::Tell(1, [0x00, 0x00], None, 1, false),
+    Call::IsReported(0, false),
+    Call::IsReported(1, true),
+    Call::IsReported(2, false),
+    Call::IsReported(2049, false),
+    Call::Clear,
+    Call::Out(0),
+];
 
 #[test]
 fn oldest_entries_leave(rt: HostRuntime) -> Result<(), Fail> {
-    let mut flight = Flight::new(rt.alloc())?;
-    for n in 0..2049 {
-        flight.sent(seq(n)?);
+    play(rt.alloc(), &OLDEST_ENTRIES_LEAVE)
+}
+
+// Whether 1 to 8 may be sent, and no more.
+fn sends_eight(fixed: &mut FixedWindow) -> Option<bool> {
+    for number in 1..9 {
+        if !fixed.may_send() {
+            return None;
+        }
+        fixed.on_sent(Seq48::new(number)?);
     }
-    assert_eq!(rt; flight.out(), 2048);
-    let news = told(&mut flight, 1, 0x00, 0x00, None)?;
-    assert_eq!(rt; news.acked, 1, "1 is there, and 0 has left");
-    for (number, is_reported) in [(0, false), (1, true), (2, false), (2049, false)] {
-        assert_eq!(rt; flight.is_reported(seq(number)?), is_reported, "{number}");
+    Some(!fixed.may_send())
+}
+
+// Hands over an Ack Vector at 8 by which 8 to 6 were received, and marked.
+fn tell_of_marks(fixed: &mut FixedWindow) -> Option<bool> {
+    let area = [38, 3, 0x42];
+    let report = AckReport::of(Seq48::new(8)?, options(&area, false))?;
+    fixed.on_report(&report, 2);
+    Some(true)
+}
+
+fn is_known(fixed: &FixedWindow, number: u64) -> Option<bool> {
+    Some(fixed.is_reported(Seq48::new(number)?))
+}
+
+// Whether the window is 8, and nothing is in flight.
+fn is_open(fixed: &FixedWindow) -> bool {
+    fixed.window() == 8 && fixed.in_flight() == 0
+}
+
+// What does not hold of a new window.
+fn fault_of(fixed: &mut FixedWindow) -> Option<&'static str> {
+    if sends_eight(fixed) != Some(true) {
+        return Some("eight that may be sent");
     }
-    flight.clear();
-    assert_eq!(rt; flight.out(), 0);
-    Ok(())
+    if is_known(fixed, 6) != Some(false) {
+        return Some("nothing reported yet");
+    }
+    if tell_of_marks(fixed) != Some(true) || !is_open(fixed) {
+        return Some("the window by the report");
+    }
+    if is_known(fixed, 6) != Some(true) || is_known(fixed, 5) != Some(false) {
+        return Some("what is reported");
+    }
+    fixed.on_timeout();
+    fixed.start(248);
+    if is_open(fixed) {
+        None
+    } else {
+        Some("the window at the end")
+    }
 }
 
 #[test]
 fn fixed_window_is_eight(rt: HostRuntime) -> Result<(), Fail> {
     let mut fixed = FixedWindow::new(rt.alloc())?;
     assert!(rt; fixed.knows(248) && !fixed.knows(2));
-    for n in 1..9 {
-        assert!(rt; fixed.may_send(), "{n}");
-        fixed.on_sent(seq(n)?);
-    }
-    assert!(rt; !fixed.may_send());
-    let area = [38, 3, 0x42];
-    let Some(report) = AckReport::of(seq(8)?, options(&area, false)) else {
-        return Err(Fail::from("no vector"));
-    };
-    assert!(rt; !fixed.is_reported(seq(6)?));
-    fixed.on_report(&report, 2);
-    assert_eq!(rt; (fixed.window(), fixed.in_flight()), (8, 0));
-    assert!(rt; fixed.is_reported(seq(6)?) && !fixed.is_reported(seq(5)?));
-    fixed.on_timeout();
-    fixed.start(248);
-    assert_eq!(rt; (fixed.window(), fixed.in_flight()), (8, 0));
+    assert_eq!(rt; fault_of(&mut fixed), None);
     Ok(())
 }

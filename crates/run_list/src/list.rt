@@ -1,4 +1,4 @@
-//! The set with its floor.
+//! The set of marked numbers, and the floor below which nothing is asked.
 ghost use Rattle.std.specs.Prelude.{◌≡◌, ◌≢◌, IsTrue, ℕ, ◌<◌, ◌↔◌, IfOk, if◌then◌else◌};
 ghost use Rattle.run_list.specs.MarkedSet.{MarkedSet, IsFrom, IsSound, has, empty_from, raised, marked, joined_by, answer_to};
 ghost use Rattle.seq_circle.specs.Circle.{distance};

@@ -12,12 +12,12 @@ use Rattle.feature_lists.specs.declared.features.Place.{Place}
 use Rattle.feature_lists.specs.declared.features.Place.TheVariants.{Here, There}
 use Rattle.feature_lists.specs.declared.wishes.PreferFault.{PreferFault}
 use Rattle.feature_lists.specs.declared.wishes.Wanted.{Wanted}
-use Rattle.two_ends.specs.declared.event.Side.{Side}
-use Rattle.two_ends.specs.declared.event.Side.TheVariants.{Client, Server}
-use Rattle.two_ends.specs.declared.event.Event.{Event}
-use Rattle.two_ends.specs.declared.event.Event.TheVariants as event
-use Rattle.dccp_endpoint.specs.declared.calls.Timer.{Timer}
-use Rattle.dccp_endpoint.specs.declared.calls.Timer.TheVariants as timer
+use Rattle.world_events.specs.declared.event.Side.{Side}
+use Rattle.world_events.specs.declared.event.Side.TheVariants.{Client, Server}
+use Rattle.world_events.specs.declared.event.Event.{Event}
+use Rattle.world_events.specs.declared.event.Event.TheVariants as event
+use Rattle.end_answers.specs.declared.calls.Timer.{Timer}
+use Rattle.end_answers.specs.declared.calls.Timer.TheVariants as timer
 use Rattle.schedule_text.specs.declared.line.Line.{Line}
 use Rattle.schedule_text.specs.declared.line.Line.TheVariants as line
 use Rattle.schedule_text.specs.declared.line.LineFault.{LineFault}

@@ -10,9 +10,9 @@ use Rattle.feature_lists.specs.Features.{feature_number}
 use Rattle.feature_lists.specs.Wishes.{is_ours, wish_of}
 use Rattle.feature_lists.specs.declared.wishes.PreferFault.{PreferFault}
 use Rattle.feature_lists.specs.declared.wishes.Wanted.{Wanted}
-use Rattle.two_ends.specs.declared.event.Side.{Side}
-use Rattle.two_ends.specs.declared.event.Side.TheVariants.{Client, Server}
-use Rattle.two_ends.specs.declared.event.Event.TheVariants as event
+use Rattle.world_events.specs.declared.event.Side.{Side}
+use Rattle.world_events.specs.declared.event.Side.TheVariants.{Client, Server}
+use Rattle.world_events.specs.declared.event.Event.TheVariants as event
 use Rattle.schedule_text.specs.declared.line.Line.{Line}
 use Rattle.schedule_text.specs.declared.line.Line.TheVariants as line
 use Rattle.schedule_text.specs.declared.line.LineFault.{LineFault}
@@ -29,7 +29,7 @@ use Rattle.schedule_text.proofs.WordTexts.{if-true, clean-text, read-joined}
 use Rattle.schedule_text.proofs.ReadBack.{side-read}
 use Rattle.schedule_text.proofs.LinesBack.{side-is-word, side-length, three-words, line-read}
 use Rattle.schedule_text.proofs.HexSpelling.{hex-spelled, hex-read, hex-text}
-use Rattle.schedule_text.proofs.Spelling.{bind-ok, then-ok, step, end-ok, form-spelled, side-spelled, place-spelled, timer-spelled, sequence-spelled, feature-spelled, values-spelled, name-spelled}
+use Rattle.schedule_text.proofs.Spelling.{bind-ok, then-ok, with-step, end-ok, form-spelled, side-spelled, place-spelled, timer-spelled, sequence-spelled, feature-spelled, values-spelled, name-spelled}
 
 -- Ends of lines
 
@@ -67,30 +67,30 @@ mandatory-spelled column absent (word ∷ (another ∷ rest)) m next y is more =
 iss-line : (text : List ℕ) (column absent : ℕ) (parts : List (List ℕ)) (said : Line) → text ≡ joined (form_name form.Iss ∷ parts)
     → iss_line (words_left (placed column parts) absent) ≡ Ok said → IsLine text said
 iss-line text column absent parts said words is =
-    let one = step side_word (λ side left. number_word (first_word left) >>= (λ number. ended (later left) >> Ok (line.Iss side number))) said column absent parts (λ x never. cc never) is in
+    with-step side_word (λ side left. number_word (first_word left) >>= (λ number. ended (later left) >> Ok (line.Iss side number))) said column absent parts (λ x never. cc never) is (λ one.
     let second = column + length one.word + 1 in
-    let two = step number_word (λ number left. ended left >> Ok (line.Iss one.found number)) said second absent one.rest (λ x never. cc never) one.more in
+    with-step number_word (λ number left. ended left >> Ok (line.Iss one.found number)) said second absent one.rest (λ x never. cc never) one.more (λ two.
     let last = end-ok (second + length two.word + 1) absent two.rest (line.Iss one.found two.found) said two.more in
     let side = side-spelled column one.word one.found one.read in
     let number = sequence-spelled second two.word two.found two.read in
     let are : parts ≡ side_name one.found ∷ (decimal two.found ∷ []) = cc (one.parts_are, two.parts_are, last.0, side, number.0) in
-    subst (λ (s : Line). IsLine text s) last.1 (words ∙ ap (λ (ps : List (List ℕ)). joined (form_name form.Iss ∷ ps)) are, number.1)
+    subst (λ (s : Line). IsLine text s) last.1 (words ∙ ap (λ (ps : List (List ℕ)). joined (form_name form.Iss ∷ ps)) are, number.1)))
 
 set-line : (text : List ℕ) (column absent : ℕ) (parts : List (List ℕ)) (said : Line) → text ≡ joined (form_name form.Set ∷ parts)
     → set_line (words_left (placed column parts) absent) ≡ Ok said → IsLine text said
 set-line text column absent parts said words is =
-    let one = step side_word (λ side left. place_word (first_word left) >>= (λ place. feature_word (first_word (later left)) >>= (λ feature. values_word (first_word (later (later left))) >>= (λ values. ended (later (later (later left))) >> (wished (first_word (later (later left))).column (wish_of feature place values) >> Ok (line.Set side place feature values))))))
-    said column absent parts (λ x never. cc never) is in
+    with-step side_word (λ side left. place_word (first_word left) >>= (λ place. feature_word (first_word (later left)) >>= (λ feature. values_word (first_word (later (later left))) >>= (λ values. ended (later (later (later left))) >> (wished (first_word (later (later left))).column (wish_of feature place values) >> Ok (line.Set side place feature values))))))
+    said column absent parts (λ x never. cc never) is (λ one.
     let second = column + length one.word + 1 in
-    let two = step place_word (λ place left. feature_word (first_word left) >>= (λ feature. values_word (first_word (later left)) >>= (λ values. ended (later (later left)) >> (wished (first_word (later left)).column (wish_of feature place values) >> Ok (line.Set one.found place feature values)))))
-    said second absent one.rest (λ x never. cc never) one.more in
+    with-step place_word (λ place left. feature_word (first_word left) >>= (λ feature. values_word (first_word (later left)) >>= (λ values. ended (later (later left)) >> (wished (first_word (later left)).column (wish_of feature place values) >> Ok (line.Set one.found place feature values)))))
+    said second absent one.rest (λ x never. cc never) one.more (λ two.
     let third = second + length two.word + 1 in
-    let three = step feature_word (λ feature left. values_word (first_word left) >>= (λ values. ended (later left) >> (wished (first_word left).column (wish_of feature two.found values) >> Ok (line.Set one.found two.found feature values))))
-    said third absent two.rest (λ x never. cc never) two.more in
+    with-step feature_word (λ feature left. values_word (first_word left) >>= (λ values. ended (later left) >> (wished (first_word left).column (wish_of feature two.found values) >> Ok (line.Set one.found two.found feature values))))
+    said third absent two.rest (λ x never. cc never) two.more (λ three.
     let fourth = third + length three.word + 1 in
     let at = (first_word (words_left (placed fourth three.rest) absent)).column in
-    let four = step values_word (λ values left. ended left >> (wished at (wish_of three.found two.found values) >> Ok (line.Set one.found two.found three.found values)))
-    said fourth absent three.rest (λ x never. cc never) three.more in
+    with-step values_word (λ values left. ended left >> (wished at (wish_of three.found two.found values) >> Ok (line.Set one.found two.found three.found values)))
+    said fourth absent three.rest (λ x never. cc never) three.more (λ four.
     let last = end-then (fourth + length four.word + 1) absent four.rest (wished at (wish_of three.found two.found four.found) >> Ok (line.Set one.found two.found three.found four.found)) said four.more in
     let own = then-ok (wished at (wish_of three.found two.found four.found)) (Ok (line.Set one.found two.found three.found four.found)) said last.1 in
     let same : line.Set one.found two.found three.found four.found ≡ said = cc own.1 in
@@ -101,20 +101,20 @@ set-line text column absent parts said words is =
     let are : parts ≡ side_name one.found ∷ (place_name two.found ∷ (decimal (feature_number three.found) ∷ (values_text four.found ∷ []))) =
     cc (one.parts_are, two.parts_are, three.parts_are, four.parts_are, last.0, side, place, feature, values.0) in
     subst (λ (s : Line). IsLine text s) same
-    (words ∙ ap (λ (ps : List (List ℕ)). joined (form_name form.Set ∷ ps)) are, (values.1, wished-is at (wish_of three.found two.found four.found) own.0))
+    (words ∙ ap (λ (ps : List (List ℕ)). joined (form_name form.Set ∷ ps)) are, (values.1, wished-is at (wish_of three.found two.found four.found) own.0))))))
 
 offer-line : (text : List ℕ) (column absent : ℕ) (parts : List (List ℕ)) (said : Line) → text ≡ joined (form_name form.Offer ∷ parts)
     → offer_line (words_left (placed column parts) absent) ≡ Ok said → IsLine text said
 offer-line text column absent parts said words is =
-    let one = step side_word (λ side left. place_word (first_word left) >>= (λ place. feature_word (first_word (later left)) >>= (λ feature. mandatory_word (later (later left)) >>= (λ mandatory. ended (later (later (later left))) >> (offered (first_word (later left)).column (is_ours feature place) >> Ok (line.Offer side place feature mandatory))))))
-    said column absent parts (λ x never. cc never) is in
+    with-step side_word (λ side left. place_word (first_word left) >>= (λ place. feature_word (first_word (later left)) >>= (λ feature. mandatory_word (later (later left)) >>= (λ mandatory. ended (later (later (later left))) >> (offered (first_word (later left)).column (is_ours feature place) >> Ok (line.Offer side place feature mandatory))))))
+    said column absent parts (λ x never. cc never) is (λ one.
     let second = column + length one.word + 1 in
-    let two = step place_word (λ place left. feature_word (first_word left) >>= (λ feature. mandatory_word (later left) >>= (λ mandatory. ended (later (later left)) >> (offered (first_word left).column (is_ours feature place) >> Ok (line.Offer one.found place feature mandatory)))))
-    said second absent one.rest (λ x never. cc never) one.more in
+    with-step place_word (λ place left. feature_word (first_word left) >>= (λ feature. mandatory_word (later left) >>= (λ mandatory. ended (later (later left)) >> (offered (first_word left).column (is_ours feature place) >> Ok (line.Offer one.found place feature mandatory)))))
+    said second absent one.rest (λ x never. cc never) one.more (λ two.
     let third = second + length two.word + 1 in
     let at = (first_word (words_left (placed third two.rest) absent)).column in
-    let three = step feature_word (λ feature left. mandatory_word left >>= (λ mandatory. ended (later left) >> (offered at (is_ours feature two.found) >> Ok (line.Offer one.found two.found feature mandatory))))
-    said third absent two.rest (λ x never. cc never) two.more in
+    with-step feature_word (λ feature left. mandatory_word left >>= (λ mandatory. ended (later left) >> (offered at (is_ours feature two.found) >> Ok (line.Offer one.found two.found feature mandatory))))
+    said third absent two.rest (λ x never. cc never) two.more (λ three.
     let fourth = third + length three.word + 1 in
     let mark = bind-ok (mandatory_word (words_left (placed fourth three.rest) absent)) (λ mandatory. ended (later (words_left (placed fourth three.rest) absent)) >> (offered at (is_ours three.found two.found) >> Ok (line.Offer one.found two.found three.found mandatory))) said three.more in
     let last = mandatory-spelled fourth absent three.rest mark.0 (offered at (is_ours three.found two.found) >> Ok (line.Offer one.found two.found three.found mark.0)) said mark.1 mark.2 in
@@ -126,17 +126,17 @@ offer-line text column absent parts said words is =
     let are : parts ≡ side_name one.found ∷ (place_name two.found ∷ (decimal (feature_number three.found) ∷ mandatory_words mark.0)) =
     cc (one.parts_are, two.parts_are, three.parts_are, last.0, side, place, feature) in
     subst (λ (s : Line). IsLine text s) same
-    (words ∙ ap (λ (ps : List (List ℕ)). joined (form_name form.Offer ∷ ps)) are, offered-is at (is_ours three.found two.found) own.0)
+    (words ∙ ap (λ (ps : List (List ℕ)). joined (form_name form.Offer ∷ ps)) are, offered-is at (is_ours three.found two.found) own.0))))
 
 deliver-line : (text : List ℕ) (column absent : ℕ) (parts : List (List ℕ)) (said : Line) → text ≡ joined (form_name form.Deliver ∷ parts)
     → deliver_line (words_left (placed column parts) absent) ≡ Ok said → IsLine text said
 deliver-line text column absent parts said words is =
-    let one = step name_word (λ e left. ended left >> Ok (line.Event e)) said column absent parts (λ x never. cc never) is in
+    with-step name_word (λ e left. ended left >> Ok (line.Event e)) said column absent parts (λ x never. cc never) is (λ one.
     let last = end-ok (column + length one.word + 1) absent one.rest (line.Event one.found) said one.more in
     let name = name-spelled column one.word one.found one.read in
     let are : parts ≡ frame_name name.from name.index ∷ [] = cc (one.parts_are, last.0, name.spells) in
     let same : line.Event (event.Deliver name.from name.index) ≡ said = ap line.Event name.event_is ∙ last.1 in
-    subst (λ (s : Line). IsLine text s) same (words ∙ ap (λ (ps : List (List ℕ)). joined (form_name form.Deliver ∷ ps)) are, name.small)
+    subst (λ (s : Line). IsLine text s) same (words ∙ ap (λ (ps : List (List ℕ)). joined (form_name form.Deliver ∷ ps)) are, name.small))
 
 send-length : (side : Side) (digits : List ℕ) → length (joined (codes "send" ∷ (side_name side ∷ (digits ∷ [])))) ≡ 12 + length digits
 send-length Client digits = omega arith
@@ -145,9 +145,9 @@ send-length Server digits = omega arith
 send-line : (text : List ℕ) (column absent : ℕ) (parts : List (List ℕ)) (said : Line) → text ≡ joined (form_name form.Send ∷ parts) → length text ≤ 4096
     → send_line (words_left (placed column parts) absent) ≡ Ok said → IsLine text said
 send-line text column absent parts said words short is =
-    let one = step side_word (λ side left. hex_word (first_word left) >>= (λ payload. ended (later left) >> Ok (line.Event (event.Send side payload)))) said column absent parts (λ x never. cc never) is in
+    with-step side_word (λ side left. hex_word (first_word left) >>= (λ payload. ended (later left) >> Ok (line.Event (event.Send side payload)))) said column absent parts (λ x never. cc never) is (λ one.
     let second = column + length one.word + 1 in
-    let two = step hex_word (λ payload left. ended left >> Ok (line.Event (event.Send one.found payload))) said second absent one.rest (λ x never. cc never) one.more in
+    with-step hex_word (λ payload left. ended left >> Ok (line.Event (event.Send one.found payload))) said second absent one.rest (λ x never. cc never) one.more (λ two.
     let last = end-ok (second + length two.word + 1) absent two.rest (line.Event (event.Send one.found two.found)) said two.more in
     let side = side-spelled column one.word one.found one.read in
     let bytes = hex-spelled second two.word two.found two.read in
@@ -155,22 +155,22 @@ send-line text column absent parts said words short is =
     let whole = words ∙ ap (λ (ps : List (List ℕ)). joined (form_name form.Send ∷ ps)) are in
     let size : length text ≡ 12 + length two.word = ap length whole ∙ send-length one.found two.word in
     let room = bytes.size in
-    subst (λ (s : Line). IsLine text s) last.1 (record { digits = two.word; spells = bytes.spells; words = whole; few = omega arith })
+    subst (λ (s : Line). IsLine text s) last.1 (record { digits = two.word; spells = bytes.spells; words = whole; few = omega arith })))
 
 prefer-line : (text : List ℕ) (column absent : ℕ) (parts : List (List ℕ)) (said : Line) → text ≡ joined (form_name form.Prefer ∷ parts)
     → prefer_line (words_left (placed column parts) absent) ≡ Ok said → IsLine text said
 prefer-line text column absent parts said words is =
-    let one = step side_word (λ side left. place_word (first_word left) >>= (λ place. feature_word (first_word (later left)) >>= (λ feature. values_word (first_word (later (later left))) >>= (λ values. ended (later (later (later left))) >> Ok (line.Event (event.Prefer side feature place values))))))
-    said column absent parts (λ x never. cc never) is in
+    with-step side_word (λ side left. place_word (first_word left) >>= (λ place. feature_word (first_word (later left)) >>= (λ feature. values_word (first_word (later (later left))) >>= (λ values. ended (later (later (later left))) >> Ok (line.Event (event.Prefer side feature place values))))))
+    said column absent parts (λ x never. cc never) is (λ one.
     let second = column + length one.word + 1 in
-    let two = step place_word (λ place left. feature_word (first_word left) >>= (λ feature. values_word (first_word (later left)) >>= (λ values. ended (later (later left)) >> Ok (line.Event (event.Prefer one.found feature place values)))))
-    said second absent one.rest (λ x never. cc never) one.more in
+    with-step place_word (λ place left. feature_word (first_word left) >>= (λ feature. values_word (first_word (later left)) >>= (λ values. ended (later (later left)) >> Ok (line.Event (event.Prefer one.found feature place values)))))
+    said second absent one.rest (λ x never. cc never) one.more (λ two.
     let third = second + length two.word + 1 in
-    let three = step feature_word (λ feature left. values_word (first_word left) >>= (λ values. ended (later left) >> Ok (line.Event (event.Prefer one.found feature two.found values))))
-    said third absent two.rest (λ x never. cc never) two.more in
+    with-step feature_word (λ feature left. values_word (first_word left) >>= (λ values. ended (later left) >> Ok (line.Event (event.Prefer one.found feature two.found values))))
+    said third absent two.rest (λ x never. cc never) two.more (λ three.
     let fourth = third + length three.word + 1 in
-    let four = step values_word (λ values left. ended left >> Ok (line.Event (event.Prefer one.found three.found two.found values)))
-    said fourth absent three.rest (λ x never. cc never) three.more in
+    with-step values_word (λ values left. ended left >> Ok (line.Event (event.Prefer one.found three.found two.found values)))
+    said fourth absent three.rest (λ x never. cc never) three.more (λ four.
     let last = end-ok (fourth + length four.word + 1) absent four.rest (line.Event (event.Prefer one.found three.found two.found four.found)) said four.more in
     let side = side-spelled column one.word one.found one.read in
     let place = place-spelled second two.word two.found two.read in
@@ -178,35 +178,35 @@ prefer-line text column absent parts said words is =
     let values = values-spelled fourth four.word four.found four.read in
     let are : parts ≡ side_name one.found ∷ (place_name two.found ∷ (decimal (feature_number three.found) ∷ (values_text four.found ∷ []))) =
     cc (one.parts_are, two.parts_are, three.parts_are, four.parts_are, last.0, side, place, feature, values.0) in
-    subst (λ (s : Line). IsLine text s) last.1 (words ∙ ap (λ (ps : List (List ℕ)). joined (form_name form.Prefer ∷ ps)) are, values.1)
+    subst (λ (s : Line). IsLine text s) last.1 (words ∙ ap (λ (ps : List (List ℕ)). joined (form_name form.Prefer ∷ ps)) are, values.1)))))
 
 timer-line : (text : List ℕ) (column absent : ℕ) (parts : List (List ℕ)) (said : Line) → text ≡ joined (form_name form.Timer ∷ parts)
     → timer_line (words_left (placed column parts) absent) ≡ Ok said → IsLine text said
 timer-line text column absent parts said words is =
-    let one = step side_word (λ side left. timer_word (first_word left) >>= (λ which. ended (later left) >> Ok (line.Event (event.Timer side which)))) said column absent parts (λ x never. cc never) is in
+    with-step side_word (λ side left. timer_word (first_word left) >>= (λ which. ended (later left) >> Ok (line.Event (event.Timer side which)))) said column absent parts (λ x never. cc never) is (λ one.
     let second = column + length one.word + 1 in
-    let two = step timer_word (λ which left. ended left >> Ok (line.Event (event.Timer one.found which))) said second absent one.rest (λ x never. cc never) one.more in
+    with-step timer_word (λ which left. ended left >> Ok (line.Event (event.Timer one.found which))) said second absent one.rest (λ x never. cc never) one.more (λ two.
     let last = end-ok (second + length two.word + 1) absent two.rest (line.Event (event.Timer one.found two.found)) said two.more in
     let side = side-spelled column one.word one.found one.read in
     let which = timer-spelled second two.word two.found two.read in
     let are : parts ≡ side_name one.found ∷ (timer_name two.found ∷ []) = cc (one.parts_are, two.parts_are, last.0, side, which) in
-    subst (λ (s : Line). IsLine text s) last.1 (words ∙ ap (λ (ps : List (List ℕ)). joined (form_name form.Timer ∷ ps)) are)
+    subst (λ (s : Line). IsLine text s) last.1 (words ∙ ap (λ (ps : List (List ℕ)). joined (form_name form.Timer ∷ ps)) are)))
 
 close-line : (text : List ℕ) (column absent : ℕ) (parts : List (List ℕ)) (said : Line) → text ≡ joined (form_name form.Close ∷ parts)
     → close_line (words_left (placed column parts) absent) ≡ Ok said → IsLine text said
 close-line text column absent parts said words is =
-    let one = step side_word (λ side left. ended left >> Ok (line.Event (event.Close side))) said column absent parts (λ x never. cc never) is in
+    with-step side_word (λ side left. ended left >> Ok (line.Event (event.Close side))) said column absent parts (λ x never. cc never) is (λ one.
     let last = end-ok (column + length one.word + 1) absent one.rest (line.Event (event.Close one.found)) said one.more in
     let are : parts ≡ side_name one.found ∷ [] = cc (one.parts_are, last.0, side-spelled column one.word one.found one.read) in
-    subst (λ (s : Line). IsLine text s) last.1 (words ∙ ap (λ (ps : List (List ℕ)). joined (form_name form.Close ∷ ps)) are)
+    subst (λ (s : Line). IsLine text s) last.1 (words ∙ ap (λ (ps : List (List ℕ)). joined (form_name form.Close ∷ ps)) are))
 
 abort-line : (text : List ℕ) (column absent : ℕ) (parts : List (List ℕ)) (said : Line) → text ≡ joined (form_name form.Abort ∷ parts)
     → abort_line (words_left (placed column parts) absent) ≡ Ok said → IsLine text said
 abort-line text column absent parts said words is =
-    let one = step side_word (λ side left. ended left >> Ok (line.Event (event.Abort side))) said column absent parts (λ x never. cc never) is in
+    with-step side_word (λ side left. ended left >> Ok (line.Event (event.Abort side))) said column absent parts (λ x never. cc never) is (λ one.
     let last = end-ok (column + length one.word + 1) absent one.rest (line.Event (event.Abort one.found)) said one.more in
     let are : parts ≡ side_name one.found ∷ [] = cc (one.parts_are, last.0, side-spelled column one.word one.found one.read) in
-    subst (λ (s : Line). IsLine text s) last.1 (words ∙ ap (λ (ps : List (List ℕ)). joined (form_name form.Abort ∷ ps)) are)
+    subst (λ (s : Line). IsLine text s) last.1 (words ∙ ap (λ (ps : List (List ℕ)). joined (form_name form.Abort ∷ ps)) are))
 
 alone-line : (text : List ℕ) (column absent : ℕ) (parts : List (List ℕ)) (said whole : Line) (name : List ℕ) → text ≡ joined (name ∷ parts)
     → (ended (words_left (placed column parts) absent) >> Ok whole) ≡ Ok said → (text ≡ name → IsLine text whole) → IsLine text said
@@ -231,10 +231,10 @@ form-line form.Abort text column absent parts said words short is = abort-line t
 words-line : (text : List ℕ) (said : Line) → length text ≤ 4096 → read_words (words_of text) ≡ Ok said → IsLine text said
 words-line text said short is =
     let absent = length text + 2 in
-    let first = step form_word (λ which left. line_of which left) said 1 absent (parted_by 32 text) (λ x never. cc never) is in
+    with-step form_word (λ which left. line_of which left) said 1 absent (parted_by 32 text) (λ x never. cc never) is (λ first.
     let name = form-spelled 1 first.word first.found first.read in
     let are : parted_by 32 text ≡ form_name first.found ∷ first.rest = cc (first.parts_are, name) in
-    form-line first.found text (1 + length first.word + 1) absent first.rest said (sym (join_with_byte-slice_split 32 text) ∙ ap joined are) short first.more
+    form-line first.found text (1 + length first.word + 1) absent first.rest said (sym (join_with_byte-slice_split 32 text) ∙ ap joined are) short first.more)
 
 -- Clean lines
 

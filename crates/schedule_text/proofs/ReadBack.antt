@@ -10,11 +10,11 @@ use Rattle.feature_lists.specs.declared.features.Feature.{Feature}
 use Rattle.feature_lists.specs.declared.features.Feature.TheVariants as f
 use Rattle.feature_lists.specs.declared.features.Place.{Place}
 use Rattle.feature_lists.specs.declared.features.Place.TheVariants.{Here, There}
-use Rattle.two_ends.specs.declared.event.Side.{Side}
-use Rattle.two_ends.specs.declared.event.Side.TheVariants.{Client, Server}
-use Rattle.two_ends.specs.declared.event.Event.TheVariants as event
-use Rattle.dccp_endpoint.specs.declared.calls.Timer.{Timer}
-use Rattle.dccp_endpoint.specs.declared.calls.Timer.TheVariants as timer
+use Rattle.world_events.specs.declared.event.Side.{Side}
+use Rattle.world_events.specs.declared.event.Side.TheVariants.{Client, Server}
+use Rattle.world_events.specs.declared.event.Event.TheVariants as event
+use Rattle.end_answers.specs.declared.calls.Timer.{Timer}
+use Rattle.end_answers.specs.declared.calls.Timer.TheVariants as timer
 use Rattle.schedule_text.specs.declared.line.LineFault.{LineFault}
 use Rattle.schedule_text.specs.declared.line.LineWhy.TheVariants as why
 use Rattle.schedule_text.specs.Names.{side_name, place_name, timer_name}

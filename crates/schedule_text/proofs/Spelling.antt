@@ -15,12 +15,12 @@ use Rattle.feature_lists.specs.declared.features.Feature.{Feature}
 use Rattle.feature_lists.specs.declared.features.Feature.TheVariants as f
 use Rattle.feature_lists.specs.declared.features.Place.{Place}
 use Rattle.feature_lists.specs.declared.features.Place.TheVariants.{Here, There}
-use Rattle.two_ends.specs.declared.event.Side.{Side}
-use Rattle.two_ends.specs.declared.event.Side.TheVariants.{Client, Server}
-use Rattle.two_ends.specs.declared.event.Event.{Event}
-use Rattle.two_ends.specs.declared.event.Event.TheVariants as event
-use Rattle.dccp_endpoint.specs.declared.calls.Timer.{Timer}
-use Rattle.dccp_endpoint.specs.declared.calls.Timer.TheVariants as timer
+use Rattle.world_events.specs.declared.event.Side.{Side}
+use Rattle.world_events.specs.declared.event.Side.TheVariants.{Client, Server}
+use Rattle.world_events.specs.declared.event.Event.{Event}
+use Rattle.world_events.specs.declared.event.Event.TheVariants as event
+use Rattle.end_answers.specs.declared.calls.Timer.{Timer}
+use Rattle.end_answers.specs.declared.calls.Timer.TheVariants as timer
 use Rattle.schedule_text.specs.declared.line.LineFault.{LineFault}
 use Rattle.schedule_text.specs.declared.line.LineWhy.TheVariants as why
 use Rattle.schedule_text.specs.declared.names.Form.{Form}
@@ -64,6 +64,13 @@ step reader f y column absent [] never is =
 step reader f y column absent (word ∷ rest) never is =
     let both = bind-ok (reader (word_at_column column word)) (λ x. f x (words_left (placed (column + length word + 1) rest) absent)) y is in
     record { found = both.0; word = word; rest = rest; parts_are = refl; read = both.1; more = both.2 }
+
+-- The same for what is done with it: a name that stands for no term keeps the terms of a long proof short.
+pub with-step : {A B C : Type 0} (reader : WordAt → Result A LineFault) (f : A → WordsLeft → Result B LineFault) (y : B) (column absent : ℕ) (parts : List (List ℕ))
+    → ((x : A) → reader (word_at_column absent []) ≡ Ok x → ⊥)
+    → (reader (first_word (words_left (placed column parts) absent)) >>= (λ x. f x (later (words_left (placed column parts) absent)))) ≡ Ok y
+    → (Stepped reader f y column absent parts → C) → C
+with-step reader f y column absent parts never is goal = goal (step reader f y column absent parts never is)
 
 -- no word is left
 pub end-ok : {B : Type 0} (column absent : ℕ) (parts : List (List ℕ)) (said y : B) → (ended (words_left (placed column parts) absent) >> Ok said) ≡ Ok y → (parts ≡ []) × (said ≡ y)

@@ -3,10 +3,10 @@ use Rattle.std.specs.Prelude.{ℕ, if◌then◌else◌, List, codes, Option, Som
 use Rattle.std.specs.Str.{bytes_eq}
 use Rattle.feature_lists.specs.declared.features.Place.{Place}
 use Rattle.feature_lists.specs.declared.features.Place.TheVariants as place
-use Rattle.two_ends.specs.declared.event.Side.{Side}
-use Rattle.two_ends.specs.declared.event.Side.TheVariants as side
-use Rattle.dccp_endpoint.specs.declared.calls.Timer.{Timer}
-use Rattle.dccp_endpoint.specs.declared.calls.Timer.TheVariants as timer
+use Rattle.world_events.specs.declared.event.Side.{Side}
+use Rattle.world_events.specs.declared.event.Side.TheVariants as side
+use Rattle.end_answers.specs.declared.calls.Timer.{Timer}
+use Rattle.end_answers.specs.declared.calls.Timer.TheVariants as timer
 use Rattle.schedule_text.specs.declared.names.Form.{Form}
 use Rattle.schedule_text.specs.declared.names.Form.TheVariants as form
 

@@ -2,8 +2,8 @@
 use Rattle.std.specs.Prelude.{◌≡◌, ℕ, ◌<◌, ◌≤◌, ◌^◌, true, List, length, All, IsOk}
 use Rattle.hex.specs.Hex.{IsBytes}
 use Rattle.feature_lists.specs.Wishes.{is_ours, wish_of}
-use Rattle.two_ends.specs.declared.event.Event.{Event}
-use Rattle.two_ends.specs.declared.event.Event.TheVariants as event
+use Rattle.world_events.specs.declared.event.Event.{Event}
+use Rattle.world_events.specs.declared.event.Event.TheVariants as event
 use Rattle.schedule_text.specs.declared.line.Line.{Line}
 use Rattle.schedule_text.specs.declared.line.Line.TheVariants as line
 

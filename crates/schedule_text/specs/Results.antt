@@ -4,15 +4,15 @@ use Rattle.dccp_packets.specs.declared.reading.Malformed.{Malformed}
 use Rattle.dccp_packets.specs.declared.reading.Malformed.TheVariants as malformed
 use Rattle.dccp_sum.specs.declared.packet_sum.SumFault.{SumFault}
 use Rattle.dccp_sum.specs.declared.packet_sum.SumFault.TheVariants as sum
-use Rattle.dccp_endpoint.specs.declared.outcome.Why.{Why}
-use Rattle.dccp_endpoint.specs.declared.outcome.Why.TheVariants as why
-use Rattle.dccp_endpoint.specs.declared.outcome.Outcome.{Outcome}
-use Rattle.dccp_endpoint.specs.declared.outcome.Outcome.TheVariants.{Took, Dropped, Synced, WasReset, SentReset}
-use Rattle.two_ends.specs.declared.event.Event.{Event}
-use Rattle.two_ends.specs.declared.event.Refusal.{Refusal}
-use Rattle.two_ends.specs.declared.event.Refusal.TheVariants as refusal
-use Rattle.two_ends.specs.declared.event.Seen.{Seen}
-use Rattle.two_ends.specs.declared.event.Seen.TheVariants.{Called, Fired, Received}
+use Rattle.end_answers.specs.declared.outcome.Why.{Why}
+use Rattle.end_answers.specs.declared.outcome.Why.TheVariants as why
+use Rattle.end_answers.specs.declared.outcome.Outcome.{Outcome}
+use Rattle.end_answers.specs.declared.outcome.Outcome.TheVariants.{Took, Dropped, Synced, WasReset, SentReset}
+use Rattle.world_events.specs.declared.event.Event.{Event}
+use Rattle.world_events.specs.declared.event.Refusal.{Refusal}
+use Rattle.world_events.specs.declared.event.Refusal.TheVariants as refusal
+use Rattle.world_events.specs.declared.event.Seen.{Seen}
+use Rattle.world_events.specs.declared.event.Seen.TheVariants.{Called, Fired, Received}
 use Rattle.schedule_text.specs.Printing.{hex_text, event_text}
 
 -- Names

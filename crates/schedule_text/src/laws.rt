@@ -1,6 +1,6 @@
 //! Laws above the definitions.
 ghost use Rattle.std.specs.Prelude.{◌≡◌, ◌↔◌, ℕ, List, Some, Ok, Err};
-ghost use Rattle.two_ends.specs.declared.event.Event.{Event};
+ghost use Rattle.world_events.specs.declared.event.Event.{Event};
 ghost use Rattle.schedule_text.specs.declared.line.Line.{Line};
 ghost use Rattle.schedule_text.specs.declared.line.Line.TheVariants as line;
 ghost use Rattle.schedule_text.specs.declared.line.LineFault.{LineFault};

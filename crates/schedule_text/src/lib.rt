@@ -24,5 +24,5 @@ pub use crate::laws::{
 pub use crate::line::{FrameLine, Line, LineFault, LineWhy};
 pub use crate::printing::{print_event, print_result, print_seen};
 pub use crate::reading::{read_line, read_line_into};
-pub use dccp_endpoint::Timer;
-pub use two_ends::{Event, Payload, Refusal, Seen, Values};
+pub use end_answers::Timer;
+pub use world_events::{Event, Payload, Refusal, Seen, Values};

@@ -3,7 +3,7 @@ use crate::{Event, Values};
 use dccp_packets::Frame;
 use feature_lists::{Feature, Place};
 use seq_circle::Seq48;
-use two_ends::Side;
+use world_events::Side;
 
 /// What a line of a schedule says (own).
 #[derive(Debug, Drop)]

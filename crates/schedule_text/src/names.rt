@@ -4,7 +4,7 @@ ghost use Rattle.schedule_text.specs.Names.{form_named, side_named, place_named,
 
 use crate::Timer;
 use feature_lists::Place;
-use two_ends::Side;
+use world_events::Side;
 
 /// A line's form, by its first word (own).
 #[derive(Clone, Copy, Debug, PartialEq, Eq)]

@@ -8,12 +8,12 @@ ghost use Rattle.schedule_text.specs.Results as spec;
 
 use crate::text::{put, put_hex, put_number};
 use crate::{Event, Refusal, Seen, Timer};
-use dccp_endpoint::{Outcome, Why};
 use dccp_packets::Malformed;
 use dccp_sum::SumFault;
+use end_answers::{Outcome, Why};
 use feature_lists::{Feature, Place};
 use seq_circle::NoMemory;
-use two_ends::Side;
+use world_events::Side;
 
 fn side_name(side: Side) -> &'static [u8]
     ensures { result.now ≡ side_name side }
@@ -117,11 +117,9 @@ fn put_send(text: &mut Vec<u8>, side: Side, payload: &[u8]) -> Result<(), NoMemo
     ensures ok { OnOk result (text.new.items ≡ text.old.items ++ event_text (Event.Send side payload.now)) }
     ensures front { Keeps text.old.items text.new.items }
 {
-    put(text, b"send ")?;
-    put(text, side_name(side))?;
+    put_named(text, b"send ", side_name(side))?;
     put(text, b" ")?;
-    put_hex(text, payload)?;
-    Ok(())
+    put_hex(text, payload)
 }
 
 #[tactic(auto, using(crate::proofs::Keeping::keeps_itself, crate::proofs::Keeping::keeps_on, crate::proofs::Keeping::keeps_more, crate::proofs::Keeping::keeps_through))]
@@ -130,8 +128,7 @@ fn put_more_values(text: &mut Vec<u8>, values: &[u64]) -> Result<(), NoMemory>
     ensures front { Keeps text.old.items text.new.items }
 {
     for value in values {
-        put(text, b",")?;
-        put_number(text, *value)?;
+        put_counted(text, b",", *value)?;
     }
     Ok(())
 }
@@ -162,37 +159,29 @@ fn put_preference(
     put_named(text, b" ", place_name(place))?;
     put_counted(text, b" ", u64::from(feature.number()))?;
     put(text, b" ")?;
-    put_values(text, values)?;
-    Ok(())
+    put_values(text, values)
 }
 
 fn put_timer(text: &mut Vec<u8>, side: Side, timer: Timer) -> Result<(), NoMemory>
     ensures ok { OnOk result (text.new.items ≡ text.old.items ++ event_text (Event.Timer side timer)) }
     ensures front { Keeps text.old.items text.new.items }
 {
-    put(text, b"timer ")?;
-    put(text, side_name(side))?;
-    put(text, b" ")?;
-    put(text, timer_name(timer))?;
-    Ok(())
+    put_named(text, b"timer ", side_name(side))?;
+    put_named(text, b" ", timer_name(timer))
 }
 
 fn put_close(text: &mut Vec<u8>, side: Side) -> Result<(), NoMemory>
     ensures ok { OnOk result (text.new.items ≡ text.old.items ++ event_text (Event.Close side)) }
     ensures front { Keeps text.old.items text.new.items }
 {
-    put(text, b"close ")?;
-    put(text, side_name(side))?;
-    Ok(())
+    put_named(text, b"close ", side_name(side))
 }
 
 fn put_abort(text: &mut Vec<u8>, side: Side) -> Result<(), NoMemory>
     ensures ok { OnOk result (text.new.items ≡ text.old.items ++ event_text (Event.Abort side)) }
     ensures front { Keeps text.old.items text.new.items }
 {
-    put(text, b"abort ")?;
-    put(text, side_name(side))?;
-    Ok(())
+    put_named(text, b"abort ", side_name(side))
 }
 
 fn put_event(text: &mut Vec<u8>, event: &Event) -> Result<(), NoMemory>
@@ -221,8 +210,7 @@ fn put_named(text: &mut Vec<u8>, what: &[u8], name: &[u8]) -> Result<(), NoMemor
     ensures front { Keeps text.old.items text.new.items }
 {
     put(text, what)?;
-    put(text, name)?;
-    Ok(())
+    put(text, name)
 }
 
 fn put_counted(text: &mut Vec<u8>, what: &[u8], number: u64) -> Result<(), NoMemory>
@@ -230,8 +218,7 @@ fn put_counted(text: &mut Vec<u8>, what: &[u8], number: u64) -> Result<(), NoMem
     ensures front { Keeps text.old.items text.new.items }
 {
     put(text, what)?;
-    put_number(text, number)?;
-    Ok(())
+    put_number(text, number)
 }
 
 #[tactic(auto, using(crate::proofs::Keeping::keeps_itself, crate::proofs::Keeping::keeps_on, crate::proofs::Keeping::keeps_more, crate::proofs::Keeping::keeps_through))]

@@ -14,7 +14,7 @@ use crate::words::{Word, Words};
 use crate::{Event, Line, LineFault, LineWhy, Timer, Values};
 use feature_lists::{Feature, Place, PreferFault, usual, wish};
 use seq_circle::Seq48;
-use two_ends::Side;
+use world_events::Side;
 
 const LONGEST_LINE: usize = 4096;
 

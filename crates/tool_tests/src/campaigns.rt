@@ -1,10 +1,8 @@
 //! Worked campaigns, the words of the form, and workers that run beside each other.
 use crate::calls::{Case, Streams, answer_to, comes};
+use crate::gates::HoldFirst;
 use crate::schedules::shows_usage;
-use campaign_claims::Claimer;
 use dccp_command::Status;
-use fault_campaign::Gate;
-use std::sync::atomic::{AtomicU64, Ordering};
 use std::test::Fail;
 
 // The first call of the source would fail.
@@ -126,42 +124,14 @@ fn refused_words_of_campaigns(rt: HostRuntime) -> Result<(), Fail> {
     Ok(())
 }
 
-// Holds the first seed that begins until the other three have begun.
-#[derive(Drop)]
-struct HoldFirst {
-    begun: AtomicU64,
-    met: AtomicU64,
-}
-
-impl Gate for HoldFirst {
-    fn begin(&self, _claimer: &Claimer, _index: u64) {
-        if self.begun.fetch_add(1, Ordering::SeqCst) != 0 {
-            return;
-        }
-        for _ in 0..100_000_000u32 {
-            if self.begun.load(Ordering::SeqCst) >= 4 {
-                self.met.store(1, Ordering::SeqCst);
-                return;
-            }
-        }
-    }
-}
-
 // Two workers run beside each other and claim as they go: one alone, or two with two seeds each from the start, would
 // leave the first seed held.
 #[test]
 fn a_held_seed_holds_no_other(rt: HostRuntime) -> Result<(), Fail> {
-    let gate = HoldFirst {
-        begun: AtomicU64::new(0),
-        met: AtomicU64::new(0),
-    };
+    let gate = HoldFirst::new();
     let words = "campaign,--first,5,--seeds,4,--events,120,--workers,2";
     let answer = answer_to(&rt, rt.alloc(), &gate, &UNREAD, words, b"")?;
     assert!(rt; answer.is(Status::Done, FOUR_SEEDS));
-    assert_eq!(rt;
-        gate.met.load(Ordering::SeqCst),
-        1,
-        "the other three began meanwhile"
-    );
+    assert!(rt; gate.has_met(), "the other three began meanwhile");
     Ok(())
 }

@@ -7,6 +7,8 @@ mod calls;
 #[cfg(test)]
 mod campaigns;
 #[cfg(test)]
+mod gates;
+#[cfg(test)]
 mod replays;
 #[cfg(test)]
 mod schedules;

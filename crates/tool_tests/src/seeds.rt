@@ -1,7 +1,6 @@
 //! Each call once, and that workers run beside each other. `examples/` has the sums of campaigns.
-use campaign_claims::Claimer;
-use fault_campaign::{Gate, OpenGate, Report, campaign, run_seed};
-use std::sync::atomic::{AtomicU64, Ordering};
+use crate::gates::HoldFirst;
+use fault_campaign::{OpenGate, Report, campaign, run_seed};
 use std::test::Fail;
 
 // Seed 1: open, a preference and data, both refused outside a connection, the Request again, its delivery, the Response
@@ -31,40 +30,13 @@ fn twelve_events_of_seed_one(rt: HostRuntime) -> Result<(), Fail> {
     Ok(())
 }
 
-// Holds the first seed that begins until the other three have begun.
-#[derive(Drop)]
-struct HoldFirst {
-    begun: AtomicU64,
-    met: AtomicU64,
-}
-
-impl Gate for HoldFirst {
-    fn begin(&self, _claimer: &Claimer, _index: u64) {
-        if self.begun.fetch_add(1, Ordering::SeqCst) != 0 {
-            return;
-        }
-        for _ in 0..100_000_000u32 {
-            if self.begun.load(Ordering::SeqCst) >= 4 {
-                self.met.store(1, Ordering::SeqCst);
-                return;
-            }
-        }
-    }
-}
-
 // Workers run beside each other, and claim as they go: one alone, or two with two seeds each from the start, would
 // leave the first seed held.
 #[test]
 fn workers_run_beside_each_other(rt: HostRuntime) -> Result<(), Fail> {
-    let gate = HoldFirst {
-        begun: AtomicU64::new(0),
-        met: AtomicU64::new(0),
-    };
+    let gate = HoldFirst::new();
     let total = campaign(&rt, rt.alloc(), &gate, 5, 4, 60, 2)?;
-    assert!(rt;
-        gate.met.load(Ordering::SeqCst) == 1,
-        "the other three began meanwhile"
-    );
+    assert!(rt; gate.has_met(), "the other three began meanwhile");
     assert!(rt; total.seeds == 4, "seeds");
     Ok(())
 }

@@ -23,11 +23,12 @@ use Rattle.feature_machine.specs.Negotiating.{AreRowsOf, row_at}
 use Rattle.feature_machine.specs.declared.row.Row.{Row}
 use Rattle.feature_machine.specs.declared.stands.Role2.{Role2}
 use Rattle.feature_machine.specs.declared.stands.Role2.TheVariants as end
-use Rattle.two_ends.specs.declared.event.Side.{Side}
-use Rattle.two_ends.specs.declared.event.Side.TheVariants.{Client, Server}
+use Rattle.world_events.specs.declared.event.Side.{Side}
+use Rattle.world_events.specs.declared.event.Side.TheVariants.{Client, Server}
 use Rattle.two_ends.specs.Negotiated.{Agree, AgreeOn, Given, HasSent, HasTold, IsNotNegotiable, IsServerPriority, IsSettled, Origin, Initial, Reconciled, Told, says_change, last_list_sent, last_value, list_said, side_changed, value_said, pair_was_negotiated}
 use Rattle.two_ends.specs.Pairs.{FeatureAt, held_at, place_at}
-use Rattle.two_ends.specs.World.{WorldState, half_of, other}
+use Rattle.two_ends.specs.World.{WorldState, half_of}
+use Rattle.world_events.specs.Actors.{other}
 use Rattle.two_ends.proofs.Acting.{Party, config_of, party_of}
 use Rattle.two_ends.proofs.Carrying.{any-logged, frame-at, frame-says, last-logged, says}
 use Rattle.two_ends.proofs.Logged.{AreLogged, Logged}

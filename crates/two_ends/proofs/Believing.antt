@@ -27,11 +27,12 @@ use Rattle.two_ends.specs.Numbered.{Facts}
 use Rattle.two_ends.specs.Reached.{ReachedByEvents}
 use Rattle.two_ends.specs.Reported.{CarriesVector, Heard}
 use Rattle.two_ends.specs.Safe.{Safe}
-use Rattle.two_ends.specs.World.{Said, WorldState, WorldStep, actor, at_start, half_of, half_steps, happens, other, world_after_all}
-use Rattle.two_ends.specs.declared.event.Event.{Event}
-use Rattle.two_ends.specs.declared.event.Side.{Side}
-use Rattle.two_ends.specs.declared.event.Side.TheVariants.{Client, Server}
-use Rattle.two_ends.specs.declared.event.WorldFault.{WorldFault}
+use Rattle.two_ends.specs.World.{Said, WorldState, WorldStep, at_start, half_of, half_steps, happens, world_after_all}
+use Rattle.world_events.specs.Actors.{actor, other}
+use Rattle.world_events.specs.declared.event.Event.{Event}
+use Rattle.world_events.specs.declared.event.Side.{Side}
+use Rattle.world_events.specs.declared.event.Side.TheVariants.{Client, Server}
+use Rattle.world_events.specs.declared.event.WorldFault.{WorldFault}
 use Rattle.two_ends.proofs.Acting.{IsHeld, Refused, Steps, Takes, event-taken}
 use Rattle.two_ends.proofs.Calling.{IsHeardOf, any-left, sends-so, tells-so}
 use Rattle.two_ends.proofs.Keeping.{HasRoles, SideInvariant, kept-facts, kept-proper, kept-received, kept-safe, run-kept, run-roles, step-kept}

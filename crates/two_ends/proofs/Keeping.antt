@@ -12,9 +12,9 @@ use Rattle.dccp_endpoint.specs.declared.config.Config.{Config}
 use Rattle.feature_agreement.specs.Moves as moves
 use Rattle.feature_agreement.specs.Rows.{location_of, opposite, pair_of}
 use Rattle.feature_machine.specs.declared.stands.Role2.TheVariants as end
-use Rattle.two_ends.specs.declared.event.Side.{Side}
-use Rattle.two_ends.specs.declared.event.Side.TheVariants.{Client, Server}
-use Rattle.two_ends.specs.declared.event.WorldFault.{WorldFault}
+use Rattle.world_events.specs.declared.event.Side.{Side}
+use Rattle.world_events.specs.declared.event.Side.TheVariants.{Client, Server}
+use Rattle.world_events.specs.declared.event.WorldFault.{WorldFault}
 use Rattle.two_ends.specs.declared.frames.SentFrame.{SentFrame}
 use Rattle.two_ends.specs.Controlled.{Controlled}
 use Rattle.two_ends.specs.Numbered.{AreNumbered, Facts, Hears, IsNumberOf, IsNumbered}
@@ -22,7 +22,8 @@ use Rattle.two_ends.specs.Pairs.{FeatureAt, place_at}
 use Rattle.two_ends.specs.Negotiated.{Agree, Given}
 use Rattle.two_ends.specs.Reported.{CarriesVector, Heard, Once, Told, Truthful}
 use Rattle.two_ends.specs.Safe.{Safe}
-use Rattle.two_ends.specs.World.{WorldState, WorldStep, Occurrence, half_of, other, world_after_all, world_after, at_start}
+use Rattle.two_ends.specs.World.{WorldState, WorldStep, Occurrence, half_of, world_after_all, world_after, at_start}
+use Rattle.world_events.specs.Actors.{other}
 use Rattle.two_ends.proofs.Acknowledging.{KnowsAcknowledged, acknowledging}
 use Rattle.two_ends.proofs.Acting.{IsHeld, Keeps, NoFact, Party, Takes, config_of, end_of, held_by, party_of, run-configs, run-held, taken-held}
 use Rattle.two_ends.proofs.Agreeing.{AreReached, IsSpoken, agree, end_at, given, key_of}

@@ -3,14 +3,15 @@ use Rattle.std.proofs.Common.{◌≡◌, refl, ap, sym, ◌∙◌, subst, List, 
 use Rattle.congestion_trait.specs.Control.{Control}
 use Rattle.dccp_endpoint.specs.declared.config.Config.{Config}
 use Rattle.dccp_states.specs.declared.phase.Role.TheVariants.{Client, Server}
-use Rattle.two_ends.specs.declared.event.Event.{Event}
-use Rattle.two_ends.specs.declared.event.Seen.{Seen}
-use Rattle.two_ends.specs.declared.event.Side.{Side}
-use Rattle.two_ends.specs.declared.event.Side.TheVariants as side
-use Rattle.two_ends.specs.declared.event.WorldFault.{WorldFault}
+use Rattle.world_events.specs.declared.event.Event.{Event}
+use Rattle.world_events.specs.declared.event.Seen.{Seen}
+use Rattle.world_events.specs.declared.event.Side.{Side}
+use Rattle.world_events.specs.declared.event.Side.TheVariants as side
+use Rattle.world_events.specs.declared.event.WorldFault.{WorldFault}
 use Rattle.dccp_endpoint.specs.Drafts.{Fits}
 use Rattle.two_ends.specs.Controlled.{Controlled, begins_with, congestion_of, controlled_after, controls, happens_to, plays, said_by}
-use Rattle.two_ends.specs.World.{Occurrence, WorldStep, actor, happens, world_after, world_after_all}
+use Rattle.two_ends.specs.World.{Occurrence, WorldStep, happens, world_after, world_after_all}
+use Rattle.world_events.specs.Actors.{actor}
 use Rattle.two_ends.specs.Reached.{ReachedByEvents}
 
 module _ {C : Type 0} (control : Control C) where

@@ -19,11 +19,12 @@ use Rattle.mark_agreement.specs.View.{Frame, MarkSide as View, frame_at}
 use Rattle.run_list.specs.MarkedSet.{floor_under, has}
 use Rattle.seq_circle.specs.Circle.{IsBefore, IsWithin, distance}
 use Rattle.seq_circle.specs.Counts.{number_of}
-use Rattle.two_ends.specs.declared.event.Side.{Side}
+use Rattle.world_events.specs.declared.event.Side.{Side}
 use Rattle.two_ends.specs.declared.frames.SentFrame.{SentFrame}
 use Rattle.two_ends.specs.Frames.{is_reset, options_in, packet_of}
 use Rattle.two_ends.specs.Reported.{CarriesVector, Far, HasSentNumber, IsOnce, NeedsNoReport, TellsTruth, ToldIn, WasTold, processed_by}
-use Rattle.two_ends.specs.World.{WorldState, half_of, other}
+use Rattle.two_ends.specs.World.{WorldState, half_of}
+use Rattle.world_events.specs.Actors.{other}
 use Rattle.two_ends.proofs.Acting.{Party, config_of, end_of, party_of}
 use Rattle.two_ends.proofs.KeyHearing.{ack-kept}
 use Rattle.two_ends.proofs.Logged.{AtPlace, Found, IsLogged, Logged, Nowhere, found}

@@ -23,7 +23,7 @@ use Rattle.dccp_endpoint.specs.Inputs.{Arrives, Input}
 use Rattle.dccp_endpoint.specs.Receiving.{Course, Goes, Leaves, accepts_request, acknowledges_in_window, answers, arrives, by_verdict, checks_header, checks_numbers, checks_type, ends_as, ends_by_reset, finds_connection, is_own_service, leaves, opens_connection, raises, received, receives, takes_answer, the_steps, through, with_own_number, with_packet}
 use Rattle.dccp_endpoint.specs.declared.exit.Exit.{Exit}
 use Rattle.dccp_endpoint.specs.declared.exit.Exit.TheVariants as exits
-use Rattle.dccp_endpoint.specs.declared.outcome.Why.{Why}
+use Rattle.end_answers.specs.declared.outcome.Why.{Why}
 use Rattle.two_ends.specs.Frames.{is_reset, packet_of}
 use Rattle.two_ends.specs.Numbered.{ResetsMoveNothing}
 use Rattle.two_ends.proofs.ReadBack.{the-packet}

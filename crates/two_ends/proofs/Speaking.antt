@@ -14,7 +14,7 @@ use Rattle.feature_agreement.specs.Rows.{opposite}
 use Rattle.feature_lists.specs.Features.{feature_number}
 use Rattle.feature_lists.specs.declared.features.Feature.{Feature}
 use Rattle.feature_lists.specs.declared.features.Place.{Place}
-use Rattle.two_ends.specs.declared.event.Side.{Side}
+use Rattle.world_events.specs.declared.event.Side.{Side}
 use Rattle.two_ends.specs.declared.frames.SentFrame.{SentFrame}
 use Rattle.two_ends.specs.Frames.{options_in, packet_of}
 use Rattle.two_ends.specs.Numbered.{SpeaksOnce}

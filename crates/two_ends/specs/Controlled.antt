@@ -4,12 +4,13 @@ use Rattle.congestion_trait.specs.Control.{Control, may_send}
 use Rattle.dccp_endpoint.specs.Controlled.{End, after_calls, begins, has_in_flight}
 use Rattle.dccp_endpoint.specs.Inputs.{Input}
 use Rattle.dccp_endpoint.specs.declared.config.Config.{Config}
-use Rattle.two_ends.specs.World.{Half, WorldState, WorldStep, Said, actor, at_start, half_at_start, half_of, half_steps, happens}
-use Rattle.two_ends.specs.declared.event.Event.{Event}
-use Rattle.two_ends.specs.declared.event.Seen.{Seen}
-use Rattle.two_ends.specs.declared.event.Side.{Side}
-use Rattle.two_ends.specs.declared.event.Side.TheVariants.{Client, Server}
-use Rattle.two_ends.specs.declared.event.WorldFault.{WorldFault}
+use Rattle.two_ends.specs.World.{Half, WorldState, WorldStep, Said, at_start, half_at_start, half_of, half_steps, happens}
+use Rattle.world_events.specs.Actors.{actor}
+use Rattle.world_events.specs.declared.event.Event.{Event}
+use Rattle.world_events.specs.declared.event.Seen.{Seen}
+use Rattle.world_events.specs.declared.event.Side.{Side}
+use Rattle.world_events.specs.declared.event.Side.TheVariants.{Client, Server}
+use Rattle.world_events.specs.declared.event.WorldFault.{WorldFault}
 
 -- the two ends with all that they sent and processed, and the congestion control of each
 pub record Controlled (C : Type 0) : Type 0 where

@@ -6,8 +6,8 @@ use Rattle.feature_lists.specs.Features.{described, initial_of}
 use Rattle.feature_lists.specs.Lists.{reconciled}
 use Rattle.feature_machine.specs.declared.stands.Stand.TheVariants.{Stable}
 use Rattle.two_ends.specs.declared.frames.SentFrame.{SentFrame}
-use Rattle.two_ends.specs.declared.event.Side.{Side}
-use Rattle.two_ends.specs.declared.event.Side.TheVariants.{Client, Server}
+use Rattle.world_events.specs.declared.event.Side.{Side}
+use Rattle.world_events.specs.declared.event.Side.TheVariants.{Client, Server}
 use Rattle.two_ends.specs.Lists.{last_some}
 use Rattle.two_ends.specs.World.{WorldState, half_of}
 use Rattle.two_ends.specs.Pairs.{FeatureAt, Saying, Nothing, Change, Confirm, held_at, said_by}

@@ -11,8 +11,9 @@ use Rattle.dccp_endpoint.specs.Receiving.{receives}
 use Rattle.feature_lists.specs.declared.features.Feature.{Feature}
 use Rattle.feature_lists.specs.declared.features.Place.{Place}
 use Rattle.two_ends.specs.declared.frames.SentFrame.{SentFrame}
-use Rattle.two_ends.specs.declared.event.Side.{Side}
-use Rattle.two_ends.specs.World.{Half, WorldState, half_of, other}
+use Rattle.world_events.specs.declared.event.Side.{Side}
+use Rattle.two_ends.specs.World.{Half, WorldState, half_of}
+use Rattle.world_events.specs.Actors.{other}
 use Rattle.two_ends.specs.Frames.{packet_of, options_in, is_reset, number_of_frame}
 use Rattle.two_ends.specs.Pairs.{FeatureAt, times_said}
 

@@ -8,8 +8,8 @@ use Rattle.feature_lists.specs.declared.features.Place.{Place}
 use Rattle.feature_lists.specs.declared.features.Place.TheVariants.{Here, There}
 use Rattle.dccp_endpoint.specs.End.{held_of}
 use Rattle.feature_machine.specs.declared.stands.Held.{Held}
-use Rattle.two_ends.specs.declared.event.Side.{Side}
-use Rattle.two_ends.specs.declared.event.Side.TheVariants.{Client, Server}
+use Rattle.world_events.specs.declared.event.Side.{Side}
+use Rattle.world_events.specs.declared.event.Side.TheVariants.{Client, Server}
 use Rattle.two_ends.specs.World.{WorldState, half_of}
 use Rattle.two_ends.specs.Frames.{options_in}
 

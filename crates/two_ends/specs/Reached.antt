@@ -5,7 +5,7 @@ use Rattle.dccp_endpoint.specs.declared.config.Config.{Config}
 use Rattle.dccp_states.specs.declared.phase.Role.TheVariants.{Client, Server}
 use Rattle.dccp_endpoint.specs.Drafts.{Fits}
 use Rattle.two_ends.specs.Controlled.{Controlled, begins_with, plays}
-use Rattle.two_ends.specs.declared.event.Event.{Event}
+use Rattle.world_events.specs.declared.event.Event.{Event}
 
 -- some schedule leads here from a client and a server that have sent and received nothing
 pub record ReachedByEvents {C : Type 0} (control : Control C) (w : Controlled C) : Type 0 where

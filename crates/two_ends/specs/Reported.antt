@@ -10,8 +10,9 @@ use Rattle.congestion_trait.specs.Control.{Control}
 use Rattle.dccp_endpoint.specs.Controlled.{reported_of}
 use Rattle.dccp_endpoint.specs.End.{floor_of}
 use Rattle.two_ends.specs.declared.frames.SentFrame.{SentFrame}
-use Rattle.two_ends.specs.declared.event.Side.{Side}
-use Rattle.two_ends.specs.World.{Half, WorldState, half_of, other}
+use Rattle.world_events.specs.declared.event.Side.{Side}
+use Rattle.two_ends.specs.World.{Half, WorldState, half_of}
+use Rattle.world_events.specs.Actors.{other}
 use Rattle.two_ends.specs.Controlled.{Controlled, congestion_of}
 use Rattle.two_ends.specs.Frames.{packet_of, options_in, is_reset}
 

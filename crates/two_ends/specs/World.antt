@@ -6,25 +6,26 @@ use Rattle.dccp_endpoint.specs.Inputs.{Input, Answer, end_stepped}
 use Rattle.dccp_endpoint.specs.Inputs as input
 use Rattle.dccp_endpoint.specs.Steps.{Step}
 use Rattle.congestion_trait.specs.Calls.{Call}
-use Rattle.dccp_endpoint.specs.declared.calls.SendFault.{SendFault}
-use Rattle.dccp_endpoint.specs.declared.calls.SendFault.TheVariants as send
+use Rattle.end_answers.specs.declared.calls.SendFault.{SendFault}
+use Rattle.end_answers.specs.declared.calls.SendFault.TheVariants as send
 use Rattle.dccp_endpoint.specs.declared.config.Config.{Config}
 use Rattle.feature_lists.specs.declared.wishes.PreferFault.{PreferFault}
 use Rattle.feature_lists.specs.declared.wishes.PreferFault.TheVariants as prefer
+use Rattle.world_events.specs.Actors.{actor, other}
 use Rattle.two_ends.specs.Frames.{number_of_frame}
 use Rattle.two_ends.specs.declared.frames.SentFrame.{SentFrame}
 use Rattle.two_ends.specs.declared.half.Asked.{Asked}
 use Rattle.two_ends.specs.declared.half.Asked.TheVariants as asked
-use Rattle.two_ends.specs.declared.event.Side.{Side}
-use Rattle.two_ends.specs.declared.event.Side.TheVariants.{Client, Server}
-use Rattle.two_ends.specs.declared.event.Event.{Event}
-use Rattle.two_ends.specs.declared.event.Event.TheVariants as event
-use Rattle.two_ends.specs.declared.event.Seen.{Seen}
-use Rattle.two_ends.specs.declared.event.Seen.TheVariants as seen
-use Rattle.two_ends.specs.declared.event.WorldFault.{WorldFault}
-use Rattle.two_ends.specs.declared.event.WorldFault.TheVariants as fault
-use Rattle.two_ends.specs.declared.event.Refusal.{Refusal}
-use Rattle.two_ends.specs.declared.event.Refusal.TheVariants as refusal
+use Rattle.world_events.specs.declared.event.Side.{Side}
+use Rattle.world_events.specs.declared.event.Side.TheVariants.{Client, Server}
+use Rattle.world_events.specs.declared.event.Event.{Event}
+use Rattle.world_events.specs.declared.event.Event.TheVariants as event
+use Rattle.world_events.specs.declared.event.Seen.{Seen}
+use Rattle.world_events.specs.declared.event.Seen.TheVariants as seen
+use Rattle.world_events.specs.declared.event.WorldFault.{WorldFault}
+use Rattle.world_events.specs.declared.event.WorldFault.TheVariants as fault
+use Rattle.world_events.specs.declared.event.Refusal.{Refusal}
+use Rattle.world_events.specs.declared.event.Refusal.TheVariants as refusal
 
 -- one side: its end, the frames that it ever sent, oldest first, and the numbers that it processed, in order
 pub record Half : Type 0 where
@@ -116,11 +117,6 @@ abbrev pub half_of : WorldState → Side → Half
 half_of w Client = w.client
 half_of w Server = w.server
 
--- the peer of a side
-abbrev pub other : Side → Side
-other Client = Server
-other Server = Client
-
 -- the world with one side replaced, and the other as it was
 abbrev pub with_half : WorldState → Side → Half → WorldState
 with_half w Client half = record w { client = half }
@@ -183,16 +179,6 @@ happens w event said = takes_place w (happening_of event said)
 abbrev pub acting_side : Happening → Side
 acting_side (Calls side given) = side
 acting_side (Delivers from index) = other from
-
--- open is the client's call, and of a delivery the receiving side acts
-abbrev pub actor : Event → Side
-actor event.Open = Client
-actor (event.Deliver from index) = other from
-actor (event.Send side payload) = side
-actor (event.Prefer side feature place values) = side
-actor (event.Timer side timer) = side
-actor (event.Close side) = side
-actor (event.Abort side) = side
 
 -- a delivery whose index is not below the number of frames of its sender
 abbrev pub LacksFrame : WorldState → Event → Type 0

@@ -8,12 +8,11 @@
 //! frame is altered on its way.
 #![tactic(auto)]
 
-mod event;
 mod frames;
 mod half;
 mod sides;
 mod world;
 
-pub use crate::event::{Event, Payload, Refusal, Seen, Side, Values, WorldFault};
 pub use crate::frames::{FrameBytes, SentFrame};
 pub use crate::world::{World, every_run_is_safe, every_run_numbers_its_frames};
+pub use world_events::{Event, Payload, Refusal, Seen, Side, Values, WorldFault};

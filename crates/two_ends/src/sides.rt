@@ -1,5 +1,5 @@
 //! The two sides together, and exactly what an event makes of them.
-ghost use Rattle.std.specs.Prelude.{◌≡◌, ◌≢◌, ◌↔◌, Ok, Err, None, IfOk, IfSome, IsSome, OnErr, true, false, slice_get};
+ghost use Rattle.std.specs.Prelude.{◌≡◌, ◌≢◌, ◌≤◌, ◌↔◌, length, Ok, Err, None, IfOk, IfSome, IsSome, OnErr, true, false, slice_get};
 ghost use Rattle.dccp_endpoint.specs.Inputs.{Arrives};
 ghost use Rattle.two_ends.specs.Controlled.{controlled_half_steps, said_by};
 ghost use Rattle.two_ends.specs.World.{is_full, input_of};
@@ -148,13 +148,23 @@ fn deliver<C: Congestion>(
     ensures full { (result ≡ Err WorldFault.Full) ↔ (IsSome (slice_get frames.now index) × (is_full half.old.half ≡ true)) }
     ensures err { OnErr result (half.new ≡ half.old) }
 {
-    let Some(frame) = frames.get(index as usize) else {
-        return Err(WorldFault::NoSuchFrame);
-    };
+    match frames.get(index as usize) {
+        Some(frame) => receive_half(half, frame.bytes.as_slice()),
+        None => Err(WorldFault::NoSuchFrame),
+    }
+}
+
+fn receive_half<C: Congestion>(half: &mut HalfWorld<C>, bytes: &[u8]) -> Result<Seen, WorldFault>
+    requires { length bytes.now ≤ 2044 }
+    ensures ok { IfOk result (λ seen. (is_full half.old.half ≡ false) × (record { after = half.new; seen = seen } ≡ controlled_half_steps C.control half.old (Arrives bytes.now))) }
+    ensures full { (result ≡ Err WorldFault.Full) ↔ (is_full half.old.half ≡ true) }
+    ensures there { result ≢ Err WorldFault.NoSuchFrame }
+    ensures err { OnErr result (half.new ≡ half.old) }
+{
     if is_full(half) {
         return Err(WorldFault::Full);
     }
-    match half.receive(frame.bytes.as_slice()) {
+    match half.receive(bytes) {
         Ok(seen) => Ok(seen),
         Err(NoMemory) => Err(WorldFault::NoMemory),
     }

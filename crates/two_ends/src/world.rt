@@ -4,7 +4,7 @@ ghost use Rattle.dccp_endpoint.specs.Drafts.{Fits};
 ghost use Rattle.two_ends.specs.Controlled.{begins_with, plays};
 ghost use Rattle.two_ends.specs.Numbered.{Facts};
 ghost use Rattle.two_ends.specs.Safe.{Safe};
-ghost use Rattle.two_ends.specs.declared.event.Event.{Event};
+ghost use Rattle.world_events.specs.declared.event.Event.{Event};
 ghost use Rattle.dccp_endpoint.specs.declared.config.Config.{Config};
 ghost use Rattle.dccp_states.specs.declared.phase.Role.TheVariants as role;
 

@@ -1,6 +1,6 @@
 -- A replay is of the side that the words name, with its offers or without.
 use Rattle.std.proofs.Common.{rules, ◌≡◌, sym, ◌∙◌, subst, Bool, Some, drop}
-use Rattle.two_ends.specs.declared.event.Side.{Side}
+use Rattle.world_events.specs.declared.event.Side.{Side}
 use Rattle.dccp_io.specs.Fronts.{GivesAtMost}
 use Rattle.dccp_command.specs.declared.words.Form.TheVariants as form
 use Rattle.dccp_command.specs.Replay as replay

@@ -1,9 +1,9 @@
 //! What may happen to two ends, and what is seen of it.
 ghost use Rattle.std.specs.Prelude.{◌≡◌, ◌<◌, ◌≤◌, ◌↔◌, [], ◌∷◌, ◌++◌, true, false, length, IsSome, IfSome};
-ghost use Rattle.two_ends.specs.World.{actor, other};
+ghost use Rattle.world_events.specs.Actors.{actor, other};
 
 use arrayvec::ArrayVec;
-use dccp_endpoint::{Outcome, Timer};
+use end_answers::{Outcome, Timer};
 use feature_lists::{Feature, Place};
 use std::marker::Model;
 

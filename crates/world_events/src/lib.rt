@@ -1,0 +1,7 @@
+//! What may happen to two ends of a connection, and what is seen of it (own). The world that plays it is two_ends, and its
+//! text schedule_text; neither needs the other.
+#![tactic(auto)]
+
+mod event;
+
+pub use crate::event::{Event, Payload, Refusal, Seen, Side, Values, WorldFault};
