@@ -1,9 +1,8 @@
 //! The program: the tool's one call over standard input and output, with its status as the exit status.
 #![tactic(auto)]
 
-use dccp_command::{Status, dccp};
+use dccp_command::{OpenGate, Status, dccp};
 use dccp_io::{StdSink, StdSource};
-use fault_campaign::OpenGate;
 use std::alloc::AllocError;
 use std::env;
 use std::io::ErrorKind;

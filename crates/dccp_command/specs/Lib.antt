@@ -1,12 +1,1 @@
-pub mod Text
-pub mod Lines
-pub mod Loops
-pub mod RunLines
-pub mod Transcript
-pub mod Replay
-pub mod Words
-pub mod CampaignWords
-pub mod Top
-pub mod CaptureText
-pub mod Show
 pub mod CampaignText

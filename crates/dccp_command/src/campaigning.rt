@@ -1,15 +1,13 @@
 //! `campaign`: seeds that are run by workers, and what is counted of them.
 ghost use Rattle.std.specs.Prelude.{◌≡◌, ◌≢◌, ◌++◌, IfOk, OnOk};
 ghost use Rattle.dccp_command.specs.CampaignText.{AnswersUnread, arrival_text, campaign_text, count_line, report_text, run_text};
-ghost use Rattle.dccp_command.specs.CampaignWords.{IsWithinBounds};
-ghost use Rattle.dccp_command.specs.Top.{SinkFailed};
+ghost use Rattle.command_words.specs.CampaignWords.{IsWithinBounds};
+ghost use Rattle.job_output.specs.Ends.{SinkFailed};
 
-use crate::campaign_words::Campaign;
-use crate::capture_lines::put_counted;
-use crate::text::put;
-use crate::top::Status;
+use command_words::Campaign;
 use dccp_io::{Sink, write_all};
 use fault_campaign::{Gate, Report};
+use job_output::{Status, put, put_counted};
 use seq_circle::NoMemory;
 use std::alloc::Global;
 use std::thread::Threads;

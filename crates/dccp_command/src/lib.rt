@@ -6,23 +6,10 @@
 //! lent.
 #![tactic(auto)]
 
-mod blocks;
-mod campaign_words;
 mod campaigning;
-mod capture_lines;
-mod fault;
-mod lines;
-mod numbers;
-mod play;
-mod replay;
-mod replaying;
-mod run_lines;
-mod show;
-mod text;
 mod top;
-mod transcript;
-mod words;
 
-pub use crate::campaign_words::Campaign;
-pub use crate::top::{Status, dccp};
-pub use crate::words::Form;
+pub use crate::top::dccp;
+pub use command_words::{Campaign, Form};
+pub use fault_campaign::{Gate, OpenGate};
+pub use job_output::Status;

@@ -1,42 +1,24 @@
 //! The tool's one call: a form of its words over a source and two sinks.
-ghost use Rattle.std.specs.Prelude.{◌≡◌, ◌≢◌, ◌↔◌, ℕ, Bool, List, drop, Some, None, if◌then◌else◌};
+ghost use Rattle.std.specs.Prelude.{◌≡◌, ◌↔◌, drop, Some, None};
 ghost use Rattle.dccp_io.specs.Counts.{Rose};
 ghost use Rattle.capture_reader.specs.State.{Passed};
-ghost use Rattle.dccp_command.specs.Transcript.{transcript, is_refused, accepted_bytes, SafeThroughout};
-ghost use Rattle.dccp_command.specs.Replay as replay;
+ghost use Rattle.schedule_play.specs.Transcript.{transcript, is_refused, accepted_bytes, SafeThroughout};
+ghost use Rattle.frame_replay.specs.Replay.{replay_text, replay_refused, replay_accepted};
 ghost use Rattle.dccp_command.specs.CampaignText.{AnswersUnread, campaign_text};
-ghost use Rattle.dccp_command.specs.CaptureText.{capture_text, is_faulty, records_end};
-ghost use Rattle.dccp_command.specs.Words.{OnRun, OnReplay, OnShow, form_of, usage};
-ghost use Rattle.dccp_command.specs.Top.{SinkFails, IsWritten, IsAnswered, Answers, StopsWithin, EndsForCause};
+ghost use Rattle.capture_show.specs.CaptureText.{capture_text, is_faulty, records_end};
+ghost use Rattle.command_words.specs.Words.{OnRun, OnReplay, OnShow, form_of, usage};
+ghost use Rattle.job_output.specs.Ends.{SinkFails, IsWritten, IsAnswered, Answers, StopsWithin, EndsForCause};
 
-use crate::campaign_words::Campaign;
 use crate::campaigning::run_campaign;
-use crate::replaying::replay_lines;
-use crate::show::show_capture;
-use crate::transcript::play_lines;
-use crate::words::{Form, USAGE, form_of};
-use dccp_io::{Lines, Sink, Source, write_all};
+use capture_show::show_capture;
+use command_words::{Campaign, Form, USAGE, form_of};
+use dccp_io::{Sink, Source, write_all};
 use fault_campaign::Gate;
+use frame_replay::replay_frames;
+use job_output::Status;
+use schedule_play::run_schedule;
 use std::alloc::Global;
 use std::thread::Threads;
-use two_ends::Side;
-
-/// How a call of the tool ended (own), numbered from 0 as the program's exit status.
-#[derive(Clone, Copy, Debug, PartialEq, Eq)]
-pub enum Status {
-    /// The whole job was done; an input that it has was read to its end.
-    Done,
-    /// The input is refused at the place that the last line written states.
-    Input,
-    /// The words are none of the forms.
-    Words,
-    /// The source failed.
-    Read,
-    /// The sink failed, or took no byte of a piece that was not empty.
-    Write,
-    /// No memory was left.
-    Memory,
-}
 
 /// Does what the words ask for (own), those after the program's name. `run` plays a schedule: it reads `input`, and
 /// writes to `output` a line for each event and for each frame that it sent, and at last the state of both ends.
@@ -68,9 +50,9 @@ pub fn dccp<R: Threads + Sync, G: Gate + Sync, S: Source, K: Sink>(
     ensures safe { OnRun words.now (S.left input.old) (λ bytes. IsAnswered result → SafeThroughout bytes) }
     ensures run_past { OnRun words.now (S.left input.old) (λ bytes. StopsWithin 16384 (accepted_bytes bytes) bytes result (S.left input.new)) }
     ensures replayed { OnReplay words.now (S.left input.old) (λ side plain bytes.
-        Answers (replay.replay_text side plain bytes) (replay.is_refused side plain bytes) result (S.left input.new) (K.taken output.old) (K.taken output.new)) }
+        Answers (replay_text side plain bytes) (replay_refused side plain bytes) result (S.left input.new) (K.taken output.old) (K.taken output.new)) }
     ensures replay_past { OnReplay words.now (S.left input.old) (λ side plain bytes.
-        StopsWithin 16384 (replay.accepted_bytes side plain bytes) bytes result (S.left input.new)) }
+        StopsWithin 16384 (replay_accepted side plain bytes) bytes result (S.left input.new)) }
     ensures shown { OnShow words.now (S.left input.old) (λ bytes.
         Answers (capture_text bytes) (is_faulty bytes) result (S.left input.new) (K.taken output.old) (K.taken output.new)) }
     ensures past { OnShow words.now (S.left input.old) (λ bytes. result ≡ Status.Input → Passed 524288 (Some (drop (records_end bytes) bytes)) (S.left input.new)) }
@@ -83,8 +65,8 @@ pub fn dccp<R: Threads + Sync, G: Gate + Sync, S: Source, K: Sink>(
         → EndsForCause result (Rose (S.faults input.old) (S.faults input.new)) (SinkFails K.faults K.empty_takes output.old output.new) }
 {
     match form_of(words) {
-        Some(Form::Run) => run(alloc, input, output),
-        Some(Form::Replay { side, plain }) => replay(alloc, side, plain, input, output),
+        Some(Form::Run) => run_schedule(alloc, input, output),
+        Some(Form::Replay { side, plain }) => replay_frames(alloc, side, plain, input, output),
         Some(Form::Campaign(campaign)) => run_campaign(rt, alloc, gate, campaign, output),
         Some(Form::Show) => show_capture(alloc, input, output),
         None => refuse_words(output),
@@ -97,48 +79,4 @@ fn refuse_words<K: Sink>(output: &mut K) -> Status
 {
     let _ = write_all(output, USAGE);
     Status::Words
-}
-
-fn run<S: Source, K: Sink>(alloc: Global, input: &mut S, output: &mut K) -> Status
-    ensures words { result ≢ Status.Words }
-    ensures transcript { (bytes : List ℕ) → S.left input.old ≡ Some bytes
-        → Answers (transcript bytes) (is_refused bytes) result (S.left input.new) (K.taken output.old) (K.taken output.new) }
-    ensures safe { (bytes : List ℕ) → S.left input.old ≡ Some bytes → IsAnswered result → SafeThroughout bytes }
-    ensures past { (bytes : List ℕ) → S.left input.old ≡ Some bytes → StopsWithin 16384 (accepted_bytes bytes) bytes result (S.left input.new) }
-    ensures cause { EndsForCause result (Rose (S.faults input.old) (S.faults input.new)) (SinkFails K.faults K.empty_takes output.old output.new) }
-{
-    let Ok(mut lines) = Lines::new(alloc, &mut *input) else {
-        return Status::Memory;
-    };
-    let status = play_lines(alloc, &mut lines, output);
-    let _ = lines.into_source();
-    status
-}
-
-fn replay<S: Source, K: Sink>(
-    alloc: Global,
-    side: Side,
-    plain: bool,
-    input: &mut S,
-    output: &mut K,
-) -> Status
-    ensures words { result ≢ Status.Words }
-    ensures replayed { (bytes : List ℕ) → S.left input.old ≡ Some bytes
-        → Answers (replay.replay_text side plain bytes) (replay.is_refused side plain bytes) result (S.left input.new) (K.taken output.old) (K.taken output.new) }
-    ensures past { (bytes : List ℕ) → S.left input.old ≡ Some bytes
-        → StopsWithin 16384 (replay.accepted_bytes side plain bytes) bytes result (S.left input.new) }
-    ensures cause { EndsForCause result (Rose (S.faults input.old) (S.faults input.new)) (SinkFails K.faults K.empty_takes output.old output.new) }
-{
-    let Ok(mut lines) = Lines::new(alloc, &mut *input) else {
-        return Status::Memory;
-    };
-    let status = replay_lines(alloc, side, plain, &mut lines, output);
-    let _ = lines.into_source();
-    status
-}
-
-pub(crate) fn answered(refused: bool) -> Status
-    ensures { result ≡ (if refused then Status.Input else Status.Done) }
-{
-    if refused { Status::Input } else { Status::Done }
 }

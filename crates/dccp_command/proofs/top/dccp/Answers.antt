@@ -2,10 +2,10 @@
 use Rattle.std.proofs.Common.{rules, ◌≡◌, sym, ◌∙◌, subst, Bool, Some, drop}
 use Rattle.world_events.specs.declared.event.Side.{Side}
 use Rattle.dccp_io.specs.Fronts.{GivesAtMost}
-use Rattle.dccp_command.specs.declared.words.Form.TheVariants as form
-use Rattle.dccp_command.specs.Replay as replay
-use Rattle.dccp_command.specs.Top.{Answers}
-use Rattle.dccp_command.specs.Words.{form_of}
+use Rattle.command_words.specs.declared.words.Form.TheVariants as form
+use Rattle.frame_replay.specs.Replay.{replay_text, replay_refused, replay_accepted}
+use Rattle.job_output.specs.Ends.{Answers}
+use Rattle.command_words.specs.Words.{form_of}
 use Rattle.dccp_command.proofs.top.dccp.Goals as goal
 
 same-words : (side other : Side) (plain more : Bool) → Some (form.Replay side plain) ≡ Some (form.Replay other more) → (side ≡ other) × (plain ≡ more)
@@ -15,15 +15,15 @@ pub returns-in-Some-Replay-clause-replayed : goal.returns-in-Some-Replay-clause-
 returns-in-Some-Replay-clause-replayed g c = λ side plain words bytes told.
     let found : form_of c.args.words.now ≡ Some (form.Replay c.in-Some-Replay.side c.in-Some-Replay.plain) = search rules in
     let same = same-words c.in-Some-Replay.side side c.in-Some-Replay.plain plain (sym found ∙ words) in
-    subst (λ (s : Side). Answers (replay.replay_text s plain bytes) (replay.is_refused s plain bytes) c.replay.result (g.S.Source.left c.replay.new.input)
-    (g.K.Sink.taken c.args.output.now) (g.K.Sink.taken c.replay.new.output)) same.0
-    (subst (λ (p : Bool). Answers (replay.replay_text c.in-Some-Replay.side p bytes) (replay.is_refused c.in-Some-Replay.side p bytes) c.replay.result
-    (g.S.Source.left c.replay.new.input) (g.K.Sink.taken c.args.output.now) (g.K.Sink.taken c.replay.new.output)) same.1 (c.replay.ensures.replayed bytes told))
+    subst (λ (s : Side). Answers (replay_text s plain bytes) (replay_refused s plain bytes) c.replay_frames.result (g.S.Source.left c.replay_frames.new.input)
+    (g.K.Sink.taken c.args.output.now) (g.K.Sink.taken c.replay_frames.new.output)) same.0
+    (subst (λ (p : Bool). Answers (replay_text c.in-Some-Replay.side p bytes) (replay_refused c.in-Some-Replay.side p bytes) c.replay_frames.result
+    (g.S.Source.left c.replay_frames.new.input) (g.K.Sink.taken c.args.output.now) (g.K.Sink.taken c.replay_frames.new.output)) same.1 (c.replay_frames.ensures.replayed bytes told))
 
 pub returns-in-Some-Replay-clause-replay_past : goal.returns-in-Some-Replay-clause-replay_past
 returns-in-Some-Replay-clause-replay_past g c = λ side plain words bytes told input.
     let found : form_of c.args.words.now ≡ Some (form.Replay c.in-Some-Replay.side c.in-Some-Replay.plain) = search rules in
     let same = same-words c.in-Some-Replay.side side c.in-Some-Replay.plain plain (sym found ∙ words) in
-    subst (λ (s : Side). GivesAtMost 16384 (Some (drop (replay.accepted_bytes s plain bytes) bytes)) (g.S.Source.left c.replay.new.input)) same.0
-    (subst (λ (p : Bool). GivesAtMost 16384 (Some (drop (replay.accepted_bytes c.in-Some-Replay.side p bytes) bytes)) (g.S.Source.left c.replay.new.input)) same.1
-    (c.replay.ensures.past bytes told input))
+    subst (λ (s : Side). GivesAtMost 16384 (Some (drop (replay_accepted s plain bytes) bytes)) (g.S.Source.left c.replay_frames.new.input)) same.0
+    (subst (λ (p : Bool). GivesAtMost 16384 (Some (drop (replay_accepted c.in-Some-Replay.side p bytes) bytes)) (g.S.Source.left c.replay_frames.new.input)) same.1
+    (c.replay_frames.ensures.past bytes told input))

@@ -1,5 +1,5 @@
-use Rattle.dccp_command.specs.Words.{usage}
-use Rattle.dccp_command.proofs.Ending.{written-by}
+use Rattle.command_words.specs.Words.{usage}
+use Rattle.job_output.proofs.Ending.{written-by}
 use Rattle.dccp_command.proofs.top.refuse_words.Goals as goal
 
 pub returns-clause-usage : goal.returns-clause-usage

@@ -1,0 +1,2 @@
+pub mod CaptureText
+pub mod Show

@@ -1,0 +1,5 @@
+pub mod Text
+pub mod Lines
+pub mod EndLines
+pub mod Replay
+pub mod Loops

@@ -1,0 +1,6 @@
+pub mod Configuring
+pub mod EventTelling
+pub mod LoopInvariant
+pub mod PlayTurns
+pub mod RefusedLine
+pub mod Turning

@@ -1,0 +1,3 @@
+pub mod WorldLines
+pub mod Transcript
+pub mod Plays
