@@ -18,6 +18,10 @@ HasBegun before after text = (n : ℕ) × (after ≡ append_known before (take n
 abbrev pub IsMovedOut : Option (List ℕ) → Option (List ℕ) → List ℕ → List ℕ → Type 0
 IsMovedOut before after text kept = (moved : List ℕ) × (after ≡ append_known before moved) × (text ≡ moved ++ kept)
 
+-- A text is written once it has so many bytes.
+abbrev pub block_length : ℕ
+block_length = 65536
+
 -- A sink's counts show that it failed, or took no byte of a piece that was not empty.
 abbrev pub SinkFailed : ℕ → ℕ → ℕ → ℕ → Type 0
 SinkFailed faults faults_after takes takes_after = Rose faults faults_after ⊎ Rose takes takes_after
