@@ -9,8 +9,6 @@
 mod claims;
 mod laws;
 mod rule;
-#[cfg(test)]
-mod tests;
 
 pub use crate::claims::{Claimer, Claims, make_claims};
 pub use crate::laws::{a_claim_in_vain_ends_the_numbers, numbers_once_add_up};

@@ -9,8 +9,6 @@ mod laws;
 mod misplaced;
 mod phase;
 mod reply;
-#[cfg(test)]
-mod tests;
 
 pub use crate::entrance::{Entrance, gate};
 pub use crate::laws::{

@@ -8,8 +8,6 @@ mod circle;
 mod laws;
 mod memory;
 mod short;
-#[cfg(test)]
-mod tests;
 
 pub use crate::circle::Seq48;
 pub use crate::laws::{

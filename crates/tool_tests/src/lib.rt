@@ -1,4 +1,4 @@
-//! The tests of fault_campaign and dccp_command, on their public calls. They stand in a crate of their own since a crate
+//! The tests of campaign_claims, fault_campaign and dccp_command, on their public calls. They stand in a crate of their own since a crate
 //! with tests is proved twice, with them and without.
 #![tactic(auto)]
 
@@ -6,6 +6,8 @@
 mod calls;
 #[cfg(test)]
 mod campaigns;
+#[cfg(test)]
+mod claims;
 #[cfg(test)]
 mod gates;
 #[cfg(test)]

@@ -1,4 +1,4 @@
-use crate::{Seq24, Seq48, extend};
+use seq_circle::{Seq24, Seq48, extend};
 use std::test::Fail;
 
 #[test]

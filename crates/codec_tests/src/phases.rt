@@ -1,5 +1,5 @@
-use crate::{Entrance, Phase, Reply, Role, after, gate, unexpected};
 use dccp_packets::PacketType;
+use dccp_states::{Entrance, Phase, Reply, Role, after, gate, unexpected};
 
 // The types, in the order of the letters below.
 const KINDS: [PacketType; 10] = [

@@ -1,6 +1,6 @@
 ghost use Rattle.std.specs.Prelude.{◌≡◌, ◌<◌};
 
-use crate::{Claimer, Claims, make_claims};
+use campaign_claims::{Claimer, Claims, make_claims};
 use std::test::Fail;
 use std::thread::{Threads, join};
 
