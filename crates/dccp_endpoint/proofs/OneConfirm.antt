@@ -7,18 +7,16 @@ use Rattle.dccp_options.specs.Grammar.{Entry}
 use Rattle.dccp_options.specs.Kinds.{change_l, confirm_r, is_understood}
 use Rattle.dccp_options.specs.declared.option.OptFault.{OptFault}
 use Rattle.dccp_packets.specs.declared.reset_code.ResetCode.TheVariants as codes
-use Rattle.feature_agreement.specs.Packets.{confirm_of, reply_due}
-use Rattle.feature_agreement.specs.Rows.{opposite}
 use Rattle.feature_lists.specs.Features.{described, feature_number, feature_numbered}
 use Rattle.feature_machine.specs.Answers.{answered, settling_of}
 use Rattle.feature_machine.specs.Lists.{index_of}
-use Rattle.feature_machine.specs.Negotiating.{RowsStep, changes, confirmed, row_at, stepped}
+use Rattle.feature_machine.specs.Negotiating.{RowsStep, changes, confirmed, row_at, stepped, opposite}
 use Rattle.feature_machine.specs.Rows.{RowEvent, RowAnswer, Change, Confirm, Confirms, Ignored, Settled, Fatal, Opens, Waits, Quiet, Confirmed, confirmation, row_line, row_step, says, settled}
 use Rattle.feature_machine.specs.declared.judging.Confirmation.{Confirmation}
 use Rattle.feature_machine.specs.declared.judging.Confirmation.TheVariants as c
 use Rattle.feature_machine.specs.declared.stands.Stand.{Stand}
 use Rattle.feature_machine.specs.declared.stands.Stand.TheVariants as stand
-use Rattle.feature_machine.specs.Turns.{Turn, events_of}
+use Rattle.feature_machine.specs.Turns.{Turn, events_of, confirm_of, reply_due}
 use Rattle.feature_machine.specs.declared.row.Row.{Row}
 use Rattle.feature_machine.proofs.Places.{numbered}
 use Rattle.dccp_endpoint.specs.Heeding.{Due, Heeding, body_turns, by_answered, by_settling, counted, entry_turns, event_of, fault_of, feature_turns, heard_turns, heeds, heeds_body, heeds_entry, heeds_feature, heeds_first, heeds_then, is_change, is_left, is_of_negotiation, is_too_many, met, misunderstood, place_in_used, turn_known, turns_then, unheeded}

@@ -5,14 +5,13 @@ use Rattle.std.specs.Prelude.{if◌then◌else◌, filter}
 use Rattle.std.proofs.lemmas.Bool.{and_from, and_parts, eq-eqb, false_from_ne_true, false≢true, ne_eqb, true≢false}
 use Rattle.std.proofs.lemmas.List.{map-append}
 use Rattle.std.proofs.lemmas.List.Elements.{filter-append}
-use Rattle.feature_agreement.specs.Rows.{opposite}
 use Rattle.feature_lists.specs.Features.{feature_number, feature_numbered}
 use Rattle.feature_lists.specs.declared.features.Feature.{Feature}
 use Rattle.feature_lists.specs.declared.features.Feature.TheVariants as f
 use Rattle.feature_lists.specs.declared.features.Place.{Place}
 use Rattle.feature_lists.specs.declared.features.Place.TheVariants.{Here, There}
 use Rattle.feature_machine.specs.Lists.{index_of}
-use Rattle.feature_machine.specs.Negotiating.{RowsStep, changes, confirmed, place_of, row_at, stepped}
+use Rattle.feature_machine.specs.Negotiating.{RowsStep, changes, confirmed, place_of, row_at, stepped, opposite}
 use Rattle.feature_machine.specs.Rows.{RowEvent, Change, Confirm, row_step}
 use Rattle.feature_machine.specs.Turns.{Turn, events_of, is_turn_of}
 use Rattle.feature_machine.specs.declared.row.Row.{Row}

@@ -9,11 +9,10 @@ use Rattle.dccp_options.specs.Grammar.{Entry}
 use Rattle.dccp_options.specs.Kinds as options
 use Rattle.dccp_options.specs.Written.{Item, entries_at, mark, spelled}
 use Rattle.dccp_options.specs.declared.option.OptFault.{OptFault}
-use Rattle.feature_agreement.specs.Rows.{opposite}
 use Rattle.feature_lists.specs.Features.{feature_number}
 use Rattle.feature_lists.specs.declared.features.Place.{Place}
 use Rattle.feature_lists.specs.declared.features.Place.TheVariants.{Here, There}
-use Rattle.feature_machine.specs.Negotiating.{IsNegotiation, every_place, row_at}
+use Rattle.feature_machine.specs.Negotiating.{IsNegotiation, every_place, row_at, opposite}
 use Rattle.feature_machine.specs.Turns.{Turn, turned}
 use Rattle.feature_machine.specs.Rows.{RowEvent, Change, Confirm}
 use Rattle.feature_machine.specs.declared.row.Row.{Row}

@@ -4,12 +4,10 @@ use Rattle.std.specs.List.{list_any}
 use Rattle.dccp_options.specs.Grammar.{Entry}
 use Rattle.dccp_options.specs.Written.{Item, entries_at}
 use Rattle.dccp_options.specs.declared.option.OptFault.{OptFault}
-use Rattle.feature_agreement.specs.Packets.{reply_due}
-use Rattle.feature_agreement.specs.Rows.{opposite}
 use Rattle.feature_lists.specs.Features.{feature_number}
-use Rattle.feature_machine.specs.Negotiating.{IsNegotiation, row_at}
+use Rattle.feature_machine.specs.Negotiating.{IsNegotiation, row_at, opposite}
 use Rattle.feature_machine.specs.Rows.{RowEvent, Change, Confirm}
-use Rattle.feature_machine.specs.Turns.{events_of}
+use Rattle.feature_machine.specs.Turns.{events_of, reply_due}
 use Rattle.feature_machine.specs.declared.row.Row.{Row}
 use Rattle.run_list.specs.MarkedSet.{MarkedSet}
 use Rattle.dccp_endpoint.specs.Heeding.{Due, Heeding, event_of, heard_turns, heeds, is_change, is_left, is_of_negotiation, unheeded}

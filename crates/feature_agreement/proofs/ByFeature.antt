@@ -11,7 +11,8 @@ use Rattle.feature_machine.specs.declared.stands.Role2.TheVariants as end
 use Rattle.feature_machine.specs.Sound.{IsSameRow}
 use Rattle.feature_agreement.specs.View.{Carried, FeatureSide}
 use Rattle.feature_agreement.specs.Moves.{Moves, Pair, Reached, IsReachable, new_side, swapped, negotiable}
-use Rattle.feature_agreement.specs.Rows.{RowMoves, pair_by, pair_of, row_pair, rule_at, opens_at, location_of, opposite}
+use Rattle.feature_agreement.specs.Rows.{RowMoves, pair_by, pair_of, row_pair, rule_at, opens_at, location_of}
+use Rattle.feature_machine.specs.Negotiating.{opposite}
 use Rattle.feature_agreement.specs.EachFeature.{agree_by, given_by, AgreesOn, IsGivenFor}
 use Rattle.feature_agreement.specs.Moves.Reached.{Starts}
 use Rattle.feature_agreement.proofs.Values.{reached_given}

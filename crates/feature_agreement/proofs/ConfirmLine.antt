@@ -13,7 +13,7 @@ use Rattle.feature_machine.specs.Sound.{IsSoundRow}
 use Rattle.seq_circle.specs.Circle.{is_before}
 use Rattle.feature_agreement.specs.View.{Carried, carried_at}
 use Rattle.feature_agreement.specs.View.Carried.{Confirm}
-use Rattle.feature_agreement.specs.Moves.{answering_side, settled_side}
+use Rattle.feature_agreement.specs.Moves.{settled_side}
 use Rattle.feature_agreement.specs.Moves.Move.{Settles}
 use Rattle.feature_agreement.specs.Moves.Moves.{Done, Next}
 use Rattle.seq_circle.specs.Counts.{count_of, IsNumber}

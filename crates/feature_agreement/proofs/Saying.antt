@@ -20,7 +20,8 @@ use Rattle.feature_machine.specs.Rows as machine
 use Rattle.feature_machine.specs.Rows.{row_step, row_line, Proposed, is_server_priority, width, entries, reconciled_by, confirm_body, holding, proposal, shared_or_not, tells_value, is_there}
 use Rattle.feature_machine.specs.Sound.{IsSoundRow}
 use Rattle.feature_agreement.specs.View.Carried.{Change}
-use Rattle.feature_agreement.specs.Rows.{entries_of, change_in, is_whole_confirm, is_whole_by, is_valid_by, is_valid_change, change_data, opposite}
+use Rattle.feature_agreement.specs.Rows.{entries_of, change_in, is_whole_confirm, is_whole_by, is_valid_by, is_valid_change, change_data}
+use Rattle.feature_machine.specs.Negotiating.{opposite}
 use Rattle.feature_agreement.proofs.RowFacts.{permitted_fits, reads_back}
 
 opposite_here : (at : Place) → opposite at ≡ place.Here → at ≡ place.There

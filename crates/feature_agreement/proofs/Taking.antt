@@ -9,12 +9,12 @@ use Rattle.feature_machine.specs.declared.row.Row.{Row}
 use Rattle.feature_machine.specs.Rows as machine
 use Rattle.feature_machine.specs.Rows.{RowEvent, RowAnswer, Confirms, Ignored, Settled, Fatal, Opens, Waits, Quiet, Confirmed, Offers, row_line, row_step, confirmation}
 use Rattle.feature_machine.specs.Sound.{IsSoundRow, IsSameRow}
-use Rattle.feature_machine.specs.Turns.{row_turned}
+use Rattle.feature_machine.specs.Turns.{row_turned, confirm_of, reply_due}
 use Rattle.feature_machine.proofs.Soundness.{step_sound}
 use Rattle.feature_machine.proofs.Steps.{step_same}
 use Rattle.feature_agreement.specs.View.{Carried, FeatureSide, with_frame}
 use Rattle.feature_agreement.specs.View.Carried.{Nothing}
-use Rattle.feature_agreement.specs.Packets.{IsHeardOf, confirm_of, reply_due, carried_reply, with_reply}
+use Rattle.feature_agreement.specs.Packets.{IsHeardOf, carried_reply, with_reply}
 use Rattle.feature_agreement.specs.Rows.{RowMoves, IsBegun, side_of, row_pair, rule_at, opens_at, with_answer, after_sending}
 use Rattle.feature_agreement.proofs.Beginning.{change_begun, confirm_begun}
 use Rattle.feature_agreement.proofs.ByFeature.{same_moves}

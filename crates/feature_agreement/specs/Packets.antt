@@ -5,11 +5,12 @@ use Rattle.feature_machine.specs.declared.row.Row.{Row}
 use Rattle.feature_machine.specs.Rows as machine
 use Rattle.feature_machine.specs.Sound.{IsSoundRow}
 use Rattle.feature_machine.specs.Turns.{row_turned}
-use Rattle.feature_machine.specs.Rows.{RowEvent, RowAnswer, Confirms, Ignored, Settled, Fatal, Opens, Waits, Quiet, row_step}
+use Rattle.feature_machine.specs.Rows.{RowEvent}
 use Rattle.feature_agreement.specs.View.{Carried, FeatureSide, carried_at, with_frame}
 use Rattle.feature_agreement.specs.View.Carried.{Nothing}
 use Rattle.seq_circle.specs.Counts.{count_of, IsNumber}
-use Rattle.feature_agreement.specs.Rows.{IsBegun, RowMoves, change_in, confirm_in, is_valid_change, is_whole_confirm, opposite, side_of}
+use Rattle.feature_agreement.specs.Rows.{IsBegun, RowMoves, change_in, confirm_in, is_valid_change, is_whole_confirm, side_of}
+use Rattle.feature_machine.specs.Negotiating.{opposite}
 
 -- What the row hears of the peer's frame with this count: nothing, whatever the frame carries; or the frame's Change, which is valid;
 -- or its Confirm, which is whole and acknowledges a frame of this end.
@@ -24,22 +25,6 @@ IsHeardOf iss row there count (machine.Prefers wish ∷ []) = ⊥
 IsHeardOf iss row there count (machine.Offers confirmed ∷ []) = ⊥
 IsHeardOf iss row there count (machine.Sends number ∷ []) = ⊥
 IsHeardOf iss row there count (first ∷ (second ∷ rest)) = ⊥
-
--- the data of the Confirm that an answer is, if it is one
-abbrev pub confirm_of : RowAnswer → Option (List ℕ)
-confirm_of (Confirms body) = Some body
-confirm_of Ignored = None
-confirm_of Settled = None
-confirm_of (Fatal code) = None
-confirm_of Opens = None
-confirm_of Waits = None
-confirm_of Quiet = None
-
--- the data of the Confirm that is due for what the row heard, if one is
-abbrev pub reply_due : Row → List RowEvent → Option (List ℕ)
-reply_due row [] = None
-reply_due row (event ∷ []) = confirm_of (row_step row event).answer
-reply_due row (first ∷ (second ∷ rest)) = None
 
 -- what a frame carries for the feature that has the Confirm that is due, or else nothing of it
 abbrev pub carried_reply : Feature → ℕ → Option (List ℕ) → Carried

@@ -112,11 +112,6 @@ is_valid_by false feature place.There body = false
 abbrev pub is_valid_change : Feature → Place → List ℕ → Bool
 is_valid_change feature at body = is_valid_by (described feature).is_server_priority feature at body
 
--- where the peer sees the feature
-abbrev pub opposite : Place → Place
-opposite place.Here = place.There
-opposite place.There = place.Here
-
 -- a Confirm's data are whole: a value and a list, or a number
 abbrev pub is_whole_by : Bool → List ℕ → Bool
 is_whole_by true [] = false

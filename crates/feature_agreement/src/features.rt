@@ -9,7 +9,8 @@ ghost use Rattle.feature_machine.specs.declared.stands.Role2.TheVariants.{Server
 ghost use Rattle.feature_machine.specs.Sound.{IsSameRow};
 ghost use Rattle.feature_agreement.specs.View.{Carried, FeatureSide};
 ghost use Rattle.feature_agreement.specs.Moves.{new_side, Reached, IsReachable};
-ghost use Rattle.feature_agreement.specs.Rows.{RowMoves, pair_of, row_pair, location_of, opposite};
+ghost use Rattle.feature_agreement.specs.Rows.{RowMoves, pair_of, row_pair, location_of};
+ghost use Rattle.feature_machine.specs.Negotiating.{opposite};
 ghost use Rattle.feature_agreement.specs.EachFeature.{AgreesOn, IsGivenFor};
 
 /// The two ends agree on each feature that is located at either: where both rows are STABLE they hold one value, the

@@ -15,7 +15,8 @@ ghost use Rattle.feature_agreement.specs.View.{Carried, carried_at, with_frame, 
 ghost use Rattle.feature_agreement.specs.View.Carried.{Nothing, Change};
 ghost use Rattle.feature_agreement.specs.Moves.{new_side};
 ghost use Rattle.seq_circle.specs.Counts.{count_of, IsNumber};
-ghost use Rattle.feature_agreement.specs.Rows.{RowMoves, IsBegun, row_pair, entries_of, side_of, change_in, confirm_in, is_whole_confirm, is_valid_change, after_change, after_confirm, after_sending, sending_row, change_data, opposite};
+ghost use Rattle.feature_agreement.specs.Rows.{RowMoves, IsBegun, row_pair, entries_of, side_of, change_in, confirm_in, is_whole_confirm, is_valid_change, after_change, after_confirm, after_sending, sending_row, change_data};
+ghost use Rattle.feature_machine.specs.Negotiating.{opposite};
 
 /// A Change of the feature is taken from a newest packet: a valid one is one move, whatever the row answers, and so is
 /// a frame of which nothing of the feature is taken.

@@ -2,11 +2,11 @@
 ghost use Rattle.std.specs.Prelude.{◌≡◌, ◌≢◌, ℕ, ◌^◌, ◌<◌, Bool, None, List, length};
 ghost use Rattle.feature_machine.specs.Rows.{RowEvent, Offers, Opens, row_step};
 ghost use Rattle.feature_machine.specs.Sound.{IsSoundRow, IsSameRow};
-ghost use Rattle.feature_machine.specs.Turns.{row_turned};
+ghost use Rattle.feature_machine.specs.Turns.{row_turned, reply_due};
 ghost use Rattle.feature_machine.specs.declared.row.Row.{Row};
 ghost use Rattle.feature_machine.specs.declared.stands.Stand.TheVariants.{Stable};
 ghost use Rattle.feature_agreement.specs.View.{Carried, with_frame};
-ghost use Rattle.feature_agreement.specs.Packets.{IsHeardOf, IsRowPacket, LeadsTo, RowPacket, carried_reply, reply_due, row_after};
+ghost use Rattle.feature_agreement.specs.Packets.{IsHeardOf, IsRowPacket, LeadsTo, RowPacket, carried_reply, row_after};
 ghost use Rattle.feature_agreement.specs.Rows.{IsBegun, side_of, after_sending};
 
 /// A newest packet is taken, of which the row hears nothing, a valid Change or a whole Confirm; and the end sends a

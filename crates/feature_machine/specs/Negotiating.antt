@@ -75,6 +75,11 @@ abbrev pub place_of : Bool → Place
 place_of true = located.There
 place_of false = located.Here
 
+-- where the peer sees the feature
+abbrev pub opposite : Place → Place
+opposite located.Here = located.There
+opposite located.There = located.Here
+
 -- a Change: of a feature that is not known it is not valid
 abbrev pub changes_known : List Row → Option Feature → Place → List ℕ → Bool → RowsStep
 changes_known rows (Some feature) place body mandatory = stepped rows feature place (Change body mandatory)

@@ -1,12 +1,12 @@
 -- What happens to an end's rows, in order (own).
-use Rattle.std.specs.Prelude.{◌≡◌, ◌==◌, Bool, true, List, [], ◌∷◌, map, filter, All}
+use Rattle.std.specs.Prelude.{◌≡◌, ◌==◌, ℕ, Bool, true, Option, Some, None, List, [], ◌∷◌, map, filter, All}
 use Rattle.feature_lists.specs.Wishes.{is_wish}
 use Rattle.feature_lists.specs.declared.features.Feature.{Feature}
 use Rattle.feature_lists.specs.declared.features.Place.{Place}
 use Rattle.feature_machine.specs.declared.row.Row.{Row}
 use Rattle.feature_machine.specs.Lists.{index_of}
 use Rattle.feature_machine.specs.Negotiating.{stepped}
-use Rattle.feature_machine.specs.Rows.{RowEvent, Prefers, row_step}
+use Rattle.feature_machine.specs.Rows.{RowEvent, Prefers, RowAnswer, Confirms, Ignored, Settled, Fatal, Opens, Waits, Quiet, row_step}
 
 -- one event of the row of a feature at a place
 pub record Turn : Type 0 where
@@ -35,6 +35,22 @@ events_of feature place turns = map (λ given. given.event) (filter (is_turn_of 
 abbrev pub row_turned : Row → List RowEvent → Row
 row_turned row [] = row
 row_turned row (event ∷ events) = row_turned (row_step row event).row events
+
+-- the data of the Confirm that an answer is, if it is one
+abbrev pub confirm_of : RowAnswer → Option (List ℕ)
+confirm_of (Confirms body) = Some body
+confirm_of Ignored = None
+confirm_of Settled = None
+confirm_of (Fatal code) = None
+confirm_of Opens = None
+confirm_of Waits = None
+confirm_of Quiet = None
+
+-- the data of the Confirm that is due for what the row heard, if one is
+abbrev pub reply_due : Row → List RowEvent → Option (List ℕ)
+reply_due row [] = None
+reply_due row (event ∷ []) = confirm_of (row_step row event).answer
+reply_due row (first ∷ (second ∷ rest)) = None
 
 -- what the end wants in a turn is a wish for that row
 abbrev pub IsLawfulFor : Feature → Place → RowEvent → Type 0

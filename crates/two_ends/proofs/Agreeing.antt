@@ -6,7 +6,7 @@ use Rattle.std.specs.Option.{option_map}
 use Rattle.dccp_endpoint.specs.Turns.{Key}
 use Rattle.dccp_endpoint.specs.declared.config.Config.{Config}
 use Rattle.feature_agreement.specs.Agreement as agreement
-use Rattle.feature_agreement.specs.Agreement.{AgreeByLocation, GivenByLocation, IsGiven, IsToldValue}
+use Rattle.feature_agreement.specs.Agreement.{IsGiven, IsToldValue}
 use Rattle.feature_agreement.specs.Agreement.IsGiven.{Initial as AsBefore, Ruled}
 use Rattle.feature_agreement.specs.Agreement.IsToldValue.{Untold, Told as ToldIn}
 use Rattle.feature_agreement.specs.EachFeature.{agree_by, given_by}

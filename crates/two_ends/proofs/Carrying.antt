@@ -12,7 +12,7 @@ use Rattle.dccp_endpoint.specs.Saying.{begins_with_number, said_to}
 use Rattle.dccp_endpoint.specs.Speaking.{is_of_place}
 use Rattle.dccp_endpoint.specs.Turns.{Key}
 use Rattle.dccp_endpoint.specs.declared.config.Config.{Config}
-use Rattle.feature_agreement.specs.Rows.{opposite}
+use Rattle.feature_machine.specs.Negotiating.{opposite}
 use Rattle.feature_lists.specs.Features.{feature_number}
 use Rattle.feature_lists.specs.declared.features.Feature.{Feature}
 use Rattle.feature_lists.specs.declared.features.Place.{Place}

@@ -10,7 +10,8 @@ use Rattle.dccp_endpoint.specs.Drafts.{Fits}
 use Rattle.dccp_endpoint.specs.End.{IsProper}
 use Rattle.dccp_endpoint.specs.declared.config.Config.{Config}
 use Rattle.feature_agreement.specs.Moves as moves
-use Rattle.feature_agreement.specs.Rows.{location_of, opposite, pair_of}
+use Rattle.feature_agreement.specs.Rows.{location_of, pair_of}
+use Rattle.feature_machine.specs.Negotiating.{opposite}
 use Rattle.feature_machine.specs.declared.stands.Role2.TheVariants as end
 use Rattle.world_events.specs.declared.event.Side.{Side}
 use Rattle.world_events.specs.declared.event.Side.TheVariants.{Client, Server}

@@ -23,16 +23,15 @@ use Rattle.dccp_endpoint.specs.Inputs.{Input, Arrives}
 use Rattle.dccp_endpoint.proofs.OneConfirm.{rows_hear_the_packet}
 use Rattle.dccp_endpoint.specs.Saying.{confirm_for, event_in, said_to, speaks_to, times_said_to}
 use Rattle.dccp_endpoint.specs.Turns.{Key}
-use Rattle.feature_agreement.specs.Packets.{IsHeardOf, reply_due}
-use Rattle.feature_agreement.specs.Rows.{opposite}
+use Rattle.feature_agreement.specs.Packets.{IsHeardOf}
 use Rattle.feature_agreement.specs.View.{Carried, carried_at}
 use Rattle.feature_agreement.specs.View.Carried.{Nothing}
 use Rattle.feature_lists.specs.declared.features.Feature.{Feature}
 use Rattle.feature_lists.specs.declared.features.Place.{Place}
 use Rattle.feature_lists.specs.declared.features.Place.TheVariants.{Here, There}
-use Rattle.feature_machine.specs.Negotiating.{IsNegotiation, row_at}
+use Rattle.feature_machine.specs.Negotiating.{IsNegotiation, row_at, opposite}
 use Rattle.feature_machine.specs.Rows.{RowEvent, Change, Confirm, Prefers, Offers, Sends}
-use Rattle.feature_machine.specs.Turns.{Turn, events_of}
+use Rattle.feature_machine.specs.Turns.{Turn, events_of, reply_due}
 use Rattle.feature_machine.specs.declared.row.Row.{Row}
 use Rattle.two_ends.proofs.Acting.{Act, config_of, end_of}
 use Rattle.two_ends.proofs.FewOptions.{changes-as-read, changes_in, changes_read}

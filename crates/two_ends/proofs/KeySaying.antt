@@ -24,8 +24,8 @@ use Rattle.dccp_endpoint.specs.Turns.{Key}
 use Rattle.feature_agreement.proofs.Saying.{change_carries, change_understood, confirm_whole, wish_valid}
 use Rattle.feature_agreement.proofs.Taking.{heard_same, heard_sound}
 use Rattle.seq_circle.specs.Counts.{IsNumber, count_of}
-use Rattle.feature_agreement.specs.Packets.{IsHeardOf, confirm_of, reply_due}
-use Rattle.feature_agreement.specs.Rows.{change_data, change_in, entries_of, is_valid_change, is_whole_confirm, opposite}
+use Rattle.feature_agreement.specs.Packets.{IsHeardOf}
+use Rattle.feature_agreement.specs.Rows.{change_data, change_in, entries_of, is_valid_change, is_whole_confirm}
 use Rattle.feature_agreement.specs.View.{Carried}
 use Rattle.feature_agreement.specs.View.Carried.{Change as CarriedChange}
 use Rattle.feature_lists.specs.Wishes.{is_ours, is_wish}
@@ -34,10 +34,10 @@ use Rattle.feature_lists.specs.declared.features.Place.{Place}
 use Rattle.feature_lists.specs.declared.wishes.Wanted.{Wanted}
 use Rattle.feature_lists.specs.declared.wishes.Wanted.TheVariants as wanted
 use Rattle.feature_machine.proofs.Turning.{turned-row}
-use Rattle.feature_machine.specs.Negotiating.{IsNegotiation, row_at}
+use Rattle.feature_machine.specs.Negotiating.{IsNegotiation, row_at, opposite}
 use Rattle.feature_machine.specs.Rows.{Change, Confirm, Confirmed, Confirms, Offered, Offers, Opens, Preferred, Prefers, RowAnswer, RowEvent, Sending as RowSending, Sends, row_line, row_step}
 use Rattle.feature_machine.specs.Sound.{IsRowOf, IsSoundRow, is_active}
-use Rattle.feature_machine.specs.Turns.{Turn, events_of, row_turned}
+use Rattle.feature_machine.specs.Turns.{Turn, events_of, row_turned, confirm_of, reply_due}
 use Rattle.feature_machine.specs.declared.judging.Confirmation.{Confirmation}
 use Rattle.feature_machine.specs.declared.offers.Offer.{Offer}
 use Rattle.feature_machine.specs.declared.row.Row.{Row}

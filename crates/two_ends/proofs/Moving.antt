@@ -6,7 +6,7 @@ use Rattle.feature_agreement.proofs.OpeningLines.{offer_drops, offer_moves, plai
 use Rattle.feature_agreement.proofs.Reaching.{joined}
 use Rattle.feature_agreement.proofs.Taking.{heard_begun, heard_same, heard_sound, replied, silent}
 use Rattle.seq_circle.specs.Counts.{number_of}
-use Rattle.feature_agreement.specs.Packets.{IsHeardOf, carried_reply, reply_due}
+use Rattle.feature_agreement.specs.Packets.{IsHeardOf, carried_reply}
 use Rattle.feature_agreement.specs.Rows.{IsBegun, RowMoves, confirm_in, entries_of, opens_at, row_pair, rule_at, side_of}
 use Rattle.feature_agreement.specs.Moves.{Done}
 use Rattle.feature_agreement.specs.View.{Carried, FeatureSide, with_frame}
@@ -17,7 +17,7 @@ use Rattle.feature_machine.proofs.Soundness.{step_sound}
 use Rattle.feature_machine.proofs.Steps.{step_same}
 use Rattle.feature_machine.specs.Rows.{Offers, Opens, Prefers, RowEvent, Sends, row_step}
 use Rattle.feature_machine.specs.Sound.{IsSameRow, IsSoundRow}
-use Rattle.feature_machine.specs.Turns.{row_turned}
+use Rattle.feature_machine.specs.Turns.{row_turned, reply_due}
 use Rattle.feature_machine.specs.declared.row.Row.{Row}
 use Rattle.feature_machine.specs.declared.stands.Stand.TheVariants.{Stable}
 

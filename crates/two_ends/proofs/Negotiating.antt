@@ -12,14 +12,14 @@ use Rattle.dccp_endpoint.specs.declared.config.Config.{Config}
 use Rattle.feature_agreement.proofs.Beginning.{start_begun}
 use Rattle.feature_agreement.proofs.ByFeature.{client_row_reaches, one_pair, server_row_reaches, starts}
 use Rattle.feature_agreement.specs.Moves.{Reached, new_side}
-use Rattle.feature_agreement.specs.Rows.{IsBegun, RowMoves, entries_of, location_of, opposite, pair_of, row_pair, side_of}
+use Rattle.feature_agreement.specs.Rows.{IsBegun, RowMoves, entries_of, location_of, pair_of, row_pair, side_of}
 use Rattle.feature_agreement.specs.View.{FeatureSide}
 use Rattle.feature_lists.specs.Features.{initial_of}
 use Rattle.feature_lists.specs.declared.features.Feature.{Feature}
 use Rattle.feature_lists.specs.declared.features.Place.{Place}
 use Rattle.feature_machine.proofs.Turning.{first-fresh}
 use Rattle.feature_machine.specs.Lists.{listed_at}
-use Rattle.feature_machine.specs.Negotiating.{first_row, row_at}
+use Rattle.feature_machine.specs.Negotiating.{first_row, row_at, opposite}
 use Rattle.feature_machine.specs.declared.row.Row.{Row}
 use Rattle.feature_machine.specs.declared.stands.Role2.{Role2}
 use Rattle.feature_machine.specs.declared.stands.Role2.TheVariants as end

@@ -10,7 +10,7 @@ use Rattle.dccp_options.specs.declared.option.OptFault.{OptFault}
 use Rattle.dccp_endpoint.specs.Heeding.{is_left, is_of_negotiation}
 use Rattle.dccp_endpoint.specs.Saying.{begins_with_number, once_if, times_said_to}
 use Rattle.dccp_endpoint.specs.Speaking.{is_of_place}
-use Rattle.feature_agreement.specs.Rows.{opposite}
+use Rattle.feature_machine.specs.Negotiating.{opposite}
 use Rattle.feature_lists.specs.Features.{feature_number}
 use Rattle.feature_lists.specs.declared.features.Feature.{Feature}
 use Rattle.feature_lists.specs.declared.features.Place.{Place}

@@ -1,4 +1,4 @@
-use Rattle.std.proofs.Common.{◌≡◌, ◌∙◌, ◌&&◌, List, Result, Ok, ap, map, subst, sym}
+use Rattle.std.proofs.Common.{◌∙◌, ◌&&◌, List, Result, ap, map, subst, sym}
 use Rattle.feature_machine.specs.Negotiating.{AreRowsOf}
 use Rattle.feature_machine.specs.declared.row.Row.{Row}
 use Rattle.feature_machine.specs.declared.stands.Role2.{Role2}
@@ -8,7 +8,7 @@ use Rattle.dccp_endpoint.specs.End.{EndState, end_of, with_rows}
 use Rattle.dccp_endpoint.specs.Faults.{counts}
 use Rattle.dccp_endpoint.specs.Heeding.{Due, Heeding, due_of, heeding_or}
 use Rattle.dccp_endpoint.specs.Incoming.{Incoming}
-use Rattle.dccp_endpoint.specs.Receiving.{heeded, processes, reads_options}
+use Rattle.dccp_endpoint.specs.Receiving.{heeded, processes}
 use Rattle.dccp_endpoint.specs.Speaking.{HaveRoom}
 use Rattle.end_answers.specs.declared.outcome.Fault.{Fault}
 use Rattle.dccp_endpoint.proofs.Handing.{handed}
