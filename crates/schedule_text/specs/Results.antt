@@ -1,5 +1,5 @@
 -- What was seen of an event, as it is printed (own).
-use Rattle.std.specs.Prelude.{ℕ, ◌≤◌, ◌++◌, Bool, true, false, List, [], length, slice_range, flat_map, codes, decimal, Option, Some, None, Ok, Err}
+use Rattle.std.specs.Prelude.{ℕ, ◌≤◌, ◌++◌, Bool, true, false, List, length, slice_range, flat_map, codes, decimal, Option, Some, None, Ok, Err}
 use Rattle.dccp_packets.specs.declared.reading.Malformed.{Malformed}
 use Rattle.dccp_packets.specs.declared.reading.Malformed.TheVariants as malformed
 use Rattle.dccp_sum.specs.declared.packet_sum.SumFault.{SumFault}

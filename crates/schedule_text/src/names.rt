@@ -7,7 +7,7 @@ use feature_lists::Place;
 use world_events::Side;
 
 /// A line's form, by its first word (own).
-#[derive(Clone, Copy, Debug, PartialEq, Eq)]
+#[derive(Clone, Copy)]
 pub(crate) enum Form {
     Plain,
     Iss,

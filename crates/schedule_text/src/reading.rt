@@ -287,26 +287,11 @@ fn open(words: &mut Words<'_>, said: &mut Line) -> Result<(), LineFault>
     Ok(())
 }
 
-// Making an event clears its room for data, so one of the same kind is changed where it stands.
-fn be_delivery(event: &mut Event, sender: Side, number: u64)
-    ensures { event.new ≡ Event.Deliver sender number }
-{
-    if let Event::Deliver { from, index } = event {
-        *from = sender;
-        *index = number;
-    } else {
-        *event = Event::Deliver {
-            from: sender,
-            index: number,
-        };
-    }
-}
-
 fn say_delivery(said: &mut Line, from: Side, index: u64)
     ensures { said.new ≡ Line.Event (Event.Deliver from index) }
 {
     if let Line::Event(event) = said {
-        be_delivery(event, from, index);
+        event.become_delivery(from, index);
     } else {
         *said = Line::Event(Event::Deliver { from, index });
     }
@@ -324,7 +309,7 @@ fn deliver(words: &mut Words<'_>, said: &mut Line) -> Result<(), LineFault>
     Ok(())
 }
 
-// The same for data, by their digits.
+// Making an event clears its room for data, so one that sends is changed where it stands.
 fn be_sending(event: &mut Event, whose: Side, digits: &[u8])
     requires short { length digits.now ≤ 4096 }
     requires flawless { flaw_of digits.now ≡ None }
@@ -388,26 +373,11 @@ fn prefer(words: &mut Words<'_>, said: &mut Line) -> Result<(), LineFault>
     Ok(())
 }
 
-// The same for a timer.
-fn be_timer(event: &mut Event, whose: Side, which: Timer)
-    ensures { event.new ≡ Event.Timer whose which }
-{
-    if let Event::Timer { side, timer } = event {
-        *side = whose;
-        *timer = which;
-    } else {
-        *event = Event::Timer {
-            side: whose,
-            timer: which,
-        };
-    }
-}
-
 fn say_timer(said: &mut Line, side: Side, timer: Timer)
     ensures { said.new ≡ Line.Event (Event.Timer side timer) }
 {
     if let Line::Event(event) = said {
-        be_timer(event, side, timer);
+        event.become_timer(side, timer);
     } else {
         *said = Line::Event(Event::Timer { side, timer });
     }

@@ -5,7 +5,7 @@ ghost use Rattle.schedule_text.specs.Words.{parted_by};
 ghost use Rattle.schedule_text.specs.Rest.{pieces_left, rest_length};
 
 /// A word of a line, and the column of its first byte, from 1. It has no bytes where the line has no such word.
-#[derive(Clone, Copy, Debug)]
+#[derive(Clone, Copy)]
 pub(crate) struct Word<'a> {
     pub column: u32,
     pub text: &'a [u8],
@@ -31,7 +31,7 @@ pub(crate) fn first_piece(mark: u8, text: &[u8]) -> (&[u8], Option<&[u8]>)
 }
 
 /// The words of a line that are still to be read.
-#[derive(Clone, Copy, Debug)]
+#[derive(Clone, Copy)]
 pub(crate) struct Words<'a> {
     // What follows, and None behind the last word.
     rest: Option<&'a [u8]>,

@@ -1,10 +1,11 @@
 //! Each call once, and what no text of `examples/` can say: bytes above 127, the greatest index, and values that other
 //! code makes. `examples/` has each fault of each word, the longest lines, each form of an event and each result.
 use schedule_text::{
-    Event, Line, LineFault, LineWhy, Payload, Seen, Values, print_event, print_result, print_seen,
-    read_frame, read_line, read_line_into,
+    Event, Line, LineFault, LineWhy, Payload, Seen, Timer, Values, print_event, print_result,
+    print_seen, read_frame, read_line, read_line_into,
 };
 use std::test::Fail;
+use world_events::Side;
 
 const fn not_text(column: u32) -> Option<LineFault> {
     Some(LineFault {
@@ -84,4 +85,40 @@ fn payloads_and_values_have_their_room(rt: HostRuntime) {
     assert!(rt; Payload::of(&[1; 2049]).is_none(), "2,049 bytes");
     assert!(rt; Payload::of(&[1; 2048]).is_some(), "2,048 bytes");
     assert!(rt; kept(10) == 9, "ten values");
+}
+
+fn is_delivery(event: &Event, sender: Side, number: u64) -> bool {
+    match event {
+        Event::Deliver { from, index } => *from == sender && *index == number,
+        _ => false,
+    }
+}
+
+fn is_timer(event: &Event, owner: Side, fired: Timer) -> bool {
+    match event {
+        Event::Timer { side, timer } => *side == owner && *timer == fired,
+        _ => false,
+    }
+}
+
+// From another event, and from one of the same kind.
+fn becomes_deliveries(event: &mut Event) -> bool {
+    event.become_delivery(Side::Client, 3);
+    let first = is_delivery(event, Side::Client, 3);
+    event.become_delivery(Side::Server, 4);
+    first && is_delivery(event, Side::Server, 4)
+}
+
+fn becomes_timers(event: &mut Event) -> bool {
+    event.become_timer(Side::Client, Timer::Ack);
+    let first = is_timer(event, Side::Client, Timer::Ack);
+    event.become_timer(Side::Server, Timer::Rto);
+    first && is_timer(event, Side::Server, Timer::Rto)
+}
+
+#[test]
+fn events_become_others(rt: HostRuntime) {
+    let mut event = Event::Open;
+    assert!(rt; becomes_deliveries(&mut event), "deliveries");
+    assert!(rt; becomes_timers(&mut event), "timers");
 }

@@ -213,4 +213,35 @@ impl Event {
             Event::Timer { side, .. } | Event::Close { side } | Event::Abort { side } => *side,
         }
     }
+
+    /// Makes it the arrival of the sender's frame with this number. An event is large, for it has room for data: one of
+    /// the same kind is changed where it stands, and its room is not cleared again.
+    pub fn become_delivery(&mut self, sender: Side, number: u64)
+        ensures { self.new ≡ Event.Deliver sender number }
+    {
+        if let Event::Deliver { from, index } = self {
+            *from = sender;
+            *index = number;
+        } else {
+            *self = Event::Deliver {
+                from: sender,
+                index: number,
+            };
+        }
+    }
+
+    /// Makes it a timer of the owner that has run out, where it stands, in the same way.
+    pub fn become_timer(&mut self, owner: Side, fired: Timer)
+        ensures { self.new ≡ Event.Timer owner fired }
+    {
+        if let Event::Timer { side, timer } = self {
+            *side = owner;
+            *timer = fired;
+        } else {
+            *self = Event::Timer {
+                side: owner,
+                timer: fired,
+            };
+        }
+    }
 }

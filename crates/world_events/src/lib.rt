@@ -1,5 +1,5 @@
-//! What may happen to two ends of a connection, and what is seen of it (own). The world that plays it is two_ends, and its
-//! text schedule_text; neither needs the other.
+//! What may happen to two ends of a connection, and what is seen of it (own). The world that plays it is two_ends, and
+//! its text schedule_text; neither needs the other.
 #![tactic(auto)]
 
 mod event;
