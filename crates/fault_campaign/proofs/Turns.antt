@@ -4,13 +4,14 @@ use Rattle.rand_pcg.specs.Lcg.{Lcg}
 use Rattle.ccid_two.specs.Kinds.{Both, kinds_control}
 use Rattle.two_ends.specs.Controlled.{Controlled, ControlledStep, happens_to}
 use Rattle.world_events.specs.declared.event.Event.{Event}
+use Rattle.world_events.specs.declared.event.Event.TheVariants.{Open}
 use Rattle.world_events.specs.declared.event.Seen.{Seen}
 use Rattle.world_events.specs.declared.event.WorldFault.{WorldFault}
 use Rattle.fault_campaign.specs.Draws.{behind_two}
 use Rattle.fault_campaign.specs.Reports.{size, with_seen}
 use Rattle.fault_campaign.specs.Seeded.{Running, after_event, begun_run, goes_on, goes_on_for, next_event, opened_run, played, run_report, seeded_report}
 use Rattle.fault_campaign.specs.declared.report.Report.{Report}
-use Rattle.fault_campaign.proofs.Short.{after-open, at-first, seen-size}
+use Rattle.fault_campaign.proofs.Short.{at-first, seen-size}
 
 abbrev made : Lcg → Controlled Both → Report → Running
 made words world report = record { words = words; world = world; report = report }
@@ -32,8 +33,8 @@ at-start all run few =
     let none : all - 0 ≡ all = omega arith in
     record { rest = ap (λ (n : ℕ). goes_on_for n run) none; few = omega (arith, few) }
 
-pub starts-little : (g : Lcg) (run : Running) → run ≡ begun_run g → size run.report < 2 ^ 62
-starts-little g run is = subst (λ (r : Running). size r.report < 2 ^ 62) (sym is) (omega (arith, (at-first g).counted))
+pub starts-little : (g : Lcg) (events : ℕ) (run : Running) → events ≤ 4096 → run ≡ begun_run g → size run.report + 2 * events < 2 ^ 62
+starts-little g events run most is = subst (λ (r : Running). size r.report + 2 * events < 2 ^ 62) (sym is) (omega (arith, most, (at-first g).counted))
 
 event-size : (run : Running) (result : Result (ControlledStep Both) WorldFault) → size (after_event run result).report ≤ size run.report + 2
 event-size run (Ok step) = seen-size run.report step.seen
@@ -58,10 +59,16 @@ at-end all done first run over before =
     let none : 0 ≡ all - done = omega arith in
     ap (λ (n : ℕ). goes_on_for n run) none ∙ before.rest
 
+played-size : (run : Running) (event : Event) → size (played run event).report ≤ size run.report + 2
+unfolding played
+played-size run event = event-size run (happens_to kinds_control run.world event)
+
 -- the events behind the first
-pub opened-few : (seed events : ℕ) (run : Running) → events ≤ 4096 → run ≡ opened_run seed → size run.report + 2 * (events - 1) < 2 ^ 62
-opened-few seed events run most is =
-    subst (λ (r : Running). size r.report + 2 * (events - 1) < 2 ^ 62) (sym is) (omega (arith, (after-open seed).counted))
+pub opened-few : (events : ℕ) (run opened : Running) → 1 ≤ events → size run.report + 2 * events < 2 ^ 62 → opened ≡ played run Open
+    → size opened.report + 2 * (events - 1) < 2 ^ 62
+opened-few events run opened some few is =
+    let more = played-size run Open in
+    subst (λ (r : Running). size r.report + 2 * (events - 1) < 2 ^ 62) (sym is) (omega (arith, some, few, more))
 
 pub reported : (seed events : ℕ) (opened run : Running) → opened ≡ opened_run seed → run ≡ goes_on_for (events - 1) opened → run_report run events ≡ seeded_report seed events
 unfolding seeded_report

@@ -1,7 +1,7 @@
 //! The run of a seed.
-ghost use Rattle.std.specs.Prelude.{◌≡◌, ◌+◌, ◌*◌, ◌^◌, ◌<◌, ◌≤◌, IfOk, OnOk};
+ghost use Rattle.std.specs.Prelude.{◌≡◌, ℕ, ◌+◌, ◌*◌, ◌^◌, ◌<◌, ◌≤◌, IfOk, OnOk};
 ghost use Rattle.fault_campaign.specs.Reports.{is_settled, is_stable, settled_at, settles, size};
-ghost use Rattle.fault_campaign.specs.Draws.{behind_two, behind_word, drawn, drawn_delivery, ending, preference, sending, word};
+ghost use Rattle.fault_campaign.specs.Draws.{behind_two, behind_word, drawn, drawn_delivery, ending, generator, preference, sending, word};
 ghost use Rattle.fault_campaign.specs.Seeded.{begun_run, frames_of, goes_on, goes_on_for, played, run_report, seeded_report, usual_from};
 ghost use Rattle.two_ends.specs.Pairs.{place_at};
 
@@ -88,8 +88,7 @@ impl Run {
         self.play_drawn(again, a, b)
     }
 
-    // So many further events.
-    fn go_on_for(&mut self, again: &mut Again, more: u32) -> Result<(), NoMemory>
+    fn go_on_with(&mut self, again: &mut Again, more: u32) -> Result<(), NoMemory>
         requires { size self.old.report + 2 * more < 2 ^ 62 }
         ensures { OnOk result (self.new ≡ goes_on_for more self.old) }
     {
@@ -97,6 +96,25 @@ impl Run {
             self.go_on(again)?;
         }
         Ok(())
+    }
+
+    // So many further events.
+    fn go_on_for(&mut self, more: u32) -> Result<(), NoMemory>
+        requires { size self.old.report + 2 * more < 2 ^ 62 }
+        ensures { OnOk result (self.new ≡ goes_on_for more self.old) }
+    {
+        let mut again = Again {
+            delivery: Event::Open,
+            timer: Event::Open,
+        };
+        self.go_on_with(&mut again, more)
+    }
+
+    fn open(&mut self) -> Result<(), NoMemory>
+        requires { size self.old.report < 2 ^ 62 }
+        ensures { OnOk result (self.new ≡ played self.old Event.Open) }
+    {
+        self.play(&Event::Open)
     }
 
     // Plays the event of two words. Each kind of event is made where it is played, since it would move with its room for
@@ -130,7 +148,7 @@ impl Run {
             return self.fire(again, Side::Client, Timer::Request);
         }
         let index = drawn_index(u64::from(b), frames);
-        be_delivery(&mut again.delivery, from, index);
+        again.delivery.become_delivery(from, index);
         self.play(&again.delivery)
     }
 
@@ -152,7 +170,7 @@ impl Run {
         requires { size self.old.report < 2 ^ 62 }
         ensures { OnOk result (self.new ≡ played self.old (Event.Timer side timer)) }
     {
-        be_timer(&mut again.timer, side, timer);
+        again.timer.become_timer(side, timer);
         self.play(&again.timer)
     }
 
@@ -161,6 +179,17 @@ impl Run {
         ensures { OnOk result (self.new ≡ played self.old (ending which)) }
     {
         self.play(&ending(which))
+    }
+
+    // All events of a run that has just begun.
+    fn play_all(&mut self, events: u32) -> Result<Report, NoMemory>
+        requires some { 1 ≤ events }
+        requires few { size self.old.report + 2 * events < 2 ^ 62 }
+        ensures { (seed : ℕ) → self.old ≡ begun_run (generator seed) → IfOk result (λ report. report ≡ seeded_report seed events) }
+    {
+        self.open()?;
+        self.go_on_for(events - 1)?;
+        Ok(self.report(events))
     }
 
     fn report(&self, events: u32) -> Report
@@ -183,34 +212,6 @@ impl Run {
 struct Again {
     delivery: Event,
     timer: Event,
-}
-
-fn be_delivery(event: &mut Event, sender: Side, number: u64)
-    ensures { event.new ≡ Event.Deliver sender number }
-{
-    if let Event::Deliver { from, index } = event {
-        *from = sender;
-        *index = number;
-    } else {
-        *event = Event::Deliver {
-            from: sender,
-            index: number,
-        };
-    }
-}
-
-fn be_timer(event: &mut Event, owner: Side, fired: Timer)
-    ensures { event.new ≡ Event.Timer owner fired }
-{
-    if let Event::Timer { side, timer } = event {
-        *side = owner;
-        *timer = fired;
-    } else {
-        *event = Event::Timer {
-            side: owner,
-            timer: fired,
-        };
-    }
 }
 
 // The usual end with another initial number.
@@ -284,17 +285,10 @@ fn settled_at(world: &World<Kinds>, location: Side) -> u64
 /// initial sequence numbers that are drawn; the first event opens the connection, and all others are drawn: most
 /// deliver one of the frames that were sent last, or at times an older one; others send data, prefer other values, let
 /// timers run out, or end the connection. The two ends take their memory once; each event takes that of a frame.
-#[tactic(auto, unfolding(crate::specs::Seeded::seeded_report))]
 pub fn run_seed(alloc: Global, seed: u64, events: u32) -> Result<Report, NoMemory>
     requires events { 1 ≤ events × events ≤ 4096 }
     ensures value { IfOk result (λ report. report ≡ seeded_report seed events) }
 {
     let mut run = Run::new(alloc, generator(seed))?;
-    run.play(&Event::Open)?;
-    let mut again = Again {
-        delivery: Event::Open,
-        timer: Event::Open,
-    };
-    run.go_on_for(&mut again, events - 1)?;
-    Ok(run.report(events))
+    run.play_all(events)
 }
