@@ -1,5 +1,5 @@
 -- The definition of a capture's records meets the relation, and nothing else does.
-use Rattle.std.proofs.Common.{arith, ◌≡◌, ◌≤◌, ◌<◌, ℕ, zero, suc, ◌+◌, ◌-◌, ◌^◌, List, [], ◌∷◌, ◌++◌, length, length-append, take, drop, Option, Some, None, Result, Ok, Err, refl, sym, ap, ◌∙◌, subst, inl, inr, ◌⊎◌, ⊎_elim, Bool, true, false, nat_lt, ◌==◌, min}
+use Rattle.std.proofs.Common.{arith, ◌≡◌, ◌≤◌, ◌<◌, ℕ, zero, suc, ◌+◌, ◌-◌, List, [], ◌∷◌, ◌++◌, length, length-append, take, drop, Option, Some, None, Result, Ok, Err, refl, sym, ap, ◌∙◌, subst, inl, inr, ◌⊎◌, ⊎_elim, true, false, nat_lt, ◌==◌, min}
 use Rattle.std.proofs.lemmas.Bool.{le-ltb, lt-ltb}
 use Rattle.std.proofs.lemmas.Grind.{common_steps}
 use Rattle.std.proofs.lemmas.Bool.{cases_lt}
@@ -9,8 +9,8 @@ use Rattle.capture_reader.specs.declared.fault.CaptureFault.TheVariants.{BadMagi
 use Rattle.capture_reader.specs.declared.format.Format.{Format}
 use Rattle.capture_reader.specs.declared.record.RecordHeader.{RecordHeader}
 use Rattle.capture_reader.specs.Format.{opened}
-use Rattle.capture_reader.specs.Records.{RecordParts, most_bytes, most_captured, missing, record_header, header_in, body_fault, found_by, found_in, entry_with, next_by, next_of, Captured, before, onward, records_from, captured_by, captured, unless_faulty}
-use Rattle.capture_reader.specs.Capture.{captured_length, IsRecord, IsShortOf, IsLarge, HasHeader, IsWrong, HasRecords, IsCapture, Refused, Opened}
+use Rattle.capture_reader.specs.Records.{RecordParts, most_bytes, most_captured, missing, record_header, header_in, body_fault, found_by, entry_with, next_by, next_of, Captured, before, onward, records_from, captured_by, captured, unless_faulty}
+use Rattle.capture_reader.specs.Capture.{captured_length, IsRecord, HasHeader, IsWrong, HasRecords, IsCapture, Refused, Opened}
 
 -- what is missing, by its three cases
 missing-cut : (count room size : ℕ) → size < count → size < room → missing count room size ≡ Some CutShort

@@ -25,7 +25,7 @@ pub struct Record<'a> {
 }
 
 // What a record's header tells.
-#[derive(Clone, Copy, Debug, PartialEq, Eq)]
+#[derive(Clone, Copy)]
 pub(crate) struct RecordHeader {
     pub(crate) seconds: u32,
     pub(crate) fraction: u32,

@@ -1,11 +1,11 @@
 -- After a halving nothing in the list is past the mark.
-use Rattle.std.proofs.Common.{◌≡◌, ℕ, zero, suc, ◌-◌, ◌≤◌, Bool, true, false, not, ◌&&◌, ◌||◌, cond, List, [], ◌∷◌, ◌++◌, map, Option, Some, length, drop, refl, sym, ap, ◌∙◌, subst, arith}
+use Rattle.std.proofs.Common.{◌≡◌, ℕ, zero, suc, ◌-◌, ◌≤◌, Bool, true, false, not, ◌&&◌, ◌||◌, List, [], ◌∷◌, ◌++◌, map, Option, Some, length, drop, refl, sym, ap, ◌∙◌, subst, arith}
 use Rattle.std.specs.List.{list_all}
 use Rattle.std.proofs.lemmas.Bool.{and_parts, and_from, not-true}
 use Rattle.seq_circle.specs.Circle.{distance, is_before}
 use Rattle.congestion_trait.specs.declared.flight.Entry.{Entry}
-use Rattle.congestion_trait.specs.declared.flight.Standing.TheVariants.{Out, Reported, Lost}
-use Rattle.congestion_trait.specs.Flight.{States, sent, after_report, entry_reported, lost_if, is_passed, is_past, is_congested, is_out, is_newly_marked, is_newly_lost, acked_count}
+use Rattle.congestion_trait.specs.declared.flight.Standing.TheVariants.{Out}
+use Rattle.congestion_trait.specs.Flight.{States, sent, after_report, entry_reported, lost_if, is_passed, is_past, is_congested, is_newly_marked, is_newly_lost, acked_count}
 use Rattle.dccp_options.specs.Vectors.{is_received}
 use Rattle.congestion_trait.specs.Calls.{Call, Starts, Sends, Reports, TimesOut, after_call, run}
 use Rattle.congestion_trait.proofs.Standings.{same_number}

@@ -1,3 +1,4 @@
+//! Numbers on their circles of 48 and 24 bits: what the short ones mean, and which of two is before the other.
 use seq_circle::{Seq24, Seq48, extend};
 use std::test::Fail;
 

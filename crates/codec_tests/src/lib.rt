@@ -1,5 +1,5 @@
-//! The tests of seq_circle, dccp_sum, dccp_states, dccp_packets, dccp_options and validity_windows, on their public calls. They stand in a crate of their
-//! own since a crate with tests is proved twice, with them and without.
+//! The tests of seq_circle, dccp_sum, dccp_states, dccp_packets, dccp_options and validity_windows, on their public
+//! calls. They stand in a crate of their own since a crate with tests is proved twice, with them and without.
 #![tactic(auto)]
 
 #[cfg(test)]

@@ -1,3 +1,4 @@
+//! The tables of the phases, a letter for each entry.
 use dccp_packets::PacketType;
 use dccp_states::{Entrance, Phase, Reply, Role, after, gate, unexpected};
 

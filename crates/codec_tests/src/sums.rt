@@ -1,3 +1,4 @@
+//! Checksums of whole packets and of their parts, over IPv4 and IPv6.
 use dccp_sum::{Pseudo, SumFault, check, checksum, covered, seal};
 use std::test::Fail;
 

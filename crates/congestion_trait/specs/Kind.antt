@@ -1,5 +1,5 @@
 -- A kind of congestion control by its own rules alone: the flight list follows the list's rules (own).
-use Rattle.std.specs.Prelude.{◌≡◌, ℕ, Bool, List, [], refl}
+use Rattle.std.specs.Prelude.{ℕ, Bool, List, [], refl}
 use Rattle.congestion_trait.specs.declared.flight.Entry.{Entry}
 use Rattle.congestion_trait.specs.Flight.{States, sent, after_report}
 use Rattle.congestion_trait.specs.Control.{Control, IsLawful}

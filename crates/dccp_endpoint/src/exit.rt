@@ -4,7 +4,7 @@ use dccp_packets::ResetCode;
 use seq_circle::Seq48;
 
 // What is done with a packet that one of the steps 2 to 9 of receiving is the last to see (RFC 4340, section 8.5).
-#[derive(Clone, Copy, Debug, PartialEq, Eq)]
+#[derive(Clone, Copy)]
 pub enum Exit {
     /// It is dropped.
     Drop(Why),

@@ -19,7 +19,7 @@ const MOST_CHANGES: usize = 64;
 
 /// What reading the options of a packet has come to: the rows, which features were spoken of by L and by R, how many
 /// Changes were met, and the Confirms that are due, in order.
-#[derive(Debug, Drop)]
+#[derive(Drop)]
 pub(crate) struct Reading {
     rows: Negotiation,
     used: [bool; 512],

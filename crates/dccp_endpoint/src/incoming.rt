@@ -4,7 +4,7 @@ use seq_circle::Seq48;
 use std::marker::Model;
 
 // What an end has to know of a packet of its connection with a long number.
-#[derive(Clone, Debug, Drop)]
+#[derive(Drop)]
 pub(crate) struct IncomingPacket<'a> {
     pub(crate) kind: PacketType,
     pub(crate) number: Seq48,

@@ -48,7 +48,7 @@ fn every_place() -> [(Feature, Place); 18]
 }
 
 /// Rows by their features and places, at most eighteen.
-#[derive(Debug, Drop)]
+#[derive(Drop)]
 pub(crate) struct Keys {
     places: [(Feature, Place); 18],
     count: usize,

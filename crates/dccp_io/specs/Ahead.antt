@@ -1,5 +1,5 @@
 -- Bytes that were read ahead of their use (own).
-use Rattle.std.specs.Prelude.{◌≡◌, ℕ, ◌≤◌, ◌↔◌, List, [], ◌++◌, length, Option, IfSome, Result, Ok, Err, MatchResult}
+use Rattle.std.specs.Prelude.{◌≡◌, ℕ, ◌≤◌, ◌↔◌, List, [], ◌++◌, length, Option, IfSome, Result, MatchResult}
 use Rattle.std.specs.Io.KnownBytes.{prepend_known}
 use Rattle.dccp_io.specs.Counts.{Rose}
 use Rattle.dccp_io.specs.declared.streams.Failed.{Failed}

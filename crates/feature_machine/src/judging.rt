@@ -13,7 +13,7 @@ use feature_lists::{Feature, Place, Wanted, reconcile};
 use seq_circle::Seq48;
 
 /// What a Change is to a row.
-#[derive(Clone, Copy, Debug, PartialEq, Eq)]
+#[derive(Clone, Copy)]
 pub enum Proposal {
     /// It is not valid for the feature.
     Invalid,
@@ -26,7 +26,7 @@ pub enum Proposal {
 }
 
 /// What a Confirm is to a row in CHANGING.
-#[derive(Clone, Copy, Debug, PartialEq, Eq)]
+#[derive(Clone, Copy)]
 pub enum Confirmation {
     /// It has no acknowledgement number, or one from before the row's last opening.
     Late,

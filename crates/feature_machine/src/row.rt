@@ -52,7 +52,7 @@ pub struct Row {
 }
 
 /// What a row replies to a Change.
-#[derive(Debug, Drop)]
+#[derive(Drop)]
 pub enum Reply {
     /// A Confirm with this data behind the feature number.
     Confirm(ArrayVec<u8, 9>),

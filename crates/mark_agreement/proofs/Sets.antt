@@ -1,15 +1,14 @@
 -- What a mark and a raise make of a set of numbers is what the moves make of a side's marks.
-use Rattle.std.proofs.Common.{◌≡◌, ℕ, ◌+◌, ◌-◌, ◌^◌, ◌<◌, ◌≤◌, ◌==◌, ◌&&◌, ◌||◌, Bool, true, false, max, refl, ap, sym, ◌∙◌, arith}
+use Rattle.std.proofs.Common.{◌≡◌, ℕ, ◌-◌, ◌^◌, ◌<◌, ◌≤◌, ◌==◌, ◌&&◌, ◌||◌, Bool, true, false, max, refl, ap, sym, ◌∙◌, arith}
 use Rattle.std.proofs.Common.{nat_le}
-use Rattle.std.specs.Prelude.{◌↔◌}
 use Rattle.seq_circle.specs.Counts.{number_of}
 use Rattle.run_list.specs.declared.answers.Marked.TheVariants.{New}
-use Rattle.run_list.specs.MarkedSet.{MarkedSet, IsSound, has, is_from, answer_to, marked, raised, empty_from}
+use Rattle.run_list.specs.MarkedSet.{MarkedSet, has, is_from, answer_to, marked, raised, empty_from}
 use Rattle.run_list.proofs.Sets.{has-marked, has-raised, new_parts, sound-marked, sound-raised}
 use Rattle.run_list.proofs.Floors.{marked-count, raised-count}
 use Rattle.mark_agreement.specs.View.{MarkSide, floor_with}
 use Rattle.mark_agreement.specs.Moves as moves
-use Rattle.mark_agreement.specs.Sets.{AreMarks, IsMarked}
+use Rattle.mark_agreement.specs.Sets.{IsMarked}
 
 -- the order and the equality of numbers are those of their counts
 pub from-counts : (iss low n : ℕ) → iss < 2 ^ 48 → 1 ≤ low → low ≤ 2 ^ 47 → 1 ≤ n → n ≤ 2 ^ 47

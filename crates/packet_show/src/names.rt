@@ -49,7 +49,7 @@ pub(crate) fn sum_name(checked: Result<(), SumFault>) -> &'static [u8]
 }
 
 /// What stands behind an option's name.
-#[derive(Clone, Copy, Debug, PartialEq, Eq)]
+#[derive(Clone, Copy)]
 pub(crate) enum OptionForm {
     /// Nothing.
     Bare,

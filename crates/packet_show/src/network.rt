@@ -7,7 +7,7 @@ use byteorder::{BigEndian, ByteOrder};
 use dccp_sum::Pseudo;
 
 /// A DCCP packet in a record, as far as it was captured.
-#[derive(Clone, Copy, Debug, PartialEq, Eq)]
+#[derive(Clone, Copy)]
 pub(crate) struct Datagram<'a> {
     /// The addresses between which it travels.
     pub(crate) pseudo: Pseudo,

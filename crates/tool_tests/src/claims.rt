@@ -1,3 +1,4 @@
+//! Numbers that are claimed once, in turn and by two threads.
 ghost use Rattle.std.specs.Prelude.{◌≡◌, ◌<◌};
 
 use campaign_claims::{Claimer, Claims, make_claims};

@@ -1,5 +1,5 @@
-//! The tests of campaign_claims, fault_campaign and dccp_command, on their public calls. They stand in a crate of their own since a crate
-//! with tests is proved twice, with them and without.
+//! The tests of campaign_claims, fault_campaign and dccp_command, on their public calls. They stand in a crate of their
+//! own since a crate with tests is proved twice, with them and without.
 #![tactic(auto)]
 
 #[cfg(test)]

@@ -20,7 +20,7 @@ use std::alloc::Global;
 use std::marker::Model;
 
 /// A call of an end.
-#[derive(Clone, Copy, Debug)]
+#[derive(Clone, Copy)]
 pub(crate) enum Asked<'a> {
     Open,
     Send(&'a Payload),
