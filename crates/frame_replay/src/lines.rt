@@ -77,6 +77,7 @@ pub fn without_newline(line: &[u8]) -> &[u8]
 pub fn leave<K: Sink>(output: &mut K, text: &[u8], refused: bool) -> Status
     ensures words { result ≢ Status.Words }
     ensures read { result ≢ Status.Read }
+    ensures memory { result ≢ Status.Memory }
     ensures leaves { Leaves text.now refused result (K.taken output.old) (K.taken output.new) }
     ensures write { result ≡ Status.Write → SinkFailed (K.faults output.old) (K.faults output.new) (K.empty_takes output.old) (K.empty_takes output.new) }
 {
