@@ -12,18 +12,6 @@ use job_output::{put, put_hex, put_number};
 use seq_circle::NoMemory;
 use world_events::Side;
 
-const FEATURES: [Feature; 9] = [
-    Feature::Ccid,
-    Feature::ShortSeqnos,
-    Feature::SequenceWindow,
-    Feature::EcnIncapable,
-    Feature::AckRatio,
-    Feature::SendAckVector,
-    Feature::SendNdpCount,
-    Feature::MinCsCov,
-    Feature::CheckDataChecksum,
-];
-
 fn side_name(side: Side) -> &'static [u8]
     ensures { result.now ≡ side_name side }
 {
@@ -109,7 +97,7 @@ fn put_row(text: &mut Vec<u8>, end: &Endpoint<Kinds>, feature: Feature) -> Resul
 fn put_rows(text: &mut Vec<u8>, end: &Endpoint<Kinds>) -> Result<(), NoMemory>
     ensures { OnOk result (text.new.items ≡ text.old.items ++ end_rows end.now.state) }
 {
-    for feature in &FEATURES {
+    for feature in &Feature::ALL {
         put_row(text, end, *feature)?;
     }
     Ok(())

@@ -214,34 +214,37 @@ impl Event {
         }
     }
 
-    /// Makes it the arrival of the sender's frame with this number. An event is large, for it has room for data: one of
-    /// the same kind is changed where it stands, and its room is not cleared again.
-    pub fn become_delivery(&mut self, sender: Side, number: u64)
-        ensures { self.new ≡ Event.Deliver sender number }
+    /// Makes it the arrival of a frame (own): of the one with this index, from 0, among all that the side `from` ever sent.
+    /// An event is large, for it has room for data. One of the same kind is changed where it stands, and its room is not
+    /// cleared again.
+    pub fn become_delivery(&mut self, from: Side, index: u64)
+        ensures { self.new ≡ Event.Deliver from index }
     {
-        if let Event::Deliver { from, index } = self {
-            *from = sender;
-            *index = number;
+        if let Event::Deliver {
+            from: sender,
+            index: which,
+        } = self
+        {
+            *sender = from;
+            *which = index;
         } else {
-            *self = Event::Deliver {
-                from: sender,
-                index: number,
-            };
+            *self = Event::Deliver { from, index };
         }
     }
 
-    /// Makes it a timer of the owner that has run out, where it stands, in the same way.
-    pub fn become_timer(&mut self, owner: Side, fired: Timer)
-        ensures { self.new ≡ Event.Timer owner fired }
+    /// Makes it a timer of this side that has run out (own), in the same way.
+    pub fn become_timer(&mut self, side: Side, timer: Timer)
+        ensures { self.new ≡ Event.Timer side timer }
     {
-        if let Event::Timer { side, timer } = self {
-            *side = owner;
-            *timer = fired;
+        if let Event::Timer {
+            side: owner,
+            timer: fired,
+        } = self
+        {
+            *owner = side;
+            *fired = timer;
         } else {
-            *self = Event::Timer {
-                side: owner,
-                timer: fired,
-            };
+            *self = Event::Timer { side, timer };
         }
     }
 }
