@@ -2,11 +2,11 @@
 use Rattle.std.specs.Prelude.{◌≡◌, ◌≢◌, ℕ, ◌++◌, List, codes, Option}
 use Rattle.fault_campaign.specs.Totals.{totals}
 use Rattle.fault_campaign.specs.declared.report.Report.{Report}
-use Rattle.job_output.specs.Text.{labelled_number}
-use Rattle.job_output.specs.Ends.{HasBegun, HasTaken, IsCutOff, EndsForCause}
-use Rattle.command_words.specs.declared.campaign_words.Campaign.{Campaign}
-use Rattle.job_output.specs.declared.status.Status.{Status}
-use Rattle.job_output.specs.declared.status.Status.TheVariants as status
+use Rattle.tool_output.specs.Text.{labelled_number}
+use Rattle.tool_output.specs.Ends.{HasBegun, HasTaken, IsCutOff, EndsForCause}
+use Rattle.tool_forms.specs.declared.campaign_words.Campaign.{Campaign}
+use Rattle.tool_output.specs.declared.status.Status.{Status}
+use Rattle.tool_output.specs.declared.status.Status.TheVariants as status
 
 -- a count behind its name
 abbrev pub count_line : List ℕ → ℕ → List ℕ

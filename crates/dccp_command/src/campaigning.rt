@@ -1,16 +1,16 @@
 //! `campaign`: seeds that are run by workers, and what is counted of them.
 ghost use Rattle.std.specs.Prelude.{◌≡◌, ◌≢◌, ◌++◌, IfOk, OnOk};
 ghost use Rattle.dccp_command.specs.CampaignText.{AnswersUnread, arrival_text, campaign_text, count_line, report_text, run_text};
-ghost use Rattle.command_words.specs.CampaignWords.{IsWithinBounds};
-ghost use Rattle.job_output.specs.Ends.{SinkFailed};
+ghost use Rattle.tool_forms.specs.CampaignWords.{IsWithinBounds};
+ghost use Rattle.tool_output.specs.Ends.{SinkFailed};
 
-use command_words::Campaign;
 use dccp_io::{Sink, write_all};
 use fault_campaign::{Gate, Report};
-use job_output::{Status, put, put_counted};
 use seq_circle::NoMemory;
 use std::alloc::Global;
 use std::thread::Threads;
+use tool_forms::Campaign;
+use tool_output::{Status, put, put_counted};
 
 // Puts a count's line.
 fn put_count(text: &mut Vec<u8>, name: &[u8], count: u64) -> Result<(), NoMemory>

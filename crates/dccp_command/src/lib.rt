@@ -10,6 +10,6 @@ mod campaigning;
 mod top;
 
 pub use crate::top::dccp;
-pub use command_words::{Campaign, Form};
 pub use fault_campaign::{Gate, OpenGate};
-pub use job_output::Status;
+pub use tool_forms::{Campaign, Form};
+pub use tool_output::Status;

@@ -2,23 +2,23 @@
 ghost use Rattle.std.specs.Prelude.{◌≡◌, ◌↔◌, drop, Some, None};
 ghost use Rattle.dccp_io.specs.Counts.{Rose};
 ghost use Rattle.capture_reader.specs.State.{Passed};
-ghost use Rattle.schedule_play.specs.Transcript.{transcript, is_refused, accepted_bytes, SafeThroughout};
-ghost use Rattle.frame_replay.specs.Replay.{replay_text, replay_refused, replay_accepted};
+ghost use Rattle.tool_run.specs.Transcript.{transcript, is_refused, accepted_bytes, SafeThroughout};
+ghost use Rattle.tool_replay.specs.Replay.{replay_text, replay_refused, replay_accepted};
 ghost use Rattle.dccp_command.specs.CampaignText.{AnswersUnread, campaign_text};
-ghost use Rattle.capture_show.specs.CaptureText.{capture_text, is_faulty, records_end};
-ghost use Rattle.command_words.specs.Words.{OnRun, OnReplay, OnShow, form_of, usage};
-ghost use Rattle.job_output.specs.Ends.{SinkFails, IsWritten, IsAnswered, Answers, StopsWithin, EndsForCause};
+ghost use Rattle.tool_show.specs.CaptureText.{capture_text, is_faulty, records_end};
+ghost use Rattle.tool_forms.specs.Words.{OnRun, OnReplay, OnShow, form_of, usage};
+ghost use Rattle.tool_output.specs.Ends.{SinkFails, IsWritten, IsAnswered, Answers, StopsWithin, EndsForCause};
 
 use crate::campaigning::run_campaign;
-use capture_show::show_capture;
-use command_words::{Campaign, Form, USAGE, form_of};
 use dccp_io::{Sink, Source, write_all};
 use fault_campaign::Gate;
-use frame_replay::replay_frames;
-use job_output::Status;
-use schedule_play::run_schedule;
 use std::alloc::Global;
 use std::thread::Threads;
+use tool_forms::{Campaign, Form, USAGE, form_of};
+use tool_output::Status;
+use tool_replay::replay_frames;
+use tool_run::run_schedule;
+use tool_show::show_capture;
 
 /// Does what the words ask for (own), those after the program's name. `run` plays a schedule: it reads `input`, and
 /// writes to `output` a line for each event and for each frame that it sent, and at last the state of both ends.

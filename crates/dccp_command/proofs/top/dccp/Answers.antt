@@ -2,10 +2,10 @@
 use Rattle.std.proofs.Common.{rules, ◌≡◌, sym, ◌∙◌, subst, Bool, Some, drop}
 use Rattle.world_events.specs.declared.event.Side.{Side}
 use Rattle.dccp_io.specs.Fronts.{GivesAtMost}
-use Rattle.command_words.specs.declared.words.Form.TheVariants as form
-use Rattle.frame_replay.specs.Replay.{replay_text, replay_refused, replay_accepted}
-use Rattle.job_output.specs.Ends.{Answers}
-use Rattle.command_words.specs.Words.{form_of}
+use Rattle.tool_forms.specs.declared.words.Form.TheVariants as form
+use Rattle.tool_replay.specs.Replay.{replay_text, replay_refused, replay_accepted}
+use Rattle.tool_output.specs.Ends.{Answers}
+use Rattle.tool_forms.specs.Words.{form_of}
 use Rattle.dccp_command.proofs.top.dccp.Goals as goal
 
 same-words : (side other : Side) (plain more : Bool) → Some (form.Replay side plain) ≡ Some (form.Replay other more) → (side ≡ other) × (plain ≡ more)

@@ -1,0 +1,19 @@
+use Rattle.std.proofs.Common.{◌∙◌, ◌++◌, rules}
+use Rattle.std.specs.Slice.Iter.{chunks_rest}
+use Rattle.hex.specs.Hex.{encode_lower}
+use Rattle.tool_output.proofs.HexText.{block-put, all-put}
+use Rattle.tool_output.proofs.text.put_hex.Goals as goal
+
+pub loop-block-preserved : goal.loop-block-preserved
+loop-block-preserved c =
+    let steps = c.in-Some.ensures.steps in (
+      search rules,
+      tt,
+      steps.0 ∙ c.loop-block.invariant.2,
+      block-put c.loop-block.text.items c.put.new.text.items (chunks_rest c.loop-block.block-iterator) c.in-Some.block.now (chunks_rest c.next.new.self)
+          c.encode_to_slice.new.output (c.args.text.now.items ++ encode_lower c.args.bytes.now) steps.1.0 c.in_ok-put-in-Ok.ensures.ok c.in-Ok.ensures.written
+          c.loop-block.invariant.3,
+    )
+
+pub returns : goal.returns
+returns c = all-put c.loop-block.text.items (chunks_rest c.loop-block.block-iterator) _ c.in-None.ensures.steps.1.0 c.loop-block.invariant.3

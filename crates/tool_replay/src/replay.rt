@@ -1,0 +1,225 @@
+//! A replay while it is played: one end, at which frames arrive.
+ghost use Rattle.std.specs.Prelude.{◌≡◌, ◌++◌, ◌+◌, ◌^◌, ◌<◌, ◌≤◌, length, true, IfOk, OnOk, Some, Ok};
+ghost use Rattle.ccid_two.specs.Kinds.{kinds_control};
+ghost use Rattle.dccp_endpoint.specs.Controlled.{with_control};
+ghost use Rattle.dccp_endpoint.specs.Receiving.{receives};
+ghost use Rattle.dccp_endpoint.specs.Usual.{usual};
+ghost use Rattle.dccp_sum.specs.Checksum.{sealed};
+ghost use Rattle.schedule_text.specs.Results.{HasItsData};
+ghost use Rattle.tool_replay.specs.EndLines.{end_line};
+ghost use Rattle.tool_replay.specs.Replay.{role_of, replay_config, first_replay, opened_line, reply_line, count, begun_replay, begun_from, HasRoom, IsPast, past, arriving, by_frame, frame_judged, JudgesFrame};
+
+use crate::end_lines::{put_end_line, put_frame_line};
+use crate::lines::{ends_within, whole_line, without_newline};
+use ccid_two::Kinds;
+use dccp_endpoint::{Config, Endpoint, OpenFault, Outcome, Role};
+use dccp_packets::{Frame, Outbox};
+use dccp_sum::{Pseudo, seal};
+use schedule_text::{FrameLine, LineFault, LineWhy, print_result, read_frame};
+use seq_circle::NoMemory;
+use std::alloc::Global;
+use tool_output::put;
+use world_events::{Seen, Side};
+
+/// Where a replay stands.
+#[derive(Drop)]
+pub(crate) struct Replay {
+    /// The number of the next line, from 1.
+    pub(crate) number: u64,
+    /// How many bytes of the input stand before it.
+    pub(crate) read: u64,
+    /// How many frames the end has sent.
+    pub(crate) sent: u64,
+    /// Whose end it is.
+    pub(crate) side: Side,
+    /// The end.
+    pub(crate) end: Endpoint<Kinds>,
+}
+
+impl Replay {
+    // Before all: the end is new.
+    fn new(alloc: Global, side: Side, plain: bool) -> Result<Replay, NoMemory>
+        ensures { IfOk result (λ replay. replay ≡ first_replay side plain) }
+    {
+        let congestion = Kinds::new(alloc)?;
+        let end = Endpoint::new(alloc, replay_config(side, plain), congestion)?;
+        Ok(Replay {
+            number: 1,
+            read: 0,
+            sent: 0,
+            side,
+            end,
+        })
+    }
+
+    /// Where a replay stands before its first line; a client has opened then, and the lines of that were put.
+    pub(crate) fn begin(
+        alloc: Global,
+        side: Side,
+        plain: bool,
+        text: &mut Vec<u8>,
+    ) -> Result<Replay, NoMemory>
+        ensures value { IfOk result (λ replay. replay ≡ (begun_replay side plain).replay) }
+        ensures text { OnOk result (text.new.items ≡ text.old.items ++ (begun_replay side plain).text) }
+    {
+        let mut replay = Replay::new(alloc, side, plain)?;
+        if side == Side::Client {
+            replay.open(text)?;
+        }
+        Ok(replay)
+    }
+
+    fn open(&mut self, text: &mut Vec<u8>) -> Result<(), NoMemory>
+        requires { self.old.sent + 1 < 2 ^ 64 }
+        ensures value { OnOk result (self.new ≡ (begun_from self.old Side.Client).replay) }
+        ensures text { OnOk result (text.new.items ≡ text.old.items ++ (begun_from self.old Side.Client).text) }
+    {
+        let mut out = Outbox::new();
+        let answer = self.end.open(&mut out);
+        put_open_line(text, answer)?;
+        self.put_sent(&out, text)
+    }
+
+    // Puts the line of the frame that a step sent, if it sent one, and counts the frame.
+    fn put_sent(&mut self, out: &Outbox, text: &mut Vec<u8>) -> Result<(), NoMemory>
+        requires { self.old.sent + 1 < 2 ^ 64 }
+        ensures value { OnOk result (self.new ≡ record self.old { sent = self.old.sent + count out.now }) }
+        ensures text { OnOk result (text.new.items ≡ text.old.items ++ reply_line self.old.side self.old.sent out.now) }
+    {
+        let Some(frame) = out.frame() else {
+            return Ok(());
+        };
+        put_frame_line(text, self.side, self.sent, frame.bytes())?;
+        self.sent += 1;
+        Ok(())
+    }
+
+    /// Replays one line, which has its newline, or answers why it is refused. The limit of bytes is judged before the
+    /// line itself.
+    #[tactic(auto, unfolding(crate::specs::Replay::frame_judged))]
+    pub(crate) fn judge(
+        &mut self,
+        line: &[u8],
+        text: &mut Vec<u8>,
+    ) -> Result<Result<(), LineFault>, NoMemory>
+        requires { HasRoom self.old line.now }
+        ensures verdict { IfOk result (λ answer. JudgesFrame (frame_judged self.old line.now) text.old.items text.new.items self.new answer) }
+        ensures onward { IfOk result (λ answer. answer ≡ Ok tt → IsPast self.old line.now self.new) }
+    {
+        if !ends_within(self.read, line) {
+            return Ok(Err(whole_line(LineWhy::TooMuchInput)));
+        }
+        match read_frame(without_newline(line)) {
+            Err(fault) => Ok(Err(fault)),
+            Ok(None) => {
+                self.pass(line);
+                Ok(Ok(()))
+            }
+            Ok(Some(said)) => {
+                let frame = arriving(self.side, said);
+                self.take(line, &frame, text)
+            }
+        }
+    }
+
+    // The frame arrives, and the lines of that are put.
+    fn take(
+        &mut self,
+        line: &[u8],
+        frame: &Frame,
+        text: &mut Vec<u8>,
+    ) -> Result<Result<(), LineFault>, NoMemory>
+        requires { HasRoom self.old line.now }
+        ensures verdict { IfOk result (λ answer. JudgesFrame (by_frame self.old line.now frame.now) text.old.items text.new.items self.new answer) }
+        ensures onward { IfOk result (λ answer. answer ≡ Ok tt → IsPast self.old line.now self.new) }
+    {
+        let mut out = Outbox::new();
+        let bytes = frame.bytes();
+        let seen = Seen::Received(arrive(&mut self.end, bytes, &mut out));
+        print_result(self.number, &seen, bytes, text)?;
+        self.put_sent(&out, text)?;
+        self.pass(line);
+        Ok(Ok(()))
+    }
+
+    fn pass(&mut self, line: &[u8])
+        requires number { self.old.number + 1 < 2 ^ 64 }
+        requires read { self.old.read + length line.now < 2 ^ 64 }
+        ensures { self.new ≡ past self.old line.now }
+    {
+        self.number += 1;
+        self.read += line.len() as u64;
+    }
+
+    /// Puts the line at a replay's end.
+    pub(crate) fn finish(&self, text: &mut Vec<u8>) -> Result<(), NoMemory>
+        ensures { OnOk result (text.new.items ≡ text.old.items ++ end_line self.now.side self.now.end) }
+    {
+        put_end_line(text, self.side, &self.end)
+    }
+}
+
+fn put_open_line(text: &mut Vec<u8>, answer: Result<(), OpenFault>) -> Result<(), NoMemory>
+    ensures { OnOk result (text.new.items ≡ text.old.items ++ opened_line answer) }
+{
+    match answer {
+        Ok(()) => put(text, b"open: ok\n"),
+        Err(OpenFault::NotFresh) => put(text, b"open: refused NotFresh\n"),
+    }
+}
+
+fn role_of(side: Side) -> Role
+    ensures { result ≡ role_of side }
+{
+    match side {
+        Side::Client => Role::Client,
+        Side::Server => Role::Server,
+    }
+}
+
+// The usual end of a side, with its offers or without.
+fn replay_config(side: Side, plain: bool) -> Config
+    ensures { result ≡ replay_config side plain }
+{
+    let mut config = Config::usual(role_of(side));
+    if plain {
+        config.plain();
+    }
+    config
+}
+
+// The addresses of the frames that arrive at the end of a side.
+fn addresses(side: Side) -> Pseudo
+    ensures { result ≡ (usual (role_of side)).pseudo_in }
+{
+    Config::usual(role_of(side)).pseudo_in
+}
+
+// The frame that arrives: its checksum is set where the line says so.
+fn arriving(side: Side, said: FrameLine) -> Frame
+    requires { said.seal ≡ true → 8 ≤ length said.bytes }
+    ensures { result ≡ arriving side said }
+{
+    let mut frame = said.bytes;
+    if said.seal {
+        seal_frame(&addresses(side), &mut frame);
+    }
+    frame
+}
+
+fn seal_frame(pseudo: &Pseudo, frame: &mut Frame)
+    requires { 8 ≤ length frame.old }
+    ensures { frame.new ≡ sealed pseudo.now frame.old }
+{
+    let bytes = frame.bytes_mut();
+    let _ = seal(pseudo, bytes);
+}
+
+// The step of the end alone. Data that it delivers stand within the bytes.
+fn arrive(end: &mut Endpoint<Kinds>, bytes: &[u8], out: &mut Outbox) -> Outcome
+    requires { length bytes.now ≤ 2044 }
+    ensures step { record { after = end.new; frame = out.new; answer = result } ≡ with_control kinds_control end.old.congestion (receives end.old.state bytes.now) }
+    ensures told { HasItsData bytes.now result }
+{
+    end.receive(bytes, out)
+}

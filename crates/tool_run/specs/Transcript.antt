@@ -1,0 +1,260 @@
+-- What `run` writes of an input: the lines of its accepted lines, then the two end lines or the line of the first refusal (own).
+use Rattle.std.specs.Prelude.{◌≡◌, ℕ, ◌+◌, ◌^◌, ◌<◌, ◌++◌, Bool, true, false, ◌&&◌, nat_lt, if◌then◌else◌, List, [], ◌∷◌, length, take, Option, Some, None, is_some, Result, Ok, Err}
+use Rattle.dccp_endpoint.specs.Usual.{usual}
+use Rattle.dccp_endpoint.specs.declared.config.Config.{Config}
+use Rattle.dccp_states.specs.declared.phase.Role.TheVariants as role
+use Rattle.feature_lists.specs.Wishes.{is_ours, wish_of}
+use Rattle.feature_lists.specs.declared.features.Feature.{Feature}
+use Rattle.feature_lists.specs.declared.features.Place.{Place}
+use Rattle.feature_lists.specs.declared.wishes.PreferFault.{PreferFault}
+use Rattle.feature_lists.specs.declared.wishes.Wanted.{Wanted}
+use Rattle.feature_machine.specs.Lists.{with_wish, with_offer}
+use Rattle.ccid_two.specs.Kinds.{Both, at_first, kinds_control}
+use Rattle.two_ends.specs.Controlled.{Controlled, ControlledStep, begins_with, happens_to, plays}
+use Rattle.two_ends.specs.World.{half_of}
+use Rattle.world_events.specs.Actors.{actor}
+use Rattle.dccp_endpoint.specs.Drafts.{Fits}
+use Rattle.two_ends.specs.Safe.{Safe}
+use Rattle.world_events.specs.declared.event.Event.{Event}
+use Rattle.world_events.specs.declared.event.Side.{Side}
+use Rattle.world_events.specs.declared.event.Side.TheVariants.{Client, Server}
+use Rattle.world_events.specs.declared.event.WorldFault.{WorldFault}
+use Rattle.world_events.specs.declared.event.WorldFault.TheVariants as fault
+use Rattle.schedule_text.specs.Reading.{read_line}
+use Rattle.schedule_text.specs.Results.{seen_line}
+use Rattle.schedule_text.specs.declared.line.Line.{Line}
+use Rattle.schedule_text.specs.declared.line.Line.TheVariants as line
+use Rattle.schedule_text.specs.declared.line.LineFault.{LineFault}
+use Rattle.schedule_text.specs.declared.line.LineWhy.{LineWhy}
+use Rattle.schedule_text.specs.declared.line.LineWhy.TheVariants as why
+use Rattle.tool_run.specs.declared.play.Play.{Play}
+use Rattle.dccp_io.specs.Lines.{ends_within, lines_of}
+use Rattle.tool_replay.specs.EndLines.{refusal_line}
+use Rattle.tool_replay.specs.Lines.{without_newline, whole_line}
+use Rattle.tool_replay.specs.Replay.{config_without_offers}
+use Rattle.tool_run.specs.WorldLines.{arrived, sent_line, end_lines}
+
+-- The most events of a schedule.
+abbrev pub most_events : ℕ
+most_events = 16384
+
+-- Where a schedule stands before its first line: the two usual ends are configured.
+abbrev pub first_play : Play
+first_play = record { number = 1; read = 0; events = 0; client = usual role.Client; server = usual role.Server; world = None }
+
+-- two ends of these configurations that have sent and received nothing, each with its own congestion control
+abbrev pub starts : Config → Config → Controlled Both
+starts client server = begins_with kinds_control client server at_first at_first
+
+-- the world that events have made, or that of two ends to which nothing has happened
+abbrev pub world_or_start : Config → Config → Option (Controlled Both) → Controlled Both
+world_or_start client server None = starts client server
+world_or_start client server (Some w) = w
+
+-- The world of a schedule: until its first event, that of the two configurations.
+abbrev pub world_of : Play → Controlled Both
+world_of play = world_or_start play.client play.server play.world
+
+-- The next line begins behind this one.
+abbrev pub behind : Play → List ℕ → Play
+behind play piece = record play { number = play.number + 1; read = play.read + length piece }
+
+-- What a line comes to: it is accepted, with its text and event and where the schedule then stands, or refused.
+pub data Verdict : Type 0 where
+  Accepted : (text : List ℕ) (events : List Event) (next : Play) → Verdict
+  Refused : (fault : LineFault) → Verdict
+
+-- A delivery names no frame; its name stands behind `deliver `.
+abbrev pub no_such_frame : LineFault
+no_such_frame = record { column = 9; why = why.NoSuchFrame }
+
+-- a line that is accepted without an event and leaves no text
+abbrev pub accepts_nothing : Play → List ℕ → Verdict
+accepts_nothing play piece = Accepted [] [] (behind play piece)
+
+-- A line that stands before all events changes the configurations.
+abbrev pub configures : Play → Play → Verdict
+configures play next = if is_some play.world then Refused (whole_line why.HeaderLate) else Accepted [] [] next
+
+-- the configuration of a side, as the lines so far have it
+abbrev pub config_of : Play → Side → Config
+config_of play Client = play.client
+config_of play Server = play.server
+
+-- the same schedule with another configuration of this side
+abbrev pub with_config : Side → Config → Play → Play
+with_config Client config play = record play { client = config }
+with_config Server config play = record play { server = config }
+
+-- a side whose initial sequence number is this one
+abbrev pub with_iss : Side → ℕ → Play → Play
+with_iss side number play = with_config side (record (config_of play side) { iss = number }) play
+
+-- neither of the two ends offers a feature
+abbrev pub says_plain : Play → Play
+says_plain play = record play { client = config_without_offers play.client; server = config_without_offers play.server }
+
+-- A wish or an offer that an end may not have changes nothing; its line was refused before.
+abbrev pub wishing : Config → Feature → Place → Result Wanted PreferFault → Config
+wishing config feature place (Ok wish) = record config { lists = with_wish config.lists feature place wish }
+wishing config feature place (Err fault) = config
+
+-- a configuration with one offer more, where an end may make it
+abbrev pub offering : Config → Feature → Place → Bool → Config
+offering config feature place mandatory =
+    if is_ours feature place then record config { lists = with_offer config.lists feature place mandatory } else config
+
+-- a side that is configured with these values of a feature, where an end may have them
+unfoldable pub with_set : Side → Feature → Place → List ℕ → Play → Play
+with_set side feature place values play =
+    with_config side (wishing (config_of play side) feature place (wish_of feature place values)) play
+
+-- a side that is configured to offer a feature, where an end may do so
+abbrev pub with_offered : Side → Feature → Place → Bool → Play → Play
+with_offered side feature place mandatory play = with_config side (offering (config_of play side) feature place mandatory) play
+
+-- The text of an event that took place, and the world after it.
+pub record Shown : Type 0 where
+  pub text : List ℕ
+  pub world : Controlled Both
+
+-- An event that took place, with the frame that its actor sent.
+abbrev pub took_place : ℕ → Controlled Both → Event → ControlledStep Both → Shown
+took_place number before event step = record {
+  text =
+      seen_line number event step.seen (arrived step.after.world event)
+      ++ sent_line step.after.world (actor event) (length (half_of before.world (actor event)).frames);
+  world = step.after;
+}
+
+-- an event as it is shown, or the fault of its line: it names no frame, or the world has no room for it
+abbrev pub by_step : ℕ → Controlled Both → Event → Result (ControlledStep Both) WorldFault → Result Shown LineFault
+by_step number before event (Ok step) = Ok (took_place number before event step)
+by_step number before event (Err fault.NoSuchFrame) = Err no_such_frame
+by_step number before event (Err _) = Err (whole_line why.TooManyEvents)
+
+-- An event of a world, under the number of its line.
+abbrev pub event_shown : ℕ → Controlled Both → Event → Result Shown LineFault
+event_shown number before event = by_step number before event (happens_to kinds_control before event)
+
+-- an event that took place is counted, and the schedule goes on from the world behind it
+abbrev pub by_shown : Play → List ℕ → Event → Result Shown LineFault → Verdict
+by_shown play piece event (Ok shown) = Accepted shown.text (event ∷ []) (record (behind play piece) { events = play.events + 1; world = Some shown.world })
+by_shown play piece event (Err fault) = Refused fault
+
+-- the line of an event, which is refused once a schedule has its most events
+abbrev pub says_event : Play → List ℕ → Event → Verdict
+says_event play piece event =
+    if nat_lt play.events most_events then by_shown play piece event (event_shown play.number (world_of play) event)
+    else Refused (whole_line why.TooManyEvents)
+
+-- a wish or an offer that an end may not have
+abbrev pub is_of_wish : LineWhy → Bool
+is_of_wish why.BadList = true
+is_of_wish why.NotOurs = true
+is_of_wish _ = false
+
+-- It is judged behind that its line stands before all events.
+abbrev pub in_place : Play → LineFault → LineFault
+in_place play fault = if is_some play.world && is_of_wish fault.why then whole_line why.HeaderLate else fault
+
+-- what a line says changes a configuration, makes an event happen, or does nothing
+abbrev pub by_line : Play → List ℕ → Result Line LineFault → Verdict
+by_line play piece (Err fault) = Refused (in_place play fault)
+by_line play piece (Ok line.Nothing) = accepts_nothing play piece
+by_line play piece (Ok line.Plain) = configures play (says_plain (behind play piece))
+by_line play piece (Ok (line.Iss side number)) = configures play (with_iss side number (behind play piece))
+by_line play piece (Ok (line.Set side place feature values)) = configures play (with_set side feature place values (behind play piece))
+by_line play piece (Ok (line.Offer side place feature mandatory)) = configures play (with_offered side feature place mandatory (behind play piece))
+by_line play piece (Ok (line.Event event)) = says_event play piece event
+
+-- behind the lines that were read, this one ends within the bytes that an input may have
+abbrev pub line_is_within : Play → List ℕ → Bool
+line_is_within play piece = ends_within play.read piece
+
+-- A line with its newline. Its faults are judged in this order: the bytes of the input, the line by itself up to its words, that it
+-- stands before all events, what an end may wish, the count of events, the frame that it names.
+unfoldable pub judged : Play → List ℕ → Verdict
+judged play piece =
+    if line_is_within play piece then by_line play piece (read_line (without_newline piece)) else Refused (whole_line why.TooMuchInput)
+
+-- A line was played so: an accepted one leaves its text at the text's end and leads on, a refused one leaves the text as it was.
+abbrev pub Judges : Verdict → List ℕ → List ℕ → Play → Result (Unit {0}) LineFault → Type 0
+Judges (Accepted text events next) old new play answer = (new ≡ old ++ text) × (play ≡ next) × (answer ≡ Ok tt)
+Judges (Refused fault) old new play answer = (new ≡ old) × (answer ≡ Err fault)
+
+-- An event was shown so.
+abbrev pub ShowsEvent : Result Shown LineFault → List ℕ → List ℕ → Controlled Both → Result (Unit {0}) LineFault → Type 0
+ShowsEvent (Ok shown) old new after answer = (new ≡ old ++ shown.text) × (after ≡ shown.world) × (answer ≡ Ok tt)
+ShowsEvent (Err fault) old new after answer = (new ≡ old) × (answer ≡ Err fault)
+
+-- A client and a server, whose fields fit their widths.
+pub record ArePeers (client server : Config) : Type 0 where
+  pub is_client : client.role ≡ role.Client
+  pub is_server : server.role ≡ role.Server
+  pub client_fits : Fits client
+  pub server_fits : Fits server
+
+-- The configurations are those of a client and a server, and the counters have room for one more line.
+pub record IsReady (play : Play) (piece : List ℕ) : Type 0 where
+  pub peers : ArePeers play.client play.server
+  pub number : play.number + 1 < 2 ^ 64
+  pub read : play.read + length piece < 2 ^ 64
+
+-- One line further, with the configurations of a client and a server.
+pub record IsBehind (before : Play) (piece : List ℕ) (after : Play) : Type 0 where
+  pub peers : ArePeers after.client after.server
+  pub number : after.number ≡ before.number + 1
+  pub read : after.read ≡ before.read + length piece
+
+-- What a whole input comes to: its text, the two ends as they are configured, the accepted events, and how many bytes the accepted lines
+-- have.
+pub record Performance : Type 0 where
+  pub text : List ℕ
+  pub client : Config
+  pub server : Config
+  pub events : List Event
+  pub is_refused : Bool
+  pub accepted : ℕ
+
+-- the text and the events of a line in front of what the rest of an input comes to
+abbrev pub onto : List ℕ → List Event → Performance → Performance
+onto text events rest = record rest { text = text ++ rest.text; events = events ++ rest.events }
+
+-- a schedule that is over: its last text, its two configurations, and the bytes of its accepted lines
+abbrev pub ends_at : Play → List ℕ → Bool → Performance
+ends_at play text refused = record { text = text; client = play.client; server = play.server; events = []; is_refused = refused; accepted = play.read }
+
+-- the rest of an input counts behind an accepted line; a refused line is the last, under its number
+abbrev pub continues_with : Play → Verdict → (Play → Performance) → Performance
+continues_with play (Accepted text events next) rest = onto text events (rest next)
+continues_with play (Refused fault) rest = ends_at play (refusal_line play.number fault) true
+
+-- what these lines come to; where none is refused, the two end lines are the last
+abbrev pub performed_from : Play → List (List ℕ) → Performance
+performed_from play [] = ends_at play (end_lines (world_of play)) false
+performed_from play (piece ∷ pieces) = continues_with play (judged play piece) (λ next. performed_from next pieces)
+
+-- what an input comes to, played from the two usual ends
+unfoldable pub performed : List ℕ → Performance
+performed input = performed_from first_play (lines_of input)
+
+-- What `run` writes of an input.
+abbrev pub transcript : List ℕ → List ℕ
+transcript input = (performed input).text
+
+-- The input is refused at some line.
+abbrev pub is_refused : List ℕ → Bool
+is_refused input = (performed input).is_refused
+
+-- How many bytes of an input its accepted lines have, those before the first that is refused.
+abbrev pub accepted_bytes : List ℕ → ℕ
+accepted_bytes input = (performed input).accepted
+
+-- From the two ends as they are configured, the world is safe after each prefix of the accepted events.
+abbrev pub IsSafeThroughout : Performance → Type 0
+IsSafeThroughout whole = (n : ℕ) → Safe kinds_control (plays kinds_control (starts whole.client whole.server) (take n whole.events))
+
+-- the world is safe after each prefix of the accepted events of this input
+abbrev pub SafeThroughout : List ℕ → Type 0
+SafeThroughout input = IsSafeThroughout (performed input)

@@ -1,0 +1,359 @@
+//! A schedule while it is played.
+ghost use Rattle.std.specs.Prelude.{◌≡◌, ◌++◌, ◌+◌, ◌^◌, ◌<◌, length, ℕ, List, is_some, if◌then◌else◌, IfOk, OnOk, Some, Ok, Err};
+ghost use Rattle.tool_run.specs.WorldLines.{end_lines};
+ghost use Rattle.tool_replay.specs.Lines.{whole_line};
+ghost use Rattle.tool_replay.specs.Replay.{config_without_offers};
+ghost use Rattle.tool_run.specs.Transcript.{first_play, starts, world_of, ArePeers, IsReady, IsBehind, ShowsEvent, event_shown, Judges, judged, by_line, behind};
+ghost use Rattle.tool_run.specs.Transcript.{configures, says_plain, with_iss, with_set, with_offered, wishing, offering, in_place, says_event, no_such_frame};
+ghost use Rattle.dccp_endpoint.specs.Drafts.{Fits};
+ghost use Rattle.feature_lists.specs.Wishes.{wish_of};
+ghost use Rattle.feature_machine.specs.Lists.{IsLists};
+
+use crate::world_lines::{arrived, put_end_lines, put_sent_line};
+use ccid_two::Kinds;
+use dccp_endpoint::{Config, Role};
+use feature_lists::{Feature, Place};
+use schedule_text::{Line, LineFault, LineWhy, print_seen, read_line_into};
+use seq_circle::{NoMemory, Seq48};
+use std::alloc::Global;
+use tool_replay::{ends_within, whole_line, without_newline};
+use two_ends::{Event, Side, World, WorldFault};
+
+const MOST_EVENTS: u32 = 16_384;
+
+/// Where a schedule stands.
+#[derive(Drop)]
+pub(crate) struct Play {
+    /// The number of the next line, from 1.
+    pub(crate) number: u64,
+    /// How many bytes of the input stand before it.
+    pub(crate) read: u64,
+    /// How many events took place.
+    pub(crate) events: u32,
+    /// What the client is made from.
+    pub(crate) client: Config,
+    /// What the server is made from.
+    pub(crate) server: Config,
+    /// The two ends, from the first event on.
+    pub(crate) world: Option<World<Kinds>>,
+}
+
+impl Play {
+    /// Before the first line: the two usual ends are configured, and no event took place.
+    pub(crate) fn new() -> Play
+        ensures { result ≡ first_play }
+    {
+        Play {
+            number: 1,
+            read: 0,
+            events: 0,
+            client: Config::usual(Role::Client),
+            server: Config::usual(Role::Server),
+            world: None,
+        }
+    }
+
+    /// Plays one line, which has its newline, or answers why it is refused. The faults that need more than the line are
+    /// judged here, each at its place among those of the line itself: the limit of bytes before them, and behind them
+    /// that it has to stand before all events (but before what an end may wish), the limit of events, and a frame that
+    /// was not sent. `said` is room for what the line says, and it does not matter what stands there before.
+    #[tactic(auto, unfolding(crate::specs::Transcript::judged))]
+    pub(crate) fn judge(
+        &mut self,
+        alloc: Global,
+        line: &[u8],
+        said: &mut Line,
+        text: &mut Vec<u8>,
+    ) -> Result<Result<(), LineFault>, NoMemory>
+        requires { IsReady self.old line.now }
+        ensures verdict { IfOk result (λ answer. Judges (judged self.old line.now) text.old.items text.new.items self.new answer) }
+        ensures onward { IfOk result (λ answer. answer ≡ Ok tt → IsBehind self.old line.now self.new) }
+    {
+        if !ends_within(self.read, line) {
+            return Ok(Err(whole_line(LineWhy::TooMuchInput)));
+        }
+        match read_line_into(without_newline(line), said) {
+            Err(fault) => Ok(Err(self.in_place(fault))),
+            Ok(()) => self.say(alloc, line, said, text),
+        }
+    }
+
+    fn say(
+        &mut self,
+        alloc: Global,
+        line: &[u8],
+        said: &Line,
+        text: &mut Vec<u8>,
+    ) -> Result<Result<(), LineFault>, NoMemory>
+        requires { IsReady self.old line.now }
+        ensures verdict { IfOk result (λ answer. Judges (by_line self.old line.now (Ok said.now)) text.old.items text.new.items self.new answer) }
+        ensures onward { IfOk result (λ answer. answer ≡ Ok tt → IsBehind self.old line.now self.new) }
+    {
+        match said {
+            Line::Nothing => {
+                self.pass(line);
+                Ok(Ok(()))
+            }
+            Line::Plain => Ok(self.say_plain(line)),
+            Line::Iss { side, number } => Ok(self.say_iss(line, *side, *number)),
+            Line::Set {
+                side,
+                place,
+                feature,
+                values,
+            } => Ok(self.say_set(line, *side, *feature, *place, values.numbers())),
+            Line::Offer {
+                side,
+                place,
+                feature,
+                mandatory,
+            } => Ok(self.say_offer(line, *side, *feature, *place, *mandatory)),
+            Line::Event(event) => self.say_event(alloc, line, event, text),
+        }
+    }
+
+    // What an end may not wish is judged behind that its line stands before all events.
+    fn in_place(&self, fault: LineFault) -> LineFault
+        ensures { result ≡ in_place self.now fault }
+    {
+        match fault.why {
+            LineWhy::BadList | LineWhy::NotOurs if self.world.is_some() => {
+                whole_line(LineWhy::HeaderLate)
+            }
+            _ => fault,
+        }
+    }
+
+    fn pass(&mut self, line: &[u8])
+        requires { IsReady self.old line.now }
+        ensures { self.new ≡ behind self.old line.now }
+    {
+        self.number += 1;
+        self.read += line.len() as u64;
+    }
+
+    // A line that stands before all events comes before the first.
+    fn check_header(&self) -> Result<(), LineFault>
+        ensures { result ≡ (if is_some self.now.world then Err (whole_line LineWhy.HeaderLate) else Ok tt) }
+    {
+        if self.world.is_some() {
+            return Err(whole_line(LineWhy::HeaderLate));
+        }
+        Ok(())
+    }
+
+    fn say_plain(&mut self, line: &[u8]) -> Result<(), LineFault>
+        requires { IsReady self.old line.now }
+        ensures verdict { (text : List ℕ) → Judges (configures self.old (says_plain (behind self.old line.now))) text text self.new result }
+        ensures onward { result ≡ Ok tt → IsBehind self.old line.now self.new }
+    {
+        self.check_header()?;
+        self.pass(line);
+        offer_nothing(&mut self.client);
+        offer_nothing(&mut self.server);
+        Ok(())
+    }
+
+    fn say_iss(&mut self, line: &[u8], side: Side, number: Seq48) -> Result<(), LineFault>
+        requires { IsReady self.old line.now }
+        ensures verdict { (text : List ℕ) → Judges (configures self.old (with_iss side number (behind self.old line.now))) text text self.new result }
+        ensures onward { result ≡ Ok tt → IsBehind self.old line.now self.new }
+    {
+        self.check_header()?;
+        self.pass(line);
+        // Contracts learn that a number fits where it is read.
+        let _ = number.get();
+        match side {
+            Side::Client => self.client.iss = number,
+            Side::Server => self.server.iss = number,
+        }
+        Ok(())
+    }
+
+    #[tactic(auto, unfolding(crate::specs::Transcript::with_set))]
+    fn say_set(
+        &mut self,
+        line: &[u8],
+        side: Side,
+        feature: Feature,
+        place: Place,
+        values: &[u64],
+    ) -> Result<(), LineFault>
+        requires { IsReady self.old line.now }
+        ensures verdict { (text : List ℕ) → Judges (configures self.old (with_set side feature place values.now (behind self.old line.now))) text text self.new result }
+        ensures onward { result ≡ Ok tt → IsBehind self.old line.now self.new }
+    {
+        self.check_header()?;
+        self.pass(line);
+        match side {
+            Side::Client => wish_for(&mut self.client, feature, place, values),
+            Side::Server => wish_for(&mut self.server, feature, place, values),
+        }
+        Ok(())
+    }
+
+    fn say_offer(
+        &mut self,
+        line: &[u8],
+        side: Side,
+        feature: Feature,
+        place: Place,
+        mandatory: bool,
+    ) -> Result<(), LineFault>
+        requires { IsReady self.old line.now }
+        ensures verdict { (text : List ℕ) → Judges (configures self.old (with_offered side feature place mandatory (behind self.old line.now))) text text self.new result }
+        ensures onward { result ≡ Ok tt → IsBehind self.old line.now self.new }
+    {
+        self.check_header()?;
+        self.pass(line);
+        match side {
+            Side::Client => offer(&mut self.client, feature, place, mandatory),
+            Side::Server => offer(&mut self.server, feature, place, mandatory),
+        }
+        Ok(())
+    }
+
+    fn say_event(
+        &mut self,
+        alloc: Global,
+        line: &[u8],
+        event: &Event,
+        text: &mut Vec<u8>,
+    ) -> Result<Result<(), LineFault>, NoMemory>
+        requires { IsReady self.old line.now }
+        ensures verdict { IfOk result (λ answer. Judges (says_event self.old line.now event.now) text.old.items text.new.items self.new answer) }
+        ensures onward { IfOk result (λ answer. answer ≡ Ok tt → IsBehind self.old line.now self.new) }
+    {
+        if MOST_EVENTS <= self.events {
+            return Ok(Err(whole_line(LineWhy::TooManyEvents)));
+        }
+        self.make_world(alloc)?;
+        let Some(world) = &mut self.world else {
+            unreachable!()
+        };
+        let answer = show_event(world, self.number, event, text)?;
+        if answer.is_ok() {
+            self.pass(line);
+            self.events += 1;
+        }
+        Ok(answer)
+    }
+
+    // Makes the world of the two configurations, where none is made yet.
+    fn make_world(&mut self, alloc: Global) -> Result<(), NoMemory>
+        requires { ArePeers self.old.client self.old.server }
+        ensures { OnOk result (self.new ≡ record self.old { world = Some (world_of self.old) }) }
+    {
+        if self.world.is_some() {
+            return Ok(());
+        }
+        self.begin_world(alloc)
+    }
+
+    // Apart from `make_world`, which each event calls: this takes room for a world.
+    #[inline(never)]
+    fn begin_world(&mut self, alloc: Global) -> Result<(), NoMemory>
+        requires peers { ArePeers self.old.client self.old.server }
+        requires fresh { self.old.world ≡ None }
+        ensures { OnOk result (self.new ≡ record self.old { world = Some (world_of self.old) }) }
+    {
+        self.world = Some(first_world(alloc, self.client, self.server)?);
+        Ok(())
+    }
+
+    /// Puts the two lines at a schedule's end.
+    pub(crate) fn finish(&mut self, alloc: Global, text: &mut Vec<u8>) -> Result<(), NoMemory>
+        requires { ArePeers self.old.client self.old.server }
+        ensures { OnOk result (text.new.items ≡ text.old.items ++ end_lines (world_of self.old)) }
+    {
+        self.make_world(alloc)?;
+        match &self.world {
+            Some(world) => put_end_lines(text, world),
+            None => unreachable!(),
+        }
+    }
+}
+
+// A configuration that offers nothing.
+fn offer_nothing(config: &mut Config)
+    requires { Fits config.old }
+    ensures plain { config.new ≡ config_without_offers config.old }
+    ensures fits { Fits config.new }
+{
+    config.plain();
+    lists_fit(config);
+}
+
+// Another wish. `read_line` refuses the lines of those that an end may not have.
+fn wish_for(config: &mut Config, feature: Feature, place: Place, values: &[u64])
+    requires { Fits config.old }
+    ensures wish { config.new ≡ wishing config.old feature place (wish_of feature place values.now) }
+    ensures fits { Fits config.new }
+    ensures role { config.new.role ≡ config.old.role }
+{
+    let _ = config.set(feature, place, values);
+    lists_fit(config);
+}
+
+// Another offer. `read_line` refuses the lines of those that an end may not make.
+fn offer(config: &mut Config, feature: Feature, place: Place, mandatory: bool)
+    requires { Fits config.old }
+    ensures offer { config.new ≡ offering config.old feature place mandatory }
+    ensures fits { Fits config.new }
+    ensures role { config.new.role ≡ config.old.role }
+{
+    let _ = config.offer(feature, place, mandatory);
+    lists_fit(config);
+}
+
+// Contracts learn that lists are in order where they are read.
+fn lists_fit(config: &Config)
+    ensures { IsLists config.now.lists }
+{
+    let _ = config.lists.wish(Feature::Ccid, Place::Here);
+}
+
+// The world of two configurations, to which nothing has happened. Each end may use CCID 2 and 248.
+fn first_world(alloc: Global, client: Config, server: Config) -> Result<World<Kinds>, NoMemory>
+    requires { ArePeers client server }
+    ensures { IfOk result (λ world. world ≡ starts client server) }
+{
+    let for_client = Kinds::new(alloc)?;
+    let for_server = Kinds::new(alloc)?;
+    World::new(alloc, client, server, for_client, for_server)
+}
+
+// Lets an event happen and puts its lines, or answers why its line is refused.
+#[tactic(auto, using(crate::proofs::EventTelling::event_is_told))]
+fn show_event(
+    world: &mut World<Kinds>,
+    number: u64,
+    event: &Event,
+    text: &mut Vec<u8>,
+) -> Result<Result<(), LineFault>, NoMemory>
+    ensures { IfOk result (λ answer. ShowsEvent (event_shown number world.old event.now) text.old.items text.new.items world.new answer) }
+{
+    let actor = event.actor();
+    let before = world.frames(actor).len();
+    match world.step(event) {
+        Ok(seen) => {
+            let bytes = arrived(world, event);
+            print_seen(number, event, &seen, bytes, text)?;
+            put_sent_line(text, world, actor, before)?;
+            Ok(Ok(()))
+        }
+        Err(WorldFault::NoSuchFrame) => Ok(Err(no_such_frame())),
+        Err(WorldFault::Full) => Ok(Err(whole_line(LineWhy::TooManyEvents))),
+        Err(WorldFault::NoMemory) => Err(NoMemory),
+    }
+}
+
+// The name of a frame stands behind `deliver `.
+fn no_such_frame() -> LineFault
+    ensures { result ≡ no_such_frame }
+{
+    LineFault {
+        column: 9,
+        why: LineWhy::NoSuchFrame,
+    }
+}
