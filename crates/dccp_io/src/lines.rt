@@ -271,8 +271,8 @@ impl<S: Source + Drop> Lines<S> {
         &self.ahead.pending()[..self.used]
     }
 
-    // The same without its newline.
-    fn text(&self) -> &[u8]
+    /// The same without its newline.
+    pub fn text(&self) -> &[u8]
         ensures { result.now ≡ text_of self.now.line }
     {
         let line = self.line();
