@@ -8,11 +8,12 @@ use Rattle.std.specs.Cmp.Lexicographic.{bytes_decides}
 use Rattle.std.proofs.lemmas.Bool.Decides.{nat_tests}
 use Rattle.hex.specs.Hex.{hex_digit_value, is_hex_digit, digit_or_error, value_at, pair_value, decode_pairs, decode_sized, ◌>>=◌ as then_read}
 use Rattle.hex.specs.declared.error.FromHexError.{FromHexError}
-use Rattle.schedule_text.specs.declared.line.LineFault.{LineFault}
-use Rattle.schedule_text.specs.declared.line.LineWhy.TheVariants as why
+use Rattle.tool_words.specs.declared.faults.LineFault.{LineFault}
+use Rattle.tool_words.specs.declared.faults.LineWhy.TheVariants as why
 use Rattle.schedule_text.specs.Digits.{first_other, flaw_or_odd, flaw_of, bytes_of}
 use Rattle.schedule_text.specs.Words.{word_at_column}
-use Rattle.schedule_text.specs.Reading.{◌>>◌, fault_at, digits_or_flaw, digits_word, hex_word}
+use Rattle.schedule_text.specs.Reading.{◌>>◌, digits_or_flaw, digits_word, hex_word}
+use Rattle.tool_words.specs.Refusals.{fault_at}
 use Rattle.schedule_text.specs.Forms.{AreDigitsOf, SpellsBytes}
 use Rattle.schedule_text.proofs.WordTexts.{if-false, both-true, and-true, all-weaker, is_word_byte, is_word}
 use Rattle.schedule_text.proofs.ReadBack.{present-some}

@@ -15,13 +15,14 @@ use Rattle.world_events.specs.declared.event.Side.TheVariants.{Client, Server}
 use Rattle.world_events.specs.declared.event.Event.TheVariants as event
 use Rattle.schedule_text.specs.declared.line.Line.{Line}
 use Rattle.schedule_text.specs.declared.line.Line.TheVariants as line
-use Rattle.schedule_text.specs.declared.line.LineFault.{LineFault}
-use Rattle.schedule_text.specs.declared.line.LineWhy.TheVariants as why
+use Rattle.tool_words.specs.declared.faults.LineFault.{LineFault}
+use Rattle.tool_words.specs.declared.faults.LineWhy.TheVariants as why
 use Rattle.schedule_text.specs.declared.names.Form.{Form}
 use Rattle.schedule_text.specs.declared.names.Form.TheVariants as form
 use Rattle.schedule_text.specs.Names.{form_name, side_name, place_name, timer_name}
 use Rattle.schedule_text.specs.Words.{word_at_column, words_left, words_of, placed, parted_by, first_word, later}
-use Rattle.schedule_text.specs.Reading.{◌>>=◌, ◌>>◌, fault_at, form_word, side_word, place_word, timer_word, number_word, feature_word, values_word, name_word, hex_word, mandatory_word, ended, wished, offered, iss_line, set_line, offer_line, deliver_line, send_line, prefer_line, timer_line, close_line, abort_line, line_of, read_words, is_text, first_other, text_or_other, clean, says_nothing, read_clean, read_line}
+use Rattle.schedule_text.specs.Reading.{◌>>=◌, ◌>>◌, form_word, side_word, place_word, timer_word, number_word, feature_word, values_word, name_word, hex_word, mandatory_word, ended, wished, offered, iss_line, set_line, offer_line, deliver_line, send_line, prefer_line, timer_line, close_line, abort_line, line_of, read_words, is_text, first_other, text_or_other, clean, says_nothing, read_clean, read_line}
+use Rattle.tool_words.specs.Refusals.{fault_at}
 use Rattle.schedule_text.specs.Printing.{joined, frame_name, values_text, mandatory_words}
 use Rattle.schedule_text.specs.Forms.{SpellsBytes, IsLine}
 use Rattle.schedule_text.proofs.FirstFaults.{by-presence-ok}

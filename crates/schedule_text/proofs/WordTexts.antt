@@ -6,11 +6,12 @@ use Rattle.std.proofs.lemmas.Bool.Decides.{nat_tests}
 use Rattle.std.proofs.lemmas.List.Folds.{list_all-append}
 use Rattle.std.proofs.lemmas.Fmt.{decimal_by_steps}
 use Rattle.schedule_text.specs.declared.line.Line.TheVariants as line
-use Rattle.schedule_text.specs.declared.line.LineFault.{LineFault}
-use Rattle.schedule_text.specs.declared.line.LineWhy.TheVariants as why
+use Rattle.tool_words.specs.declared.faults.LineFault.{LineFault}
+use Rattle.tool_words.specs.declared.faults.LineWhy.TheVariants as why
 use Rattle.schedule_text.specs.Numbers.{is_digit}
 use Rattle.schedule_text.specs.Words.{placed, words_left, words_of}
-use Rattle.schedule_text.specs.Reading.{◌>>◌, fault_at, is_text, first_other, text_or_other, clean, says_nothing, read_clean, read_line, read_words}
+use Rattle.schedule_text.specs.Reading.{◌>>◌, is_text, first_other, text_or_other, clean, says_nothing, read_clean, read_line, read_words}
+use Rattle.tool_words.specs.Refusals.{fault_at}
 use Rattle.schedule_text.specs.Printing.{joined}
 
 pub both-true : (a b : Bool) → (a && b) ≡ true → (a ≡ true) × (b ≡ true)

@@ -3,7 +3,7 @@ ghost use Rattle.std.specs.Prelude.{◌≡◌, ◌↔◌, ℕ, List, Some, Ok, E
 ghost use Rattle.world_events.specs.declared.event.Event.{Event};
 ghost use Rattle.schedule_text.specs.declared.line.Line.{Line};
 ghost use Rattle.schedule_text.specs.declared.line.Line.TheVariants as line;
-ghost use Rattle.schedule_text.specs.declared.line.LineFault.{LineFault};
+ghost use Rattle.tool_words.specs.declared.faults.LineFault.{LineFault};
 ghost use Rattle.schedule_text.specs.Columns.{AreWordsOf};
 ghost use Rattle.schedule_text.specs.Faults.{line_fault};
 ghost use Rattle.schedule_text.specs.Forms.{IsLine};

@@ -4,10 +4,10 @@ use Rattle.dccp_endpoint.specs.Usual.{usual}
 use Rattle.dccp_states.specs.declared.phase.Role.TheVariants as role
 use Rattle.feature_machine.proofs.Listing.{usual_are_lists}
 use Rattle.world_events.specs.declared.event.Event.{Event}
-use Rattle.schedule_text.specs.declared.line.LineFault.{LineFault}
+use Rattle.tool_words.specs.declared.faults.LineFault.{LineFault}
 use Rattle.tool_run.specs.declared.play.Play.{Play}
 use Rattle.dccp_io.specs.Lines.{lines_of}
-use Rattle.tool_replay.specs.EndLines.{refusal_line}
+use Rattle.tool_words.specs.Refusals.{refusal_line}
 use Rattle.tool_run.specs.WorldLines.{end_lines}
 use Rattle.tool_run.specs.Transcript.{Verdict, Accepted, Refused, judged, Judges, ArePeers, IsBehind, Performance, onto, ends_at, continues_with, performed_from, world_of, first_play, performed, transcript, is_refused, accepted_bytes}
 

@@ -13,7 +13,7 @@ use Rattle.dccp_io.specs.Counts.{Rose}
 use Rattle.dccp_io.specs.Fronts.{TakesFront}
 use Rattle.dccp_io.specs.Lines.{LinesState, rest_of_input}
 use Rattle.dccp_io.specs.declared.lines.Stop.TheVariants as stop
-use Rattle.schedule_text.specs.declared.line.LineFault.{LineFault}
+use Rattle.tool_words.specs.declared.faults.LineFault.{LineFault}
 use Rattle.tool_replay.specs.declared.lines.Turn.{Turn}
 use Rattle.tool_replay.specs.declared.lines.Turn.TheVariants as turn
 use Rattle.tool_run.specs.declared.play.Play.{Play}
@@ -21,7 +21,7 @@ use Rattle.tool_output.specs.declared.status.Status.{Status}
 use Rattle.tool_output.specs.declared.status.Status.TheVariants as status
 use Rattle.tool_replay.specs.Loops.{Leaves, GoesThrough}
 use Rattle.tool_run.specs.Plays.{Plays}
-use Rattle.tool_replay.specs.EndLines.{refusal_line}
+use Rattle.tool_words.specs.Refusals.{refusal_line}
 use Rattle.tool_run.specs.WorldLines.{end_lines}
 use Rattle.tool_output.specs.Ends.{HasBegun, IsAnswered, IsMovedOut}
 use Rattle.tool_run.specs.Transcript.{ArePeers, first_play, performed, world_of, transcript, is_refused, accepted_bytes, SafeThroughout}

@@ -5,13 +5,13 @@ use Rattle.dccp_io.specs.Lines.{LinesState, Finds, rest_of_input, ends_within, f
 use Rattle.dccp_io.specs.declared.lines.Stop.{Stop}
 use Rattle.dccp_io.specs.declared.lines.Stop.TheVariants as stop
 use Rattle.dccp_io.proofs.LineList.{lines-cut}
-use Rattle.schedule_text.specs.declared.line.LineFault.{LineFault}
-use Rattle.schedule_text.specs.declared.line.LineWhy.TheVariants as why
+use Rattle.tool_words.specs.declared.faults.LineFault.{LineFault}
+use Rattle.tool_words.specs.declared.faults.LineWhy.TheVariants as why
 use Rattle.tool_output.specs.declared.status.Status.{Status}
 use Rattle.tool_output.specs.Ends.{HasBegun, IsAnswered, IsCutOff}
 use Rattle.tool_output.proofs.Ending.{not-both}
-use Rattle.tool_replay.specs.EndLines.{refusal_line}
-use Rattle.tool_replay.specs.Lines.{too_long, whole_line}
+use Rattle.tool_replay.specs.Lines.{too_long}
+use Rattle.tool_words.specs.Refusals.{refusal_line, whole_line}
 use Rattle.tool_replay.specs.Loops.{stopped, judged_turn, RefusesLine, Leaves, GoesThrough}
 use Rattle.tool_replay.proofs.FirstLine.{is-long, is-much}
 use Rattle.tool_replay.proofs.ReplayTurning.{blames, refuses-line, refuses-stopped}

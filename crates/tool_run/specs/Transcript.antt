@@ -24,13 +24,13 @@ use Rattle.schedule_text.specs.Reading.{read_line}
 use Rattle.schedule_text.specs.Results.{seen_line}
 use Rattle.schedule_text.specs.declared.line.Line.{Line}
 use Rattle.schedule_text.specs.declared.line.Line.TheVariants as line
-use Rattle.schedule_text.specs.declared.line.LineFault.{LineFault}
-use Rattle.schedule_text.specs.declared.line.LineWhy.{LineWhy}
-use Rattle.schedule_text.specs.declared.line.LineWhy.TheVariants as why
+use Rattle.tool_words.specs.declared.faults.LineFault.{LineFault}
+use Rattle.tool_words.specs.declared.faults.LineWhy.{LineWhy}
+use Rattle.tool_words.specs.declared.faults.LineWhy.TheVariants as why
 use Rattle.tool_run.specs.declared.play.Play.{Play}
 use Rattle.dccp_io.specs.Lines.{ends_within, lines_of}
-use Rattle.tool_replay.specs.EndLines.{refusal_line}
-use Rattle.tool_replay.specs.Lines.{without_newline, whole_line}
+use Rattle.tool_replay.specs.Lines.{without_newline}
+use Rattle.tool_words.specs.Refusals.{refusal_line, whole_line}
 use Rattle.tool_replay.specs.Replay.{config_without_offers}
 use Rattle.tool_run.specs.WorldLines.{arrived, sent_line, end_lines}
 

@@ -1,7 +1,7 @@
 //! A schedule while it is played.
 ghost use Rattle.std.specs.Prelude.{◌≡◌, ◌++◌, ◌+◌, ◌^◌, ◌<◌, length, ℕ, List, is_some, if◌then◌else◌, IfOk, OnOk, Some, Ok, Err};
 ghost use Rattle.tool_run.specs.WorldLines.{end_lines};
-ghost use Rattle.tool_replay.specs.Lines.{whole_line};
+ghost use Rattle.tool_words.specs.Refusals.{whole_line};
 ghost use Rattle.tool_replay.specs.Replay.{config_without_offers};
 ghost use Rattle.tool_run.specs.Transcript.{first_play, starts, world_of, ArePeers, IsReady, IsBehind, ShowsEvent, event_shown, Judges, judged, by_line, behind};
 ghost use Rattle.tool_run.specs.Transcript.{configures, says_plain, with_iss, with_set, with_offered, wishing, offering, in_place, says_event, no_such_frame};
@@ -13,10 +13,11 @@ use crate::world_lines::{arrived, put_end_lines, put_sent_line};
 use ccid_two::Kinds;
 use dccp_endpoint::{Config, Role};
 use feature_lists::{Feature, Place};
-use schedule_text::{Line, LineFault, LineWhy, print_seen, read_line_into};
+use schedule_text::{Line, print_seen, read_line_into};
 use seq_circle::{NoMemory, Seq48};
 use std::alloc::Global;
-use tool_replay::{ends_within, whole_line, without_newline};
+use tool_replay::{ends_within, without_newline};
+use tool_words::{LineFault, LineWhy, whole_line};
 use two_ends::{Event, Side, World, WorldFault};
 
 const MOST_EVENTS: u32 = 16_384;
