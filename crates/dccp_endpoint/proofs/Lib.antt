@@ -15,6 +15,7 @@ pub mod Deriving
 pub mod Walking
 pub mod Calling
 pub mod Exactly
+pub mod Dropped
 pub mod Staying
 pub mod Wishes
 pub mod Writing
