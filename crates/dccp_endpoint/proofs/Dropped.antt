@@ -1,5 +1,5 @@
 -- A packet that is dropped leaves the end and its congestion control as they were, and nothing goes out.
-use Rattle.std.proofs.Common.{◌≡◌, refl, ap, sym, ◌∙◌, subst, List, [], Option, None, ℕ}
+use Rattle.std.proofs.Common.{◌≡◌, refl, ap, sym, ◌∙◌, subst, List, [], None, ℕ}
 use Rattle.congestion_trait.specs.Calls.{Call}
 use Rattle.congestion_trait.specs.Control.{Control}
 use Rattle.dccp_endpoint.specs.Controlled.{EndStep, after_calls, with_control}

@@ -9,6 +9,7 @@ pub mod OneRow
 pub mod Room
 pub mod Lawful
 pub mod OneConfirm
+pub mod FirstFaults
 pub mod Keys
 pub mod OwnPackets
 pub mod Deriving
