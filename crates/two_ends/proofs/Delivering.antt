@@ -1,5 +1,5 @@
 -- What a step delivers are the data of the frame that arrives, which it processes by that; so none is delivered twice.
-use Rattle.std.proofs.Common.{◌≡◌, ◌≢◌, ◌⊎◌, refl, ap, sym, ◌∙◌, subst, ℕ, zero, suc, ◌+◌, ◌-◌, ◌^◌, ◌<◌, ◌≤◌, nat_lt, Bool, true, false, List, [], ◌∷◌, ◌++◌, Option, Some, None, Result, Ok, Err, slice_get, length, length-append, drop, if◌then◌else◌, arith, inl, inr}
+use Rattle.std.proofs.Common.{◌≡◌, ◌≢◌, ◌⊎◌, refl, ap, sym, ◌∙◌, subst, ℕ, zero, suc, ◌+◌, ◌-◌, ◌^◌, ◌<◌, ◌≤◌, nat_lt, not, Bool, true, false, List, [], ◌∷◌, ◌++◌, Option, Some, None, Result, Ok, Err, slice_get, length, length-append, drop, if◌then◌else◌, arith, inl, inr}
 use Rattle.std.proofs.lemmas.Bool.{and_parts}
 use Rattle.std.proofs.lemmas.List.{append_assoc, drop_at, get_or_append_left, get_or_push}
 use Rattle.std.proofs.lemmas.List.Elements.{Contains-append_left, Contains-push}
@@ -10,28 +10,24 @@ use Rattle.std.specs.Result.{result_ok}
 use Rattle.ack_vectors.specs.Kept.{Kept as KeptNumbers}
 use Rattle.congestion_trait.specs.Control.{Control}
 use Rattle.dccp_endpoint.proofs.Deriving.{Told}
-use Rattle.dccp_endpoint.proofs.Phases.{accept-so, answer-so}
+use Rattle.dccp_endpoint.proofs.Phases.{accept-so, answer-so, check-live}
 use Rattle.dccp_endpoint.proofs.Walking.{told_of_step}
 use Rattle.dccp_endpoint.specs.Calling.{aborts, closes, opens, prefers, sends_payload}
-use Rattle.dccp_endpoint.specs.Causes.{Came, EveryStepHasOneEffect, IsHearing, Keeps as KeepsHeard, Starts, Raises, entrance_of}
-use Rattle.dccp_endpoint.specs.Effects.{Effect, Hearing, Heard, Taken, begun_or, count_by, end_after}
+use Rattle.dccp_endpoint.specs.Causes.{AreTurns, Came, EveryStepHasOneEffect}
+use Rattle.dccp_endpoint.specs.Effects.{Effect, Heard, Taken, count_by}
 use Rattle.dccp_endpoint.specs.End.{EndState, marked_of}
-use Rattle.dccp_endpoint.specs.Incoming.{Incoming, incoming}
+use Rattle.dccp_endpoint.specs.Incoming.{Incoming}
 use Rattle.dccp_endpoint.specs.Inputs.{Answer, Arrives, Input, end_stepped}
 use Rattle.dccp_endpoint.specs.Inputs as input
-use Rattle.dccp_endpoint.specs.Outcomes.{HasCause, HasForm, IsTaken, IsTaking, IsValid, OpensConnection, ResponseToRequest, PacketInWindow}
+use Rattle.dccp_endpoint.specs.Outcomes.{HasCause, HasForm, IsTaken, IsValid, OpensConnection, ResponseToRequest, PacketInWindow, hears_first}
 use Rattle.dccp_endpoint.specs.Receiving.{receives}
 use Rattle.dccp_endpoint.specs.Reporting.{carries_data, delivered_if, is_new, one_more_taken}
 use Rattle.dccp_endpoint.specs.Steps.{Step}
 use Rattle.dccp_packets.proofs.TableLemmas.{read_table}
 use Rattle.dccp_packets.specs.Grammar.{Parts, decoded, packet_type}
 use Rattle.dccp_packets.specs.Kinds.{value_of}
-use Rattle.dccp_packets.specs.declared.header.Number.{Number}
-use Rattle.dccp_packets.specs.declared.header.Number.TheVariants.{Long}
 use Rattle.dccp_packets.specs.declared.header.PacketType.{PacketType}
 use Rattle.dccp_packets.specs.declared.header.PacketType.TheVariants as types
-use Rattle.dccp_states.specs.declared.entrance.Entrance.TheVariants as entrance
-use Rattle.dccp_states.specs.declared.phase.Phase.{Phase}
 use Rattle.end_answers.specs.declared.outcome.Outcome.{Outcome}
 use Rattle.end_answers.specs.declared.outcome.Outcome.TheVariants.{Took}
 use Rattle.run_list.specs.MarkedSet.{answer_to}
@@ -52,7 +48,6 @@ use Rattle.two_ends.specs.Frames.{number_of_frame, packet_number, packet_of}
 use Rattle.two_ends.specs.World.{Half, HalfStep, Said, WorldState, WorldStep, delivers_frame, half_of, half_steps, happens, is_full, newly_processed, number_if, seen_of, seen_of_call, unless_full, with_half, world_after}
 use Rattle.two_ends.proofs.Acting.{IsHeld, Refused, Steps, Takes, event-taken}
 use Rattle.two_ends.proofs.Keeping.{SideInvariant, held-once, kept-proper, marked-few, step-kept}
-use Rattle.two_ends.proofs.ReadBack.{the-packet}
 use Rattle.two_ends.proofs.Reaching.{world-after}
 use Rattle.two_ends.proofs.Shown.{or-any}
 
@@ -69,20 +64,6 @@ payload-lies bytes p read =
           ∙ drop_at (is.fixed ++ p.options) p.payload (length bytes - length p.payload) (omega (arith, size)),
     )
 
--- one packet comes at a time
-came-same : (e : EndState) (given : Input) (a b : Incoming) → Came e given a → Came e given b → a ≡ b
-came-same e given a b one two =
-    let input_is : Input.Arrives one.bytes ≡ Arrives two.bytes = sym one.is_given ∙ two.is_given in
-    let bytes : one.bytes ≡ two.bytes = cc input_is in
-    let packet : one.packet ≡ two.packet = the-packet e given a one two.packet (ap packet_of bytes ∙ ap result_ok two.is_packet) in
-    let long : Number.Long one.number ≡ Long two.number = sym one.is_long ∙ ap (λ (p : Parts). p.header.number) packet ∙ two.is_long in
-    let number : one.number ≡ two.number = cc long in
-    one.same
-    ∙ ap (λ (bs : List ℕ). incoming e bs one.packet one.number) bytes
-    ∙ ap (λ (p : Parts). incoming e two.bytes p one.number) packet
-    ∙ ap (incoming e two.bytes two.packet) number
-    ∙ sym two.same
-
 delivered-so : (b : Bool) (at place : ℕ × ℕ) → Some place ≡ delivered_if b at → (b ≡ true) × (place ≡ at)
 delivered-so true at place is = (refl, same_Some place at is)
 delivered-so false at place is = cc is
@@ -94,34 +75,31 @@ no-data t which loaded =
       | inr is ↦ let none : carries_data types.Response ≡ true = ap carries_data (sym is) ∙ loaded in cc none
     ]
 
--- the entrances of first packets are those of packets without data
-first-dataless : (e : EndState) (a : Incoming) → (entrance_of e a ≡ entrance.Accept) ⊎ (entrance_of e a ≡ entrance.InRequest) → a.kind ≢ types.Reset
-    → carries_data a.kind ≡ true → ⊥
-first-dataless e a which other loaded =
-    no-data a.kind
-    (elim which [
-      | inl is ↦ inl (accept-so e.phase a.kind is).1
-      | inr is ↦ inr ((answer-so e.phase a.kind is).1 other)
-    ])
-    loaded
-
 -- A packet with data is a later one.
-in-window : (e : EndState) (a : Incoming) (entered : EndState) → IsValid e a entered → carries_data a.kind ≡ true → entered.received ≡ e.received
+in-window : (e : EndState) (a : Incoming) (entered : EndState) → IsValid e a entered → carries_data a.kind ≡ true
+    → (entered.received ≡ e.received) × (hears_first e ≡ false)
 in-window e a entered (OpensConnection is ours same) loaded =
     absurd (no-data a.kind (inl (accept-so e.phase a.kind is).1) loaded)
 in-window e a entered (ResponseToRequest is no_reset fits same) loaded =
     absurd (no-data a.kind (inr ((answer-so e.phase a.kind is).1 no_reset)) loaded)
-in-window e a entered (PacketInWindow is no_reset fits same) loaded = ap (λ (x : EndState). x.received) same
-
-heard-later : (e : EndState) (given : Input) (phase : Phase) (h : Hearing) → IsHearing e given phase h → (a : Incoming) → Came e given a
-    → carries_data a.kind ≡ true → (first : Bool) (number : ℕ) → h ≡ Heard first number Taken → first ≡ false
-heard-later e given phase _ (KeepsHeard live) a came loaded first number is = cc is
-heard-later e given phase _ (Starts b how came_there other which taken fits) a came loaded first number is =
-    absurd (first-dataless e b which other (ap (λ (x : Incoming). carries_data x.kind) (came-same e given b a came_there came) ∙ loaded))
-heard-later e given phase _ (Raises b how came_there other checked valid fits) a came loaded first number is = cc is
+in-window e a entered (PacketInWindow is no_reset fits same) loaded =
+    (ap (λ (x : EndState). x.received) same, ap not (check-live e.phase a.kind is))
 
 rose : (n : ℕ) → n ≤ 2 ^ 47 → nat_lt n (one_more_taken n true) ≡ true
 rose n few = grind arith
+
+-- What was taken, and that it was heard.
+record IsTakenAt (e : EndState) (bytes : List ℕ) (f : Effect) (place : ℕ × ℕ) : Type 0 where
+  delivered : Option (ℕ × ℕ)
+  taken : IsTaken e bytes delivered
+  is_place : Some place ≡ delivered
+  heard : f.hearing ≡ Heard (hears_first e) taken.packet.number Taken
+
+taken-at : (e : EndState) (bytes : List ℕ) (o : Outcome) (cause : HasCause e bytes o) (f : Effect) (turns : AreTurns e (Arrives bytes) f.hearing f.turns)
+    → HasForm e bytes o cause f turns → (place : ℕ × ℕ) → o ≡ Took (Some place) → IsTakenAt e bytes f place
+taken-at e bytes (Took delivered) cause f turns form place is =
+    record { delivered = delivered; taken = cause; is_place = (let same : delivered ≡ Some place = cc is in sym same); heard = form.heard }
+taken-at e bytes _ cause f turns form place is = cc is
 
 -- Data that an end delivers.
 record IsDelivering (half : Half) (bytes : List ℕ) (place : ℕ × ℕ) : Type 0 where
@@ -147,11 +125,11 @@ module _ (w : WorldState) (h : IsHeld SideInvariant w) (side : Side) (bytes : Li
   abbrev f : Effect
   f = told.effect.effect
 
-  taken : IsTaken e bytes (Some place)
-  taken = subst (HasCause e bytes) took told.cause
+  was : IsTakenAt e bytes f place
+  was = taken-at e bytes step.answer told.effect.cause f told.effect.because.turns told.effect.form place took
 
-  form : IsTaking e (Arrives bytes) (Some place) f told.effect.because.turns.confirms
-  form = subst (λ (o : Outcome). HasForm e (Arrives bytes) o f told.effect.because.turns.confirms) took told.effect.form
+  abbrev taken : IsTaken e bytes was.delivered
+  taken = was.taken
 
   abbrev a : Incoming
   a = taken.packet
@@ -176,7 +154,7 @@ module _ (w : WorldState) (h : IsHeld SideInvariant w) (side : Side) (bytes : Li
 
   whole : (carries_data a.kind ≡ true) × ((is_new (answer_to taken.entered.received.set a.number) ≡ true) × (place ≡ a.data_place))
   whole =
-      let so = delivered-so _ a.data_place place taken.delivery in
+      let so = delivered-so _ a.data_place place (was.is_place ∙ taken.delivery) in
       let parts = and_parts (carries_data a.kind) _ so.0 in
       (parts.0, ((and_parts _ _ parts.1).1, so.1))
 
@@ -187,20 +165,15 @@ module _ (w : WorldState) (h : IsHeld SideInvariant w) (side : Side) (bytes : Li
   place-is = whole.1.1 ∙ ap (λ (x : Incoming). x.data_place) came.same
       ∙ ap (λ (bs : List ℕ). (length bs - length p.payload, length bs)) (sym same-bytes)
 
-  later : form.first ≡ false
-  later = heard-later e (Arrives bytes) f.phase f.hearing told.effect.because.hears a came whole.0 form.first form.packet.number form.heard
-
-  its-number : form.packet.number ≡ a.number
-  its-number = ap (λ (x : Incoming). x.number) (came-same e (Arrives bytes) form.packet a form.came came)
+  window : (taken.entered.received ≡ e.received) × (hears_first e ≡ false)
+  window = in-window e a taken.entered taken.admitted.valid.is_valid whole.0
 
   marked-is : marked_of step.after ≡ one_more_taken e.marked true
   marked-is =
       ap marked_of told.effect.after_is
-      ∙ ap (count_by e.marked e.received) form.heard
-      ∙ ap (λ (first : Bool). count_by e.marked e.received (Heard first form.packet.number Taken)) later
-      ∙ ap (λ (n : ℕ). one_more_taken e.marked (is_new (answer_to e.received.set n))) its-number
-      ∙ ap (λ (k : KeptNumbers). one_more_taken e.marked (is_new (answer_to k.set a.number)))
-      (sym (in-window e a taken.entered taken.admitted.valid.is_valid whole.0))
+      ∙ ap (count_by e.marked e.received) was.heard
+      ∙ ap (λ (first : Bool). count_by e.marked e.received (Heard first a.number Taken)) window.1
+      ∙ ap (λ (k : KeptNumbers). one_more_taken e.marked (is_new (answer_to k.set a.number))) (sym window.0)
       ∙ ap (one_more_taken e.marked) whole.1.0
 
   newly-is : newly_processed e (Arrives bytes) step.after ≡ value_of p.header.number ∷ []
@@ -215,9 +188,9 @@ module _ (w : WorldState) (h : IsHeld SideInvariant w) (side : Side) (bytes : Li
         packet = p;
         is_packet = ap result_ok is-decoded;
         has_data = ap carries_data (sym kind-is) ∙ whole.0;
-        begins = subst (λ (at : ℕ × ℕ). at.0 ≤ at.1) (sym place-is) (omega (arith, lies.0));
-        ends = ap (λ (at : ℕ × ℕ). at.1) place-is;
-        are_its_data = ap (λ (at : ℕ × ℕ). drop at.0 bytes) place-is ∙ lies.1;
+        begins = subst (λ (lies_at : ℕ × ℕ). lies_at.0 ≤ lies_at.1) (sym place-is) (omega (arith, lies.0));
+        ends = ap (λ (lies_at : ℕ × ℕ). lies_at.1) place-is;
+        are_its_data = ap (λ (lies_at : ℕ × ℕ). drop lies_at.0 bytes) place-is ∙ lies.1;
         newly = newly-is;
       }
 
@@ -397,8 +370,8 @@ named-one from index place (suc i) named there = cc there
 
 module _ {C : Type 0} (control : Control C) where
   controlled-world : (w : Controlled C) (side : Side) (step : WorldStep) → (controlled control w side step).world ≡ step.world
-  controlled-world w Client step = refl
-  controlled-world w Server step = refl
+  controlled-world w Client taking = refl
+  controlled-world w Server taking = refl
 
   controls-by : (w : Controlled C) → IsHeld SideInvariant w.world → (e : Event) (said : Said) (r : Result WorldStep WorldFault)
       → happens w.world e said ≡ r → (new : Controlled C) (seen : Seen)

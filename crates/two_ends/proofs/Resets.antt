@@ -9,17 +9,17 @@ use Rattle.dccp_states.specs.declared.phase.Phase.{Phase}
 use Rattle.dccp_states.specs.declared.phase.Phase.TheVariants as phases
 use Rattle.dccp_endpoint.proofs.Deriving.{Told}
 use Rattle.dccp_endpoint.proofs.Walking.{told_of_step}
-use Rattle.dccp_endpoint.specs.Causes.{Came, IsHearing, Keeps, Starts, Raises}
+use Rattle.dccp_endpoint.specs.Causes.{AreTurns, Came, IsHearing, Keeps, Starts, Raises}
 use Rattle.dccp_endpoint.specs.Drafts.{alone}
-use Rattle.dccp_endpoint.specs.Effects.{Effect, Hearing, Unheard, Heard, Sending, Silent, Next, WithoutConnection, effect_of_sending, end_after, is_acking_sent}
+use Rattle.dccp_endpoint.specs.Effects.{Effect, Hearing, Unheard, Heard, Passing, Refused, Shut, Taken, Sending, Silent, Next, effect_of_sending, end_after, is_acking_sent}
 use Rattle.dccp_endpoint.specs.End.{EndState, IsProper}
-use Rattle.dccp_endpoint.specs.Heeding.{Due}
 use Rattle.dccp_endpoint.specs.Incoming.{Incoming}
 use Rattle.dccp_endpoint.specs.Inputs.{Arrives, Input}
-use Rattle.dccp_endpoint.specs.Outcomes.{HasForm, SyncsInvalid, SyncsUnexpected, Refusing, Correcting, Closing, Answering}
+use Rattle.dccp_endpoint.specs.Outcomes.{AnswersClose, Faulted, HasCause, HasForm, IsReset, IsSynced, NoAnswer, NoConnection, OtherService, OutOfWindow, Unexpected, WrongService, effect_of_reset, effect_of_sync, hears_first}
 use Rattle.dccp_endpoint.specs.Receiving.{receives}
 use Rattle.dccp_endpoint.specs.Reporting.{recorded_by, sends_vectors}
 use Rattle.dccp_endpoint.specs.Steps.{Step, next_number}
+use Rattle.end_answers.specs.declared.outcome.Fault.{Fault}
 use Rattle.end_answers.specs.declared.outcome.Outcome.{Outcome}
 use Rattle.end_answers.specs.declared.outcome.Outcome.TheVariants.{Took, Dropped, Synced, WasReset, SentReset}
 use Rattle.two_ends.specs.Frames.{is_reset, packet_of}
@@ -62,22 +62,39 @@ module _ (e : EndState) where
         marked = refl;
       }
 
+  abbrev IsQuiet : Effect → Type 0
+  IsQuiet f = f.hearing ≡ Unheard → KeepsReceived e (end_after e f)
+
   -- Whatever comes of a packet of which nothing is heard, leaves what was received.
-  quiet : (bytes : List ℕ) (o : Outcome) (f : Effect) (confirms : List Due) → HasForm e (Arrives bytes) o f confirms → f.hearing ≡ Unheard
-      → KeepsReceived e (end_after e f)
-  quiet bytes (Dropped why) f confirms form none =
-      subst (λ (g : Effect). KeepsReceived e (end_after e g)) (sym form) (still e.phase Silent refl)
-  quiet bytes (Synced number) _ confirms SyncsInvalid none = still e.phase (Next (alone (kind.Sync number))) refl
-  quiet bytes (Synced number) _ confirms (SyncsUnexpected ack) none = cc none
-  quiet bytes (WasReset code) f confirms form none =
+  as-sent : (f : Effect) (s : Sending) → is_acking_sent s ≡ false → f ≡ effect_of_sending e s → IsQuiet f
+  as-sent f s plain form none = subst (λ (g : Effect). KeepsReceived e (end_after e g)) (sym form) (still e.phase s plain)
+
+  as-heard : (f g : Effect) (first : Bool) (number : ℕ) (how : Passing) → g.hearing ≡ Heard first number how → f ≡ g → IsQuiet f
+  as-heard f g first number how heard form none =
+      let both : Hearing.Unheard ≡ Heard first number how = sym none ∙ ap (λ (x : Effect). x.hearing) form ∙ heard in
+      cc both
+
+  quiet-sync : (bytes : List ℕ) (number : ℕ) (cause : IsSynced e bytes number) (f : Effect) → f ≡ effect_of_sync e bytes number cause → IsQuiet f
+  quiet-sync bytes number (OutOfWindow a came check bad) f form = as-sent f (Next (alone (kind.Sync number))) refl form
+  quiet-sync bytes number (Unexpected a entered valid out same) f form = as-heard f _ (hears_first e) a.number Refused refl form
+
+  quiet-reset : (bytes : List ℕ) (fault : Fault) (why : IsReset e bytes fault) (f : Effect) → f ≡ effect_of_reset e bytes fault why → IsQuiet f
+  quiet-reset bytes fault (NoConnection a came is) f form = as-sent f _ refl form
+  quiet-reset bytes fault (OtherService a came is other) f form = as-sent f _ refl form
+  quiet-reset bytes fault (NoAnswer a came no_answer) f form = as-sent f _ refl form
+  quiet-reset bytes fault (WrongService a entered valid expected other) f form = as-heard f _ (hears_first e) a.number Shut refl form
+  quiet-reset bytes fault (Faulted a entered first admitted is) f form = as-heard f _ (hears_first e) a.number Shut refl form
+  quiet-reset bytes fault (AnswersClose a entered h to admitted is row) f form = as-heard f _ (hears_first e) a.number Taken refl form
+
+  quiet : (bytes : List ℕ) (o : Outcome) (cause : HasCause e bytes o) (f : Effect) (turns : AreTurns e (Arrives bytes) f.hearing f.turns)
+      → HasForm e bytes o cause f turns → IsQuiet f
+  quiet bytes (Dropped why) cause f turns form none = as-sent f Silent refl form none
+  quiet bytes (Synced number) cause f turns form none = quiet-sync bytes number cause f form none
+  quiet bytes (WasReset code) cause f turns form none =
       subst (λ (g : Effect). KeepsReceived e (end_after e g)) (sym form) (still phases.TimeWait Silent refl)
-  quiet bytes (SentReset code detail) _ confirms (Refusing number ack is) none =
-      still e.phase (WithoutConnection number (kind.Reset ack code detail)) refl
-  quiet bytes (SentReset code detail) _ confirms (Correcting ack is) none = still e.phase (Next (alone (kind.Reset ack code detail))) refl
-  quiet bytes (SentReset code detail) _ confirms (Closing first number ack) none = cc none
-  quiet bytes (SentReset code detail) _ confirms (Answering packet heeding first ack came read is) none = cc none
-  quiet bytes (Took delivered) f confirms form none =
-      let heard = sym none ∙ form.heard in
+  quiet bytes (SentReset code detail) cause f turns form none = quiet-reset bytes cause.fault cause.why f form none
+  quiet bytes (Took delivered) cause f turns form none =
+      let heard : Hearing.Unheard ≡ Heard (hears_first e) cause.packet.number Taken = sym none ∙ form.heard in
       cc heard
 
 pub resets-move-nothing : (e : EndState) → IsProper e → ResetsMoveNothing e
@@ -85,4 +102,4 @@ resets-move-nothing e proper bytes p read is =
     let told : Told e bytes (receives e bytes) = told_of_step e bytes (receives e bytes) proper refl in
     let f : Effect = told.effect.effect in
     let none = unheard e (Arrives bytes) f.phase (λ a came. came-reset e bytes p a read is came) f.hearing told.effect.because.hears in
-    subst (KeepsReceived e) (sym told.effect.after_is) (quiet e bytes (receives e bytes).answer f told.effect.because.turns.confirms told.effect.form none)
+    subst (KeepsReceived e) (sym told.effect.after_is) (quiet e bytes (receives e bytes).answer told.effect.cause f told.effect.because.turns told.effect.form none)
