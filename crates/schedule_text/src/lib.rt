@@ -13,7 +13,6 @@ mod names;
 mod numbers;
 mod printing;
 mod reading;
-mod text;
 mod words;
 
 pub use crate::frames::read_frame;
@@ -22,7 +21,7 @@ pub use crate::laws::{
     the_first_fault_of_a_frame_is_answered, words_stand_at_their_columns,
 };
 pub use crate::line::{FrameLine, Line, LineFault, LineWhy};
-pub use crate::printing::{print_event, print_result, print_seen};
+pub use crate::printing::{print_event, print_result, print_seen, side_name};
 pub use crate::reading::{read_line, read_line_into};
 pub use end_answers::Timer;
 pub use world_events::{Event, Payload, Refusal, Seen, Values};

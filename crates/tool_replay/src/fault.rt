@@ -5,7 +5,7 @@ ghost use Rattle.tool_replay.specs.EndLines.{refusal_line};
 
 use schedule_text::{LineFault, LineWhy};
 use seq_circle::NoMemory;
-use tool_output::{put, put_number};
+use tool_text::{put, put_number};
 
 fn line_why_name(why: LineWhy) -> &'static [u8]
     ensures { result.now ≡ line_why_name why }
