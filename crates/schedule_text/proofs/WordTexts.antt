@@ -8,7 +8,7 @@ use Rattle.std.proofs.lemmas.Fmt.{decimal_by_steps}
 use Rattle.schedule_text.specs.declared.line.Line.TheVariants as line
 use Rattle.tool_words.specs.declared.faults.LineFault.{LineFault}
 use Rattle.tool_words.specs.declared.faults.LineWhy.TheVariants as why
-use Rattle.schedule_text.specs.Numbers.{is_digit}
+use Rattle.tool_text.specs.Numbers.{is_digit}
 use Rattle.schedule_text.specs.Words.{placed, words_left, words_of}
 use Rattle.schedule_text.specs.Reading.{◌>>◌, is_text, first_other, text_or_other, clean, says_nothing, read_clean, read_line, read_words}
 use Rattle.tool_words.specs.Refusals.{fault_at}

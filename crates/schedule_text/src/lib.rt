@@ -13,7 +13,6 @@ mod names;
 mod numbers;
 mod printing;
 mod reading;
-mod text;
 mod words;
 
 pub use crate::frames::read_frame;
@@ -23,7 +22,7 @@ pub use crate::laws::{
     words_stand_at_their_columns,
 };
 pub use crate::line::{FrameLine, Line};
-pub use crate::printing::{print_event, print_result, print_seen};
+pub use crate::printing::{print_event, print_result, print_seen, side_name};
 pub use crate::reading::{read_line, read_line_into};
 pub use end_answers::Timer;
 pub use tool_words::{LineFault, LineWhy};
