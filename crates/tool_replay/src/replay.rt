@@ -18,7 +18,7 @@ use dccp_sum::{Pseudo, seal};
 use schedule_text::{FrameLine, print_result, read_frame};
 use seq_circle::NoMemory;
 use std::alloc::Global;
-use tool_output::put;
+use tool_text::put;
 use tool_words::{LineFault, LineWhy, whole_line};
 use world_events::{Seen, Side};
 
