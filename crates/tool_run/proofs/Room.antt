@@ -8,7 +8,7 @@ use Rattle.dccp_endpoint.specs.Inputs.{Input, end_stepped}
 use Rattle.dccp_endpoint.specs.Inputs as input
 use Rattle.dccp_endpoint.specs.declared.config.Config.{Config}
 use Rattle.dccp_io.specs.Lines.{lines_of}
-use Rattle.schedule_text.specs.declared.line.LineFault.{LineFault}
+use Rattle.tool_words.specs.declared.faults.LineFault.{LineFault}
 use Rattle.tool_run.proofs.Running.{Turns, judged-turns}
 use Rattle.tool_run.specs.Transcript.{Verdict, Accepted, Refused, IsBehind, IsReady, SentFew, ShowsEvent, behind, by_step, continues_with, event_shown, first_play, judged, performed, performed_from, world_of, world_or_start}
 use Rattle.tool_run.specs.declared.play.Play.{Play}

@@ -11,8 +11,8 @@ use Rattle.dccp_states.specs.declared.phase.Role.TheVariants as role
 use Rattle.schedule_text.specs.Reading.{read_line}
 use Rattle.schedule_text.specs.declared.line.Line.{Line}
 use Rattle.schedule_text.specs.declared.line.Line.TheVariants as line
-use Rattle.schedule_text.specs.declared.line.LineFault.{LineFault}
-use Rattle.schedule_text.specs.declared.line.LineWhy.TheVariants as why
+use Rattle.tool_words.specs.declared.faults.LineFault.{LineFault}
+use Rattle.tool_words.specs.declared.faults.LineWhy.TheVariants as why
 use Rattle.tool_replay.specs.Lines.{whole_line, without_newline}
 use Rattle.tool_run.specs.Scenes.{Scene, scene_events, IsRun}
 use Rattle.tool_run.specs.Transcript.{Verdict, Accepted, Refused, Performance, by_line, by_scene, by_step, configures, continues_with, event_shown, first_play, judged, line_is_within, most_events, performed, performed_from, says_event, with_config, with_set, world_at_first, world_of, world_or_start}
