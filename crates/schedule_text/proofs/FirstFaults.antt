@@ -21,7 +21,8 @@ use Rattle.tool_words.specs.declared.faults.LineWhy.TheVariants as why
 use Rattle.schedule_text.specs.declared.names.Form.{Form}
 use Rattle.schedule_text.specs.declared.names.Form.TheVariants as form
 use Rattle.schedule_text.specs.Names.{form_named, side_named, place_named, timer_of}
-use Rattle.schedule_text.specs.Numbers.{number_below, indices, values_of, feature_of}
+use Rattle.schedule_text.specs.Numbers.{indices, values_of, feature_of}
+use Rattle.tool_text.specs.Numbers.{number_below}
 use Rattle.schedule_text.specs.Digits.{flaw_of}
 use Rattle.schedule_text.specs.Words.{WordAt, WordsLeft, first_word, later, words_of}
 use Rattle.schedule_text.specs.Reading.{◌>>=◌, ◌>>◌, present, needed, form_word, side_word, place_word, timer_word, number_word, feature_word, values_word, delivery, frame_index, named, name_word, digits_or_flaw, digits_word, hex_word, mandatory_first, mandatory_word, none_left, ended, wished, offered, plain_line, iss_line, set_line, offer_line, open_line, deliver_line, send_line, prefer_line, timer_line, close_line, abort_line, line_of, read_words, first_other, text_or_other, clean, says_nothing, read_clean, read_line}

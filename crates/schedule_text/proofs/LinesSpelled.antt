@@ -34,7 +34,7 @@ use Rattle.schedule_text.proofs.Spelling.{bind-ok, then-ok, with-step, end-ok, f
 
 -- Ends of lines
 
-end-then : {B : Type 0} (column absent : ℕ) (parts : List (List ℕ)) (next : Result B LineFault) (y : B) → (ended (words_left (placed column parts) absent) >> next) ≡ Ok y → (parts ≡ []) × (next ≡ Ok y)
+pub end-then : {B : Type 0} (column absent : ℕ) (parts : List (List ℕ)) (next : Result B LineFault) (y : B) → (ended (words_left (placed column parts) absent) >> next) ≡ Ok y → (parts ≡ []) × (next ≡ Ok y)
 end-then column absent [] next y is = (refl, is)
 end-then column absent (word ∷ rest) next y is = cc is
 
@@ -248,7 +248,7 @@ all-text : (from : ℕ) (text : List ℕ) → position_from (λ byte. not (is_te
 all-text from [] none = refl
 all-text from (byte ∷ rest) none = text-by from byte rest (is_text byte) none (all-text (from + 1) rest)
 
-record IsClean (text : List ℕ) : Type 0 where
+pub record IsClean (text : List ℕ) : Type 0 where
   pub short : length text ≤ 4096
   pub all : list_all is_text text ≡ true
 
@@ -256,10 +256,10 @@ other-none : (place : Option ℕ) → text_or_other place ≡ Ok tt → place �
 other-none None is = refl
 other-none (Some place) is = cc is
 
-not-long : (n : ℕ) → nat_lt 4096 n ≡ false → n ≤ 4096
+pub not-long : (n : ℕ) → nat_lt 4096 n ≡ false → n ≤ 4096
 not-long n is = grind (arith, nat_tests)
 
-clean-by : (text : List ℕ) (long : Bool) → (long ≡ false → length text ≤ 4096) → (if long then Err (fault_at 4097 why.LineTooLong) else text_or_other (first_other text)) ≡ Ok tt → IsClean text
+pub clean-by : (text : List ℕ) (long : Bool) → (long ≡ false → length text ≤ 4096) → (if long then Err (fault_at 4097 why.LineTooLong) else text_or_other (first_other text)) ≡ Ok tt → IsClean text
 clean-by text true means is = cc is
 clean-by text false means is = record { short = means refl; all = all-text 0 text (other-none (first_other text) is) }
 

@@ -12,7 +12,8 @@ use Rattle.tool_words.specs.declared.faults.LineWhy.TheVariants as why
 use Rattle.schedule_text.specs.declared.names.Form.{Form}
 use Rattle.schedule_text.specs.declared.names.Form.TheVariants as form
 use Rattle.schedule_text.specs.Names.{form_named, side_named, place_named, timer_of}
-use Rattle.schedule_text.specs.Numbers.{number_below, values_of, feature_of}
+use Rattle.schedule_text.specs.Numbers.{values_of, feature_of}
+use Rattle.tool_text.specs.Numbers.{number_below}
 use Rattle.schedule_text.specs.Digits.{flaw_of}
 use Rattle.schedule_text.specs.Words.{WordAt, WordsLeft, first_word, later, word_at, words_of}
 use Rattle.schedule_text.specs.Reading.{wish_fault, first_other, says_nothing}

@@ -22,7 +22,8 @@ use Rattle.tool_words.specs.declared.faults.LineWhy.TheVariants as why
 use Rattle.schedule_text.specs.declared.names.Form.{Form}
 use Rattle.schedule_text.specs.declared.names.Form.TheVariants as form
 use Rattle.schedule_text.specs.Names.{form_named, side_named, place_named, timer_of}
-use Rattle.schedule_text.specs.Numbers.{number_below, sequence_numbers, indices, values_of, feature_of}
+use Rattle.schedule_text.specs.Numbers.{sequence_numbers, indices, values_of, feature_of}
+use Rattle.tool_text.specs.Numbers.{number_below}
 use Rattle.schedule_text.specs.Digits.{flaw_of, bytes_of}
 use Rattle.schedule_text.specs.Words.{WordAt, WordsLeft, later_by, word_at, words_of}
 

@@ -3,7 +3,7 @@ ghost use Rattle.std.specs.Prelude.{◌≡◌, ◌++◌, OnOk};
 ghost use Rattle.tool_words.specs.Refusals.{refusal_line};
 
 use seq_circle::NoMemory;
-use tool_output::{put, put_number};
+use tool_text::{put, put_number};
 use tool_words::{LineFault, line_why_name};
 
 /// Puts the line of a refusal, under the number of the line that is refused.

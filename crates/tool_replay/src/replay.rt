@@ -19,8 +19,8 @@ use schedule_text::{FrameLine, print_result, read_frame};
 use seq_circle::NoMemory;
 use std::alloc::Global;
 use tool_lines::LineJob;
-use tool_output::put;
-use tool_words::{LineFault, LineWhy, whole_line};
+use tool_text::put;
+use tool_words::LineFault;
 use world_events::{Seen, Side};
 
 /// Where a replay stands.

@@ -3,7 +3,7 @@ ghost use Rattle.std.specs.Prelude.{◌≡◌, ◌++◌, ◌+◌, ◌^◌, ◌<�
 ghost use Rattle.tool_run.specs.WorldLines.{end_lines};
 ghost use Rattle.tool_words.specs.Refusals.{whole_line};
 ghost use Rattle.tool_replay.specs.Replay.{config_without_offers};
-ghost use Rattle.tool_run.specs.Transcript.{first_play, starts, world_of, ArePeers, IsReady, IsBehind, ShowsEvent, event_shown, Judges, judged, by_line, behind};
+ghost use Rattle.tool_run.specs.Transcript.{first_play, starts, world_of, ArePeers, IsReady, IsBehind, SentFew, ShowsEvent, event_shown, most_events, Judges, judged, by_line, behind};
 ghost use Rattle.tool_run.specs.Transcript.{configures, says_plain, with_iss, with_set, with_offered, wishing, offering, in_place, says_event, no_such_frame};
 ghost use Rattle.dccp_endpoint.specs.Drafts.{Fits};
 ghost use Rattle.feature_lists.specs.Wishes.{wish_of};
@@ -126,7 +126,8 @@ impl Play {
     }
 
     fn pass(&mut self, line: &[u8])
-        requires { IsReady self.old line.now }
+        requires number { self.old.number + 1 < 2 ^ 64 }
+        requires read { self.old.read + length line.now < 2 ^ 64 }
         ensures { self.new ≡ behind self.old line.now }
     {
         self.number += 1;
@@ -332,6 +333,7 @@ fn show_event(
     event: &Event,
     text: &mut Vec<u8>,
 ) -> Result<Result<(), LineFault>, NoMemory>
+    requires { SentFew world.old most_events }
     ensures { IfOk result (λ answer. ShowsEvent (event_shown number world.old event.now) text.old.items text.new.items world.new answer) }
 {
     let actor = event.actor();
@@ -344,7 +346,8 @@ fn show_event(
             Ok(Ok(()))
         }
         Err(WorldFault::NoSuchFrame) => Ok(Err(no_such_frame())),
-        Err(WorldFault::Full) => Ok(Err(whole_line(LineWhy::TooManyEvents))),
+        // An event sends one frame at most, and the events are few.
+        Err(WorldFault::Full) => unreachable!(),
         Err(WorldFault::NoMemory) => Err(NoMemory),
     }
 }
