@@ -2,7 +2,7 @@
 use Rattle.std.specs.Prelude.{◌≡◌, ◌≢◌, ℕ, ◌++◌, List, codes, Option}
 use Rattle.fault_campaign.specs.Totals.{totals}
 use Rattle.fault_campaign.specs.declared.report.Report.{Report}
-use Rattle.tool_output.specs.Text.{labelled_number}
+use Rattle.tool_text.specs.Text.{labelled_number}
 use Rattle.tool_output.specs.Ends.{HasBegun, HasTaken, IsCutOff, EndsForCause}
 use Rattle.tool_forms.specs.declared.campaign_words.Campaign.{Campaign}
 use Rattle.tool_output.specs.declared.status.Status.{Status}

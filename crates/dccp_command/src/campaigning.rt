@@ -10,7 +10,8 @@ use seq_circle::NoMemory;
 use std::alloc::Global;
 use std::thread::Threads;
 use tool_forms::Campaign;
-use tool_output::{Status, put, put_counted};
+use tool_output::Status;
+use tool_text::{put, put_counted};
 
 // Puts a count's line.
 fn put_count(text: &mut Vec<u8>, name: &[u8], count: u64) -> Result<(), NoMemory>

@@ -224,7 +224,7 @@ pub keys-distinct : (e : EndState) (given : Input) (heard offered preferred : Li
 keys-distinct e given heard _ _ confirms _ sound later Plain = none-distinct
 keys-distinct e given heard _ _ confirms _ sound later Offering =
     asking-distinct (turned e.rows (heard ++ offerings (is_confirmed confirms) every_place)) confirms later
-keys-distinct e given heard _ _ confirms _ sound later (Repeating no_turns no_confirms) = due-distinct e.rows sound
+keys-distinct e given heard _ _ confirms _ sound later (Repeating in_flight fired no_turns no_confirms) = due-distinct e.rows sound
 keys-distinct e given heard _ _ confirms _ sound later (PrefersNow k values wish is wants now no_turns no_confirms) = one-distinct k
 keys-distinct e given heard _ _ confirms _ sound later (PrefersLater k values wish is wants waits no_turns no_confirms) = none-distinct
 

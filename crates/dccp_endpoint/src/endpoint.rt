@@ -109,11 +109,11 @@ impl<C: Congestion> Endpoint<C> {
     ghost use Rattle.feature_lists.specs.declared.features.Place.TheVariants as place;
     ghost use Rattle.feature_lists.specs.declared.wishes.PreferFault.TheVariants as prefer;
     ghost use Rattle.run_list.specs.MarkedSet.{IsSound};
+    ghost use Rattle.validity_windows.specs.Windows.{InRange};
     ghost use Rattle.dccp_endpoint.specs.Calling.{aborts, applies, closes, fires, opens, prefers, sends_payload};
     ghost use Rattle.dccp_endpoint.specs.Controlled.{has_in_flight, in_flight_of, window_of, with_control};
-    ghost use Rattle.dccp_endpoint.specs.End.{floor_of, held_of, is_connected, marked_of, value_in};
-    ghost use Rattle.dccp_endpoint.specs.Inputs.{Arrives};
-    ghost use Rattle.dccp_endpoint.specs.Outcomes.{HasCause, HasEffectOf, HasNoOtherCause};
+    ghost use Rattle.dccp_endpoint.specs.End.{IsProper, floor_of, held_of, is_connected, marked_of, value_in};
+    ghost use Rattle.dccp_endpoint.specs.Outcomes.{HasCause, HasEffectOf, HasNoOtherCause, OnDropped};
     ghost use Rattle.dccp_endpoint.specs.Receiving.{receives};
     ghost use Rattle.end_answers.specs.declared.calls.Timer.TheVariants as timers;
 
@@ -124,9 +124,13 @@ impl<C: Congestion> Endpoint<C> {
         self.connection.phase()
     }
 
-    /// The first and greatest numbers sent and received, and the widths of the windows (RFC 4340, section 7.1).
+    /// The first and greatest numbers sent and received, and the widths of the windows (RFC 4340, section 7.1). The
+    /// widths are in their range, so that `Marks::windows` and `Marks::check` may be called on them; and the end is
+    /// proper, as an end always is.
     pub fn marks(&self) -> Marks
-        ensures { result ≡ self.now.state.marks }
+        ensures value { result ≡ self.now.state.marks }
+        ensures in_range { InRange result }
+        ensures proper { IsProper self.now.state }
     {
         self.connection.marks()
     }
@@ -332,7 +336,8 @@ impl<C: Congestion> Endpoint<C> {
         ensures step { record { after = self.new; frame = out.new; answer = result } ≡ with_control C.control self.old.congestion (receives self.old.state bytes.now) }
         ensures cause { HasCause self.old.state bytes.now result }
         ensures no_other_cause { HasNoOtherCause self.old.state bytes.now result }
-        ensures effect { HasEffectOf self.old.state (Arrives bytes.now) result self.new.state out.new (receives self.old.state bytes.now).calls }
+        ensures dropped { OnDropped result ((self.new ≡ self.old) × (out.new ≡ None)) }
+        ensures effect { HasEffectOf self.old.state bytes.now result self.new.state out.new (receives self.old.state bytes.now).calls }
     {
         self.connection.receive(bytes, out, &mut self.congestion)
     }

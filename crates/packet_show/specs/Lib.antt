@@ -1,5 +1,4 @@
 pub mod Flows
-pub mod Line
 pub mod Lines
 pub mod Names
 pub mod Network

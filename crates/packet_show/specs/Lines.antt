@@ -7,12 +7,13 @@ use Rattle.dccp_packets.specs.Grammar.{Parts, decoded, packet_type}
 use Rattle.dccp_packets.specs.Kinds.{is_data}
 use Rattle.dccp_options.specs.Grammar.{options_of}
 use Rattle.dccp_sum.specs.Checksum.{checked}
+use Rattle.tool_text.specs.Names.{malformed_name}
 use Rattle.capture_reader.specs.Records.{RecordParts}
 use Rattle.packet_show.specs.declared.flows.Shown.{Shown}
 use Rattle.packet_show.specs.declared.flows.Shown.TheVariants.{Line, Skipped}
 use Rattle.packet_show.specs.Network.{DatagramParts, carried}
 use Rattle.packet_show.specs.Flows.{Flow, flow_number, flow_of, with_flow}
-use Rattle.packet_show.specs.Names.{type_name, malformed_name, sum_name}
+use Rattle.packet_show.specs.Names.{type_name, sum_name}
 use Rattle.packet_show.specs.Text.{fraction_text, from_text, to_text, number_text, kind_text, options_text}
 
 -- a packet, apart from where its parts lie
@@ -36,11 +37,13 @@ abbrev pub stamp_text : RecordParts → List ℕ
 stamp_text entry =
     decimal entry.number ++ codes " " ++ decimal entry.seconds ++ codes "." ++ fraction_text entry.nanos entry.fraction
 
--- the flow's number and both ends
-abbrev pub ends_text : DatagramParts → Header → ℕ → List ℕ
-ends_text there header flow =
-    codes " flow " ++ decimal flow ++ codes " " ++ from_text there.pseudo ++ codes " " ++ decimal header.from
-    ++ codes " > " ++ to_text there.pseudo ++ codes " " ++ decimal header.to
+-- the flow's number, and the end that a packet goes from
+abbrev pub sender_text : DatagramParts → ℕ → ℕ → List ℕ
+sender_text there port flow = codes " flow " ++ decimal flow ++ codes " " ++ from_text there.pseudo ++ codes " " ++ decimal port
+
+-- the end that it goes to
+abbrev pub receiver_text : DatagramParts → ℕ → List ℕ
+receiver_text there port = codes " > " ++ to_text there.pseudo ++ codes " " ++ decimal port
 
 -- the type, the sequence number, and what the type alone carries
 abbrev pub header_text : Header → List ℕ
@@ -60,7 +63,7 @@ rest_text there packet =
 -- the line of a packet: its record, its flow and ends, its header, and then options, data and checksum
 abbrev pub packet_line : RecordParts → DatagramParts → Parts → ℕ → List ℕ
 packet_line entry there packet flow =
-    stamp_text entry ++ ends_text there packet.header flow ++ header_text packet.header ++ rest_text there packet
+    stamp_text entry ++ sender_text there packet.header.from flow ++ receiver_text there packet.header.to ++ header_text packet.header ++ rest_text there packet
 
 -- the line of bytes that are no packet: their record, and what is wrong with them
 abbrev pub malformed_line : RecordParts → Malformed → List ℕ

@@ -3,8 +3,6 @@ use Rattle.std.specs.Prelude.{ℕ, ◌&&◌, ◌==◌, nat_le, if◌then◌else�
 use Rattle.dccp_options.specs.Kinds as kinds
 use Rattle.dccp_packets.specs.declared.header.PacketType.{PacketType}
 use Rattle.dccp_packets.specs.declared.header.PacketType.TheVariants.{Request, Response, Data, Ack, DataAck, CloseReq, Close, Reset, Sync, SyncAck}
-use Rattle.dccp_packets.specs.declared.reading.Malformed.{Malformed}
-use Rattle.dccp_packets.specs.declared.reading.Malformed.TheVariants as faults
 use Rattle.dccp_sum.specs.declared.packet_sum.SumFault.{SumFault}
 use Rattle.dccp_sum.specs.declared.packet_sum.SumFault.TheVariants.{CoverageTooLarge, Wrong}
 use Rattle.packet_show.specs.declared.names.OptionForm.{OptionForm}
@@ -22,14 +20,6 @@ type_name Close = codes "Close"
 type_name Reset = codes "Reset"
 type_name Sync = codes "Sync"
 type_name SyncAck = codes "SyncAck"
-
--- why bytes are no packet
-abbrev pub malformed_name : Malformed → List ℕ
-malformed_name faults.Short = codes "Short"
-malformed_name faults.ReservedType = codes "ReservedType"
-malformed_name faults.OffsetSmall = codes "OffsetSmall"
-malformed_name faults.OffsetLarge = codes "OffsetLarge"
-malformed_name faults.ShortNumbers = codes "ShortNumbers"
 
 -- the verdict on a checksum (RFC 4340, section 9)
 abbrev pub sum_name : Result (Unit {0}) SumFault → List ℕ

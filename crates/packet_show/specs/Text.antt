@@ -1,6 +1,7 @@
 -- The parts of a line as texts (own).
-use Rattle.std.specs.Prelude.{ℕ, ◌-◌, Bool, ◌==◌, if◌then◌else◌, List, [], ◌∷◌, ◌++◌, length, take, drop, slice_index, codes, decimal, flat_map, Result, Ok, Err}
+use Rattle.std.specs.Prelude.{ℕ, ◌-◌, Bool, ◌==◌, if◌then◌else◌, List, [], ◌∷◌, ◌++◌, length, take, drop, slice_index, codes, decimal, Result, Ok, Err}
 use Rattle.hex.specs.Hex.{encode_lower}
+use Rattle.tool_text.specs.Text.{hex_or_dash, v4_text}
 use Rattle.dccp_packets.specs.declared.header.Number.{Number}
 use Rattle.dccp_packets.specs.declared.header.Number.TheVariants.{Long, Short}
 use Rattle.dccp_packets.specs.declared.header.Kind.{Kind}
@@ -13,15 +14,6 @@ use Rattle.packet_show.specs.declared.names.OptionForm.{OptionForm}
 use Rattle.packet_show.specs.declared.names.OptionForm.TheVariants as forms
 use Rattle.packet_show.specs.Names.{option_name, option_form}
 
--- a byte as two digits in lower-case hexadecimal
-abbrev pub byte_text : ℕ → List ℕ
-byte_text byte = encode_lower (byte ∷ [])
-
--- bytes in lower-case hexadecimal, or a dash where there are none
-abbrev pub hex_or_dash : List ℕ → List ℕ
-hex_or_dash [] = codes "-"
-hex_or_dash (byte ∷ bytes) = flat_map byte_text (byte ∷ bytes)
-
 -- zeros in front of a number's digits up to that many digits, at most nine; longer numbers stay whole
 abbrev pub zeros_before : ℕ → List ℕ → List ℕ
 zeros_before width digits = take (width - length digits) (codes "000000000")
@@ -33,12 +25,6 @@ width_of nanos = if nanos then 9 else 6
 -- the digits behind the point of a time, as many as its unit has
 abbrev pub fraction_text : Bool → ℕ → List ℕ
 fraction_text nanos fraction = zeros_before (width_of nanos) (decimal fraction) ++ decimal fraction
-
--- four numbers, parted by dots
-abbrev pub v4_text : List ℕ → List ℕ
-v4_text a =
-    decimal (slice_index a 0) ++ codes "." ++ decimal (slice_index a 1) ++ codes "."
-    ++ decimal (slice_index a 2) ++ codes "." ++ decimal (slice_index a 3)
 
 -- hexadecimal digits without the zeros in front, but never without a digit
 abbrev pub without_zeros : List ℕ → List ℕ

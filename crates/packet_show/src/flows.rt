@@ -6,7 +6,6 @@ ghost use Rattle.packet_show.specs.Network.{carried_by};
 ghost use Rattle.packet_show.specs.Flows.{version_of, from_end, to_end, is_lesser_end, flow_between, flow_of, flow_number, with_flow};
 ghost use Rattle.packet_show.specs.Lines.{shows, shows_packet, shows_malformed, parts_by, Shows};
 
-use crate::line::Line;
 use crate::network::{Datagram, carried};
 use crate::packet::{put_malformed, put_packet};
 use byteorder::{BigEndian, ByteOrder};
@@ -17,7 +16,6 @@ use indexmap::IndexSet;
 use seq_circle::NoMemory;
 use std::alloc::Global;
 use std::marker::Model;
-use std::mem;
 
 /// Whether a record has a line.
 #[derive(Clone, Copy, Debug, PartialEq, Eq)]
@@ -38,7 +36,6 @@ type Flow = (u8, End, End);
 /// either direction. Contracts see the list of flows.
 #[derive(Drop)]
 pub struct Flows {
-    alloc: Global,
     seen: IndexSet<Flow>,
 }
 
@@ -122,7 +119,6 @@ impl Flows {
         ensures { result ≡ [] }
     {
         Flows {
-            alloc,
             seen: IndexSet::new(alloc),
         }
     }
@@ -174,12 +170,11 @@ impl Flows {
     {
         let flow = flow_of(&there.pseudo, packet.header.from, packet.header.to);
         let number = self.flow_number(&flow);
-        let mut line = Line::new(mem::replace(to, Vec::new(self.alloc)));
-        if put_packet(&mut line, item, there, packet, number).is_err() || self.note(flow).is_err() {
-            *to = line.cancel();
+        let start = to.len();
+        if put_packet(to, item, there, packet, number).is_err() || self.note(flow).is_err() {
+            to.truncate(start);
             return Err(NoMemory);
         }
-        *to = line.finish();
         Ok(Shown::Line)
     }
 
@@ -193,12 +188,11 @@ impl Flows {
         ensures ok { IfOk result (λ shown. Shows (shows_malformed self.now (entry_of item.now) true fault) to.old.items to.new.items self.now shown) }
         ensures text_unchanged { OnErr result (to.new.items ≡ to.old.items) }
     {
-        let mut line = Line::new(mem::replace(to, Vec::new(self.alloc)));
-        if put_malformed(&mut line, item, fault).is_err() {
-            *to = line.cancel();
+        let start = to.len();
+        if put_malformed(to, item, fault).is_err() {
+            to.truncate(start);
             return Err(NoMemory);
         }
-        *to = line.finish();
         Ok(Shown::Line)
     }
 

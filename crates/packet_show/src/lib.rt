@@ -7,7 +7,6 @@
 
 mod flows;
 mod laws;
-mod line;
 mod names;
 mod network;
 mod numbers;

@@ -1,9 +1,9 @@
 //! Tables of names, a line a case.
 ghost use Rattle.std.specs.Prelude.{◌≡◌};
-ghost use Rattle.packet_show.specs.Names.{type_name, malformed_name, sum_name, option_name, option_form};
+ghost use Rattle.packet_show.specs.Names.{type_name, sum_name, option_name, option_form};
 
 use dccp_options::kinds;
-use dccp_packets::{Malformed, PacketType};
+use dccp_packets::PacketType;
 use dccp_sum::SumFault;
 
 // The first option type that is a CCID's own (RFC 4340, section 10.3).
@@ -23,18 +23,6 @@ pub(crate) fn type_name(packet_type: PacketType) -> &'static [u8]
         PacketType::Reset => b"Reset",
         PacketType::Sync => b"Sync",
         PacketType::SyncAck => b"SyncAck",
-    }
-}
-
-pub(crate) fn malformed_name(fault: Malformed) -> &'static [u8]
-    ensures { result.now ≡ malformed_name fault }
-{
-    match fault {
-        Malformed::Short => b"Short",
-        Malformed::ReservedType => b"ReservedType",
-        Malformed::OffsetSmall => b"OffsetSmall",
-        Malformed::OffsetLarge => b"OffsetLarge",
-        Malformed::ShortNumbers => b"ShortNumbers",
     }
 }
 

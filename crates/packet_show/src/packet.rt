@@ -1,13 +1,15 @@
 //! The line of a packet.
+#![tactic(auto, using(tool_text::proofs::Keeping::keeps_itself, tool_text::proofs::Keeping::keeps_on))]
+
 ghost use Rattle.std.specs.Prelude.{◌≡◌, ◌≤◌, ◌++◌, length, OnOk};
 ghost use Rattle.dccp_packets.specs.declared.header.Number.TheVariants.{Long};
 ghost use Rattle.capture_reader.specs.Records.{entry_of};
+ghost use Rattle.tool_text.specs.Text.{Keeps};
 ghost use Rattle.packet_show.specs.Network.{carried_by};
 ghost use Rattle.packet_show.specs.Text.{ack_text, service_text, code_text, kind_text};
-ghost use Rattle.packet_show.specs.Lines.{stamp_text, ends_text, header_text, sum_text, rest_text, packet_line, malformed_line, parts_by};
+ghost use Rattle.packet_show.specs.Lines.{stamp_text, sender_text, receiver_text, header_text, sum_text, rest_text, packet_line, malformed_line, parts_by};
 
-use crate::line::Line;
-use crate::names::{malformed_name, sum_name, type_name};
+use crate::names::{sum_name, type_name};
 use crate::network::Datagram;
 use crate::numbers::{put_fraction, put_from, put_sequence, put_to};
 use crate::options::put_options;
@@ -15,148 +17,148 @@ use capture_reader::Record;
 use dccp_packets::{Header, Kind, Malformed, Number, Packet};
 use dccp_sum::check;
 use seq_circle::{NoMemory, Seq48};
+use tool_text::{malformed_name, put, put_counted, put_named, put_number};
 
-fn put_stamp(line: &mut Line, item: &Record<'_>) -> Result<(), NoMemory>
-    ensures before { line.new.before ≡ line.old.before }
-    ensures ok { OnOk result (line.new.line ≡ line.old.line ++ stamp_text (entry_of item.now)) }
+fn put_stamp(text: &mut Vec<u8>, item: &Record<'_>) -> Result<(), NoMemory>
+    ensures ok { OnOk result (text.new.items ≡ text.old.items ++ stamp_text (entry_of item.now)) }
+    ensures front { Keeps text.old.items text.new.items }
 {
-    line.put_number(item.number)?;
-    line.put(b" ")?;
-    line.put_number(u64::from(item.seconds))?;
-    line.put(b".")?;
-    put_fraction(line, item.nanos, item.fraction)
+    put_number(text, item.number)?;
+    put_counted(text, b" ", u64::from(item.seconds))?;
+    put(text, b".")?;
+    put_fraction(text, item.nanos, item.fraction)
 }
 
-fn put_ends(
-    line: &mut Line,
+// Puts the flow's number, and the end that a packet goes from.
+fn put_sender(
+    text: &mut Vec<u8>,
     there: &Datagram<'_>,
-    header: &Header,
+    port: u16,
     flow: u64,
 ) -> Result<(), NoMemory>
-    ensures before { line.new.before ≡ line.old.before }
-    ensures ok { OnOk result (line.new.line ≡ line.old.line ++ ends_text (carried_by there.now) header.now flow) }
+    ensures ok { OnOk result (text.new.items ≡ text.old.items ++ sender_text (carried_by there.now) port flow) }
+    ensures front { Keeps text.old.items text.new.items }
 {
-    line.put(b" flow ")?;
-    line.put_number(flow)?;
-    line.put(b" ")?;
-    put_from(line, &there.pseudo)?;
-    line.put(b" ")?;
-    line.put_number(u64::from(header.from))?;
-    line.put(b" > ")?;
-    put_to(line, &there.pseudo)?;
-    line.put(b" ")?;
-    line.put_number(u64::from(header.to))
+    put_counted(text, b" flow ", flow)?;
+    put(text, b" ")?;
+    put_from(text, &there.pseudo)?;
+    put_counted(text, b" ", u64::from(port))?;
+    Ok(())
 }
 
-fn put_ack(line: &mut Line, ack: Number) -> Result<(), NoMemory>
-    ensures before { line.new.before ≡ line.old.before }
-    ensures ok { OnOk result (line.new.line ≡ line.old.line ++ ack_text ack) }
+// Puts the end that it goes to.
+fn put_receiver(text: &mut Vec<u8>, there: &Datagram<'_>, port: u16) -> Result<(), NoMemory>
+    ensures ok { OnOk result (text.new.items ≡ text.old.items ++ receiver_text (carried_by there.now) port) }
+    ensures front { Keeps text.old.items text.new.items }
 {
-    line.put(b" ack ")?;
-    put_sequence(line, ack)
+    put(text, b" > ")?;
+    put_to(text, &there.pseudo)?;
+    put_counted(text, b" ", u64::from(port))?;
+    Ok(())
 }
 
-fn put_long_ack(line: &mut Line, ack: Seq48) -> Result<(), NoMemory>
-    ensures before { line.new.before ≡ line.old.before }
-    ensures ok { OnOk result (line.new.line ≡ line.old.line ++ ack_text (Long ack)) }
+fn put_ack(text: &mut Vec<u8>, ack: Number) -> Result<(), NoMemory>
+    ensures ok { OnOk result (text.new.items ≡ text.old.items ++ ack_text ack) }
+    ensures front { Keeps text.old.items text.new.items }
 {
-    put_ack(line, Number::Long(ack))
+    put(text, b" ack ")?;
+    put_sequence(text, ack)
 }
 
-fn put_service(line: &mut Line, service: u32) -> Result<(), NoMemory>
-    ensures before { line.new.before ≡ line.old.before }
-    ensures ok { OnOk result (line.new.line ≡ line.old.line ++ service_text service) }
+fn put_long_ack(text: &mut Vec<u8>, ack: Seq48) -> Result<(), NoMemory>
+    ensures ok { OnOk result (text.new.items ≡ text.old.items ++ ack_text (Long ack)) }
+    ensures front { Keeps text.old.items text.new.items }
 {
-    line.put(b" service ")?;
-    line.put_number(u64::from(service))
+    put_ack(text, Number::Long(ack))
+}
+
+fn put_service(text: &mut Vec<u8>, service: u32) -> Result<(), NoMemory>
+    ensures ok { OnOk result (text.new.items ≡ text.old.items ++ service_text service) }
+    ensures front { Keeps text.old.items text.new.items }
+{
+    put_counted(text, b" service ", u64::from(service))
 }
 
 // Puts a Reset's code and its bytes Data 1 to 3.
-fn put_code(line: &mut Line, code: u8, detail: [u8; 3]) -> Result<(), NoMemory>
-    ensures before { line.new.before ≡ line.old.before }
-    ensures ok { OnOk result (line.new.line ≡ line.old.line ++ code_text code detail) }
+fn put_code(text: &mut Vec<u8>, code: u8, detail: [u8; 3]) -> Result<(), NoMemory>
+    ensures ok { OnOk result (text.new.items ≡ text.old.items ++ code_text code detail) }
+    ensures front { Keeps text.old.items text.new.items }
 {
-    line.put(b" code ")?;
-    line.put_number(u64::from(code))?;
-    line.put(b" ")?;
-    line.put_number(u64::from(detail[0]))?;
-    line.put(b" ")?;
-    line.put_number(u64::from(detail[1]))?;
-    line.put(b" ")?;
-    line.put_number(u64::from(detail[2]))
+    put_counted(text, b" code ", u64::from(code))?;
+    put_counted(text, b" ", u64::from(detail[0]))?;
+    put_counted(text, b" ", u64::from(detail[1]))?;
+    put_counted(text, b" ", u64::from(detail[2]))
 }
 
 // Puts what the type alone carries.
-fn put_kind(line: &mut Line, kind: &Kind) -> Result<(), NoMemory>
-    ensures before { line.new.before ≡ line.old.before }
-    ensures ok { OnOk result (line.new.line ≡ line.old.line ++ kind_text kind.now) }
+fn put_kind(text: &mut Vec<u8>, kind: &Kind) -> Result<(), NoMemory>
+    ensures ok { OnOk result (text.new.items ≡ text.old.items ++ kind_text kind.now) }
+    ensures front { Keeps text.old.items text.new.items }
 {
     match *kind {
-        Kind::Request { service } => put_service(line, service),
+        Kind::Request { service } => put_service(text, service),
         Kind::Response { ack, service } => {
-            put_long_ack(line, ack)?;
-            put_service(line, service)
+            put_long_ack(text, ack)?;
+            put_service(text, service)
         }
         Kind::Data => Ok(()),
-        Kind::Ack { ack } => put_ack(line, ack),
-        Kind::DataAck { ack } => put_ack(line, ack),
-        Kind::CloseReq { ack } => put_long_ack(line, ack),
-        Kind::Close { ack } => put_long_ack(line, ack),
+        Kind::Ack { ack } => put_ack(text, ack),
+        Kind::DataAck { ack } => put_ack(text, ack),
+        Kind::CloseReq { ack } => put_long_ack(text, ack),
+        Kind::Close { ack } => put_long_ack(text, ack),
         Kind::Reset { ack, code, detail } => {
-            put_long_ack(line, ack)?;
-            put_code(line, code, detail)
+            put_long_ack(text, ack)?;
+            put_code(text, code, detail)
         }
-        Kind::Sync { ack } => put_long_ack(line, ack),
-        Kind::SyncAck { ack } => put_long_ack(line, ack),
+        Kind::Sync { ack } => put_long_ack(text, ack),
+        Kind::SyncAck { ack } => put_long_ack(text, ack),
     }
 }
 
-fn put_header(line: &mut Line, header: &Header) -> Result<(), NoMemory>
-    ensures before { line.new.before ≡ line.old.before }
-    ensures ok { OnOk result (line.new.line ≡ line.old.line ++ header_text header.now) }
+fn put_header(text: &mut Vec<u8>, header: &Header) -> Result<(), NoMemory>
+    ensures ok { OnOk result (text.new.items ≡ text.old.items ++ header_text header.now) }
+    ensures front { Keeps text.old.items text.new.items }
 {
-    line.put(b" ")?;
-    line.put(type_name(header.kind.packet_type()))?;
-    line.put(b" seq ")?;
-    put_sequence(line, header.number)?;
-    put_kind(line, &header.kind)
+    put_named(text, b" ", type_name(header.kind.packet_type()))?;
+    put(text, b" seq ")?;
+    put_sequence(text, header.number)?;
+    put_kind(text, &header.kind)
 }
 
-fn put_sum(line: &mut Line, there: &Datagram<'_>) -> Result<(), NoMemory>
+fn put_sum(text: &mut Vec<u8>, there: &Datagram<'_>) -> Result<(), NoMemory>
     requires low { 8 ≤ length there.now.bytes.now }
     requires high { length there.now.bytes.now ≤ 65535 }
-    ensures before { line.new.before ≡ line.old.before }
-    ensures ok { OnOk result (line.new.line ≡ line.old.line ++ sum_text (carried_by there.now)) }
+    ensures ok { OnOk result (text.new.items ≡ text.old.items ++ sum_text (carried_by there.now)) }
+    ensures front { Keeps text.old.items text.new.items }
 {
-    line.put(b" sum ")?;
+    put(text, b" sum ")?;
     if there.whole {
-        return line.put(sum_name(check(&there.pseudo, there.bytes)));
+        return put(text, sum_name(check(&there.pseudo, there.bytes)));
     }
-    line.put(b"unknown")
+    put(text, b"unknown")
 }
 
 // Puts the options, how many bytes of data are there, and the verdict on the checksum.
-fn put_rest(line: &mut Line, there: &Datagram<'_>, packet: &Packet<'_>) -> Result<(), NoMemory>
+fn put_rest(text: &mut Vec<u8>, there: &Datagram<'_>, packet: &Packet<'_>) -> Result<(), NoMemory>
     requires low { 8 ≤ length there.now.bytes.now }
     requires high { length there.now.bytes.now ≤ 65535 }
     requires options { length packet.now.options.now ≤ 1008 }
-    ensures before { line.new.before ≡ line.old.before }
-    ensures ok { OnOk result (line.new.line ≡ line.old.line ++ rest_text (carried_by there.now) (parts_by packet.now)) }
+    ensures ok { OnOk result (text.new.items ≡ text.old.items ++ rest_text (carried_by there.now) (parts_by packet.now)) }
+    ensures front { Keeps text.old.items text.new.items }
 {
     put_options(
-        line,
+        text,
         packet.options,
         packet.header.kind.packet_type().is_data(),
     )?;
-    line.put(b" data ")?;
-    line.put_number(packet.payload.len() as u64)?;
-    put_sum(line, there)?;
-    line.put(b"\n")
+    put_counted(text, b" data ", packet.payload.len() as u64)?;
+    put_sum(text, there)?;
+    put(text, b"\n")
 }
 
 /// Puts the line of a packet of this flow.
 pub(crate) fn put_packet(
-    line: &mut Line,
+    text: &mut Vec<u8>,
     item: &Record<'_>,
     there: &Datagram<'_>,
     packet: &Packet<'_>,
@@ -165,27 +167,28 @@ pub(crate) fn put_packet(
     requires low { 8 ≤ length there.now.bytes.now }
     requires high { length there.now.bytes.now ≤ 65535 }
     requires options { length packet.now.options.now ≤ 1008 }
-    ensures before { line.new.before ≡ line.old.before }
-    ensures ok { OnOk result (line.new.line ≡ line.old.line ++ packet_line (entry_of item.now) (carried_by there.now) (parts_by packet.now) flow) }
+    ensures ok { OnOk result (text.new.items ≡ text.old.items ++ packet_line (entry_of item.now) (carried_by there.now) (parts_by packet.now) flow) }
+    ensures front { Keeps text.old.items text.new.items }
 {
-    put_stamp(line, item)?;
-    put_ends(line, there, &packet.header, flow)?;
-    put_header(line, &packet.header)?;
-    put_rest(line, there, packet)
+    put_stamp(text, item)?;
+    put_sender(text, there, packet.header.from, flow)?;
+    put_receiver(text, there, packet.header.to)?;
+    put_header(text, &packet.header)?;
+    put_rest(text, there, packet)?;
+    Ok(())
 }
 
 /// Puts the line of bytes that are no packet.
 pub(crate) fn put_malformed(
-    line: &mut Line,
+    text: &mut Vec<u8>,
     item: &Record<'_>,
     fault: Malformed,
 ) -> Result<(), NoMemory>
-    ensures before { line.new.before ≡ line.old.before }
-    ensures ok { OnOk result (line.new.line ≡ line.old.line ++ malformed_line (entry_of item.now) fault) }
+    ensures ok { OnOk result (text.new.items ≡ text.old.items ++ malformed_line (entry_of item.now) fault) }
+    ensures front { Keeps text.old.items text.new.items }
 {
-    put_stamp(line, item)?;
-    line.put(b" malform")?;
-    line.put(b"ed ")?;
-    line.put(malformed_name(fault))?;
-    line.put(b"\n")
+    put_stamp(text, item)?;
+    put(text, b" malform")?;
+    put_named(text, b"ed ", malformed_name(fault))?;
+    put(text, b"\n")
 }

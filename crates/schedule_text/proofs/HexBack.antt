@@ -9,11 +9,11 @@ use Rattle.std.proofs.lemmas.Bool.Decides.{nat_tests}
 use Rattle.hex.specs.Hex.{IsBytes, encode_lower, encode_with, lower_digits, is_hex_digit, decode_pairs, decode_sized}
 use Rattle.hex.specs.declared.error.FromHexError.TheVariants.{OddLength, InvalidStringLength}
 use Rattle.hex.proofs.HexLemmas.{length-encode_with, decode_of-encode_lower, decode_of-even}
-use Rattle.schedule_text.specs.declared.line.LineFault.{LineFault}
+use Rattle.tool_words.specs.declared.faults.LineFault.{LineFault}
 use Rattle.schedule_text.specs.Digits.{flaw_or_odd, flaw_of, bytes_of}
 use Rattle.schedule_text.specs.Words.{word_at_column}
 use Rattle.schedule_text.specs.Reading.{◌>>◌, digits_or_flaw, digits_word, hex_word}
-use Rattle.schedule_text.specs.Printing.{hex_text}
+use Rattle.tool_text.specs.Text.{hex_or_dash}
 use Rattle.schedule_text.specs.Range.{FitsOneLine}
 use Rattle.schedule_text.proofs.WordTexts.{if-false, if-true, both-true, and-true, is_word_byte, is_word}
 use Rattle.schedule_text.proofs.ReadBack.{present-some}
@@ -91,17 +91,17 @@ digits-read column byte bytes are =
     ∙ ap (digits_or_flaw (word_at_column column text)) (no-flaw (byte ∷ bytes) are)
     ∙ ap Ok (bytes-back (byte ∷ bytes) are)
 
-pub hex-word-read : (column : ℕ) (bytes : List ℕ) → IsBytes bytes → hex_word (word_at_column column (hex_text bytes)) ≡ Ok bytes
+pub hex-word-read : (column : ℕ) (bytes : List ℕ) → IsBytes bytes → hex_word (word_at_column column (hex_or_dash bytes)) ≡ Ok bytes
 hex-word-read column [] are = refl
 hex-word-read column (byte ∷ bytes) are =
     if-false (bytes_eq (encode_lower (byte ∷ bytes)) (codes "-")) (Ok []) (digits_word (word_at_column column (encode_lower (byte ∷ bytes)))) (not-dash byte bytes)
     ∙ digits-read column byte bytes are
 
-pub hex-is-word : (bytes : List ℕ) → IsBytes bytes → is_word (hex_text bytes) ≡ true
+pub hex-is-word : (bytes : List ℕ) → IsBytes bytes → is_word (hex_or_dash bytes) ≡ true
 hex-is-word [] are = refl
 hex-is-word (byte ∷ bytes) are = digits-all is_word_byte refl (byte ∷ bytes) are
 
-pub hex-length : (bytes : List ℕ) → FitsOneLine bytes → length (hex_text bytes) ≤ 4084
+pub hex-length : (bytes : List ℕ) → FitsOneLine bytes → length (hex_or_dash bytes) ≤ 4084
 hex-length [] are = omega arith
 hex-length (byte ∷ bytes) are =
     let size = length-encode_with lower_digits (byte ∷ bytes) in

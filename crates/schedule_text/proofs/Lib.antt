@@ -1,9 +1,8 @@
 pub mod FirstFaults
 pub mod FrameFaults
+pub mod FrameForms
 pub mod HexBack
-pub mod HexBlocks
 pub mod HexSpelling
-pub mod Keeping
 pub mod LinesBack
 pub mod LinesSpelled
 pub mod Numerals
@@ -12,4 +11,5 @@ pub mod Placed
 pub mod ReadBack
 pub mod Spelling
 pub mod ValueLists
+pub mod ValueTexts
 pub mod WordTexts

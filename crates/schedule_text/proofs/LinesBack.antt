@@ -20,11 +20,12 @@ use Rattle.end_answers.specs.declared.calls.Timer.{Timer}
 use Rattle.end_answers.specs.declared.calls.Timer.TheVariants as timer
 use Rattle.schedule_text.specs.declared.line.Line.{Line}
 use Rattle.schedule_text.specs.declared.line.Line.TheVariants as line
-use Rattle.schedule_text.specs.declared.line.LineFault.{LineFault}
+use Rattle.tool_words.specs.declared.faults.LineFault.{LineFault}
 use Rattle.schedule_text.specs.Names.{side_name, place_name, timer_name}
 use Rattle.schedule_text.specs.Words.{word_at_column, placed, words_left}
 use Rattle.schedule_text.specs.Reading.{◌>>=◌, ◌>>◌, place_word, timer_word, number_word, feature_word, values_word, hex_word, wished, offered, iss_line, set_line, offer_line, send_line, prefer_line, timer_line, read_line}
-use Rattle.schedule_text.specs.Printing.{hex_text, values_text, frame_name, mandatory_words, line_words, joined, event_text}
+use Rattle.tool_text.specs.Text.{hex_or_dash}
+use Rattle.schedule_text.specs.Printing.{values_text, frame_name, mandatory_words, line_words, joined, event_text}
 use Rattle.schedule_text.specs.Range.{AreValues, FitsOneLine, IsPrintable, IsSayable}
 use Rattle.schedule_text.proofs.WordTexts.{and-true, is_word, is_word_byte, decimal-word, read-joined}
 use Rattle.schedule_text.proofs.ReadBack.{side-read, place-read, timer-read, number-word-read, number-of-small, feature-length, feature-word-read, values-word-read, name-word-read}
@@ -155,10 +156,10 @@ offer-words column absent side place feature true ours =
     ∙ ap (λ (test : Bool). offered third test >> Ok (line.Offer side place feature true)) ours
 
 send-words : (column absent : ℕ) (side : Side) (payload : List ℕ) → FitsOneLine payload
-    → send_line (words_left (placed column (side_name side ∷ (hex_text payload ∷ []))) absent) ≡ Ok (line.Event (event.Send side payload))
+    → send_line (words_left (placed column (side_name side ∷ (hex_or_dash payload ∷ []))) absent) ≡ Ok (line.Event (event.Send side payload))
 send-words column absent side payload are =
     let second : ℕ = column + length (side_name side) + 1 in
-    ap (λ (r : Result Side LineFault). r >>= (λ (s : Side). hex_word (word_at_column second (hex_text payload)) >>= (λ (bytes : List ℕ). Ok (line.Event (event.Send s bytes))))) (side-read column side)
+    ap (λ (r : Result Side LineFault). r >>= (λ (s : Side). hex_word (word_at_column second (hex_or_dash payload)) >>= (λ (bytes : List ℕ). Ok (line.Event (event.Send s bytes))))) (side-read column side)
     ∙ ap (λ (r : Result (List ℕ) LineFault). r >>= (λ (bytes : List ℕ). Ok (line.Event (event.Send side bytes)))) (hex-word-read second payload are.bytes)
 
 prefer-words : (column absent : ℕ) (side : Side) (feature : Feature) (place : Place) (values : List ℕ) → AreValues values
@@ -191,8 +192,8 @@ event-read (event.Deliver from index) small =
 event-read (event.Send side payload) are =
     let size = side-length side in
     let digits = hex-length payload are in
-    read-joined (codes "send") (side_name side ∷ (hex_text payload ∷ []))
-    (three-words (codes "send") (side_name side) (hex_text payload) refl (side-is-word side) (hex-is-word payload are.bytes)) (omega arith) refl
+    read-joined (codes "send") (side_name side ∷ (hex_or_dash payload ∷ []))
+    (three-words (codes "send") (side_name side) (hex_or_dash payload) refl (side-is-word side) (hex-is-word payload are.bytes)) (omega arith) refl
     ∙ send-words 6 (length (event_text (event.Send side payload)) + 2) side payload are
 event-read (event.Prefer side feature place values) are =
     let one = side-length side in

@@ -4,7 +4,7 @@ use Rattle.std.specs.Prelude.{decimal}
 use Rattle.std.proofs.lemmas.Bool.Decides.{nat_tests}
 use Rattle.std.proofs.lemmas.List.{append-nil}
 use Rattle.std.proofs.lemmas.Fmt.{decimal_step, decimal_digit, decimal_by_steps, first_decimal, decimal_nonempty, length-decimal-le}
-use Rattle.schedule_text.specs.Numbers.{is_digit, digits_after, number_below}
+use Rattle.tool_text.specs.Numbers.{is_digit, digits_after, number_below}
 
 record Spells (n : ℕ) (rest : List ℕ) (whole limit : ℕ) : Type 0 where
   pub digits : decimal whole ≡ decimal n ++ rest

@@ -15,10 +15,11 @@ use Rattle.world_events.specs.declared.event.Side.TheVariants.{Client, Server}
 use Rattle.world_events.specs.declared.event.Event.TheVariants as event
 use Rattle.end_answers.specs.declared.calls.Timer.{Timer}
 use Rattle.end_answers.specs.declared.calls.Timer.TheVariants as timer
-use Rattle.schedule_text.specs.declared.line.LineFault.{LineFault}
-use Rattle.schedule_text.specs.declared.line.LineWhy.TheVariants as why
+use Rattle.tool_words.specs.declared.faults.LineFault.{LineFault}
+use Rattle.tool_words.specs.declared.faults.LineWhy.TheVariants as why
 use Rattle.schedule_text.specs.Names.{side_name, place_name, timer_name}
-use Rattle.schedule_text.specs.Numbers.{number_below, sequence_numbers, number_and_rest, numbers_read, at_most_nine, values_of, feature_of}
+use Rattle.schedule_text.specs.Numbers.{sequence_numbers, number_and_rest, numbers_read, at_most_nine, values_of, feature_of}
+use Rattle.tool_text.specs.Numbers.{number_below}
 use Rattle.schedule_text.specs.Words.{word_at_column, parted_by}
 use Rattle.schedule_text.specs.Reading.{◌>>◌, present, needed, side_word, place_word, timer_word, number_word, feature_word, values_word, delivery, named, name_word}
 use Rattle.schedule_text.specs.Printing.{values_text, frame_name}

@@ -3,7 +3,8 @@ use Rattle.std.proofs.Common.{◌≡◌, refl, sym, ap, ◌∙◌, ℕ, ◌≤�
 use Rattle.std.specs.Prelude.{option_and_then}
 use Rattle.std.proofs.lemmas.Bool.Decides.{nat_tests}
 use Rattle.std.proofs.lemmas.List.{append-nil}
-use Rattle.schedule_text.specs.Numbers.{number_below, sequence_numbers, number_and_rest, numbers_read, at_most_nine}
+use Rattle.schedule_text.specs.Numbers.{sequence_numbers, number_and_rest, numbers_read, at_most_nine}
+use Rattle.tool_text.specs.Numbers.{number_below}
 
 -- numbers in front of those that are still to be read
 abbrev pub preceded : List ℕ → Option (List ℕ) → Option (List ℕ)

@@ -1,7 +1,7 @@
 -- The lines as they are printed, word by word (own).
-use Rattle.std.specs.Prelude.{◌≡◌, ℕ, ◌++◌, Bool, List, [], ◌∷◌, length, take, map, codes, decimal, if◌then◌else◌}
+use Rattle.std.specs.Prelude.{ℕ, ◌++◌, Bool, List, [], ◌∷◌, map, codes, decimal, if◌then◌else◌}
 use Rattle.std.specs.List.{join_with_byte}
-use Rattle.hex.specs.Hex.{encode_lower}
+use Rattle.tool_text.specs.Text.{hex_or_dash}
 use Rattle.feature_lists.specs.Features.{feature_number}
 use Rattle.world_events.specs.declared.event.Side.{Side}
 use Rattle.world_events.specs.declared.event.Side.TheVariants.{Client, Server}
@@ -12,18 +12,9 @@ use Rattle.schedule_text.specs.declared.line.Line.TheVariants as line
 use Rattle.schedule_text.specs.declared.names.Form.TheVariants as form
 use Rattle.schedule_text.specs.Names.{form_name, side_name, place_name, timer_name}
 
--- a text that was begun still begins a later one
-pub record Keeps (old new : List ℕ) : Type 0 where
-  pub front : take (length old) new ≡ old
-
 -- words, parted by one space
 abbrev pub joined : List (List ℕ) → List ℕ
 joined words = join_with_byte 32 words
-
--- bytes as digits in lower case, or a dash for none
-abbrev pub hex_text : List ℕ → List ℕ
-hex_text [] = codes "-"
-hex_text (byte ∷ bytes) = encode_lower (byte ∷ bytes)
 
 -- numbers, parted by commas
 abbrev pub values_text : List ℕ → List ℕ
@@ -42,7 +33,7 @@ frame_name from index = side_letter from ++ decimal index
 abbrev pub event_words : Event → List (List ℕ)
 event_words event.Open = form_name form.Open ∷ []
 event_words (event.Deliver from index) = form_name form.Deliver ∷ frame_name from index ∷ []
-event_words (event.Send side payload) = form_name form.Send ∷ side_name side ∷ hex_text payload ∷ []
+event_words (event.Send side payload) = form_name form.Send ∷ side_name side ∷ hex_or_dash payload ∷ []
 event_words (event.Prefer side feature place values) =
     form_name form.Prefer ∷ side_name side ∷ place_name place ∷ decimal (feature_number feature) ∷ values_text values ∷ []
 event_words (event.Timer side timer) = form_name form.Timer ∷ side_name side ∷ timer_name timer ∷ []

@@ -1,7 +1,5 @@
 -- What was seen of an event, as it is printed (own).
 use Rattle.std.specs.Prelude.{ℕ, ◌≤◌, ◌++◌, Bool, true, false, List, length, slice_range, flat_map, codes, decimal, Option, Some, None, Ok, Err}
-use Rattle.dccp_packets.specs.declared.reading.Malformed.{Malformed}
-use Rattle.dccp_packets.specs.declared.reading.Malformed.TheVariants as malformed
 use Rattle.dccp_sum.specs.declared.packet_sum.SumFault.{SumFault}
 use Rattle.dccp_sum.specs.declared.packet_sum.SumFault.TheVariants as sum
 use Rattle.end_answers.specs.declared.outcome.Why.{Why}
@@ -13,7 +11,9 @@ use Rattle.world_events.specs.declared.event.Refusal.{Refusal}
 use Rattle.world_events.specs.declared.event.Refusal.TheVariants as refusal
 use Rattle.world_events.specs.declared.event.Seen.{Seen}
 use Rattle.world_events.specs.declared.event.Seen.TheVariants.{Called, Fired, Received}
-use Rattle.schedule_text.specs.Printing.{hex_text, event_text}
+use Rattle.tool_text.specs.Names.{malformed_name}
+use Rattle.tool_text.specs.Text.{hex_or_dash}
+use Rattle.schedule_text.specs.Printing.{event_text}
 
 -- Names
 
@@ -28,14 +28,6 @@ refusal_name refusal.BadList = codes "BadList"
 refusal_name refusal.NotOurs = codes "NotOurs"
 refusal_name refusal.NotLive = codes "NotLive"
 
--- the word for why bytes are no packet
-abbrev pub malformed_word : Malformed → List ℕ
-malformed_word malformed.Short = codes "Short"
-malformed_word malformed.ReservedType = codes "ReservedType"
-malformed_word malformed.OffsetSmall = codes "OffsetSmall"
-malformed_word malformed.OffsetLarge = codes "OffsetLarge"
-malformed_word malformed.ShortNumbers = codes "ShortNumbers"
-
 -- the word for what is wrong with a packet's checksum or its coverage
 abbrev pub sum_word : SumFault → List ℕ
 sum_word sum.CoverageTooLarge = codes "CoverageTooLarge"
@@ -43,7 +35,7 @@ sum_word sum.Wrong = codes "Wrong"
 
 -- the word for why a packet was dropped; where its bytes or its checksum are at fault, that of the fault
 abbrev pub why_name : Why → List ℕ
-why_name (why.Malformed fault) = malformed_word fault
+why_name (why.Malformed fault) = malformed_name fault
 why_name (why.Sum fault) = sum_word fault
 why_name why.OtherFlow = codes "OtherFlow"
 why_name why.StrayReset = codes "StrayReset"
@@ -59,7 +51,7 @@ timer_text false = codes "idle"
 
 -- a packet that was taken, and the data that it delivered
 abbrev pub data_text : List ℕ → List ℕ
-data_text bytes = codes "took data " ++ hex_text bytes
+data_text bytes = codes "took data " ++ hex_or_dash bytes
 
 -- what was taken, with the data that was delivered from the bytes of its frame
 abbrev pub taken_text : List ℕ → Option (ℕ × ℕ) → List ℕ

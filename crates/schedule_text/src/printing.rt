@@ -1,21 +1,22 @@
 //! Events and what was seen of them, printed.
-#![tactic(auto, using(crate::proofs::Keeping::keeps_itself, crate::proofs::Keeping::keeps_on))]
+#![tactic(auto, using(tool_text::proofs::Keeping::keeps_itself, tool_text::proofs::Keeping::keeps_on))]
 
 ghost use Rattle.std.specs.Prelude.{◌≡◌, ◌++◌, ◌∷◌, decimal, flat_map, OnOk, OnErr};
 ghost use Rattle.schedule_text.specs.Names.{side_name, place_name, timer_name};
-ghost use Rattle.schedule_text.specs.Printing.{Keeps, side_letter, values_text, event_text};
+ghost use Rattle.tool_text.specs.Text.{Keeps};
+ghost use Rattle.schedule_text.specs.Printing.{side_letter, values_text, event_text};
 ghost use Rattle.schedule_text.specs.Results as spec;
 
-use crate::text::{put, put_hex, put_number};
 use crate::{Event, Refusal, Seen, Timer};
-use dccp_packets::Malformed;
 use dccp_sum::SumFault;
 use end_answers::{Outcome, Why};
 use feature_lists::{Feature, Place};
 use seq_circle::NoMemory;
+use tool_text::{malformed_name, put, put_counted, put_hex_or_dash, put_named, put_number};
 use world_events::Side;
 
-fn side_name(side: Side) -> &'static [u8]
+/// The word for a side (own).
+pub fn side_name(side: Side) -> &'static [u8]
     ensures { result.now ≡ side_name side }
 {
     match side {
@@ -70,18 +71,6 @@ fn refusal_name(fault: Refusal) -> &'static [u8]
     }
 }
 
-fn malformed_word(fault: Malformed) -> &'static [u8]
-    ensures { result.now ≡ spec.malformed_word fault }
-{
-    match fault {
-        Malformed::Short => b"Short",
-        Malformed::ReservedType => b"ReservedType",
-        Malformed::OffsetSmall => b"OffsetSmall",
-        Malformed::OffsetLarge => b"OffsetLarge",
-        Malformed::ShortNumbers => b"ShortNumbers",
-    }
-}
-
 fn sum_word(fault: SumFault) -> &'static [u8]
     ensures { result.now ≡ spec.sum_word fault }
 {
@@ -95,7 +84,7 @@ fn why_name(why: Why) -> &'static [u8]
     ensures { result.now ≡ spec.why_name why }
 {
     match why {
-        Why::Malformed(fault) => malformed_word(fault),
+        Why::Malformed(fault) => malformed_name(fault),
         Why::Sum(fault) => sum_word(fault),
         Why::OtherFlow => b"OtherFlow",
         Why::StrayReset => b"StrayReset",
@@ -119,10 +108,10 @@ fn put_send(text: &mut Vec<u8>, side: Side, payload: &[u8]) -> Result<(), NoMemo
 {
     put_named(text, b"send ", side_name(side))?;
     put(text, b" ")?;
-    put_hex(text, payload)
+    put_hex_or_dash(text, payload)
 }
 
-#[tactic(auto, using(crate::proofs::Keeping::keeps_itself, crate::proofs::Keeping::keeps_on, crate::proofs::Keeping::keeps_more, crate::proofs::Keeping::keeps_through))]
+#[tactic(auto, using(tool_text::proofs::Keeping::keeps_itself, tool_text::proofs::Keeping::keeps_on, tool_text::proofs::Keeping::keeps_more, tool_text::proofs::Keeping::keeps_through))]
 fn put_more_values(text: &mut Vec<u8>, values: &[u64]) -> Result<(), NoMemory>
     ensures ok { OnOk result (text.new.items ≡ text.old.items ++ flat_map (λ value. 44 ∷ decimal value) values.now) }
     ensures front { Keeps text.old.items text.new.items }
@@ -204,24 +193,7 @@ fn put_event(text: &mut Vec<u8>, event: &Event) -> Result<(), NoMemory>
     }
 }
 
-// Puts the name of what came before it, as `refused `.
-fn put_named(text: &mut Vec<u8>, what: &[u8], name: &[u8]) -> Result<(), NoMemory>
-    ensures ok { OnOk result (text.new.items ≡ text.old.items ++ (what.now ++ name.now)) }
-    ensures front { Keeps text.old.items text.new.items }
-{
-    put(text, what)?;
-    put(text, name)
-}
-
-fn put_counted(text: &mut Vec<u8>, what: &[u8], number: u64) -> Result<(), NoMemory>
-    ensures ok { OnOk result (text.new.items ≡ text.old.items ++ (what.now ++ decimal number)) }
-    ensures front { Keeps text.old.items text.new.items }
-{
-    put(text, what)?;
-    put_number(text, number)
-}
-
-#[tactic(auto, using(crate::proofs::Keeping::keeps_itself, crate::proofs::Keeping::keeps_on, crate::proofs::Keeping::keeps_more, crate::proofs::Keeping::keeps_through))]
+#[tactic(auto, using(tool_text::proofs::Keeping::keeps_itself, tool_text::proofs::Keeping::keeps_on, tool_text::proofs::Keeping::keeps_more, tool_text::proofs::Keeping::keeps_through))]
 fn put_detail(text: &mut Vec<u8>, detail: &[u8; 3]) -> Result<(), NoMemory>
     ensures ok { OnOk result (text.new.items ≡ text.old.items ++ flat_map spec.decimal_byte detail.now) }
     ensures front { Keeps text.old.items text.new.items }
@@ -246,7 +218,7 @@ fn put_data(text: &mut Vec<u8>, bytes: &[u8]) -> Result<(), NoMemory>
     ensures front { Keeps text.old.items text.new.items }
 {
     put(text, b"took data ")?;
-    put_hex(text, bytes)?;
+    put_hex_or_dash(text, bytes)?;
     Ok(())
 }
 

@@ -4,7 +4,7 @@ use Rattle.std.specs.Prelude.{ℕ, ◌+◌, ◌-◌, ◌^◌, ◌≤◌, Bool, t
 use Rattle.std.specs.List.{position_or_len, before_first, after_first}
 use Rattle.std.specs.Str.{bytes_eq}
 use Rattle.std.specs.declared.alloc.Global.{Global}
-use Rattle.schedule_text.specs.Numbers.{number_below}
+use Rattle.tool_text.specs.Numbers.{number_below}
 use Rattle.tool_forms.specs.declared.campaign_words.Campaign.{Campaign}
 use Rattle.tool_forms.specs.declared.campaign_words.Figure.{Figure}
 use Rattle.tool_forms.specs.declared.campaign_words.Figure.TheVariants.{First, Seeds, Events, Workers}

@@ -3,7 +3,7 @@ ghost use Rattle.std.specs.Prelude.{◌≡◌, ◌≤◌, ◌∷◌, IfSome, IfN
 ghost use Rattle.std.specs.Str.{bytes_eq};
 ghost use Rattle.tool_forms.specs.CampaignWords.{IsWithinBounds, campaign_of, figure_named, figure_number, given_once, is_same, least, most, preceded, setting_of, settings_of};
 
-use crate::numbers::number_up_to;
+use tool_text::number_up_to;
 
 /// The job of the form `campaign` (own): which seeds are run, with how many events each, and by how many workers.
 #[derive(Clone, Copy, Debug, PartialEq, Eq)]

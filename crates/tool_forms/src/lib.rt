@@ -2,7 +2,6 @@
 #![tactic(auto)]
 
 mod campaign_words;
-mod numbers;
 mod words;
 
 pub use crate::campaign_words::Campaign;

@@ -1,3 +1,2 @@
 pub mod Causes
 pub mod Ending
-pub mod HexText

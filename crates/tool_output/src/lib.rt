@@ -1,11 +1,9 @@
-//! How the tool's jobs end, and their texts, which are put together piece by piece and go out in blocks (own). A job knows
-//! its source and its sink by their counts alone.
+//! How the tool's jobs end, and their texts, which go out in blocks (own). A job knows its source and its sink by their counts
+//! alone.
 #![tactic(auto)]
 
 mod blocks;
 mod status;
-mod text;
 
 pub use crate::blocks::{cut_off, flush, flush_if_full};
 pub use crate::status::{Status, answered};
-pub use crate::text::{put, put_counted, put_hex, put_number};

@@ -6,9 +6,10 @@ use Rattle.std.specs.Prelude.{slice_index}
 use Rattle.dccp_io.specs.Lines.{newline, text_length, first_line, ends_within, next_in_bytes, Line, Long, Much}
 use Rattle.dccp_io.proofs.NextLine.{text_length-fits}
 use Rattle.schedule_text.specs.Frames.{read_frame, read_clean_frame}
-use Rattle.schedule_text.specs.Reading.{◌>>◌, fault_at, first_other, text_or_other}
-use Rattle.schedule_text.specs.declared.line.LineWhy.TheVariants as why
-use Rattle.tool_replay.specs.Lines.{too_long, whole_line, without_newline}
+use Rattle.schedule_text.specs.Reading.{◌>>◌, first_other, text_or_other}
+use Rattle.tool_words.specs.declared.faults.LineWhy.TheVariants as why
+use Rattle.tool_replay.specs.Lines.{too_long, without_newline}
+use Rattle.tool_words.specs.Refusals.{fault_at, whole_line}
 use Rattle.tool_replay.specs.Replay.{FrameRefused, by_frame_line, frame_judged}
 use Rattle.tool_replay.specs.declared.replay.Replay.{Replay}
 

@@ -2,11 +2,12 @@
 use Rattle.std.proofs.Common.{◌≡◌, refl, sym, ap, ◌∙◌, ℕ, ◌+◌, ◌≤◌, ◌<◌, List, [], ◌∷◌, ◌++◌, length, Bool, true, false, append_assoc, zero-add, length-append, Option, Some, None, Ok, arith}
 use Rattle.world_events.specs.declared.event.Side.{Side}
 use Rattle.world_events.specs.declared.event.Side.TheVariants.{Client, Server}
-use Rattle.schedule_text.specs.declared.line.LineFault.{LineFault}
+use Rattle.tool_words.specs.declared.faults.LineFault.{LineFault}
 use Rattle.dccp_endpoint.specs.Calling.{opens}
 use Rattle.tool_replay.specs.declared.replay.Replay.{Replay}
 use Rattle.dccp_io.specs.Lines.{lines_of}
-use Rattle.tool_replay.specs.EndLines.{end_line, refusal_line}
+use Rattle.tool_replay.specs.EndLines.{end_line}
+use Rattle.tool_words.specs.Refusals.{refusal_line}
 use Rattle.tool_replay.specs.Replay.{FrameVerdict, FrameAccepted, FrameRefused, frame_judged, JudgesFrame, IsPast, Replayed, in_front, replay_ends, replay_goes_on, replayed_from, first_replay, count, begun_from, begun_replay, replay_of_input, replay_text, replay_refused, replay_accepted}
 
 -- Before a line: the text so far goes before that of the lines that are left, and the counters are at most the bytes read.

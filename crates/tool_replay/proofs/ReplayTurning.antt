@@ -7,14 +7,15 @@ use Rattle.dccp_io.specs.Fronts.{GivesAtMost}
 use Rattle.dccp_io.specs.Lines.{LinesState, Finds, CausesStop, rest_of_input, next_in_bytes, Line, ends_within, first_line}
 use Rattle.dccp_io.specs.declared.lines.Stop.{Stop}
 use Rattle.dccp_io.specs.declared.lines.Stop.TheVariants as stop
-use Rattle.schedule_text.specs.declared.line.LineFault.{LineFault}
-use Rattle.schedule_text.specs.declared.line.LineWhy.TheVariants as why
+use Rattle.tool_words.specs.declared.faults.LineFault.{LineFault}
+use Rattle.tool_words.specs.declared.faults.LineWhy.TheVariants as why
 use Rattle.world_events.specs.declared.event.Side.{Side}
 use Rattle.tool_replay.specs.declared.replay.Replay.{Replay}
 use Rattle.tool_output.specs.declared.status.Status.{Status}
-use Rattle.tool_replay.specs.Lines.{too_long, whole_line}
+use Rattle.tool_replay.specs.Lines.{too_long}
 use Rattle.tool_replay.specs.Loops.{stopped, judged_turn, RefusesLine, Replays, Leaves, GoesThrough}
-use Rattle.tool_replay.specs.EndLines.{end_line, refusal_line}
+use Rattle.tool_replay.specs.EndLines.{end_line}
+use Rattle.tool_words.specs.Refusals.{refusal_line, whole_line}
 use Rattle.tool_output.specs.Ends.{HasBegun, IsCutOff}
 use Rattle.tool_replay.specs.Replay.{FrameVerdict, FrameAccepted, FrameRefused, JudgesFrame, IsPast, frame_judged, replay_text, replay_refused, replay_accepted}
 use Rattle.tool_replay.proofs.FirstLine.{is-line, is-long, is-much, long-frame-refused, much-frame-refused}

@@ -6,7 +6,7 @@ use Rattle.dccp_io.specs.Counts.{Rose}
 use Rattle.dccp_io.specs.Fronts.{TakesFront}
 use Rattle.dccp_io.specs.Lines.{LinesState, rest_of_input}
 use Rattle.dccp_io.specs.declared.lines.Stop.TheVariants as stop
-use Rattle.schedule_text.specs.declared.line.LineFault.{LineFault}
+use Rattle.tool_words.specs.declared.faults.LineFault.{LineFault}
 use Rattle.world_events.specs.declared.event.Side.{Side}
 use Rattle.tool_replay.specs.declared.lines.Turn.{Turn}
 use Rattle.tool_replay.specs.declared.lines.Turn.TheVariants as turn
@@ -15,7 +15,8 @@ use Rattle.tool_output.specs.declared.status.Status.{Status}
 use Rattle.tool_output.specs.declared.status.Status.TheVariants as status
 use Rattle.tool_replay.specs.Loops.{Replays, Leaves, GoesThrough}
 use Rattle.tool_replay.specs.Replay.{begun_replay, replay_text, replay_refused, replay_accepted}
-use Rattle.tool_replay.specs.EndLines.{end_line, refusal_line}
+use Rattle.tool_replay.specs.EndLines.{end_line}
+use Rattle.tool_words.specs.Refusals.{refusal_line}
 use Rattle.tool_output.specs.Ends.{HasBegun, IsMovedOut}
 use Rattle.tool_output.proofs.Causes.{rose-later}
 use Rattle.tool_output.proofs.Ending.{on-err, on-ok, unwritten}

@@ -4,15 +4,16 @@ use Rattle.dccp_io.specs.Fronts.{GivesAtMost}
 use Rattle.dccp_io.specs.Lines.{LinesState, Finds, rest_of_input, first_line}
 use Rattle.dccp_io.specs.declared.lines.Stop.{Stop}
 use Rattle.dccp_io.specs.declared.lines.Stop.TheVariants as stop
-use Rattle.schedule_text.specs.declared.line.LineFault.{LineFault}
-use Rattle.schedule_text.specs.declared.line.LineWhy.TheVariants as why
+use Rattle.tool_words.specs.declared.faults.LineFault.{LineFault}
+use Rattle.tool_words.specs.declared.faults.LineWhy.TheVariants as why
 use Rattle.seq_circle.specs.declared.memory.NoMemory as no_memory
 use Rattle.tool_replay.specs.declared.lines.Turn.{Turn}
 use Rattle.tool_replay.specs.declared.lines.Turn.TheVariants as turn
 use Rattle.tool_replay.specs.declared.replay.Replay.{Replay}
 use Rattle.tool_output.specs.declared.status.Status.{Status}
 use Rattle.tool_output.specs.declared.status.Status.TheVariants as status
-use Rattle.tool_replay.specs.Lines.{too_long, whole_line}
+use Rattle.tool_replay.specs.Lines.{too_long}
+use Rattle.tool_words.specs.Refusals.{whole_line}
 use Rattle.tool_replay.specs.Replay.{FrameRefused, JudgesFrame, IsPast, frame_judged}
 use Rattle.tool_output.specs.Ends.{HasTaken, HasBegun, IsAnswered, IsCutOff, Answers}
 

@@ -20,12 +20,13 @@ use Rattle.world_events.specs.declared.event.Side.TheVariants.{Client, Server}
 use Rattle.schedule_text.specs.Frames.{read_frame}
 use Rattle.schedule_text.specs.Results.{result_line}
 use Rattle.schedule_text.specs.declared.line.FrameLine.{FrameLine}
-use Rattle.schedule_text.specs.declared.line.LineFault.{LineFault}
-use Rattle.schedule_text.specs.declared.line.LineWhy.TheVariants as why
+use Rattle.tool_words.specs.declared.faults.LineFault.{LineFault}
+use Rattle.tool_words.specs.declared.faults.LineWhy.TheVariants as why
 use Rattle.tool_replay.specs.declared.replay.Replay.{Replay}
 use Rattle.dccp_io.specs.Lines.{ends_within, lines_of}
-use Rattle.tool_replay.specs.Lines.{without_newline, whole_line}
-use Rattle.tool_replay.specs.EndLines.{bytes_line, end_line, refusal_line}
+use Rattle.tool_replay.specs.Lines.{without_newline}
+use Rattle.tool_replay.specs.EndLines.{bytes_line, end_line}
+use Rattle.tool_words.specs.Refusals.{refusal_line, whole_line}
 
 -- the role that the end of a side is configured with
 abbrev pub role_of : Side → Role

@@ -9,7 +9,7 @@ use ccid_two::Kinds;
 use dccp_endpoint::{Endpoint, Held, Phase, Stand};
 use feature_lists::{Feature, Place};
 use seq_circle::NoMemory;
-use tool_output::{put, put_hex, put_number};
+use tool_text::{put, put_hex, put_number};
 use world_events::Side;
 
 fn side_name(side: Side) -> &'static [u8]

@@ -10,15 +10,16 @@ ghost use Rattle.tool_replay.specs.EndLines.{end_line};
 ghost use Rattle.tool_replay.specs.Replay.{role_of, replay_config, first_replay, opened_line, reply_line, count, begun_replay, begun_from, HasRoom, IsPast, past, arriving, by_frame, frame_judged, JudgesFrame};
 
 use crate::end_lines::{put_end_line, put_frame_line};
-use crate::lines::{ends_within, whole_line, without_newline};
+use crate::lines::{ends_within, without_newline};
 use ccid_two::Kinds;
 use dccp_endpoint::{Config, Endpoint, OpenFault, Outcome, Role};
 use dccp_packets::{Frame, Outbox};
 use dccp_sum::{Pseudo, seal};
-use schedule_text::{FrameLine, LineFault, LineWhy, print_result, read_frame};
+use schedule_text::{FrameLine, print_result, read_frame};
 use seq_circle::NoMemory;
 use std::alloc::Global;
-use tool_output::put;
+use tool_text::put;
+use tool_words::{LineFault, LineWhy, whole_line};
 use world_events::{Seen, Side};
 
 /// Where a replay stands.

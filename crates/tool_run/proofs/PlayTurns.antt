@@ -1,19 +1,13 @@
 -- The turns of the loop over a schedule's lines, and its ends.
-use Rattle.std.proofs.Common.{◌≡◌, refl, sym, ap, ◌∙◌, subst, inl, inr, ℕ, ◌≤◌, true, false, List, [], ◌++◌, take, Option, None, Result, Ok, IfSome, OnOk, OnErr}
+use Rattle.std.proofs.Common.{◌≡◌, refl, sym, ap, ◌∙◌, subst, inl, inr, ℕ, ◌≤◌, true, false, List, [], ◌++◌, Option, None, Result, Ok, IfSome, OnOk, OnErr}
 use Rattle.std.proofs.lemmas.Option.{IfSome_then}
 use Rattle.std.specs.Prelude.{is_err}
-use Rattle.ccid_two.specs.Kinds.{Both, at_first, kinds_control}
-use Rattle.dccp_endpoint.specs.Drafts.{Fits}
-use Rattle.dccp_endpoint.specs.declared.config.Config.{Config}
-use Rattle.dccp_states.specs.declared.phase.Role.TheVariants as role
-use Rattle.two_ends.specs.Controlled.{begins_with, plays}
-use Rattle.two_ends.specs.Safe.{Safe}
-use Rattle.world_events.specs.declared.event.Event.{Event}
+use Rattle.ccid_two.specs.Kinds.{at_first}
 use Rattle.dccp_io.specs.Counts.{Rose}
 use Rattle.dccp_io.specs.Fronts.{TakesFront}
 use Rattle.dccp_io.specs.Lines.{LinesState, rest_of_input}
 use Rattle.dccp_io.specs.declared.lines.Stop.TheVariants as stop
-use Rattle.schedule_text.specs.declared.line.LineFault.{LineFault}
+use Rattle.tool_words.specs.declared.faults.LineFault.{LineFault}
 use Rattle.tool_replay.specs.declared.lines.Turn.{Turn}
 use Rattle.tool_replay.specs.declared.lines.Turn.TheVariants as turn
 use Rattle.tool_run.specs.declared.play.Play.{Play}
@@ -21,37 +15,34 @@ use Rattle.tool_output.specs.declared.status.Status.{Status}
 use Rattle.tool_output.specs.declared.status.Status.TheVariants as status
 use Rattle.tool_replay.specs.Loops.{Leaves, GoesThrough}
 use Rattle.tool_run.specs.Plays.{Plays}
-use Rattle.tool_replay.specs.EndLines.{refusal_line}
+use Rattle.tool_words.specs.Refusals.{refusal_line}
 use Rattle.tool_run.specs.WorldLines.{end_lines}
 use Rattle.tool_output.specs.Ends.{HasBegun, IsAnswered, IsMovedOut}
-use Rattle.tool_run.specs.Transcript.{ArePeers, first_play, performed, world_of, transcript, is_refused, accepted_bytes, SafeThroughout}
+use Rattle.tool_run.specs.Transcript.{ArePeers, SentFew, first_play, performed, world_of, transcript, is_refused, accepted_bytes, SafeThroughout}
 use Rattle.tool_output.proofs.Causes.{rose-later}
 use Rattle.tool_output.proofs.Ending.{on-err, on-ok, unwritten}
 use Rattle.tool_replay.proofs.LineLoop.{InLoop, begins, goes-on}
 use Rattle.tool_run.proofs.LoopInvariant.{LoopInvariant, at-start}
+use Rattle.tool_run.proofs.Running.{RunsAreSafe, every-run, run-safe}
 use Rattle.tool_run.proofs.Turning.{played-line, played-end, played-refusal, played-early, peers-end, peers-refusal}
 use Rattle.tool_replay.proofs.ReplayTurning.{blames}
 
--- Before a turn: the two configurations are those of a client and a server.
+-- Before a turn: the two configurations are those of a client and a server, and no side has sent more frames than there were events.
 pub record PlayLoop {S K : Type 0} (left : S → Option (List ℕ)) (faults lender : S → ℕ) (taken : K → Option (List ℕ)) (failed empty : K → ℕ)
     (first now : LinesState S) (opened output : K) (play : Play) (text : List ℕ) : Type 0 where
   pub loop : InLoop left faults lender taken failed empty (λ input front behind. LoopInvariant play behind front input) first now opened output play.number play.read text
   pub peers : ArePeers play.client play.server
+  pub few : IfSome play.world (λ w. SentFew w play.events)
 
 -- what the loop comes to
 abbrev pub PlaysThrough : {S : Type 0} → (S → Option (List ℕ)) → LinesState S → LinesState S → Status → Option (List ℕ) → Option (List ℕ) → Type 0
 PlaysThrough left first new result before later =
     IfSome (rest_of_input left first) (λ bytes. GoesThrough (transcript bytes) (is_refused bytes) (accepted_bytes bytes) bytes result (left new.source) before later)
 
--- the law of two_ends
-abbrev pub RunsAreSafe : Type 0
-RunsAreSafe =
-    (client server : Config) (for_client for_server : Both) (events : List Event) → client.role ≡ role.Client → server.role ≡ role.Server → Fits client → Fits server
-    → Safe kinds_control (plays kinds_control (begins_with kinds_control client server for_client for_server) events)
-
-safe-by : RunsAreSafe → (bytes : List ℕ) → ArePeers (performed bytes).client (performed bytes).server → SafeThroughout bytes
-safe-by law bytes peers = λ n.
-    law (performed bytes).client (performed bytes).server at_first at_first (take n (performed bytes).events) peers.is_client peers.is_server peers.client_fits peers.server_fits
+safe-by : RunsAreSafe → (bytes : List ℕ) → ArePeers (performed bytes).last.client (performed bytes).last.server → SafeThroughout bytes
+safe-by law bytes peers =
+    run-safe _ (performed bytes).scenes _ (every-run bytes)
+    (λ events. law (performed bytes).last.client (performed bytes).last.server at_first at_first events peers.is_client peers.is_server peers.client_fits peers.server_fits)
 
 module _ {S K : Type 0} (left : S → Option (List ℕ)) (faults lender : S → ℕ) (taken : K → Option (List ℕ)) (failed empty : K → ℕ) where
   pub play-begins : (first : LinesState S) (opened : K) (play : Play) (text : List ℕ) → play ≡ first_play → text ≡ [] → first.stop ≡ None → first.given ≡ 0
@@ -61,6 +52,7 @@ module _ {S K : Type 0} (left : S → Option (List ℕ)) (faults lender : S → 
         (ap (λ (p : Play). p.number) start) (ap (λ (p : Play). p.read) start)
         (λ input. subst (λ (t : List ℕ). LoopInvariant play input t input) (sym none) (at-start play input start));
     peers = (at-start play [] start).peers;
+    few = subst (λ (p : Play). IfSome p.world (λ w. SentFew w p.events)) (sym start) tt;
   }
 
   module _ (first old new : LinesState S) (opened output later : K) (play next : Play) (text written : List ℕ) (t : Turn)
@@ -77,6 +69,7 @@ module _ {S K : Type 0} (left : S → Option (List ℕ)) (faults lender : S → 
               played-line left faults lender old new play next text written (taken opened) (taken output) input along accepted.0 accepted.1 accepted.2)
               (on-ok flushed (IsMovedOut (taken output) (taken later) written kept) moved fine) failed_rise empty_rise;
           peers = accepted.2.peers;
+          few = accepted.2.few;
         }
 
     -- the sink did not take the whole text

@@ -2,9 +2,10 @@
 use Rattle.std.proofs.Common.{◌≡◌, refl, ap, ◌∙◌, ℕ, ◌≤◌, ◌<◌, Bool, true, false, ◌&&◌, if◌then◌else◌, List, length, Err}
 use Rattle.std.specs.Prelude.{is_some}
 use Rattle.dccp_io.specs.Lines.{text_length, first_line, ends_within}
-use Rattle.schedule_text.specs.Reading.{◌>>◌, fault_at, first_other, text_or_other, read_clean, read_line}
-use Rattle.schedule_text.specs.declared.line.LineWhy.TheVariants as why
-use Rattle.tool_replay.specs.Lines.{too_long, whole_line, without_newline}
+use Rattle.schedule_text.specs.Reading.{◌>>◌, first_other, text_or_other, read_clean, read_line}
+use Rattle.tool_words.specs.declared.faults.LineWhy.TheVariants as why
+use Rattle.tool_replay.specs.Lines.{too_long, without_newline}
+use Rattle.tool_words.specs.Refusals.{fault_at, whole_line}
 use Rattle.tool_replay.proofs.FirstLine.{is-more, text-long}
 use Rattle.tool_run.specs.Transcript.{Refused, judged, by_line}
 use Rattle.tool_run.specs.declared.play.Play.{Play}

@@ -5,13 +5,13 @@ use Rattle.dccp_io.specs.Lines.{LinesState, Finds, rest_of_input, ends_within, f
 use Rattle.dccp_io.specs.declared.lines.Stop.{Stop}
 use Rattle.dccp_io.specs.declared.lines.Stop.TheVariants as stop
 use Rattle.dccp_io.proofs.LineList.{lines-cut}
-use Rattle.schedule_text.specs.declared.line.LineFault.{LineFault}
-use Rattle.schedule_text.specs.declared.line.LineWhy.TheVariants as why
+use Rattle.tool_words.specs.declared.faults.LineFault.{LineFault}
+use Rattle.tool_words.specs.declared.faults.LineWhy.TheVariants as why
 use Rattle.tool_output.specs.declared.status.Status.{Status}
 use Rattle.tool_output.specs.Ends.{HasBegun, IsAnswered, IsCutOff}
 use Rattle.tool_output.proofs.Ending.{not-both}
-use Rattle.tool_replay.specs.EndLines.{refusal_line}
-use Rattle.tool_replay.specs.Lines.{too_long, whole_line}
+use Rattle.tool_replay.specs.Lines.{too_long}
+use Rattle.tool_words.specs.Refusals.{refusal_line, whole_line}
 use Rattle.tool_replay.specs.Loops.{stopped, judged_turn, RefusesLine, Leaves, GoesThrough}
 use Rattle.tool_replay.proofs.FirstLine.{is-long, is-much}
 use Rattle.tool_replay.proofs.ReplayTurning.{blames, refuses-line, refuses-stopped}
@@ -19,6 +19,7 @@ use Rattle.tool_replay.proofs.Streaming.{along-line, Along, through-early, throu
 use Rattle.tool_run.specs.declared.play.Play.{Play}
 use Rattle.tool_run.specs.Plays.{Plays}
 use Rattle.tool_run.specs.Transcript.{Verdict, Accepted, Refused, judged, Judges, ArePeers, IsBehind, world_of, transcript, is_refused, accepted_bytes, performed, SafeThroughout}
+use Rattle.tool_run.specs.Scenes.{scene_text_if_any}
 use Rattle.tool_run.specs.WorldLines.{end_lines}
 use Rattle.tool_run.proofs.RefusedLine.{long-refused, much-refused}
 use Rattle.tool_run.proofs.LoopInvariant as play_loop
@@ -32,14 +33,14 @@ safe-cut (Some bytes) result off = λ answered. absurd (not-both result answered
 -- a refused line leaves the text as it was
 refused-judged : (verdict : Verdict) (text written : List ℕ) (next : Play) (fault : LineFault) → Judges verdict text written next (Err fault)
     → (verdict ≡ Refused fault) × (written ≡ text)
-refused-judged (Accepted more events onward) text written next fault judges = cc judges.2
+refused-judged (Accepted scene onward) text written next fault judges = cc judges.2
 refused-judged (Refused given) text written next fault judges = (ap Refused (cc judges.1), judges.0)
 
 -- the same behind what was written before
 judges-behind : (front text written : List ℕ) (verdict : Verdict) (next : Play) (answer : Result (Unit {0}) LineFault) → Judges verdict text written next answer
     → Judges verdict (front ++ text) (front ++ written) next answer
-judges-behind front text written (Accepted more events onward) next answer judges =
-    (ap (λ (t : List ℕ). front ++ t) judges.0 ∙ sym (append_assoc front text more), judges.1, judges.2)
+judges-behind front text written (Accepted scene onward) next answer judges =
+    (ap (λ (t : List ℕ). front ++ t) judges.0 ∙ sym (append_assoc front text (scene_text_if_any scene)), judges.1, judges.2)
 judges-behind front text written (Refused fault) next answer judges = (ap (λ (t : List ℕ). front ++ t) judges.0, judges.1)
 
 module _ {S : Type 0} (left : S → Option (List ℕ)) (faults lender : S → ℕ) where
@@ -113,14 +114,14 @@ module _ {S : Type 0} (left : S → Option (List ℕ)) (faults lender : S → �
   -- its two ends are a client and a server then
   pub peers-end : (old new : LinesState S) (play : Play) (text : List ℕ) (before taken : Option (List ℕ)) (input : List ℕ)
       → Along (λ front behind. LoopInvariant play behind front input) play.read (rest_of_input left old) text before taken input → Finds left faults lender old new (Ok false)
-      → ArePeers (performed input).client (performed input).server
+      → ArePeers (performed input).last.client (performed input).last.server
   peers-end old new play text before taken input along finds =
       let none = subst (λ (all : Option (List ℕ)). IfSome all (λ bytes. (bytes ≡ []) × (rest_of_input left new ≡ Some []))) along.rest_is finds.answer.next in
       (play_loop.at-end play (drop play.read input) (along.written ++ text) input along.stands (ap length none.0)).peers
 
   pub peers-refusal : (old new : LinesState S) (play : Play) (fault : LineFault) (text : List ℕ) (before taken : Option (List ℕ)) (input : List ℕ)
       → Along (λ front behind. LoopInvariant play behind front input) play.read (rest_of_input left old) text before taken input
-      → RefusesLine left faults lender old new (λ line. judged play line ≡ Refused fault) → ArePeers (performed input).client (performed input).server
+      → RefusesLine left faults lender old new (λ line. judged play line ≡ Refused fault) → ArePeers (performed input).last.client (performed input).last.server
   peers-refusal old new play fault text before taken input along refuses =
       let bytes = drop play.read input in
       let first = subst (λ (all : Option (List ℕ)). IfSome all (λ bs. (0 < length bs) × (judged play (first_line bs) ≡ Refused fault))) along.rest_is refuses.refused in

@@ -1,9 +1,9 @@
 //! A schedule while it is played.
 ghost use Rattle.std.specs.Prelude.{◌≡◌, ◌++◌, ◌+◌, ◌^◌, ◌<◌, length, ℕ, List, is_some, if◌then◌else◌, IfOk, OnOk, Some, Ok, Err};
 ghost use Rattle.tool_run.specs.WorldLines.{end_lines};
-ghost use Rattle.tool_replay.specs.Lines.{whole_line};
+ghost use Rattle.tool_words.specs.Refusals.{whole_line};
 ghost use Rattle.tool_replay.specs.Replay.{config_without_offers};
-ghost use Rattle.tool_run.specs.Transcript.{first_play, starts, world_of, ArePeers, IsReady, IsBehind, ShowsEvent, event_shown, Judges, judged, by_line, behind};
+ghost use Rattle.tool_run.specs.Transcript.{first_play, starts, world_of, ArePeers, IsReady, IsBehind, SentFew, ShowsEvent, event_shown, most_events, Judges, judged, by_line, behind};
 ghost use Rattle.tool_run.specs.Transcript.{configures, says_plain, with_iss, with_set, with_offered, wishing, offering, in_place, says_event, no_such_frame};
 ghost use Rattle.dccp_endpoint.specs.Drafts.{Fits};
 ghost use Rattle.feature_lists.specs.Wishes.{wish_of};
@@ -13,10 +13,11 @@ use crate::world_lines::{arrived, put_end_lines, put_sent_line};
 use ccid_two::Kinds;
 use dccp_endpoint::{Config, Role};
 use feature_lists::{Feature, Place};
-use schedule_text::{Line, LineFault, LineWhy, print_seen, read_line_into};
+use schedule_text::{Line, print_seen, read_line_into};
 use seq_circle::{NoMemory, Seq48};
 use std::alloc::Global;
-use tool_replay::{ends_within, whole_line, without_newline};
+use tool_replay::{ends_within, without_newline};
+use tool_words::{LineFault, LineWhy, whole_line};
 use two_ends::{Event, Side, World, WorldFault};
 
 const MOST_EVENTS: u32 = 16_384;
@@ -125,7 +126,8 @@ impl Play {
     }
 
     fn pass(&mut self, line: &[u8])
-        requires { IsReady self.old line.now }
+        requires number { self.old.number + 1 < 2 ^ 64 }
+        requires read { self.old.read + length line.now < 2 ^ 64 }
         ensures { self.new ≡ behind self.old line.now }
     {
         self.number += 1;
@@ -331,6 +333,7 @@ fn show_event(
     event: &Event,
     text: &mut Vec<u8>,
 ) -> Result<Result<(), LineFault>, NoMemory>
+    requires { SentFew world.old most_events }
     ensures { IfOk result (λ answer. ShowsEvent (event_shown number world.old event.now) text.old.items text.new.items world.new answer) }
 {
     let actor = event.actor();
@@ -343,7 +346,8 @@ fn show_event(
             Ok(Ok(()))
         }
         Err(WorldFault::NoSuchFrame) => Ok(Err(no_such_frame())),
-        Err(WorldFault::Full) => Ok(Err(whole_line(LineWhy::TooManyEvents))),
+        // An event sends one frame at most, and the events are few.
+        Err(WorldFault::Full) => unreachable!(),
         Err(WorldFault::NoMemory) => Err(NoMemory),
     }
 }

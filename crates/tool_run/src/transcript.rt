@@ -6,7 +6,7 @@ ghost use Rattle.tool_replay.specs.Loops.{Leaves, GoesThrough};
 ghost use Rattle.tool_run.specs.Plays.{Plays};
 ghost use Rattle.tool_run.specs.WorldLines.{end_lines};
 ghost use Rattle.tool_output.specs.Ends.{IsAnswered, Answers, SinkFailed, SinkFails, StopsWithin, EndsForCause};
-ghost use Rattle.tool_run.specs.Transcript.{ArePeers, first_play, world_of, transcript, is_refused, accepted_bytes, SafeThroughout};
+ghost use Rattle.tool_run.specs.Transcript.{ArePeers, SentFew, first_play, world_of, transcript, is_refused, accepted_bytes, SafeThroughout};
 
 use crate::play::Play;
 use ccid_two::Kinds;
@@ -27,6 +27,7 @@ fn play_next<S: Source + Drop>(
     text: &mut Vec<u8>,
 ) -> Result<Turn, NoMemory>
     requires peers { ArePeers play.old.client play.old.server }
+    requires few { IfSome play.old.world (λ w. SentFew w play.old.events) }
     requires number { play.old.number ≤ play.old.read + 1 }
     requires read { play.old.read ≡ lines.old.given }
     requires unstopped { lines.old.stop ≡ None }
@@ -118,8 +119,8 @@ pub(crate) fn play_lines<S: Source + Drop, K: Sink>(
 
 /// Plays a schedule (own): it reads the lines of `input` one by one, and writes to `output` a line for each event and for
 /// each frame that was sent, and at last the state of both ends or the line of the first refusal. With status 0 or 1 the
-/// output is the text of the whole input, and the two ends were safe after each of its events; with another it is a front
-/// of that text. Read comes where the source failed, Write where the sink did, and Memory where no memory was left.
+/// output is the text of the whole input, and each event took place in a safe world and left a safe one; with another it
+/// is a front of that text. Read comes where the source failed, Write where the sink did, and Memory where no memory was left.
 pub fn run_schedule<S: Source, K: Sink>(alloc: Global, input: &mut S, output: &mut K) -> Status
     ensures words { result ≢ Status.Words }
     ensures transcript { (bytes : List ℕ) → S.left input.old ≡ Some bytes

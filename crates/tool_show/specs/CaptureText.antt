@@ -7,7 +7,7 @@ use Rattle.packet_show.specs.declared.flows.Shown.{Shown}
 use Rattle.packet_show.specs.declared.flows.Shown.TheVariants.{Line, Skipped}
 use Rattle.packet_show.specs.Flows.{Flow}
 use Rattle.packet_show.specs.Lines.{shows}
-use Rattle.tool_output.specs.Text.{labelled_number}
+use Rattle.tool_text.specs.Text.{labelled_number}
 use Rattle.tool_show.specs.declared.show.Tally.{Tally}
 
 -- the word for the fault that ended a capture

@@ -5,7 +5,7 @@ ghost use Rattle.tool_show.specs.CaptureText.{CountsFit, fault_name, counts_line
 use crate::show::Tally;
 use capture_reader::CaptureFault;
 use seq_circle::NoMemory;
-use tool_output::{put, put_counted};
+use tool_text::{put, put_counted};
 
 fn fault_name(fault: CaptureFault) -> &'static [u8]
     ensures { result.now ≡ fault_name fault }

@@ -328,7 +328,7 @@ module _ (s : KnownStep) where
   keys-few : (offered preferred : List Turn) (ks : List Key) → Occasion e act.given heard due offered preferred ks → length ks ≤ 18
   keys-few _ _ _ Plain = omega arith
   keys-few _ _ _ Offering = asking-few _ due (offered-rows e act.given rows heard due rows-heard)
-  keys-few _ _ _ (Repeating deaf quiet) = due-few e.rows rows
+  keys-few _ _ _ (Repeating in_flight fired deaf quiet) = due-few e.rows rows
   keys-few _ _ _ (OccasionNow other values wish called is asks deaf quiet) = omega arith
   keys-few _ _ _ (OccasionLater other values wish called is waits deaf quiet) = omega arith
 

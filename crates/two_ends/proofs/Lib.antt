@@ -27,8 +27,10 @@ pub mod Marking
 pub mod SentAt
 pub mod Processed
 pub mod Reporting
+pub mod Remembering
 pub mod Resets
 pub mod Keeping
 pub mod Reaching
+pub mod Delivering
 pub mod Calling
 pub mod Believing

@@ -54,7 +54,7 @@ states-none one other floor ack below = rw below refl
 le-so : (a b : ℕ) → nat_le a b ≡ true → a ≤ b
 le-so a b is = grind arith
 
-not-after : (iss ack count : ℕ) → iss < 2 ^ 48 → 1 ≤ count → count ≤ ack → ack ≤ 2 ^ 47 → IsBefore (number_of iss ack) (number_of iss count) → ⊥
+pub not-after : (iss ack count : ℕ) → iss < 2 ^ 48 → 1 ≤ count → count ≤ ack → ack ≤ 2 ^ 47 → IsBefore (number_of iss ack) (number_of iss count) → ⊥
 not-after iss ack count fits some below early before = omega (arith, before)
 
 module _ (x y : Party) (others : IsOrdered y) (m : IsMarking x y) where
@@ -74,7 +74,7 @@ module _ (x y : Party) (others : IsOrdered y) (m : IsMarking x y) where
   same-length = ap length m.here.processed ∙ length-map view.processed (number_of iss)
 
   -- the count at an index
-  abbrev count-at : ℕ → ℕ
+  abbrev pub count-at : ℕ → ℕ
   count-at i = slice_index_or view.processed i 0
 
   pub number-at : (i : ℕ) → i < length x.half.processed → slice_index_or x.half.processed i 0 ≡ number_of iss (count-at i)
@@ -85,12 +85,12 @@ module _ (x y : Party) (others : IsOrdered y) (m : IsMarking x y) where
   pub its-place : (i : ℕ) → i < length x.half.processed → view.place (count-at i) ≡ suc i
   its-place i below = place-at view m.peer.frames m.kept.here.sound m.kept.here.listed i (omega (arith, below, same-length))
 
-  record IsCount (count : ℕ) : Type 0 where
-    some : 1 ≤ count
-    taken : count ≤ view.greatest
-    early : count < 2 ^ 47
+  pub record IsCount (count : ℕ) : Type 0 where
+    pub some : 1 ≤ count
+    pub taken : count ≤ view.greatest
+    pub early : count < 2 ^ 47
 
-  its-count : (count : ℕ) → 0 < view.place count → IsCount count
+  pub its-count : (count : ℕ) → 0 < view.place count → IsCount count
   its-count count placed =
       let taken = m.kept.here.sound.processed_taken count placed in
       record {

@@ -6,5 +6,7 @@ pub mod Pairs
 pub mod Negotiated
 pub mod Reported
 pub mod Safe
+pub mod Delivered
 pub mod Reached
+pub mod Remembered
 pub mod Numbered

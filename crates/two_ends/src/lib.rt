@@ -14,5 +14,7 @@ mod sides;
 mod world;
 
 pub use crate::frames::{FrameBytes, SentFrame};
-pub use crate::world::{World, every_run_is_safe, every_run_numbers_its_frames};
+pub use crate::world::{
+    World, data_are_delivered_once, every_run_is_safe, every_run_numbers_its_frames,
+};
 pub use world_events::{Event, Payload, Refusal, Seen, Side, Values, WorldFault};

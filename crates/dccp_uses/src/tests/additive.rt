@@ -46,3 +46,41 @@ fn grows_up_to_the_cap(rt: HostRuntime) -> Result<(), Fail> {
     }
     Ok(())
 }
+
+// Sends a number where it may be sent, and hands over a report at it of one run.
+fn send_and_report(kind: &mut AdditiveWindow, number: u64, byte: u8) -> Result<(u32, u32), Fail> {
+    send(kind, number)?;
+    take_report(kind, number, byte)
+}
+
+fn send(kind: &mut AdditiveWindow, number: u64) -> Result<(), Fail> {
+    if !kind.may_send() {
+        return Err(Fail::from("the window is full"));
+    }
+    kind.on_sent(Seq48::new(number).ok_or("below 2^48")?);
+    Ok(())
+}
+
+// Two are received, and the window is 3. A marked one halves it, down to 1.
+#[test]
+fn halves_round_down(rt: HostRuntime) -> Result<(), Fail> {
+    let mut kind = AdditiveWindow::new(rt.alloc())?;
+    assert_eq!(rt; send_and_report(&mut kind, 1, 0x00)?, (2, 0));
+    assert_eq!(rt; send_and_report(&mut kind, 2, 0x00)?, (3, 0));
+    assert_eq!(rt; send_and_report(&mut kind, 3, 0x40)?, (1, 0));
+    Ok(())
+}
+
+// Behind three reports the window is 4. Of 4 to 7 the later three are received: 4 is lost, and halves it.
+#[test]
+fn a_loss_halves(rt: HostRuntime) -> Result<(), Fail> {
+    let mut kind = AdditiveWindow::new(rt.alloc())?;
+    assert_eq!(rt; send_and_report(&mut kind, 1, 0x00)?, (2, 0));
+    assert_eq!(rt; send_and_report(&mut kind, 2, 0x00)?, (3, 0));
+    assert_eq!(rt; send_and_report(&mut kind, 3, 0x00)?, (4, 0));
+    for number in 4..7 {
+        send(&mut kind, number)?;
+    }
+    assert_eq!(rt; send_and_report(&mut kind, 7, 0x02)?, (2, 0));
+    Ok(())
+}

@@ -1,6 +1,6 @@
 use Rattle.std.proofs.Common.{◌≡◌, ◌++◌, drop}
 use Rattle.std.specs.Prelude.{flat_map}
-use Rattle.schedule_text.specs.Printing.{Keeps}
+use Rattle.tool_text.specs.Text.{Keeps}
 use Rattle.schedule_text.specs.Results.{decimal_byte}
 use Rattle.schedule_text.proofs.printing.put_detail.Given as goal
 

@@ -1,6 +1,6 @@
 use Rattle.std.proofs.Common.{◌≡◌, ◌++◌, ◌∷◌, drop}
 use Rattle.std.specs.Prelude.{decimal, flat_map}
-use Rattle.schedule_text.specs.Printing.{Keeps}
+use Rattle.tool_text.specs.Text.{Keeps}
 use Rattle.schedule_text.proofs.printing.put_more_values.Given as goal
 
 abbrev pub invariant-loop-value : goal.invariant-loop-value

@@ -1,6 +1,6 @@
 use Rattle.std.proofs.Common.{sym, ap, ◌∙◌, ℕ, List, ◌∷◌, ◌++◌, append_assoc}
 use Rattle.std.specs.Prelude.{decimal, flat_map}
-use Rattle.schedule_text.proofs.Keeping.{values_flat}
+use Rattle.schedule_text.proofs.ValueTexts.{values_flat}
 use Rattle.schedule_text.proofs.printing.put_values.Goals as goal
 
 pub returns-clause-ok : goal.returns-clause-ok

@@ -1,0 +1,22 @@
+-- Pieces of the tool's texts (own).
+use Rattle.std.specs.Prelude.{◌≡◌, ℕ, List, [], ◌∷◌, ◌++◌, length, take, slice_index, codes, decimal}
+use Rattle.hex.specs.Hex.{encode_lower}
+
+-- a text that was begun still begins a later one
+pub record Keeps (old new : List ℕ) : Type 0 where
+  pub front : take (length old) new ≡ old
+
+-- a number behind its word
+abbrev pub labelled_number : List ℕ → ℕ → List ℕ
+labelled_number word number = word ++ decimal number
+
+-- bytes as digits in lower case, or a dash for none
+abbrev pub hex_or_dash : List ℕ → List ℕ
+hex_or_dash [] = codes "-"
+hex_or_dash (byte ∷ bytes) = encode_lower (byte ∷ bytes)
+
+-- four numbers, parted by dots
+abbrev pub v4_text : List ℕ → List ℕ
+v4_text a =
+    decimal (slice_index a 0) ++ codes "." ++ decimal (slice_index a 1) ++ codes "."
+    ++ decimal (slice_index a 2) ++ codes "." ++ decimal (slice_index a 3)

@@ -1,0 +1,92 @@
+//! Text as it is put together, piece by piece.
+#![tactic(auto, using(crate::proofs::Keeping::keeps_itself, crate::proofs::Keeping::keeps_on, crate::proofs::Keeping::keeps_through))]
+
+ghost use Rattle.std.specs.Prelude.{◌≡◌, ◌++◌, decimal, OnOk, OnErr};
+ghost use Rattle.hex.specs.Hex.{encode_lower};
+ghost use Rattle.tool_text.specs.Text.{Keeps, labelled_number, hex_or_dash, v4_text};
+
+use itoa::Buffer;
+use seq_circle::NoMemory;
+
+// How many bytes are put as digits at a time.
+const BLOCK: usize = 64;
+
+/// Puts a piece at the text's end (own). NoMemory comes where the text could not grow, and leaves it as it was.
+pub fn put(text: &mut Vec<u8>, piece: &[u8]) -> Result<(), NoMemory>
+    ensures ok { OnOk result (text.new.items ≡ text.old.items ++ piece.now) }
+    ensures err { OnErr result (text.new.items ≡ text.old.items) }
+    ensures front { Keeps text.old.items text.new.items }
+{
+    text.extend_from_slice(piece)?;
+    Ok(())
+}
+
+/// Puts a number in decimal (own). NoMemory comes where the text could not grow, and leaves it as it was.
+pub fn put_number(text: &mut Vec<u8>, number: u64) -> Result<(), NoMemory>
+    ensures ok { OnOk result (text.new.items ≡ text.old.items ++ decimal number) }
+    ensures err { OnErr result (text.new.items ≡ text.old.items) }
+    ensures front { Keeps text.old.items text.new.items }
+{
+    let mut buffer = Buffer::new();
+    put(text, buffer.format(number).as_bytes())
+}
+
+/// Puts a name behind what is said of it, as `refused ` (own). NoMemory comes where the text could not grow; then what is said
+/// may stand there alone.
+pub fn put_named(text: &mut Vec<u8>, what: &[u8], name: &[u8]) -> Result<(), NoMemory>
+    ensures ok { OnOk result (text.new.items ≡ text.old.items ++ (what.now ++ name.now)) }
+    ensures front { Keeps text.old.items text.new.items }
+{
+    put(text, what)?;
+    put(text, name)
+}
+
+/// Puts a number in decimal behind its word (own). NoMemory comes where the text could not grow; then the word may stand there
+/// alone.
+pub fn put_counted(text: &mut Vec<u8>, word: &[u8], number: u64) -> Result<(), NoMemory>
+    ensures ok { OnOk result (text.new.items ≡ text.old.items ++ labelled_number word.now number) }
+    ensures front { Keeps text.old.items text.new.items }
+{
+    put(text, word)?;
+    put_number(text, number)
+}
+
+/// Puts bytes in lower-case hexadecimal, and nothing for none (own). NoMemory comes where the text could not grow; then the digits
+/// of the first bytes may stand there.
+pub fn put_hex(text: &mut Vec<u8>, bytes: &[u8]) -> Result<(), NoMemory>
+    ensures ok { OnOk result (text.new.items ≡ text.old.items ++ encode_lower bytes.now) }
+    ensures front { Keeps text.old.items text.new.items }
+{
+    let mut digits = [0u8; 2 * BLOCK];
+    for block in bytes.chunks(BLOCK) {
+        let room = &mut digits[..2 * block.len()];
+        match hex::encode_to_slice(block, room) {
+            Ok(()) => put(text, room)?,
+            Err(_) => unreachable!(),
+        }
+    }
+    Ok(())
+}
+
+/// Puts bytes in lower-case hexadecimal, or a dash for none (own). NoMemory comes as from `put_hex`.
+pub fn put_hex_or_dash(text: &mut Vec<u8>, bytes: &[u8]) -> Result<(), NoMemory>
+    ensures ok { OnOk result (text.new.items ≡ text.old.items ++ hex_or_dash bytes.now) }
+    ensures front { Keeps text.old.items text.new.items }
+{
+    match bytes {
+        [] => put(text, b"-"),
+        _ => put_hex(text, bytes),
+    }
+}
+
+/// Puts an address of IPv4: four numbers, parted by dots (own). NoMemory comes where the text could not grow; then the first
+/// numbers may stand there.
+pub fn put_v4(text: &mut Vec<u8>, address: [u8; 4]) -> Result<(), NoMemory>
+    ensures ok { OnOk result (text.new.items ≡ text.old.items ++ v4_text address) }
+    ensures front { Keeps text.old.items text.new.items }
+{
+    put_number(text, u64::from(address[0]))?;
+    put_counted(text, b".", u64::from(address[1]))?;
+    put_counted(text, b".", u64::from(address[2]))?;
+    put_counted(text, b".", u64::from(address[3]))
+}
