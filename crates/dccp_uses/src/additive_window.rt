@@ -1,19 +1,13 @@
-//! An example: a kind of congestion control of one's own, for an end that is to use it. Nothing stands on this crate.
-//!
-//! The window begins with a packet, grows by one for each report of something received, and is halved by each report of
-//! a loss or of a marked packet (own; CCIDs from 248 are for experiments, RFC 4340, section 10).
-#![tactic(auto)]
-
+//! An own kind of congestion control with a window that moves: it begins with a packet, grows by one for each report of
+//! something received, and is halved by each report of a loss or of a marked packet (own; CCIDs from 248 are for
+//! experiments, RFC 4340, section 10).
 ghost use Rattle.std.specs.Prelude.{IfOk, [], ◌≡◌};
 
-use congestion_trait::{Congestion, Flight};
+use congestion_trait::Flight;
+use dccp_endpoint::{Congestion, NoMemory, Seq48};
 use dccp_options::AckReport;
-use seq_circle::{NoMemory, Seq48};
 use std::alloc::Global;
 use std::marker::Model;
-
-#[cfg(test)]
-mod tests;
 
 const CCID: u8 = 249;
 
@@ -49,7 +43,7 @@ impl AdditiveWindow {
 
 impl Congestion for AdditiveWindow {
     ghost use Rattle.congestion_trait.specs.Kind.{control_by_rules, kind_is_lawful};
-    ghost use Rattle.additive_window.specs.Additive.{additive};
+    ghost use Rattle.dccp_uses.specs.Additive.{additive};
 
     ghost control = { control_by_rules additive };
 
