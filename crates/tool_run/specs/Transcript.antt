@@ -1,4 +1,4 @@
--- What `run` writes of an input: the lines of its accepted lines, then the two end lines or the line of the first refusal (own).
+-- What `run` writes of an input: the lines of each event that takes place, then the two end lines or the line of the first refusal (own).
 use Rattle.std.specs.Prelude.{◌≡◌, ℕ, ◌+◌, ◌≤◌, ◌++◌, Bool, true, false, ◌&&◌, nat_lt, if◌then◌else◌, List, length, All, Option, Some, None, is_some, IfSome, Result, Ok, Err}
 use Rattle.dccp_endpoint.specs.Usual.{usual}
 use Rattle.dccp_endpoint.specs.declared.config.Config.{Config}
@@ -98,7 +98,7 @@ with_set side feature place values play =
 abbrev pub with_offered : Side → Feature → Place → Bool → Play → Play
 with_offered side feature place mandatory play = with_config side (offering (config_of play side) feature place mandatory) play
 
--- an event that takes place, or the fault of its line: it names no frame, or the world has no room for it
+-- An event that takes place, or the fault of its line: it names no frame. (No schedule comes to a world without room for it.)
 abbrev pub by_step : ℕ → Controlled Both → Event → Result (ControlledStep Both) WorldFault → Result Scene LineFault
 by_step number before event (Ok step) = Ok (record { number = number; before = before; event = event; step = step })
 by_step number before event (Err fault.NoSuchFrame) = Err no_such_frame
