@@ -574,3 +574,38 @@ fn texts_of_faults(rt: HostRuntime) -> Result<(), Fail> {
     }
     Ok(())
 }
+
+// Whether the reader holds what its next calls answer, one after the other, as told here.
+fn holds_in_turn(captures: &mut Captures<MemorySource>, held: &[bool]) -> bool {
+    for wanted in held {
+        if captures.holds_next() != *wanted {
+            return false;
+        }
+        let _ = captures.next();
+    }
+    true
+}
+
+fn is_held(alloc: Global, bytes: &[u8], most: usize, held: &[bool]) -> Result<bool, Fail> {
+    let mut captures = reader(alloc, bytes, &[], most)?;
+    Ok(holds_in_turn(&mut captures, held))
+}
+
+// A record is held once all its bytes were read, and no read follows where a fault ended the capture.
+#[test]
+fn a_reader_tells_when_it_holds_a_record(rt: HostRuntime) -> Result<(), Fail> {
+    let alloc = rt.alloc();
+    assert!(rt;
+        is_held(alloc, &ONE_PACKET, 1000, &[true, false, false])?,
+        "the whole capture"
+    );
+    assert!(rt;
+        is_held(alloc, &ONE_PACKET[..79], 1000, &[false, true, true])?,
+        "one byte less"
+    );
+    assert!(rt;
+        is_held(alloc, &ONE_PACKET, 24, &[false, false])?,
+        "the header by itself"
+    );
+    Ok(())
+}

@@ -301,3 +301,44 @@ fn no_more_is_read_than_a_line_needs(rt: HostRuntime) -> Result<(), Fail> {
     assert!(rt; is_one_read(rt.alloc(), b"one\ntwo\nthree", b"two\nthree")?);
     Ok(())
 }
+
+// Whether the reader holds what its next calls answer, one after the other, as told here.
+fn holds_in_turn(lines: &mut Lines<MemorySource>, held: &[bool]) -> bool {
+    for wanted in held {
+        if lines.holds_next() != *wanted {
+            return false;
+        }
+        let _ = found(lines);
+    }
+    true
+}
+
+fn is_held(alloc: Global, bytes: &[u8], most: usize, held: &[bool]) -> Result<bool, Fail> {
+    let mut lines = reader(alloc, bytes, &[], most)?;
+    Ok(holds_in_turn(&mut lines, held))
+}
+
+// A line is held once its newline or its 4,097th byte was read, and no read follows where the reader stopped.
+#[test]
+fn a_reader_tells_when_it_holds_a_line(rt: HostRuntime) -> Result<(), Fail> {
+    let alloc = rt.alloc();
+    assert!(rt;
+        is_held(alloc, b"ab\ncd\ne", 7, &[false, true, false, false])?,
+        "seven bytes"
+    );
+    assert!(rt;
+        is_held(alloc, b"ab\ncd\ne", 1, &[false, false, false, false])?,
+        "a byte a call"
+    );
+    let mut long = b"a\n".to_vec(alloc)?;
+    long.extend_from_slice(letters(alloc, 4097, b"")?.as_slice())?;
+    assert!(rt;
+        is_held(alloc, long.as_slice(), 20_000, &[false, true, true])?,
+        "a long line"
+    );
+    assert!(rt;
+        is_held(alloc, &long[..4098], 20_000, &[false, false, false])?,
+        "one byte less"
+    );
+    Ok(())
+}

@@ -268,8 +268,16 @@ fn failing_streams(rt: HostRuntime) -> Result<(), Fail> {
     Ok(())
 }
 
-// The second write fails.
-const SECOND_WRITE: Streams = Streams {
+// The second write fails, of an input of which a call gives as many bytes as there is room for.
+const SECOND_BLOCK: Streams = Streams {
+    failing_reads: &[],
+    failing_writes: &[2],
+    given: 1_000_000,
+    taken: 131_072,
+};
+
+// The same of an input of which a call gives seven bytes.
+const SECOND_PIECE: Streams = Streams {
     failing_reads: &[],
     failing_writes: &[2],
     given: 7,
@@ -291,13 +299,23 @@ fn many_openings(alloc: Global) -> Result<Vec<u8>, Fail> {
     Ok(schedule)
 }
 
-// The text of a schedule goes out in blocks of at least 4,096 bytes: neither line by line nor when it is whole. Each
-// further line is `N open: refused NotFresh`.
+// The text of a schedule that does not wait goes out in blocks of at least 4,096 bytes: neither line by line nor when it
+// is whole. Each further line is `N open: refused NotFresh`.
 #[test]
 fn blocks_of_a_schedule(rt: HostRuntime) -> Result<(), Fail> {
     let schedule = many_openings(rt.alloc())?;
-    let answer = answer_to(&rt, rt.alloc(), &OpenGate, &SECOND_WRITE, "run", &schedule)?;
+    let answer = answer_to(&rt, rt.alloc(), &OpenGate, &SECOND_BLOCK, "run", &schedule)?;
     assert!(rt; is_block(&answer, "1 open: ok\nsent c0 ", 4096, 25 * 3000));
+    Ok(())
+}
+
+// The lines of the one event of the handshake's first two lines.
+const OPENED: &str = "2 open: ok\nsent c0 9c401389050031ec01000000000003e80000002a\n";
+
+// The text of a line goes out before more of a schedule is read.
+#[test]
+fn lines_are_answered_before_more_is_read(rt: HostRuntime) -> Result<(), Fail> {
+    assert!(rt; ends(&rt, rt.alloc(), &SECOND_PIECE, Status::Write, OPENED)?);
     Ok(())
 }
 
@@ -358,12 +376,21 @@ fn failing_source_of_a_capture(rt: HostRuntime) -> Result<(), Fail> {
     Ok(())
 }
 
-// The text of a capture goes out in blocks: neither line by line nor when it is whole.
+// The text of a capture that does not wait goes out in blocks: neither line by line nor when it is whole.
 #[test]
 fn blocks_of_a_capture(rt: HostRuntime) -> Result<(), Fail> {
     let capture = capture_of(rt.alloc(), 1000)?;
-    let answer = shown(&rt, rt.alloc(), &SECOND_WRITE, &capture)?;
+    let answer = shown(&rt, rt.alloc(), &SECOND_BLOCK, &capture)?;
     let size = RECORD_LINE.len();
     assert!(rt; is_block(&answer, RECORD_LINE, 10 * size, 900 * size));
+    Ok(())
+}
+
+// The line of a record goes out before more of a capture is read.
+#[test]
+fn records_are_answered_before_more_is_read(rt: HostRuntime) -> Result<(), Fail> {
+    let capture = capture_of(rt.alloc(), 3)?;
+    let answer = shown(&rt, rt.alloc(), &SECOND_PIECE, &capture)?;
+    assert!(rt; answer.is(Status::Write, RECORD_LINE));
     Ok(())
 }

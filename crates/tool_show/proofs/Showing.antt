@@ -1,7 +1,8 @@
 -- A capture while it is shown: what was written, what stands in the text and what is left make the whole.
-use Rattle.std.proofs.Common.{◌≡◌, ◌≢◌, ◌⊎◌, refl, sym, ap, ◌∙◌, subst, inl, inr, ℕ, ◌+◌, ◌<◌, List, [], ◌∷◌, ◌++◌, length, drop, Option, Some, None, Result, Ok, Err, IfSome, append_assoc, arith}
+use Rattle.std.proofs.Common.{◌≡◌, ◌≢◌, ◌⊎◌, refl, sym, ap, ◌∙◌, subst, inl, inr, ℕ, ◌+◌, ◌<◌, List, [], ◌∷◌, ◌++◌, length, drop, Option, Some, None, Result, Ok, Err, IfSome, OnOk, append_assoc, arith}
 use Rattle.std.proofs.lemmas.List.{drop-drop}
-use Rattle.std.specs.Prelude.{is_some}
+use Rattle.std.proofs.lemmas.Option.{IfSome_then}
+use Rattle.std.specs.Prelude.{false, is_err, is_some}
 use Rattle.std.specs.Io.KnownBytes.{append_known, prepend_known}
 use Rattle.capture_reader.specs.declared.fault.CaptureFault.{CaptureFault}
 use Rattle.capture_reader.specs.declared.format.Format.{Format}
@@ -24,7 +25,7 @@ use Rattle.tool_output.specs.declared.status.Status.TheVariants as status
 use Rattle.tool_show.specs.CaptureText.{first_tally, counted_record, tallied, record_text, last_line, fault_line, text_from, size_of, end_of_records, capture_text, is_faulty, records_end}
 use Rattle.tool_show.specs.Show.{Turns, Closes, ShowsHeaderFault, ShowsRecords, shown_text}
 use Rattle.tool_output.specs.Ends.{HasBegun, IsCutOff, Answers, IsMovedOut}
-use Rattle.tool_output.proofs.Ending.{append-none, append-twice, begun-longer, begun-behind, none-left, not-both, answers-early, unwritten}
+use Rattle.tool_output.proofs.Ending.{append-none, append-twice, begun-longer, begun-behind, none-left, not-both, answers-early, on-ok, unwritten}
 
 -- the text of what is left
 abbrev pub rest_text : Tally → Captured → List ℕ
@@ -110,6 +111,15 @@ along-moved format number given left tally text kept before after later whole in
       size_is = along.size_is;
       end_is = along.end_is;
     }
+
+-- the same of an input that is known or not, where the call succeeded
+pub along-flushed : {A E : Type 0} (all : Option (List ℕ)) (records : List ℕ → Captured) (format : Format) (number given : ℕ) (left : Option (List ℕ)) (tally : Tally)
+    (text kept : List ℕ) (before after later : Option (List ℕ)) (flushed : Result A E)
+    → IfSome all (λ bytes. Along format number given left tally text before after (records bytes) bytes) → OnOk flushed (IsMovedOut after later text kept)
+    → is_err flushed ≡ false → IfSome all (λ bytes. Along format number given left tally kept before later (records bytes) bytes)
+along-flushed all records format number given left tally text kept before after later flushed along moved fine =
+    IfSome_then all along (λ (bytes : List ℕ) here.
+    along-moved format number given left tally text kept before after later (records bytes) bytes here (on-ok flushed (IsMovedOut after later text kept) moved fine))
 
 -- the job ended early
 pub along-begun : (format : Format) (number given : ℕ) (left : Option (List ℕ)) (tally : Tally) (text : List ℕ) (before after later : Option (List ℕ)) (whole : Captured)

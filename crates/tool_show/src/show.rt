@@ -1,15 +1,16 @@
 //! `show`: a capture's records, one by one.
-ghost use Rattle.std.specs.Prelude.{◌≡◌, ◌≢◌, ℕ, ◌+◌, ◌<◌, ◌^◌, List, [], drop, ◌++◌, Some, None, IfSome, OnOk, OnErr};
+ghost use Rattle.std.specs.Prelude.{◌≡◌, ◌≢◌, ℕ, ◌+◌, ◌<◌, ◌≤◌, ◌^◌, List, [], drop, ◌++◌, false, Some, None, IfSome, OnOk, OnErr};
 ghost use Rattle.dccp_io.specs.Counts.{Rose};
+ghost use Rattle.dccp_io.specs.Fronts.{TakesFront};
 ghost use Rattle.capture_reader.specs.Records.{entry_of, records_from};
-ghost use Rattle.capture_reader.specs.State.{Passed, rest};
+ghost use Rattle.capture_reader.specs.State.{Passed, holds_record, rest};
 ghost use Rattle.tool_show.specs.CaptureText.{CountsFit, first_tally, tallied, record_text, last_line, capture_text, is_faulty, records_end};
 ghost use Rattle.tool_show.specs.Show.{Turns, Closes, ShowsHeaderFault, ShowsRecords};
-ghost use Rattle.tool_output.specs.Ends.{SinkFailed, Answers, EndsForCause};
+ghost use Rattle.tool_output.specs.Ends.{SinkFailed, SinkFails, Answers, EndsForCause, IsMovedOut};
 
 use crate::capture_lines::put_last_line;
 use capture_reader::{CaptureFault, Captures, Record};
-use dccp_io::{Sink, Source, write_all};
+use dccp_io::{Failed, Sink, Source, write_all};
 use packet_show::{Flows, Shown};
 use seq_circle::NoMemory;
 use std::alloc::Global;
@@ -62,13 +63,34 @@ pub(crate) enum Turn {
     Failed,
 }
 
-// Reads the next record and shows it.
+// Writes the text before the reader asks its source for more, and where it has a block's length.
+fn flush_if_due<S: Source + Drop, K: Sink>(
+    captures: &Captures<S>,
+    output: &mut K,
+    text: &mut Vec<u8>,
+) -> Result<(), Failed>
+    ensures moved { OnOk result (IsMovedOut (K.taken output.old) (K.taken output.new) text.old.items text.new.items) }
+    ensures written { OnOk result (holds_record captures.now ≡ false → text.new.items ≡ []) }
+    ensures front { OnErr result (TakesFront (K.taken output.old) (K.taken output.new) text.old.items) }
+    ensures never_falls { K.faults output.old ≤ K.faults output.new }
+    ensures takes_never_fall { K.empty_takes output.old ≤ K.empty_takes output.new }
+    ensures cause { OnErr result (SinkFails K.faults K.empty_takes output.old output.new) }
+{
+    if captures.holds_next() {
+        flush_if_full(output, text)
+    } else {
+        flush(output, text)
+    }
+}
+
+// Reads the next record and shows it. Where that asks the source for more, nothing is unwritten.
 fn show_next<S: Source + Drop>(
     captures: &mut Captures<S>,
     tally: &mut Tally,
     text: &mut Vec<u8>,
 ) -> Result<Turn, NoMemory>
-    requires { tally.old.shown + tally.old.skipped + 1 < 2 ^ 64 }
+    requires fits { tally.old.shown + tally.old.skipped + 1 < 2 ^ 64 }
+    requires written { holds_record captures.old ≡ false → text.old.items ≡ [] }
     ensures { Turns S.left S.faults S.lender captures.old captures.new tally.old tally.new text.old.items text.new.items result }
 {
     match captures.next() {
@@ -127,12 +149,11 @@ fn show_all<S: Source + Drop, K: Sink>(
         (SinkFailed (K.faults output.old) (K.faults output.new) (K.empty_takes output.old) (K.empty_takes output.new)) }
 {
     loop {
+        if flush_if_due(captures, output, text).is_err() {
+            return Status::Write;
+        }
         match show_next(captures, tally, text) {
-            Ok(Turn::Shown) => {
-                if flush_if_full(output, text).is_err() {
-                    return Status::Write;
-                }
-            }
+            Ok(Turn::Shown) => {}
             Ok(Turn::Ended(end)) => return finish(output, text, tally, end),
             Ok(Turn::Failed) => return cut_off(output, text, Status::Read),
             Err(NoMemory) => return cut_off(output, text, Status::Memory),
@@ -173,9 +194,9 @@ fn refuse_header<K: Sink>(alloc: Global, why: CaptureFault, output: &mut K) -> S
     }
 }
 
-/// Shows a capture (own): a line for each record that carries DCCP, written in blocks as the records are read, and a last
-/// line that counts them or tells the fault that ended them. It keeps one record of the input, the flows and one block
-/// of text. Input comes where the capture has a fault, Read where the source failed, Write where the sink did, and Memory
+/// Shows a capture (own): a line for each record that carries DCCP, and a last line that counts them or tells the fault
+/// that ended them. The lines are written in blocks as the records are read, and before the source is asked for more. It
+/// keeps one record of the input, the flows and one block of text. Input comes where the capture has a fault, Read where the source failed, Write where the sink did, and Memory
 /// where no memory was left.
 pub fn show_capture<S: Source, K: Sink>(alloc: Global, input: &mut S, output: &mut K) -> Status
     ensures words { result ≢ Status.Words }
