@@ -16,12 +16,12 @@ use Rattle.feature_machine.specs.Negotiating.{changes, confirmed}
 use Rattle.feature_machine.specs.Rows.{RowAnswer, Confirms, Ignored, Settled, Fatal, Opens, Waits, Quiet}
 use Rattle.feature_machine.specs.declared.row.Row.{Row}
 use Rattle.dccp_endpoint.specs.Faults.{mandatory_fault}
-use Rattle.dccp_endpoint.specs.FirstFault.{BeginsWithByte, ChangeFails, ConfirmFails, GoesWrong, HasFirstFault, IsFirstFor, ItemFits, MandatoryMisplaced, NotUnderstood, ReadingGoesThrough, ReadingStopsAtTheFirstFault, changes_among, has_feature_number, is_change_item, is_same_letter, negotiates_by, speaks_for}
+use Rattle.dccp_endpoint.specs.FirstFault.{BeginsWithByte, ChangeFails, ConfirmFails, GoesWrong, HasFirstFault, IsFirstFor, ItemFits, MandatoryMisplaced, NotUnderstood, ReadingGoesThrough, ReadingStopsAtTheFirstFault, is_same_letter, speaks_for}
 use Rattle.dccp_endpoint.specs.Heeding.{Due, Heeding, by_answered, by_settling, counted, fault_of, heeds, heeds_body, heeds_change, heeds_entry, heeds_feature, heeds_first, heeds_item, heeds_then, is_change, is_left, is_of_negotiation, met, misunderstood, place_in_used, unheeded}
-use Rattle.dccp_endpoint.specs.Saying.{begins_with_number}
+use Rattle.dccp_endpoint.specs.Saying.{begins_with_number, changes_among, has_feature_number, is_change_item, negotiates_by, once_if}
 use Rattle.end_answers.specs.declared.outcome.Fault.{Fault}
 
-abbrev ListItem : Type 0
+abbrev pub ListItem : Type 0
 ListItem = Result Entry OptFault
 
 -- it is a Change or a Confirm with a feature number
@@ -192,11 +192,7 @@ data Counts (n : ℕ) (changes : ℕ) : Type 0 where
   Exactly : changes ≡ n → changes ≤ 64 → Counts n changes
   Full : changes ≡ 64 → 64 ≤ n → Counts n changes
 
-abbrev one_if : Bool → ℕ
-one_if true = 1
-one_if false = 0
-
-counts-more : (n changes : ℕ) (change : Bool) → Counts n changes → Counts (n + one_if change) (counted changes change)
+counts-more : (n changes : ℕ) (change : Bool) → Counts n changes → Counts (n + once_if change) (counted changes change)
 counts-more n changes false (Exactly same few) = Exactly (omega (arith, same)) few
 counts-more n changes false (Full same many) = Full same (omega (arith, many))
 counts-more n changes true counts = by (nat_lt changes 64) refl counts where
@@ -205,6 +201,42 @@ counts-more n changes true counts = by (nat_lt changes 64) refl counts where
   by true few (Full same many) = absurd (grind (arith, few, same))
   by false all (Exactly same most) = Full (grind (arith, all, most)) (grind (arith, all, same))
   by false all (Full same many) = Full same (omega (arith, many))
+
+counted-most : (changes : ℕ) (change : Bool) → counted changes change ≤ changes + once_if change
+counted-most changes false = omega arith
+counted-most changes true = by (nat_lt changes 64) where
+  by : (few : Bool) → (if few then changes + 1 else changes) ≤ changes + 1
+  by true = omega arith
+  by false = omega arith
+
+spoken-whole : (count : Bool) (entry : Entry) (number : ℕ) (list : List ℕ) → Spoken count entry number list → negotiates_by entry ≡ true
+spoken-whole count entry number list spoken =
+    and_from (is_understood entry.kind (length entry.body)) (is_of_negotiation entry.kind && has_feature_number entry.body) spoken.understood
+    (and_from (is_of_negotiation entry.kind) (has_feature_number entry.body) spoken.its (ap has_feature_number spoken.body))
+
+spoken-change : (count : Bool) (entry : Entry) (number : ℕ) (list : List ℕ) → Spoken count entry number list → is_change_item (Ok entry) ≡ is_change entry.kind
+spoken-change count entry number list spoken = ap (λ (b : Bool). b && is_change entry.kind) (spoken-whole count entry number list spoken)
+
+-- An option adds one to the Changes that were met, at most, and that where it is a Change.
+pub item-counts : (count : Bool) (ack : Option ℕ) (h next : Heeding) (entry : Entry) → heeds_entry count ack h entry ≡ Ok next
+    → next.changes ≤ h.changes + once_if (is_change_item (Ok entry))
+item-counts count ack h next entry step = by next (subst (Way count ack h (Ok entry)) step (entry-way count ack h entry)) where
+  by : (next : Heeding) → Way count ack h (Ok entry) (Ok next) → next.changes ≤ h.changes + once_if (is_change_item (Ok entry))
+  by _ (Says _ none) = omega arith
+  by _ (Again _ number list spoken was) =
+      subst (λ (b : Bool). counted h.changes (is_change entry.kind) ≤ h.changes + once_if b) (sym (spoken-change count entry number list spoken))
+      (counted-most h.changes (is_change entry.kind))
+  by _ (Meets _ number list rows confirms change is spoken) =
+      subst (λ (b : Bool). counted h.changes change ≤ h.changes + once_if b) (sym (spoken-change count entry number list spoken ∙ is)) (counted-most h.changes change)
+
+-- There are no more Changes than options.
+pub changes-few : (options : List ListItem) → changes_among options ≤ length options
+changes-few [] = omega arith
+changes-few (item ∷ rest) = by (is_change_item item) (changes-few rest) where
+  by : (change : Bool) → changes_among rest ≤ length rest
+      → length (if change then item ∷ filter is_change_item rest else filter is_change_item rest) ≤ length (item ∷ rest)
+  by true few = omega (arith, few)
+  by false few = omega (arith, few)
 
 record Sums (count : Bool) (done : List ListItem) (h : Heeding) : Type 0 where
   size : length h.used ≡ 512
@@ -245,11 +277,11 @@ any-more : (left : Bool) (number : ℕ) (done : List ListItem) (item : ListItem)
 any-more left number done item =
     list_any-append (speaks_for left number) done (item ∷ []) ∙ or-last (list_any (speaks_for left number) done) (speaks_for left number item)
 
-length-one : (change : Bool) (item : ListItem) → length (if change then item ∷ [] else []) ≡ one_if change
+length-one : (change : Bool) (item : ListItem) → length (if change then item ∷ [] else []) ≡ once_if change
 length-one true item = refl
 length-one false item = refl
 
-changes-more : (done : List ListItem) (item : ListItem) → changes_among (done ++ item ∷ []) ≡ changes_among done + one_if (is_change_item item)
+changes-more : (done : List ListItem) (item : ListItem) → changes_among (done ++ item ∷ []) ≡ changes_among done + once_if (is_change_item item)
 changes-more done item =
     ap length (filter-append is_change_item done (item ∷ []))
     ∙ length-append (filter is_change_item done) (filter is_change_item (item ∷ []))
@@ -263,9 +295,7 @@ record Is (entry : Entry) (number : ℕ) : Type 0 where
 
 spoken-is : (count : Bool) (entry : Entry) (number : ℕ) (list : List ℕ) → BeginsWithByte entry.body → Spoken count entry number list → Is entry number
 spoken-is count entry number list fits spoken =
-    let whole : negotiates_by entry ≡ true =
-    and_from (is_understood entry.kind (length entry.body)) (is_of_negotiation entry.kind && has_feature_number entry.body) spoken.understood
-    (and_from (is_of_negotiation entry.kind) (has_feature_number entry.body) spoken.its (ap has_feature_number spoken.body)) in
+    let whole : negotiates_by entry ≡ true = spoken-whole count entry number list spoken in
     record {
       change = ap (λ (b : Bool). b && is_change entry.kind) whole;
       speaks =
@@ -297,7 +327,7 @@ module _ (count : Bool) (ack : Option ℕ) (done : List ListItem) (h : Heeding) 
             λ on.
             subst (λ (n : ℕ). Counts n h.changes)
             (sym (changes-more done (Ok entry)
-            ∙ ap (λ (b : Bool). changes_among done + one_if b) (and_left (negotiates_by entry) (is_change entry.kind) (on-so count (negotiates_by entry) none on))))
+            ∙ ap (λ (b : Bool). changes_among done + once_if b) (and_left (negotiates_by entry) (is_change entry.kind) (on-so count (negotiates_by entry) none on))))
             (counts-more (changes_among done) h.changes false (sums.changes on));
       }
   sums-more _ _ fits (Again entry number list spoken was) =
@@ -310,7 +340,7 @@ module _ (count : Bool) (ack : Option ℕ) (done : List ListItem) (h : Heeding) 
         changes =
             λ on.
             subst (λ (n : ℕ). Counts n (counted h.changes (is_change entry.kind)))
-            (sym (changes-more done (Ok entry) ∙ ap (λ (b : Bool). changes_among done + one_if b) its.change))
+            (sym (changes-more done (Ok entry) ∙ ap (λ (b : Bool). changes_among done + once_if b) its.change))
             (counts-more (changes_among done) h.changes (is_change entry.kind) (sums.changes on));
       }
     where
@@ -338,7 +368,7 @@ module _ (count : Bool) (ack : Option ℕ) (done : List ListItem) (h : Heeding) 
         changes =
             λ on.
             subst (λ (n : ℕ). Counts n (counted h.changes change))
-            (sym (changes-more done (Ok entry) ∙ ap (λ (b : Bool). changes_among done + one_if b) (its.change ∙ is)))
+            (sym (changes-more done (Ok entry) ∙ ap (λ (b : Bool). changes_among done + once_if b) (its.change ∙ is)))
             (counts-more (changes_among done) h.changes change (sums.changes on));
       }
     where

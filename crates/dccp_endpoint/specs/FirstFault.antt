@@ -1,5 +1,5 @@
 -- At which option of a packet the reading stops, and for which fault (RFC 4340, sections 5.8.2 and 8.5, step 8; which options count is own).
-use Rattle.std.specs.Prelude.{◌≡◌, ◌↔◌, ◌<◌, ◌&&◌, not, ℕ, Bool, true, false, List, [], ◌∷◌, ◌++◌, length, filter, Option, Result, Ok, Err}
+use Rattle.std.specs.Prelude.{◌≡◌, ◌↔◌, ◌<◌, ◌&&◌, not, ℕ, Bool, true, false, List, [], ◌∷◌, ◌++◌, length, Option, Result, Ok, Err}
 use Rattle.std.specs.List.{All, list_any}
 use Rattle.dccp_options.specs.Grammar.{Entry}
 use Rattle.dccp_options.specs.Kinds.{is_understood}
@@ -10,7 +10,7 @@ use Rattle.feature_machine.specs.Rows.{Fatal}
 use Rattle.feature_machine.specs.declared.row.Row.{Row}
 use Rattle.dccp_endpoint.specs.Faults.{mandatory_fault}
 use Rattle.dccp_endpoint.specs.Heeding.{Heeding, fault_of, heeds, is_change, is_left, is_of_negotiation, unheeded}
-use Rattle.dccp_endpoint.specs.Saying.{begins_with_number}
+use Rattle.dccp_endpoint.specs.Saying.{begins_with_number, changes_among, negotiates_by}
 use Rattle.end_answers.specs.declared.outcome.Fault.{Fault}
 
 -- both are L, or both are R
@@ -18,28 +18,10 @@ abbrev pub is_same_letter : Bool → Bool → Bool
 is_same_letter true left = left
 is_same_letter false left = not left
 
--- the data begin with some feature number
-abbrev pub has_feature_number : List ℕ → Bool
-has_feature_number [] = false
-has_feature_number (number ∷ rest) = true
-
--- the option is understood, and is a Change or a Confirm with some feature number
-abbrev pub negotiates_by : Entry → Bool
-negotiates_by entry = is_understood entry.kind (length entry.body) && (is_of_negotiation entry.kind && has_feature_number entry.body)
-
 -- The item is a Change or a Confirm for the feature with this number, by this letter: Change L and Confirm L have the letter L.
 abbrev pub speaks_for : Bool → ℕ → Result Entry OptFault → Bool
 speaks_for left number (Ok entry) = negotiates_by entry && (begins_with_number number entry.body && is_same_letter left (is_left entry.kind))
 speaks_for left number (Err fault) = false
-
--- the item is a Change, of whatever feature, whether it is the first for that or not
-abbrev pub is_change_item : Result Entry OptFault → Bool
-is_change_item (Ok entry) = negotiates_by entry && is_change entry.kind
-is_change_item (Err fault) = false
-
--- how many Changes there are
-abbrev pub changes_among : List (Result Entry OptFault) → ℕ
-changes_among options = length (filter is_change_item options)
 
 -- no Change and no Confirm for this feature, by this letter, stands among these
 abbrev pub IsFirstFor : Bool → ℕ → List (Result Entry OptFault) → Type 0

@@ -36,10 +36,10 @@ pub fn reading_stops_at_the_first_fault()
     ensures goes_through { ReadingGoesThrough }
 {}
 
-/// A packet of at most 64 options that is read whole says one thing to a row at most: what the first option says that
+/// A packet of at most 64 Changes that is read whole says one thing to a row at most: what the first option says that
 /// speaks to it, a Change or a Confirm (RFC 4340, sections 6.1 and 6.2; that only the first counts where there are
-/// several, and that none has more options that count, is own). The row hears that and nothing else, and a Confirm for
-/// it is due exactly where its answer is one, and once.
+/// several, and of Changes only the first 64, is own). The row hears that and nothing else, and a Confirm for it is due
+/// exactly where its answer is one, and once.
 pub fn packets_say_one_thing_to_a_row()
     ensures heard { RowsHearThePacket }
     ensures single { ConfirmsAreSingle }

@@ -93,8 +93,8 @@ abbrev pub enough : ℕ → ℕ
 enough given = min one_too_many (most_input_bytes - given + 1)
 
 -- The bytes that are pending settle what stands next: so many of the first line's are there, or its newline is.
-abbrev pub is_settled : ℕ → List ℕ → Bool
-is_settled asked pending = nat_le asked (text_length pending) || nat_lt (text_length pending) (length pending)
+abbrev pub is_line_settled : ℕ → List ℕ → Bool
+is_line_settled asked pending = nat_le asked (text_length pending) || nat_lt (text_length pending) (length pending)
 
 -- What seeking keeps: what is still to come, the block, and whose source it is.
 pub record Seeks {S : Type 0} (left : S → Option (List ℕ)) (faults lender : S → ℕ) (old new : BytesAhead) (before after : S) : Type 0 where
@@ -115,7 +115,7 @@ pub record LinesState (S : Type 0) : Type 0 where
 
 -- The next call reads nothing: what is pending settles its answer, or no further line comes.
 abbrev pub holds_next : {S : Type 0} → LinesState S → Bool
-holds_next l = is_some l.stop || is_settled (enough l.given) l.pending
+holds_next l = is_some l.stop || is_line_settled (enough l.given) l.pending
 
 -- what is left of the input behind the lines that were given, where the source tells its bytes
 abbrev pub rest_of_input : {S : Type 0} → (S → Option (List ℕ)) → LinesState S → Option (List ℕ)

@@ -2,7 +2,7 @@
 ghost use Rattle.std.specs.Prelude.{◌≡◌, ◌+◌, ◌≤◌, [], length, take, drop, true, None, IfOk, OnErr, IfSome};
 ghost use Rattle.dccp_io.specs.Counts.{Rose};
 ghost use Rattle.dccp_io.specs.Ahead.{ahead_of};
-ghost use Rattle.dccp_io.specs.Lines.{IsLineOf, IsSought, Seeks, enough, first_line, holds_next, is_settled, made_out, next_in_bytes, text_length};
+ghost use Rattle.dccp_io.specs.Lines.{IsLineOf, IsSought, Seeks, enough, first_line, holds_next, is_line_settled, made_out, next_in_bytes, text_length};
 
 use crate::{Failed, ReadAhead, Source};
 use seq_circle::NoMemory;
@@ -80,7 +80,7 @@ fn seek<S: Source>(source: &mut S, ahead: &mut ReadAhead, asked: usize) -> Resul
     ensures seeks { Seeks S.left S.faults S.lender ahead.old ahead.new source.old source.new }
     ensures value { IfOk result (λ seen. seen ≡ text_length ahead.new.pending) }
     ensures sought { IfOk result (λ seen. IsSought asked ahead.new.pending (S.left source.new)) }
-    ensures unread { is_settled asked ahead.old.pending ≡ true → source.new ≡ source.old }
+    ensures unread { is_line_settled asked ahead.old.pending ≡ true → source.new ≡ source.old }
     ensures cause { OnErr result (Rose (S.faults source.old) (S.faults source.new)) }
 {
     let mut seen = text_length(ahead.pending(), 0);
@@ -140,8 +140,8 @@ fn enough(given: u64) -> usize
 }
 
 // The bytes that are pending settle what stands next: the first line's newline is among them, or so many bytes of it are.
-fn is_settled(asked: usize, pending: &[u8]) -> bool
-    ensures { result ≡ is_settled asked pending.now }
+fn is_line_settled(asked: usize, pending: &[u8]) -> bool
+    ensures { result ≡ is_line_settled asked pending.now }
 {
     let seen = text_length(pending, 0);
     asked <= seen || seen < pending.len()
@@ -158,7 +158,7 @@ fn stands_next<S: Source>(
     ensures seeks { Seeks S.left S.faults S.lender ahead.old ahead.new source.old source.new }
     ensures next { IfOk result (λ stands. IfSome (ahead_of ahead.old (S.left source.old)) (λ bytes. next_in_bytes given bytes ≡ made_out ahead.new.pending stands)) }
     ensures fits { IfOk result (λ stands. IsLineOf given ahead.new.pending stands) }
-    ensures unread { is_settled (enough given) ahead.old.pending ≡ true → source.new ≡ source.old }
+    ensures unread { is_line_settled (enough given) ahead.old.pending ≡ true → source.new ≡ source.old }
     ensures cause { OnErr result (Rose (S.faults source.old) (S.faults source.new)) }
 {
     let asked = enough(given);
@@ -261,7 +261,7 @@ impl<S: Source + Drop> Lines<S> {
             return true;
         }
         let (_, pending) = self.ahead.pending().split_at(self.used);
-        is_settled(enough(self.given), pending)
+        is_line_settled(enough(self.given), pending)
     }
 
     /// The line that was given last, with its newline.

@@ -2,12 +2,13 @@
 //! the replays and schedules of examples/.
 //!
 //! Each word makes one call. Behind the colon stand its answer and, where it may send one, the frame, or `-`. `marks`
-//! shows GSS, GSR, OSR and GAR; `floor` the floor and how many numbers were taken; `window` the window and what is in flight.
+//! shows GSS, GSR, OSR and GAR, and `windows` SWL, SWH, AWL and AWH; `floor` the floor and how many numbers were taken;
+//! `window` the window and what is in flight.
 use crate::ends::{
     Endpoint, aborts, closes, fires, new_end, opens, plain, prefers, sends, tell_frame, tell_packet,
 };
 use crate::tables::{Table, holds, pieces, tell_held, values};
-use dccp_endpoint::{Config, Role, Timer};
+use dccp_endpoint::{Config, Ports, Pseudo, Role, Timer};
 use dccp_packets::Outbox;
 use feature_lists::{Feature, Place};
 use seq_circle::Seq48;
@@ -28,6 +29,8 @@ const AT_A_CLIENT: &str = "\
 const AT_A_SERVER: &str = "\
     # A handshake: GSS, GSR, OSR and GAR, the floor, and how many numbers were taken\n\
     open/ packet/9c401389050031ec01000000000003e80000002a packet/9c4013890600234107000000000003e900000000000007d0 marks/ floor/ phase/: NotFresh - took 13899c400700261403000000000007d000000000000003e80000002a took 13899c400600234007000000000007d100000000000003e9 2001 1001 1001 2000 1000 2 Open\n\
+    # What raises GAR: a SyncAck, an Ack, also an older one, and a Response that is refused; and no Sync\n\
+    marks/ packet/9c401389050031ec01000000000003e80000002a packet/9c4013890600234107000000000003e900000000000007d0 timer/ack timer/ack timer/ack packet/9c4013890600173f13000000000003ea00000000000007d1 marks/ packet/9c4013890600193d11000000000003eb00000000000007d2 marks/ packet/9c4013890600233707000000000003f200000000000007d1 packet/9c4013890600233a07000000000003ed00000000000007d3 marks/ packet/9c4013890700260503000000000003f300000000000007d40000002a marks/ windows/: 1999 0 0 2000 took 13899c400700261403000000000007d000000000000003e80000002a took 13899c400600234007000000000007d100000000000003e9 true 13899c400600233f07000000000007d200000000000003e9 true 13899c400600233e07000000000007d300000000000003e9 true 13899c400600233d07000000000007d400000000000003e9 took - 2004 1002 1001 2001 took 13899c400600173a13000000000007d500000000000003eb 2005 1003 1001 2001 took - took - 2005 1010 1001 2003 synced 1011 13899c400600193111000000000007d600000000000003f3 2006 1011 1001 2004 1000 1086 2000 2006\n\
     # A timer that applies and one that does not, a close and an abort, each twice\n\
     packet/9c401389050031ec01000000000003e80000002a packet/9c4013890600234107000000000003e900000000000007d0 timer/ack timer/close close/ close/ abort/ abort/ phase/: took 13899c400700261403000000000007d000000000000003e80000002a took 13899c400600234007000000000007d100000000000003e9 true 13899c400600233f07000000000007d200000000000003e9 false - ok 13899c4006001f3e0b000000000007d300000000000003e9 NotOpen - ok 13899c40070018390f000000000007d400000000000003e902000000 NotLive - Closed\n\
     # A feature's value, asked for too early, not permitted, and asked for\n\
@@ -135,6 +138,13 @@ fn tell_marks(end: &Endpoint, told: &mut String) -> Result<(), Fail> {
     Ok(write!(told, " {sent} {received} {first} {acknowledged}")?)
 }
 
+fn tell_windows(end: &Endpoint, told: &mut String) -> Result<(), Fail> {
+    let windows = end.marks().windows();
+    let (low, high) = (windows.swl.get(), windows.swh.get());
+    let (ack_low, ack_high) = (windows.awl.get(), windows.awh.get());
+    Ok(write!(told, " {low} {high} {ack_low} {ack_high}")?)
+}
+
 fn tell_floor(end: &Endpoint, told: &mut String) -> Result<(), Fail> {
     let floor = end.floor().get();
     let marked = end.marked();
@@ -170,6 +180,7 @@ fn tell_phase(end: &Endpoint, told: &mut String) -> Result<(), Fail> {
 fn tell_shown(end: &Endpoint, verb: &str, rest: &str, told: &mut String) -> Result<(), Fail> {
     match verb {
         "marks" => tell_marks(end, told),
+        "windows" => tell_windows(end, told),
         "floor" => tell_floor(end, told),
         "window" => tell_window(end, told),
         "reported" => tell_reported(end, rest, told),
@@ -246,4 +257,39 @@ fn of_an_offer(rt: HostRuntime) -> Result<(), Fail> {
         &Calls(offering().ok_or("an offer")?),
         OF_AN_OFFER,
     )
+}
+
+fn agree(one: &Config, other: &Config) -> Result<(), Fail> {
+    if one != other {
+        return Err(Fail::from("the configurations differ"));
+    }
+    Ok(())
+}
+
+// The usual ends are configured as any others are: their packets go out between two addresses and ports, and come back
+// between the same two the other way round.
+#[test]
+fn usual_ends_are_configured() -> Result<(), Fail> {
+    let to_server = Pseudo::V4 {
+        from: [10, 0, 0, 1],
+        to: [10, 0, 0, 2],
+    };
+    let to_client = Pseudo::V4 {
+        from: [10, 0, 0, 2],
+        to: [10, 0, 0, 1],
+    };
+    let at_client = Ports {
+        own: 40000,
+        peer: 5001,
+    };
+    let at_server = Ports {
+        own: 5001,
+        peer: 40000,
+    };
+    let client_first = Seq48::new(1000).ok_or("a number")?;
+    let server_first = Seq48::new(2000).ok_or("a number")?;
+    let client = Config::client(to_server, at_client, 42, client_first);
+    let server = Config::server(to_client, at_server, 42, server_first);
+    agree(&client, &Config::usual(Role::Client))?;
+    agree(&server, &Config::usual(Role::Server))
 }

@@ -6,7 +6,7 @@ use Rattle.std.specs.Io.KnownBytes.{append_known, prepend_known}
 use Rattle.std.specs.Prelude.{flat_map, is_some}
 use Rattle.dccp_io.specs.Fronts.{GivesAtMost}
 use Rattle.dccp_io.specs.Lines.{Line, first_line, lines_of, next_in_bytes, text_of}
-use Rattle.tool_lines.specs.Jobs.{Job, Verdict, Accepted, Refused, Judges, Gone, GoesThrough, by_next, deeds_of, goes_on, gone_from, gone_so_far, gone_through, last_lines, line_text, onto, text_of_job}
+use Rattle.tool_lines.specs.Jobs.{Job, Verdict, Accepted, Refused, Judges, Gone, GoesThrough, by_next, deeds_of, gone_by, gone_from, gone_so_far, gone_through, last_lines, line_text, onto, text_of_job}
 use Rattle.tool_lines.specs.Turns.{Leaves}
 use Rattle.tool_lines.proofs.FirstLine.{gone-cut, is-line}
 use Rattle.tool_output.specs.Ends.{HasBegun, IsCutOff, IsMovedOut}
@@ -73,7 +73,7 @@ module _ {P V : Type 0} (job : Job P V) (first : V) where
   accepted-by : (state next : V) (number given further : ℕ) (left behind : Option (List ℕ)) (front text after : List ℕ) (before taken : Option (List ℕ)) (input : List ℕ)
       (along : Along job first state number given left front text before taken input) (rest : List (List ℕ)) (verdict : Verdict P V)
       → behind ≡ Some (drop further input) → lines_of (drop further input) ≡ rest
-      → gone_from job state number given (lines_of (drop given input)) ≡ goes_on state number given verdict (λ v. gone_from job v (number + 1) further rest)
+      → gone_from job state number given (lines_of (drop given input)) ≡ gone_by state number given verdict (λ v. gone_from job v (number + 1) further rest)
       → Judges job verdict text after next (Ok tt) → Along job first next (number + 1) further behind front after before taken input
   accepted-by state next number given further left behind front text after before taken input along rest (Refused fault) is lines goes judges = cc judges.1
   accepted-by state next number given further left behind front text after before taken input along rest (Accepted deed onward) is lines goes judges = record {
@@ -103,12 +103,12 @@ module _ {P V : Type 0} (job : Job P V) (first : V) where
       let moved : drop (length line) bytes ≡ drop further input = drop-drop (length line) given input ∙ ap (λ (n : ℕ). drop n input) (sym counts) in
       let rest : lines_of (drop (length line) bytes) ≡ lines_of (drop further input) = ap lines_of moved in
       let goes : gone_from job state number given (lines_of bytes)
-      ≡ goes_on state number given (job.judged state number (text_of line)) (λ v. gone_from job v (number + 1) further (lines_of (drop further input))) =
+      ≡ gone_by state number given (job.judged state number (text_of line)) (λ v. gone_from job v (number + 1) further (lines_of (drop further input))) =
       gone-cut job state number given bytes line_is.0
-      ∙ ap (λ (l : List ℕ). goes_on state number given (by_next job state number (next_in_bytes given bytes)) (λ (v : V). gone_from job v (number + 1) (given + length l) (lines_of (drop (length l) bytes)))) line_is.1
-      ∙ ap (λ n. goes_on state number given (by_next job state number n) (λ (v : V). gone_from job v (number + 1) (given + length line) (lines_of (drop (length line) bytes)))) here.0
-      ∙ ap (λ (m : ℕ). goes_on state number given (job.judged state number (text_of line)) (λ (v : V). gone_from job v (number + 1) m (lines_of (drop (length line) bytes)))) (sym counts)
-      ∙ ap (λ (ls : List (List ℕ)). goes_on state number given (job.judged state number (text_of line)) (λ (v : V). gone_from job v (number + 1) further ls)) rest in
+      ∙ ap (λ (l : List ℕ). gone_by state number given (by_next job state number (next_in_bytes given bytes)) (λ (v : V). gone_from job v (number + 1) (given + length l) (lines_of (drop (length l) bytes)))) line_is.1
+      ∙ ap (λ n. gone_by state number given (by_next job state number n) (λ (v : V). gone_from job v (number + 1) (given + length line) (lines_of (drop (length line) bytes)))) here.0
+      ∙ ap (λ (m : ℕ). gone_by state number given (job.judged state number (text_of line)) (λ (v : V). gone_from job v (number + 1) m (lines_of (drop (length line) bytes)))) (sym counts)
+      ∙ ap (λ (ls : List (List ℕ)). gone_by state number given (job.judged state number (text_of line)) (λ (v : V). gone_from job v (number + 1) further ls)) rest in
       accepted-by state next number given further left behind front text after before taken input along (lines_of (drop further input)) (job.judged state number (text_of line))
       (here.1 ∙ ap Some moved) refl goes judges
 
@@ -181,7 +181,7 @@ module _ {P V : Type 0} (job : Job P V) (first : V) where
     refused-by [] fault is = cc is
     refused-by (byte ∷ bytes) fault is =
         gone-cut job state number given (byte ∷ bytes) (omega arith)
-        ∙ ap (λ (v : Verdict P V). goes_on state number given v (λ (next : V).
+        ∙ ap (λ (v : Verdict P V). gone_by state number given v (λ (next : V).
         gone_from job next (number + 1) (given + length (first_line (byte ∷ bytes))) (lines_of (drop (length (first_line (byte ∷ bytes))) (byte ∷ bytes))))) is
 
     -- what stands next is refused

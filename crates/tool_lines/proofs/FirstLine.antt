@@ -2,7 +2,7 @@
 use Rattle.std.proofs.Common.{arith, ◌≡◌, sym, ap, ◌∙◌, ℕ, ◌+◌, ◌<◌, Bool, true, false, if◌then◌else◌, List, [], ◌∷◌, length, drop}
 use Rattle.dccp_io.specs.Lines.{Next, Line, Long, Much, first_line, lines_of, next_in_bytes, next_in_lines}
 use Rattle.dccp_io.proofs.LineList.{lines-cut, next-first}
-use Rattle.tool_lines.specs.Jobs.{Job, by_next, goes_on, gone_from}
+use Rattle.tool_lines.specs.Jobs.{Job, by_next, gone_by, gone_from}
 
 with-line : (within long : Bool) (front first line : List ℕ) → (if within then (if long then Long front else Line first) else Much) ≡ Line line → first ≡ line
 with-line true true front first line is = cc is
@@ -17,7 +17,7 @@ is-line given (byte ∷ bytes) line is = (omega arith, with-line _ _ _ _ line is
 -- where some are left, the first line comes to what stands next, and then the lines behind it
 pub gone-cut : {P V : Type 0} (job : Job P V) (state : V) (number given : ℕ) (bytes : List ℕ) → 0 < length bytes
     → gone_from job state number given (lines_of bytes)
-    ≡ goes_on state number given (by_next job state number (next_in_bytes given bytes))
+    ≡ gone_by state number given (by_next job state number (next_in_bytes given bytes))
     (λ next. gone_from job next (number + 1) (given + length (first_line bytes)) (lines_of (drop (length (first_line bytes)) bytes)))
 gone-cut {P} {V} job state number given bytes some =
     let behind = lines_of (drop (length (first_line bytes)) bytes) in
@@ -25,4 +25,4 @@ gone-cut {P} {V} job state number given bytes some =
     let next : next_in_lines given (first_line bytes ∷ behind) ≡ next_in_bytes given bytes =
     sym (ap (next_in_lines given) cut) ∙ sym (next-first given bytes) in
     ap (gone_from job state number given) cut
-    ∙ ap (λ (n : Next). goes_on state number given (by_next job state number n) (λ (after : V). gone_from job after (number + 1) (given + length (first_line bytes)) behind)) next
+    ∙ ap (λ (n : Next). gone_by state number given (by_next job state number n) (λ (after : V). gone_from job after (number + 1) (given + length (first_line bytes)) behind)) next

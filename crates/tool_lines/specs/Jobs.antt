@@ -64,15 +64,15 @@ abbrev pub gone_so_far : {P V : Type 0} → V → ℕ → ℕ → Option LineFau
 gone_so_far state number given refusal = record { deeds = []; last = state; number = number; accepted = given; refusal = refusal }
 
 -- the lines that follow count behind an accepted line; a refused one is the last
-abbrev pub goes_on : {P V : Type 0} → V → ℕ → ℕ → Verdict P V → (V → Gone P V) → Gone P V
-goes_on state number given (Accepted deed next) rest = onto (deeds_of deed) (rest next)
-goes_on state number given (Refused fault) rest = gone_so_far state number given (Some fault)
+abbrev pub gone_by : {P V : Type 0} → V → ℕ → ℕ → Verdict P V → (V → Gone P V) → Gone P V
+gone_by state number given (Accepted deed next) rest = onto (deeds_of deed) (rest next)
+gone_by state number given (Refused fault) rest = gone_so_far state number given (Some fault)
 
 -- What these lines come to, behind so many bytes that were given; the first has this number.
 abbrev pub gone_from : {P V : Type 0} → Job P V → V → ℕ → ℕ → List (List ℕ) → Gone P V
 gone_from job state number given [] = gone_so_far state number given None
 gone_from job state number given (line ∷ lines) =
-    goes_on state number given (by_next job state number (next_in_lines given (line ∷ lines))) (λ next. gone_from job next (number + 1) (given + length line) lines)
+    gone_by state number given (by_next job state number (next_in_lines given (line ∷ lines))) (λ next. gone_from job next (number + 1) (given + length line) lines)
 
 -- What a whole input comes to, from the job's first state.
 abbrev pub gone_through : {P V : Type 0} → Job P V → V → List ℕ → Gone P V

@@ -21,6 +21,7 @@ use Rattle.dccp_endpoint.specs.Inputs.{Input}
 use Rattle.dccp_endpoint.specs.declared.config.Config.{Config}
 use Rattle.dccp_options.specs.Vectors.{report_of}
 use Rattle.dccp_states.specs.declared.phase.Role.TheVariants as role
+use Rattle.two_ends.specs.Asked.{AllIsAsked, KeepsInitialValues}
 use Rattle.two_ends.specs.Controlled.{Controlled, begins_with, congestion_of, controlled_after, controls, happens_to, plays, said_by}
 use Rattle.two_ends.specs.Delivered.{DeliversItsData, IsDeliveredOnce}
 use Rattle.two_ends.specs.Frames.{options_in, packet_of, packet_options}
@@ -38,7 +39,7 @@ use Rattle.world_events.specs.declared.event.WorldFault.{WorldFault}
 use Rattle.two_ends.proofs.Acting.{IsHeld, Refused, Steps, Takes, event-taken}
 use Rattle.two_ends.proofs.Calling.{IsHeardOf, any-left, sends-so, tells-so}
 use Rattle.two_ends.proofs.Delivering.{delivered-once, delivers-so}
-use Rattle.two_ends.proofs.Keeping.{HasRoles, SideInvariant, kept-facts, kept-proper, kept-received, kept-safe, run-kept, run-roles, step-kept}
+use Rattle.two_ends.proofs.Keeping.{HasRoles, SideInvariant, kept-asked, kept-facts, kept-initial, kept-proper, kept-received, kept-safe, run-kept, run-roles, step-kept}
 use Rattle.two_ends.proofs.Reaching.{occurring, plays-run, world-after}
 use Rattle.two_ends.proofs.ReadBack.{IsFromPeer, IsSentFrame}
 
@@ -164,11 +165,21 @@ module _ {C : Type 0} (control : Control C) (lawful : IsLawful control) where
       pub plays-delivered : IsDeliveredOnce control start events
       plays-delivered = delivered-once control effects start events (run-kept effects client server [] client_fits server_fits)
 
+      plays-roles : client.role ≡ role.Client → server.role ≡ role.Server → HasRoles last.world
+      plays-roles is_client is_server =
+          subst HasRoles (sym same)
+          (run-roles effects client server (occurring control start events) is_client is_server client_fits server_fits)
+
+      pub plays-initial : client.role ≡ role.Client → server.role ≡ role.Server → KeepsInitialValues last.world
+      plays-initial is_client is_server = kept-initial last.world last-held (plays-roles is_client is_server)
+
+      pub plays-asked : client.role ≡ role.Client → server.role ≡ role.Server → AllIsAsked last.world
+      plays-asked is_client is_server = kept-asked last.world last-held (plays-roles is_client is_server)
+
       pub plays-safe : client.role ≡ role.Client → server.role ≡ role.Server → Safe control last
       plays-safe is_client is_server =
           kept-safe control last last-held
-          (subst HasRoles (sym same)
-          (run-roles effects client server (occurring control start events) is_client is_server client_fits server_fits))
+          (plays-roles is_client is_server)
           last-heard
 
     pub reached-held : (w : Controlled C) → ReachedByEvents control w → IsHeld SideInvariant w.world

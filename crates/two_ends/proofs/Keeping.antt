@@ -19,6 +19,7 @@ use Rattle.world_events.specs.declared.event.Side.{Side}
 use Rattle.world_events.specs.declared.event.Side.TheVariants.{Client, Server}
 use Rattle.world_events.specs.declared.event.WorldFault.{WorldFault}
 use Rattle.two_ends.specs.declared.frames.SentFrame.{SentFrame}
+use Rattle.two_ends.specs.Asked.{AllIsAsked, KeepsInitialValues, row_for}
 use Rattle.two_ends.specs.Controlled.{Controlled}
 use Rattle.two_ends.specs.Numbered.{AreNumbered, Facts, Hears, IsNumberOf, IsNumbered}
 use Rattle.two_ends.specs.Pairs.{FeatureAt, place_at}
@@ -30,6 +31,7 @@ use Rattle.world_events.specs.Actors.{other}
 use Rattle.two_ends.proofs.Acknowledging.{KnowsAcknowledged, acknowledging}
 use Rattle.two_ends.proofs.Acting.{IsHeld, Keeps, NoFact, Party, Takes, config_of, end_of, held_by, party_of, run-configs, run-held, taken-held}
 use Rattle.two_ends.proofs.Agreeing.{AreReached, IsSpoken, agree, end_at, given, key_of}
+use Rattle.two_ends.proofs.Asking.{active-sent, none-pending, unasked}
 use Rattle.two_ends.proofs.Hearing.{IsHearingPeer, hearing}
 use Rattle.two_ends.proofs.KeyHearing.{IsWell}
 use Rattle.two_ends.proofs.Logged.{at-place}
@@ -176,6 +178,20 @@ module _ (w : WorldState) (h : IsHeld SideInvariant w) where
   pub kept-received : (side : Side) (index : ℕ) (frame : SentFrame) (ack : ℕ) (bytes : List ℕ) (n : ℕ) → slice_get (half_of w side).frames index ≡ Some frame
       → CarriesVector frame ack bytes → n < 2 ^ 48 → is_received (state_at ack bytes n) ≡ true → Contains (half_of w side).processed n
   kept-received side = received-processed w h.logs side (holds side).ordered (ordered-there side) (marks-of side)
+
+  -- What was not asked for stays, and the last lists sent are the active ones.
+  pub kept-initial : HasRoles w → KeepsInitialValues w
+  kept-initial roles pair side none = unasked w h.logs spoken pair (reached-pair roles pair) side none
+
+  pub kept-asked : HasRoles w → AllIsAsked w
+  kept-asked roles pair side =
+      record {
+        last_is_active = λ priority list last. active-sent w h.logs spoken pair (reached-pair roles pair) side priority list last;
+        nothing_waits =
+            λ stable.
+            none-pending (row_for w pair side).feature (row_for w pair side).place (row_for w pair side).stand (row_for w pair side).pending stable
+            ((kept-proper side).rows.sound.each pair.feature (place_at side pair.location)).sound.pending;
+      }
 
   -- The parts that say nothing of congestion control.
   record AreKept : Type 0 where

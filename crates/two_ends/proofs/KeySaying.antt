@@ -7,6 +7,7 @@ use Rattle.dccp_options.specs.Written.{Item, entries_at}
 use Rattle.dccp_packets.specs.Grammar.{packet_type}
 use Rattle.dccp_packets.specs.Kinds.{ack_of}
 use Rattle.dccp_packets.specs.declared.header.Kind.{Kind}
+use Rattle.dccp_endpoint.proofs.FirstFaults.{changes-few}
 use Rattle.dccp_endpoint.proofs.Keys.{apart-so, due-few}
 use Rattle.dccp_endpoint.proofs.OneConfirm.{confirms_are_single}
 use Rattle.dccp_endpoint.proofs.OwnPackets.{own_packets_say, own_packets_speak}
@@ -343,7 +344,7 @@ module _ (s : KnownStep) where
           few = omega (arith, adds, few-changes iss peer_iss act.peer.log s.well a from);
           single =
               λ k. confirms_are_single (counts_in e a) a.ack e.rows a.options h k rows
-              (few-options iss peer_iss act.peer.log s.well a from) heeded;
+              (omega (arith, changes-few a.options, few-options iss peer_iss act.peer.log s.well a from)) heeded;
         }
 
     by : (hearing : Hearing) → HeardSo act greatest later hearing → hearing ≡ Heard was.first a.number Taken → AreFew h.confirms

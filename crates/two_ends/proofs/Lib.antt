@@ -9,6 +9,7 @@ pub mod Viewing
 pub mod Carrying
 pub mod Telling
 pub mod Agreeing
+pub mod Asking
 pub mod Moving
 pub mod HeardTo
 pub mod Turning
@@ -34,3 +35,4 @@ pub mod Reaching
 pub mod Delivering
 pub mod Calling
 pub mod Believing
+pub mod Consequences

@@ -25,10 +25,10 @@ equal-so : (m n : ℕ) → m ≡ n → (m == n) ≡ true
 equal-so m n same = grind arith
 
 -- where a list has a number
-has-at : (ns : List ℕ) (i n : ℕ) → i < length ns → slice_index_or ns i 0 ≡ n → has ns n ≡ true
+pub has-at : (ns : List ℕ) (i n : ℕ) → i < length ns → slice_index_or ns i 0 ≡ n → has ns n ≡ true
 has-at ns i n below is = list_any_at (λ m. m == n) ns i 0 below (equal-so (slice_index_or ns i 0) n is)
 
-at-has : (ns : List ℕ) (n : ℕ) → has ns n ≡ true → (i : ℕ) × (i < length ns) × (slice_index_or ns i 0 ≡ n)
+pub at-has : (ns : List ℕ) (n : ℕ) → has ns n ≡ true → (i : ℕ) × (i < length ns) × (slice_index_or ns i 0 ≡ n)
 at-has [] n is = cc is
 at-has (m ∷ ms) n is = by (m == n) refl is (λ later. at-has ms n later) where
   by : (same : Bool) → (m == n) ≡ same → (same || has ms n) ≡ true

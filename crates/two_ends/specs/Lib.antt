@@ -7,6 +7,8 @@ pub mod Negotiated
 pub mod Reported
 pub mod Safe
 pub mod Delivered
+pub mod Asked
+pub mod Counted
 pub mod Reached
 pub mod Remembered
 pub mod Numbered
