@@ -7,10 +7,12 @@ use Rattle.dccp_endpoint.specs.End.{floor_of}
 use Rattle.dccp_endpoint.specs.Inputs.{Input, end_stepped}
 use Rattle.dccp_endpoint.specs.Inputs as input
 use Rattle.dccp_endpoint.specs.declared.config.Config.{Config}
-use Rattle.dccp_io.specs.Lines.{lines_of}
+use Rattle.dccp_io.specs.Lines.{lines_of, next_in_lines}
+use Rattle.tool_lines.specs.Jobs.{Gone, Verdict, Accepted, Refused, by_next, gone_by, gone_from}
 use Rattle.tool_words.specs.declared.faults.LineFault.{LineFault}
-use Rattle.tool_run.proofs.Running.{Turns, judged-turns}
-use Rattle.tool_run.specs.Transcript.{Verdict, Accepted, Refused, IsBehind, IsReady, SentFew, ShowsEvent, behind, by_step, continues_with, event_shown, first_play, judged, performed, performed_from, world_of, world_or_start}
+use Rattle.tool_run.proofs.Running.{Turns, next-turns}
+use Rattle.tool_run.specs.Scenes.{Scene}
+use Rattle.tool_run.specs.Transcript.{IsPlayable, SentFew, ShowsEvent, by_step, event_shown, first_play, performed, run_job, world_of, world_or_start}
 use Rattle.tool_run.specs.declared.play.Play.{Play}
 use Rattle.two_ends.specs.Controlled.{Controlled, ControlledStep, congestion_of, controlled, controls, happens_to, said_by}
 use Rattle.two_ends.specs.World.{Half, HalfStep, Happening, WorldState, WorldStep, Calls, Delivers, as_sent, delivers_frame, half_of, half_steps, happening_of, is_full, takes_place, unless_full, with_half}
@@ -107,23 +109,20 @@ few-at client server None n few Server = omega arith
 few-at client server (Some w) n few side = few side
 
 -- a schedule behind the line of an event
-pub behind-event : (old made passed : Play) (line : List ℕ) (after : Controlled Both) → made ≡ record old { world = Some (world_of old) }
-    → passed ≡ behind (record made { world = Some after }) line → IsReady old line → SentFew after (old.events + 1)
-    → IsBehind old line (record passed { events = passed.events + 1 })
-behind-event old made passed line after is_made is_passed ready few =
-    subst (λ (p : Play). IsBehind old line (record p { events = p.events + 1 })) (sym is_passed)
-    (subst (λ (p : Play). IsBehind old line (record (behind (record p { world = Some after }) line) { events = p.events + 1 })) (sym is_made)
-    (record { peers = ready.peers; few = few; number = refl; read = refl }))
+pub playable-behind : (old made : Play) (after : Controlled Both) → made ≡ record old { world = Some (world_of old) } → IsPlayable old → SentFew after (old.events + 1)
+    → IsPlayable (record made { events = made.events + 1; world = Some after })
+playable-behind old made after is_made playable few =
+    subst (λ (p : Play). IsPlayable (record p { events = p.events + 1; world = Some after })) (sym is_made) (record { peers = playable.peers; few = few })
 
 record Room (play : Play) : Type 0 where
   few : IfSome play.world (λ w. SentFew w play.events)
   events : play.events ≤ 16384
 
-abbrev RoomBehind : Verdict → Type 0
+abbrev RoomBehind : Verdict Scene Play → Type 0
 RoomBehind (Accepted scene next) = Room next
 RoomBehind (Refused why) = ⊤
 
-room-behind : (play : Play) (verdict : Verdict) → Turns play verdict → Room play → RoomBehind verdict
+room-behind : (play : Play) (verdict : Verdict Scene Play) → Turns play verdict → Room play → RoomBehind verdict
 room-behind play (Accepted None next) turns room = record {
   few =
       subst (λ (n : ℕ). IfSome next.world (λ w. SentFew w n)) (sym turns.events)
@@ -140,18 +139,19 @@ room-behind play (Accepted (Some scene) next) turns room =
     }
 room-behind play (Refused why) turns room = tt
 
-room-by : (pieces : List (List ℕ)) → ((next : Play) → Room next → Room (performed_from next pieces).last) → (play : Play) → Room play → (verdict : Verdict)
-    → Turns play verdict → Room (continues_with play verdict (λ next. performed_from next pieces)).last
-room-by pieces rest play room (Accepted scene next) turns = rest next (room-behind play (Accepted scene next) turns room)
-room-by pieces rest play room (Refused why) turns = room
+room-by : (rest : Play → Gone Scene Play) (number given : ℕ) → ((next : Play) → Room next → Room (rest next).last) → (play : Play) → Room play
+    → (verdict : Verdict Scene Play) → Turns play verdict → Room (gone_by play number given verdict rest).last
+room-by rest number given later play room (Accepted scene next) turns = later next (room-behind play (Accepted scene next) turns room)
+room-by rest number given later play room (Refused why) turns = room
 
-room-last : (pieces : List (List ℕ)) (play : Play) → Room play → Room (performed_from play pieces).last
-room-last [] play room = room
-room-last (piece ∷ pieces) play room = room-by pieces (room-last pieces) play room (judged play piece) (judged-turns play piece)
+room-last : (lines : List (List ℕ)) (number given : ℕ) (play : Play) → Room play → Room (gone_from run_job play number given lines).last
+room-last [] number given play room = room
+room-last (line ∷ lines) number given play room =
+    room-by (λ next. gone_from run_job next (number + 1) (given + length line) lines) number given (room-last lines (number + 1) (given + length line)) play room
+    (by_next run_job play number (next_in_lines given (line ∷ lines))) (next-turns play number (next_in_lines given (line ∷ lines)))
 
 pub never-full : (input : List ℕ) (event : Event) → happens_to kinds_control (world_of (performed input).last) event ≢ Err fault.Full
-unfolding performed
 never-full input event =
-    let last = (performed_from first_play (lines_of input)).last in
-    let room = room-last (lines_of input) first_play (record { few = tt; events = omega arith }) in
+    let last = (performed input).last in
+    let room = room-last (lines_of input) 1 0 first_play (record { few = tt; events = omega arith }) in
     has-room (world_of last) event last.events (few-at last.client last.server last.world last.events room.few) (omega (arith, room.events))

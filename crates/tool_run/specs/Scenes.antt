@@ -1,5 +1,5 @@
 -- What takes place in a schedule, event by event (own).
-use Rattle.std.specs.Prelude.{◌≡◌, ℕ, ◌++◌, List, [], ◌∷◌, length, map, flat_map, Option, Some, None, Ok}
+use Rattle.std.specs.Prelude.{◌≡◌, ℕ, ◌++◌, List, [], ◌∷◌, length, map, flat_map, Ok}
 use Rattle.ccid_two.specs.Kinds.{Both, kinds_control}
 use Rattle.schedule_text.specs.Results.{seen_line}
 use Rattle.tool_run.specs.WorldLines.{arrived, sent_line}
@@ -20,11 +20,6 @@ abbrev pub scene_text : Scene → List ℕ
 scene_text scene =
     seen_line scene.number scene.event scene.step.seen (arrived scene.step.after.world scene.event)
     ++ sent_line scene.step.after.world (actor scene.event) (length (half_of scene.before.world (actor scene.event)).frames)
-
--- a line that makes no event happen leaves no text
-abbrev pub scene_text_if_any : Option Scene → List ℕ
-scene_text_if_any None = []
-scene_text_if_any (Some scene) = scene_text scene
 
 -- the events that took place, in their order
 abbrev pub scene_events : List Scene → List Event

@@ -11,11 +11,11 @@ use two_ends::{Event, WorldFault};
 /// left, the first in that of the two ends as they are configured at last, and the end lines are of the world that the
 /// last one left. So the world before the event told as the n-th is the one to which the n events before it lead.
 pub fn every_schedule_is_a_run()
-    ensures run { (input : List ℕ) → IsRun (world_at_first (performed input)) (performed input).scenes (world_of (performed input).last) }
-    ensures nth { (input : List ℕ) (n : ℕ) (scene : Scene) → slice_get (performed input).scenes n ≡ Some scene
-        → scene.before ≡ plays kinds_control (world_at_first (performed input)) (take n (scene_events (performed input).scenes)) }
+    ensures run { (input : List ℕ) → IsRun (world_at_first (performed input)) (performed input).deeds (world_of (performed input).last) }
+    ensures nth { (input : List ℕ) (n : ℕ) (scene : Scene) → slice_get (performed input).deeds n ≡ Some scene
+        → scene.before ≡ plays kinds_control (world_at_first (performed input)) (take n (scene_events (performed input).deeds)) }
     ensures last { (input : List ℕ)
-        → world_of (performed input).last ≡ plays kinds_control (world_at_first (performed input)) (scene_events (performed input).scenes) }
+        → world_of (performed input).last ≡ plays kinds_control (world_at_first (performed input)) (scene_events (performed input).deeds) }
 {}
 
 /// A schedule's world has room for whatever event its next line makes (own): no side has sent more frames than there
