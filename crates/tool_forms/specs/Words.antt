@@ -1,9 +1,13 @@
 -- What the words after the program's name ask for (own).
-use Rattle.std.specs.Prelude.{◌≡◌, ℕ, Bool, true, false, ◌&&◌, List, [], ◌∷◌, codes, Option, Some, None, option_and_then, if◌then◌else◌, String, string_bytes}
+use Rattle.std.specs.Prelude.{◌≡◌, ℕ, Bool, List, [], ◌∷◌, codes, Option, Some, None, is_some, option_and_then, if◌then◌else◌, String, string_bytes}
 use Rattle.std.specs.Str.{bytes_eq}
 use Rattle.std.specs.declared.alloc.Global.{Global}
 use Rattle.world_events.specs.declared.event.Side.{Side}
-use Rattle.world_events.specs.declared.event.Side.TheVariants.{Client, Server}
+use Rattle.tool_forms.specs.declared.settings.Table.TheVariants as table
+use Rattle.tool_forms.specs.declared.settings.Setting.TheVariants as setting
+use Rattle.tool_forms.specs.declared.settings.Value.{Value}
+use Rattle.tool_forms.specs.declared.settings.Value.TheVariants as value
+use Rattle.tool_forms.specs.Settings.{given}
 use Rattle.tool_forms.specs.CampaignWords.{campaign_of}
 use Rattle.tool_forms.specs.declared.words.Form.{Form}
 use Rattle.tool_forms.specs.declared.words.Form.TheVariants as form
@@ -12,40 +16,19 @@ use Rattle.tool_forms.specs.declared.words.Form.TheVariants as form
 abbrev pub is_word : String Global → List ℕ → Bool
 is_word word text = bytes_eq (string_bytes word) text
 
--- the value of `--side`, as a word of its own
-abbrev pub named_side : String Global → Option Side
-named_side word =
-    if is_word word (codes "server") then Some Server
-    else if is_word word (codes "client") then Some Client
-    else None
+-- the side that `--side` is given
+abbrev pub side_given : Option (Option Value) → Option Side
+side_given (Some (Some (value.End side))) = Some side
+side_given _ = None
 
--- the same in one word with its name
-abbrev pub joined_side : String Global → Option Side
-joined_side word =
-    if is_word word (codes "--side=server") then Some Server
-    else if is_word word (codes "--side=client") then Some Client
-    else None
+-- a replay of this side, without its offers where `--plain` is given
+abbrev pub replays : Option (Option Value) → Option Side → Option Form
+replays (Some plain) (Some side) = Some (form.Replay side (is_some plain))
+replays _ _ = None
 
--- a replay of the side that the words name, if they name one
-abbrev pub replays : Bool → Option Side → Option Form
-replays plain None = None
-replays plain (Some side) = Some (form.Replay side plain)
-
--- The words behind `replay`, in all ways in which they may stand: the side once, as one word or two, and `--plain` at most once, before it
--- or behind it.
+-- The words behind `replay`: the side once, and `--plain` at most once.
 abbrev pub replay_of : List (String Global) → Option Form
-replay_of [] = None
-replay_of (side ∷ []) = replays false (joined_side side)
-replay_of (first ∷ (second ∷ [])) =
-    if is_word first (codes "--plain") then replays true (joined_side second)
-    else if is_word second (codes "--plain") then replays true (joined_side first)
-    else if is_word first (codes "--side") then replays false (named_side second)
-    else None
-replay_of (first ∷ (second ∷ (third ∷ []))) =
-    if is_word first (codes "--plain") && is_word second (codes "--side") then replays true (named_side third)
-    else if is_word first (codes "--side") && is_word third (codes "--plain") then replays true (named_side second)
-    else None
-replay_of (first ∷ (second ∷ (third ∷ (fourth ∷ words)))) = None
+replay_of words = replays (given table.Replay setting.Plain words) (side_given (given table.Replay setting.Side words))
 
 -- The words behind `campaign`.
 abbrev pub campaigns : List (String Global) → Option Form

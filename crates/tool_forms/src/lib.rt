@@ -2,6 +2,7 @@
 #![tactic(auto)]
 
 mod campaign_words;
+mod settings;
 mod words;
 
 pub use crate::campaign_words::Campaign;

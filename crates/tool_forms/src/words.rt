@@ -1,9 +1,11 @@
 //! What the words after the program's name ask for.
 ghost use Rattle.std.specs.Prelude.{◌≡◌, Some};
 ghost use Rattle.tool_forms.specs.CampaignWords.{IsWithinBounds};
-ghost use Rattle.tool_forms.specs.Words.{is_word, named_side, joined_side, replays, replay_of, takes_no_word, campaigns, form_of};
+ghost use Rattle.tool_forms.specs.Settings.{given};
+ghost use Rattle.tool_forms.specs.Words.{is_word, side_given, replay_of, takes_no_word, campaigns, form_of};
 
 use crate::campaign_words::{Campaign, campaign_of};
+use crate::settings::{Setting, Table, Value, given};
 use world_events::Side;
 
 /// A job of the tool (own).
@@ -29,56 +31,23 @@ fn is_word(word: &String, text: &[u8]) -> bool
     word.as_bytes() == text
 }
 
-// The value of `--side`, as a word of its own.
-fn named_side(word: &String) -> Option<Side>
-    ensures { result ≡ named_side word.now }
+// The side that the words behind `replay` give, once and only once.
+fn side_of(words: &[String]) -> Option<Side>
+    ensures { result ≡ side_given (given Table.Replay Setting.Side words.now) }
 {
-    if is_word(word, b"server") {
-        return Some(Side::Server);
+    match given(Table::Replay, Setting::Side, words)? {
+        Some(Value::End(side)) => Some(side),
+        _ => None,
     }
-    if is_word(word, b"client") {
-        return Some(Side::Client);
-    }
-    None
-}
-
-// The same in one word with its name.
-fn joined_side(word: &String) -> Option<Side>
-    ensures { result ≡ joined_side word.now }
-{
-    if is_word(word, b"--side=server") {
-        return Some(Side::Server);
-    }
-    if is_word(word, b"--side=client") {
-        return Some(Side::Client);
-    }
-    None
-}
-
-fn replays(plain: bool, side: Option<Side>) -> Option<Form>
-    ensures { result ≡ replays plain side }
-{
-    let side = side?;
-    Some(Form::Replay { side, plain })
 }
 
 // The job that the words behind `replay` ask for.
 fn replay_of(words: &[String]) -> Option<Form>
     ensures { result ≡ replay_of words.now }
 {
-    match words {
-        [side] => replays(false, joined_side(side)),
-        [first, side] if is_word(first, b"--plain") => replays(true, joined_side(side)),
-        [side, last] if is_word(last, b"--plain") => replays(true, joined_side(side)),
-        [name, side] if is_word(name, b"--side") => replays(false, named_side(side)),
-        [first, name, side] if is_word(first, b"--plain") && is_word(name, b"--side") => {
-            replays(true, named_side(side))
-        }
-        [name, side, last] if is_word(name, b"--side") && is_word(last, b"--plain") => {
-            replays(true, named_side(side))
-        }
-        _ => None,
-    }
+    let plain = given(Table::Replay, Setting::Plain, words)?.is_some();
+    let side = side_of(words)?;
+    Some(Form::Replay { side, plain })
 }
 
 // No word may follow.
