@@ -5,8 +5,8 @@ use Rattle.capture_reader.specs.State.{rest}
 use Rattle.tool_show.proofs.Showing.{Along}
 use Rattle.tool_show.proofs.show.show_all.Given as goal
 
-abbrev pub invariant-loop-output : goal.invariant-loop-output
-invariant-loop-output g l = record {
+abbrev pub invariant-loop-captures : goal.invariant-loop-captures
+invariant-loop-captures g l = record {
   unended : l.captures.fault ≡ None;
   within : l.captures.given ≤ 2 ^ 32;
   counted : 16 * l.captures.number ≤ l.captures.given;
@@ -19,5 +19,5 @@ invariant-loop-output g l = record {
       l.tally l.text.items (g.K.Sink.taken l.fn.output) (g.K.Sink.taken l.output) (records_from l.fn.captures.format 0 0 24 bytes) bytes);
 }
 
-abbrev pub decreases-loop-output : goal.decreases-loop-output
-decreases-loop-output g l = 2 ^ 32 - l.captures.given
+abbrev pub decreases-loop-captures : goal.decreases-loop-captures
+decreases-loop-captures g l = 2 ^ 32 - l.captures.given
