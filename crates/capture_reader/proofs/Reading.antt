@@ -1,16 +1,17 @@
 -- One call of `next`: the record that stands next, the end, or what is wrong.
-use Rattle.std.proofs.Common.{arith, ◌≡◌, ◌≤◌, ℕ, ◌+◌, ◌-◌, ◌^◌, List, [], ◌++◌, length, take, drop, Option, Some, None, Result, IfSome, Ok, Err, refl, sym, ap, ◌∙◌, subst, inl, inr, ⊎_elim}
+use Rattle.std.proofs.Common.{arith, ◌≡◌, ◌≤◌, ℕ, ◌+◌, ◌-◌, ◌^◌, ◌||◌, Bool, true, List, [], ◌++◌, length, take, drop, Option, Some, None, Result, IfSome, Ok, Err, refl, sym, ap, ◌∙◌, subst, inl, inr, ⊎_elim}
 use Rattle.std.proofs.lemmas.List.{take-append-le, drop-append-le, drop-drop, length-drop, length-take-le}
 use Rattle.std.proofs.lemmas.Option.{none-some}
 use Rattle.std.proofs.Math.Seq.{drop-append_seam}
-use Rattle.std.specs.Prelude.{option_map}
+use Rattle.std.specs.Prelude.{is_some, option_map}
 use Rattle.std.specs.Io.KnownBytes.{prepend_known}
 use Rattle.dccp_io.specs.Ahead.{BytesAhead}
 use Rattle.capture_reader.specs.declared.fault.CaptureFault.{CaptureFault}
 use Rattle.capture_reader.specs.declared.format.Format.{Format}
+use Rattle.capture_reader.specs.declared.format.Order.{Order}
 use Rattle.capture_reader.specs.declared.record.RecordHeader.{RecordHeader}
-use Rattle.capture_reader.specs.Records.{found_in, next_of, next_by, entry_with, most_bytes}
-use Rattle.capture_reader.specs.Steps.{KeepsTheSource, RecordRead}
+use Rattle.capture_reader.specs.Records.{body_fault, found_by, found_in, header_in, next_of, next_by, entry_with, is_record_settled, most_bytes, unless_faulty}
+use Rattle.capture_reader.specs.Steps.{IsCause, KeepsTheSource, RecordRead}
 use Rattle.capture_reader.specs.State.{CapturesState, rest, Passed, IsOfRecords, Advances}
 use Rattle.capture_reader.proofs.Opening.{passed-ahead}
 
@@ -68,6 +69,28 @@ found-next format number given header pending (Some bytes) (Some more) fits same
       ap (λ (xs : List ℕ). Some xs) (behind ∙ ap (λ (n : ℕ). drop (16 + n) bytes) (sym size)),
     )
 
+-- a header and the bytes behind it make a record, or what is wrong with these
+behind-header : (order : Order) (room : ℕ) (header : RecordHeader) (bytes : List ℕ) (wrong : Option CaptureFault) → header_in order room bytes ≡ Ok (Some header)
+    → body_fault header.captured (room - 16) (length (drop 16 bytes)) ≡ wrong → found_in order room bytes ≡ unless_faulty wrong (Some header)
+behind-header order room header bytes wrong told judged =
+    ap (λ (f : Result (Option RecordHeader) CaptureFault). found_by room f bytes) told
+    ∙ ap (λ (n : ℕ). unless_faulty (body_fault header.captured (room - 16) n) (Some header)) (sym (length-drop 16 bytes))
+    ∙ ap (λ (f : Option CaptureFault). unless_faulty f (Some header)) judged
+
+pub found-told : (order : Order) (room : ℕ) (header : RecordHeader) (all behind : Option (List ℕ)) (wrong : Option CaptureFault) → behind ≡ option_map (drop 16) all
+    → IfSome all (λ bytes. header_in order room bytes ≡ Ok (Some header)) → IfSome behind (λ bytes. body_fault header.captured (room - 16) (length bytes) ≡ wrong)
+    → IfSome all (λ bytes. found_in order room bytes ≡ unless_faulty wrong (Some header))
+found-told order room header None behind wrong passed told judged = tt
+found-told order room header (Some bytes) behind wrong passed told judged =
+    behind-header order room header bytes wrong told (subst (λ (o : Option (List ℕ)). IfSome o (λ bs. body_fault header.captured (room - 16) (length bs) ≡ wrong)) passed judged)
+
+-- faults that did not fall before have risen since
+pub cause-later : (why : CaptureFault) (first before after : ℕ) (Wrong Worse : Type 0) → first ≤ before → (Wrong → Worse) → IsCause why before after Wrong
+    → IsCause why first after Worse
+cause-later why first before after Wrong Worse up leads (inl (is, inl less)) = inl (is, inl (omega (arith, up, less)))
+cause-later why first before after Wrong Worse up leads (inl (is, inr most)) = inl (is, inr most)
+cause-later why first before after Wrong Worse up leads (inr (is, wrong)) = inr (is, leads wrong)
+
 -- nothing is left
 ended-next : (all known : Option (List ℕ)) → known ≡ all → IfSome all (λ bytes. bytes ≡ []) → IfSome all (λ bytes. (bytes ≡ []) × (known ≡ Some []))
 ended-next None known same ended = tt
@@ -79,15 +102,21 @@ wrong-next : (format : Format) (number given : ℕ) (why : CaptureFault) (all : 
 wrong-next format number given why None wrong = tt
 wrong-next format number given why (Some bytes) wrong = ap (λ (f : Result (Option RecordHeader) CaptureFault). next_by format (number + 1) f bytes) wrong
 
+-- where no fault ended the capture, what is pending settles that nothing is read
+unread-by : {S : Type 0} (fault : Option CaptureFault) (settled : Bool) (before after : S) → fault ≡ None → (settled ≡ true → after ≡ before)
+    → (is_some fault || settled) ≡ true → after ≡ before
+unread-by None settled before after none still is = still is
+unread-by (Some why) settled before after none still is = cc none
+
 module _ {S : Type 0} (left : S → Option (List ℕ)) (faults lender : S → ℕ) where
   pub advanced-found : (before after : S) (held passed got : BytesAhead) (lent : ℕ) (format : Format) (given number : ℕ) (fault : Option CaptureFault)
-      (header : RecordHeader) → passed ≡ let_go held lent → fault ≡ None → given ≤ 2 ^ 32 → length got.pending ≤ 262144
+      (header : RecordHeader) → (is_record_settled format.order (most_bytes - given) passed.pending ≡ true → after ≡ before) → passed ≡ let_go held lent → fault ≡ None → given ≤ 2 ^ 32 → length got.pending ≤ 262144
       → KeepsTheSource faults lender passed got before after
       → RecordRead left faults format.order (most_bytes - given) passed got before after (Ok (Some header))
       → Advances left faults lender (state before held.pending lent format given number fault)
       (state after got.pending header.captured format (given + (16 + header.captured)) (number + 1) fault)
       (Ok (Some (entry_with format (number + 1) header (take header.captured got.pending))))
-  advanced-found before after held passed got lent format given number fault header is stands within block keeps read =
+  advanced-found before after held passed got lent format given number fault header still is stands within block keeps read =
       let here : RecordRead left faults format.order (most_bytes - given) (let_go held lent) got before after (Ok (Some header)) =
       subst (λ (ahead : BytesAhead). RecordRead left faults format.order (most_bytes - given) ahead got before after (Ok (Some header))) is read in
       record {
@@ -97,6 +126,8 @@ module _ {S : Type 0} (left : S → Option (List ℕ)) (faults lender : S → �
         within = omega (arith, within, here.0);
         block = rw (length-drop header.captured got.pending) (omega (arith, block));
         past = passed-behind 16 got.pending (prepend_known (drop lent held.pending) (left before)) (left after) (omega arith) block here.2;
+        unread = unread-by fault (is_record_settled format.order (most_bytes - given) (drop lent held.pending)) before after stands
+            (subst (λ (ahead : BytesAhead). is_record_settled format.order (most_bytes - given) ahead.pending ≡ true → after ≡ before) is still);
         answer = record {
           was_open = stands;
           is_open = stands;
@@ -108,10 +139,10 @@ module _ {S : Type 0} (left : S → Option (List ℕ)) (faults lender : S → �
       }
 
   pub advanced-end : (before after : S) (held passed got : BytesAhead) (lent : ℕ) (format : Format) (given number : ℕ) (fault : Option CaptureFault)
-      → passed ≡ let_go held lent → fault ≡ None → given ≤ 2 ^ 32 → length got.pending ≤ 262144 → KeepsTheSource faults lender passed got before after
+      → (is_record_settled format.order (most_bytes - given) passed.pending ≡ true → after ≡ before) → passed ≡ let_go held lent → fault ≡ None → given ≤ 2 ^ 32 → length got.pending ≤ 262144 → KeepsTheSource faults lender passed got before after
       → RecordRead left faults format.order (most_bytes - given) passed got before after (Ok None)
       → Advances left faults lender (state before held.pending lent format given number fault) (state after got.pending 0 format given number fault) (Ok None)
-  advanced-end before after held passed got lent format given number fault is stands within block keeps read =
+  advanced-end before after held passed got lent format given number fault still is stands within block keeps read =
       let here : RecordRead left faults format.order (most_bytes - given) (let_go held lent) got before after (Ok None) =
       subst (λ (ahead : BytesAhead). RecordRead left faults format.order (most_bytes - given) ahead got before after (Ok None)) is read in
       record {
@@ -121,6 +152,8 @@ module _ {S : Type 0} (left : S → Option (List ℕ)) (faults lender : S → �
         within = within;
         block = block;
         past = passed-ahead 262160 got.pending (left after) (prepend_known (drop lent held.pending) (left before)) (omega (arith, block)) here.0;
+        unread = unread-by fault (is_record_settled format.order (most_bytes - given) (drop lent held.pending)) before after stands
+            (subst (λ (ahead : BytesAhead). is_record_settled format.order (most_bytes - given) ahead.pending ≡ true → after ≡ before) is still);
         answer = record {
           was_open = stands;
           is_open = stands;
@@ -131,11 +164,11 @@ module _ {S : Type 0} (left : S → Option (List ℕ)) (faults lender : S → �
       }
 
   pub advanced-wrong : (before after : S) (held passed got : BytesAhead) (lent : ℕ) (format : Format) (given number : ℕ) (fault : Option CaptureFault)
-      (why : CaptureFault) → passed ≡ let_go held lent → fault ≡ None → given ≤ 2 ^ 32 → length got.pending ≤ 262144
+      (why : CaptureFault) → (is_record_settled format.order (most_bytes - given) passed.pending ≡ true → after ≡ before) → passed ≡ let_go held lent → fault ≡ None → given ≤ 2 ^ 32 → length got.pending ≤ 262144
       → KeepsTheSource faults lender passed got before after
       → RecordRead left faults format.order (most_bytes - given) passed got before after (Err why)
       → Advances left faults lender (state before held.pending lent format given number fault) (state after got.pending 0 format given number (Some why)) (Err why)
-  advanced-wrong before after held passed got lent format given number fault why is stands within block keeps read =
+  advanced-wrong before after held passed got lent format given number fault why still is stands within block keeps read =
       let here : RecordRead left faults format.order (most_bytes - given) (let_go held lent) got before after (Err why) =
       subst (λ (ahead : BytesAhead). RecordRead left faults format.order (most_bytes - given) ahead got before after (Err why)) is read in
       record {
@@ -145,6 +178,8 @@ module _ {S : Type 0} (left : S → Option (List ℕ)) (faults lender : S → �
         within = within;
         block = block;
         past = passed-behind here.1.0 got.pending (prepend_known (drop lent held.pending) (left before)) (left after) here.1.1 block here.1.2;
+        unread = unread-by fault (is_record_settled format.order (most_bytes - given) (drop lent held.pending)) before after stands
+            (subst (λ (ahead : BytesAhead). is_record_settled format.order (most_bytes - given) ahead.pending ≡ true → after ≡ before) is still);
         answer = record {
           of_records = here.0;
           kept = refl;
@@ -169,5 +204,6 @@ module _ {S : Type 0} (left : S → Option (List ℕ)) (faults lender : S → �
     within = within;
     block = block;
     past = passed-ahead 262160 old.pending (left old.source) (rest left old) (omega (arith, block)) refl;
+    unread = λ _. refl;
     answer = record { of_records = of_records; kept = kept; counted = refl; cause = inl (kept, refl) };
   }

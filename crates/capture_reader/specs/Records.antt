@@ -1,5 +1,5 @@
 -- The records of a classic capture (the savefile format of libpcap; the limits are own).
-use Rattle.std.specs.Prelude.{ℕ, zero, suc, ◌+◌, ◌-◌, ◌^◌, Bool, nat_lt, min, ◌==◌, if◌then◌else◌, List, [], ◌∷◌, length, take, drop, Option, Some, None, Result, Ok, Err}
+use Rattle.std.specs.Prelude.{ℕ, zero, suc, ◌+◌, ◌-◌, ◌^◌, Bool, true, nat_le, nat_lt, min, ◌==◌, ◌&&◌, ◌||◌, if◌then◌else◌, List, [], ◌∷◌, length, take, drop, Option, Some, None, Result, Ok, Err}
 use Rattle.capture_reader.specs.declared.fault.CaptureFault.{CaptureFault}
 use Rattle.capture_reader.specs.declared.fault.CaptureFault.TheVariants.{CutShort, RecordTooLong, TooLarge}
 use Rattle.capture_reader.specs.declared.format.Order.{Order}
@@ -75,6 +75,20 @@ found_by room (Ok (Some header)) bytes = unless_faulty (body_fault header.captur
 -- First the header's bytes are needed, then its captured length is judged, then the captured bytes are needed.
 abbrev pub found_in : Order → ℕ → List ℕ → Result (Option RecordHeader) CaptureFault
 found_in order room bytes = found_by room (header_in order room bytes) bytes
+
+-- So many captured bytes are among those that are pending, or are more than a record may have.
+abbrev pub holds_body : ℕ → ℕ → Bool
+holds_body captured size = nat_lt most_captured captured || nat_le captured size
+
+-- the same by a record's header, behind which `size` bytes are pending; what is wrong with it needs no further byte
+abbrev pub holds_behind : ℕ → Result (Option RecordHeader) CaptureFault → Bool
+holds_behind size (Ok (Some header)) = holds_body header.captured size
+holds_behind size (Ok None) = true
+holds_behind size (Err why) = true
+
+-- The bytes that are pending settle what stands next, where `room` bytes count: a record is whole, or its header tells what is wrong.
+abbrev pub is_record_settled : Order → ℕ → List ℕ → Bool
+is_record_settled order room pending = nat_le 16 (length pending) && holds_behind (length pending - 16) (header_in order room pending)
 
 -- the record with this number, header and bytes
 abbrev pub entry_with : Format → ℕ → RecordHeader → List ℕ → RecordParts

@@ -1,5 +1,5 @@
 -- What a reader of captures shows of itself, and what its calls do (own).
-use Rattle.std.specs.Prelude.{◌≡◌, ◌≢◌, ℕ, ◌+◌, ◌≤◌, ◌⊎◌, List, [], length, drop, Option, Some, None, IfSome, Result, Ok, Err, option_map, ⊤}
+use Rattle.std.specs.Prelude.{◌≡◌, ◌≢◌, ℕ, ◌+◌, ◌≤◌, ◌⊎◌, ◌-◌, ◌||◌, Bool, true, is_some, List, [], length, drop, Option, Some, None, IfSome, Result, Ok, Err, option_map, ⊤}
 use Rattle.std.specs.Io.KnownBytes.{prepend_known}
 use Rattle.dccp_io.specs.Counts.{Rose}
 use Rattle.capture_reader.specs.declared.fault.CaptureFault.{CaptureFault}
@@ -8,7 +8,7 @@ use Rattle.capture_reader.specs.declared.format.Format.{Format}
 use Rattle.capture_reader.specs.declared.record.Record.{Record}
 use Rattle.capture_reader.specs.declared.record.RecordHeader.{RecordHeader}
 use Rattle.capture_reader.specs.Format.{opened}
-use Rattle.capture_reader.specs.Records.{RecordParts, entry_of, next_of, entry_with, most_bytes}
+use Rattle.capture_reader.specs.Records.{RecordParts, entry_of, next_of, entry_with, is_record_settled, most_bytes}
 
 -- The source, the bytes that were read and not given, the format, how many bytes of the input were passed and how many
 -- records were given, and the fault that ended the capture.
@@ -24,6 +24,10 @@ pub record CapturesState (S : Type 0) : Type 0 where
 -- what is left of the input, where the source tells its bytes
 abbrev pub rest : {S : Type 0} → (S → Option (List ℕ)) → CapturesState S → Option (List ℕ)
 rest left c = prepend_known c.pending (left c.source)
+
+-- The next call reads nothing: what is pending settles its answer, or a fault ended the capture.
+abbrev pub holds_record : {S : Type 0} → CapturesState S → Bool
+holds_record c = is_some c.fault || is_record_settled c.format.order (most_bytes - c.given) c.pending
 
 -- at most that many bytes were taken from what was known
 abbrev pub Passed : ℕ → Option (List ℕ) → Option (List ℕ) → Type 0
@@ -76,7 +80,8 @@ Reads left faults old new (Ok (Some entry)) = Gives left old new entry
 Reads left faults old new (Ok None) = Ends left old new
 Reads left faults old new (Err why) = Refuses left faults old new why
 
--- A call of `next`. At most 262,160 bytes were read of what was left, the last header of 16 and a block.
+-- A call of `next`. At most 262,160 bytes were read of what was left, the last header of 16 and a block, and none where what was
+-- pending settled the answer.
 pub record Advances {S : Type 0} (left : S → Option (List ℕ)) (faults lender : S → ℕ) (old new : CapturesState S)
     (read : Result (Option RecordParts) CaptureFault) : Type 0 where
   pub never_falls : faults old.source ≤ faults new.source
@@ -85,6 +90,7 @@ pub record Advances {S : Type 0} (left : S → Option (List ℕ)) (faults lender
   pub within : new.given ≤ most_bytes
   pub block : length new.pending ≤ 262144
   pub past : Passed 262160 (rest left old) (left new.source)
+  pub unread : holds_record old ≡ true → new.source ≡ old.source
   pub answer : Reads left faults old new read
 
 -- the record that was found, whose bytes the reader then shows as lent

@@ -1,8 +1,9 @@
 //! The reader of a capture: records one after another, over a block of fixed length.
-ghost use Rattle.std.specs.Prelude.{◌≡◌, ◌≢◌, ◌+◌, ◌-◌, ◌*◌, ◌≤◌, ◌<◌, ◌^◌, [], length, None, Some, IfSome, MatchResult, IfOk, IfErr, OnErr};
+ghost use Rattle.std.specs.Prelude.{◌≡◌, ◌≢◌, ◌+◌, ◌-◌, ◌*◌, ◌≤◌, ◌<◌, ◌^◌, [], length, true, None, Some, Ok, IfSome, MatchResult, IfOk, IfErr, OnErr};
 ghost use Rattle.dccp_io.specs.Counts.{Rose};
 ghost use Rattle.dccp_io.specs.Ahead.{ahead_of};
 ghost use Rattle.capture_reader.specs.Format.{opened};
+ghost use Rattle.capture_reader.specs.Records.{header_in, holds_body, is_record_settled};
 ghost use Rattle.capture_reader.specs.Steps.{KeepsTheSource, FileRead, HeaderRead, BodyRead, RecordRead};
 ghost use Rattle.capture_reader.specs.State.{Declines, Opens};
 
@@ -85,6 +86,9 @@ fn read_header<S: Source>(
     requires { ahead.old.size ≡ 262144 }
     ensures keeps { KeepsTheSource S.faults S.lender ahead.old ahead.new source.old source.new }
     ensures read { HeaderRead S.left S.faults order room ahead.old ahead.new source.old source.new result }
+    ensures unread { 16 ≤ length ahead.old.pending → source.new ≡ source.old }
+    ensures held { IfOk result (λ found. IfSome found (λ header. 16 ≤ length ahead.old.pending
+        → (header_in order room ahead.old.pending ≡ Ok (Some header)) × (length ahead.new.pending ≡ length ahead.old.pending - 16))) }
 {
     if gather(source, ahead, RECORD_HEADER).is_err() {
         return Err(CaptureFault::ReadFault);
@@ -110,6 +114,7 @@ fn read_body<S: Source>(
     ensures keeps { KeepsTheSource S.faults S.lender ahead.old ahead.new source.old source.new }
     ensures same { ahead_of ahead.new (S.left source.new) ≡ ahead_of ahead.old (S.left source.old) }
     ensures read { BodyRead S.left S.faults captured room ahead.old ahead.new source.old source.new result }
+    ensures unread { holds_body captured (length ahead.old.pending) ≡ true → source.new ≡ source.old }
 {
     // Reading their number gives the prover that the bytes fit the block.
     let _held = ahead.len();
@@ -136,19 +141,38 @@ fn read_record<S: Source>(
     requires { ahead.old.size ≡ 262144 }
     ensures keeps { KeepsTheSource S.faults S.lender ahead.old ahead.new source.old source.new }
     ensures read { RecordRead S.left S.faults order room ahead.old ahead.new source.old source.new result }
+    ensures unread { is_record_settled order room ahead.old.pending ≡ true → source.new ≡ source.old }
 {
     let Some(header) = read_header(source, ahead, order, room)? else {
         return Ok(None);
     };
-    read_body(source, ahead, header.captured, room - RECORD_HEADER as u64)?;
-    Ok(Some(header))
+    match read_body(source, ahead, header.captured, room - RECORD_HEADER as u64) {
+        Err(fault) => Err(fault),
+        Ok(_) => Ok(Some(header)),
+    }
+}
+
+// The bytes that are pending settle what stands next: a record is whole, or its header tells what is wrong.
+fn is_record_settled(order: Order, room: u64, pending: &[u8]) -> bool
+    ensures { result ≡ is_record_settled order room pending.now }
+{
+    if pending.len() < RECORD_HEADER {
+        return false;
+    }
+    match header_in(order, room, pending) {
+        Ok(Some(header)) => {
+            let count = header.captured as usize;
+            MOST_CAPTURED < count || count <= pending.len() - RECORD_HEADER
+        }
+        _ => true,
+    }
 }
 
 impl<S: Source + Drop> Captures<S> {
     ghost use Rattle.std.specs.Prelude.{Result, Option, ◌≡◌};
     ghost use Rattle.std.specs.Borrow.{sem};
     ghost use Rattle.std.specs.Io.BufRead.{Rests};
-    ghost use Rattle.capture_reader.specs.State.{Advances, found, read_of};
+    ghost use Rattle.capture_reader.specs.State.{Advances, found, holds_record, read_of};
     ghost use Rattle.capture_reader.specs.contracts.captures.Captures.{the_row};
 
     /// A reader over this source, behind the file header, which it reads. All memory is taken here. At most 262,144
@@ -214,7 +238,8 @@ impl<S: Source + Drop> Captures<S> {
     /// The next record, whole however the reads were cut, or None exactly at the end of the input between two records.
     /// It takes no memory. The faults: ReadFault, only where the source failed; and where that did not happen, exactly
     /// the first that the bytes have: CutShort and TooLarge in the record's header, RecordTooLong, and CutShort and
-    /// TooLarge in its bytes. After a fault each further call answers the same, and does nothing.
+    /// TooLarge in its bytes. After a fault each further call answers the same, and does nothing. Where `holds_next` is
+    /// true the source is not read.
     pub fn next(&mut self) -> Result<Option<Record<'_>>, CaptureFault>
         ensures* after { sem 𝓛 (Rests (the_row S.row) self.entry (λ captures. Advances S.left S.faults S.lender self.old captures (read_of result))) }
     {
@@ -236,6 +261,18 @@ impl<S: Source + Drop> Captures<S> {
                 }))
             }
         }
+    }
+
+    /// Tells that the next call of `next` reads nothing: what was read already settles its answer, or a fault ended the
+    /// capture.
+    pub fn holds_next(&self) -> bool
+        ensures { result ≡ holds_record self.now }
+    {
+        if self.fault.is_some() {
+            return true;
+        }
+        let (_, pending) = self.ahead.pending().split_at(self.lent);
+        is_record_settled(self.format.order, MOST_BYTES - self.given, pending)
     }
 
     /// The source, as it then stands.

@@ -1,5 +1,5 @@
 //! Bytes gathered in the block.
-ghost use Rattle.std.specs.Prelude.{◌≤◌, OnOk, OnErr};
+ghost use Rattle.std.specs.Prelude.{◌≡◌, ◌≤◌, length, OnOk, OnErr};
 ghost use Rattle.dccp_io.specs.Counts.{Rose};
 ghost use Rattle.capture_reader.specs.Gathering.{Gathers, IsGathered};
 
@@ -14,6 +14,7 @@ pub(crate) fn gather<S: Source>(
     requires { asked ≤ ahead.old.size }
     ensures ahead { Gathers S.left S.faults S.lender asked ahead.old ahead.new source.old source.new }
     ensures gathered { OnOk result (IsGathered asked ahead.new (S.left source.new)) }
+    ensures unread { asked ≤ length ahead.old.pending → (source.new ≡ source.old) × (ahead.new ≡ ahead.old) }
     ensures cause { OnErr result (Rose (S.faults source.old) (S.faults source.new)) }
 {
     let mut held = ahead.len();

@@ -16,7 +16,7 @@ use seq_circle::Seq48;
 /// has. `control` names the functions on that Value: the list and the window that it shows, the CCIDs that it knows,
 /// and what each call makes of it. `lawful` says that the list keeps its own rules. `specs/Kind` makes both of the
 /// kind's rules for the rest alone (`control_by_rules`, `kind_is_lawful`). The bounds on the window come from the
-/// struct's invariant. The crate additive_window is an example.
+/// struct's invariant. The module additive_window of dccp_uses is an example.
 pub trait Congestion {
     // The kind's functions on its state, which contracts alone see.
     ghost control: { Control Self };

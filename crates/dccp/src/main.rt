@@ -34,5 +34,5 @@ fn words_of(rt: &HostRuntime) -> Result<Vec<String>, AllocError> {
 
 // The exit status of a call's status.
 fn code(status: Status) -> ExitCode {
-    ExitCode::from(status as u8)
+    ExitCode::from(status.number())
 }

@@ -11,7 +11,10 @@ use std::io;
 use std::time::Instant;
 
 /// How many runs there are: a vector holds the first two whole, and the last fill the window.
-pub(crate) const SIZES: [u32; 3] = [30, 120, 1023];
+pub(crate) const SIZES: [u32; 3] = [30, 120, 1024];
+
+// How many lists take a report between two looks at the clock.
+const LISTS: u32 = 32;
 
 // Three received.
 const SMALL: [u8; 3] = [38, 3, 0x02];
@@ -31,22 +34,21 @@ pub(crate) fn zero() -> Seq48 {
     zero
 }
 
-// The newest of so many numbers from 0 on, of which every second one is received.
+// The newest of the numbers from 0 on that so many runs and the gaps below them have.
 fn newest(runs: u32) -> Seq48 {
-    zero().add(u64::from(runs) * 2)
+    zero().add(u64::from(runs) * 2).sub(1)
 }
 
-// Every second number from 0 to the newest.
+// Every second number from 1 to the newest.
 fn every_second(alloc: Global, runs: u32) -> io::Result<Received> {
     let Ok(mut received) = Received::new(alloc) else {
         return Err(io::Error::other("no memory"));
     };
-    let mut number = zero();
+    let mut number = zero().next();
     for _ in 0..runs {
         let _ = received.took(number);
         number = number.add(2);
     }
-    let _ = received.took(number);
     Ok(received)
 }
 
@@ -57,25 +59,33 @@ fn all_but_one(alloc: Global, runs: u32) -> io::Result<Received> {
     };
     let mut number = zero();
     let _ = received.took(number);
-    for _ in 1..u64::from(runs) * 2 {
+    for _ in 2..u64::from(runs) * 2 {
         number = number.next();
         let _ = received.took(number.next());
     }
     Ok(received)
 }
 
-// Every number from 0 to the newest was sent.
-fn all_sent(alloc: Global, runs: u32) -> io::Result<Flight> {
-    let Ok(mut flight) = Flight::new(alloc) else {
-        return Err(io::Error::other("no memory"));
-    };
+// Every number from 0 to the newest was sent, and no report has come.
+fn send_all(flight: &mut Flight, runs: u32) {
+    flight.clear();
     let mut number = zero();
-    flight.sent(number);
     for _ in 0..u64::from(runs) * 2 {
-        number = number.next();
         flight.sent(number);
+        number = number.next();
     }
-    Ok(flight)
+}
+
+// So many lists.
+fn lists(alloc: Global, count: u32) -> io::Result<Vec<Flight>> {
+    let mut flights = Vec::new(alloc);
+    for _ in 0..count {
+        let Ok(flight) = Flight::new(alloc) else {
+            return Err(io::Error::other("no memory"));
+        };
+        flights.push(flight)?;
+    }
+    Ok(flights)
 }
 
 // So many vectors are written.
@@ -88,15 +98,26 @@ fn writes(received: &Received, out: &mut VectorBytes, ack: Seq48, rounds: u32) -
     sum
 }
 
-// The report is taken so many times. The oldest entry is received and the next one is not, so every report looks at all
-// entries but that one.
-fn reports(flight: &mut Flight, report: &AckReport<'_>, rounds: u32) -> u64 {
+// A list takes the report; gives what it acknowledged and what is still in flight.
+fn take(flight: &mut Flight, report: &AckReport<'_>) -> u64 {
+    let news = flight.report(report, None);
+    u64::from(news.acked).wrapping_add(u64::from(flight.out()))
+}
+
+// One list takes the report so many times.
+fn again_and_again(flight: &mut Flight, report: &AckReport<'_>, rounds: u32) -> u64 {
     let mut sum = 0u64;
     for _ in 0..rounds {
-        let news = flight.report(report, None);
-        sum = sum
-            .wrapping_add(u64::from(news.acked))
-            .wrapping_add(u64::from(flight.out()));
+        sum = sum.wrapping_add(take(flight, report));
+    }
+    sum
+}
+
+// Each list takes the report once.
+fn each_once(flights: &mut [Flight], report: &AckReport<'_>) -> u64 {
+    let mut sum = 0u64;
+    for flight in flights {
+        sum = sum.wrapping_add(take(flight, report));
     }
     sum
 }
@@ -117,15 +138,13 @@ fn fills(received: &mut Received, factor: u32, rounds: u32) -> u64 {
     sum
 }
 
-// Prints a call and its size, the nanoseconds since the start, the calls and the sum, so that none is left out.
-fn told(
-    rt: &HostRuntime,
-    call: (&str, u32),
-    start: Instant,
-    calls: u32,
-    sum: u64,
-) -> io::Result<()> {
-    let spent = u64::try_from(start.elapsed(rt)?.as_nanos()).unwrap_or(u64::MAX);
+// The nanoseconds since the start.
+fn spent(rt: &HostRuntime, start: Instant) -> io::Result<u64> {
+    Ok(u64::try_from(start.elapsed(rt)?.as_nanos()).unwrap_or(u64::MAX))
+}
+
+// Prints a call and its size, the nanoseconds, the calls and the sum, so that none is left out.
+fn told(rt: &HostRuntime, call: (&str, u32), spent: u64, calls: u32, sum: u64) -> io::Result<()> {
     eprintln!(rt; "{} {} {} {} {}", call.0, call.1, spent, calls, sum)
 }
 
@@ -138,28 +157,48 @@ pub(crate) fn marks(rt: &HostRuntime, rounds: u32) -> io::Result<()> {
     for (name, factor) in [("in-order", 1), ("scattered", SCATTERED)] {
         let start = Instant::now(rt)?;
         let sum = fills(&mut received, factor, rounds);
-        told(rt, (name, WINDOW), start, calls, sum)?;
+        told(rt, (name, WINDOW), spent(rt, start)?, calls, sum)?;
     }
     Ok(())
 }
 
-/// Prints the nanoseconds of so many writes and of so many reports, at one size.
-pub(crate) fn measure(rt: &HostRuntime, runs: u32, rounds: u32) -> io::Result<()> {
-    let ack = newest(runs);
-    let received = every_second(rt.alloc(), runs)?;
-    let mut flight = all_sent(rt.alloc(), runs)?;
-    let mut out = VectorBytes::new();
-    let start = Instant::now(rt)?;
-    let sum = writes(&received, &mut out, ack, rounds);
-    told(rt, ("write", runs), start, rounds, sum)?;
+// Prints the nanoseconds of so many reports of this vector, each by a list of which nothing was reported before: so each
+// changes all that it speaks of.
+fn news(rt: &HostRuntime, runs: u32, vector: &[u8], rounds: u32) -> io::Result<()> {
     let mut writer = OptWriter::new();
-    let _ = writer.put(false, 38, &out);
-    let Some(report) = AckReport::of(ack, options(writer.bytes(), false)) else {
+    let _ = writer.put(false, 38, vector);
+    let Some(report) = AckReport::of(newest(runs), options(writer.bytes(), false)) else {
         return Err(io::Error::other("no vector"));
     };
+    let mut flights = lists(rt.alloc(), LISTS)?;
+    let mut taken = 0u64;
+    let mut sum = 0u64;
+    let turns = rounds / LISTS;
+    for _ in 0..turns {
+        for flight in flights.as_mut_slice() {
+            send_all(flight, runs);
+        }
+        let start = Instant::now(rt)?;
+        sum = sum.wrapping_add(each_once(&mut flights, &report));
+        taken = taken.saturating_add(spent(rt, start)?);
+    }
+    told(
+        rt,
+        ("report", runs),
+        taken,
+        turns.saturating_mul(LISTS),
+        sum,
+    )
+}
+
+/// Prints the nanoseconds of so many writes and of so many reports, at one size.
+pub(crate) fn measure(rt: &HostRuntime, runs: u32, rounds: u32) -> io::Result<()> {
+    let received = every_second(rt.alloc(), runs)?;
+    let mut out = VectorBytes::new();
     let start = Instant::now(rt)?;
-    let sum = reports(&mut flight, &report, rounds);
-    told(rt, ("report", runs), start, rounds, sum)
+    let sum = writes(&received, &mut out, newest(runs), rounds);
+    told(rt, ("write", runs), spent(rt, start)?, rounds, sum)?;
+    news(rt, runs, &out, rounds)
 }
 
 // Takes the report that a set's vector makes, and gives how many packets it acknowledged.
@@ -178,18 +217,22 @@ fn take_report(flight: &mut Flight, received: &Received, ack: Seq48) -> io::Resu
 /// are all Reported.
 pub(crate) fn behind_a_loss(rt: &HostRuntime, runs: u32, rounds: u32) -> io::Result<()> {
     let ack = newest(runs);
-    let mut flight = all_sent(rt.alloc(), runs)?;
+    let Ok(mut flight) = Flight::new(rt.alloc()) else {
+        return Err(io::Error::other("no memory"));
+    };
+    send_all(&mut flight, runs);
     let received = all_but_one(rt.alloc(), runs)?;
     let acked = take_report(&mut flight, &received, ack)?;
     let Some(report) = AckReport::of(ack, options(&SMALL, false)) else {
         return Err(io::Error::other("no vector"));
     };
     let start = Instant::now(rt)?;
-    let sum = reports(&mut flight, &report, rounds);
+    let sum = again_and_again(&mut flight, &report, rounds);
+    let taken = spent(rt, start)?;
     told(
         rt,
         ("old-loss", runs),
-        start,
+        taken,
         rounds,
         sum.wrapping_add(u64::from(acked)),
     )

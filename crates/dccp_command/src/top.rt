@@ -1,4 +1,4 @@
-//! The tool's one call: a form of its words over a source and two sinks.
+//! The tool's one call: a form of its words over a source and a sink.
 ghost use Rattle.std.specs.Prelude.{◌≡◌, ◌↔◌, drop, Some, None};
 ghost use Rattle.dccp_io.specs.Counts.{Rose};
 ghost use Rattle.capture_reader.specs.State.{Passed};
@@ -29,8 +29,9 @@ use tool_show::show_capture;
 /// of them, the same for every number of threads and for every gate.
 ///
 /// Words are judged first; after that the first refusal met in the order of reading decides. With status 0 or 1 the
-/// output is the text of the whole input, and the two ends of a schedule were safe after each of its events. With
-/// status 3, 4 or 5 it is a front of that text.
+/// output is the text of the whole input, and each event of a schedule took place in a safe world and left a safe one.
+/// With status 3, 4 or 5 it is a front of that text. The clauses on the output speak of a source that tells its bytes
+/// and a sink that tells what it took.
 pub fn dccp<R: Threads + Sync, G: Gate + Sync, S: Source, K: Sink>(
     rt: &R,
     alloc: Global,

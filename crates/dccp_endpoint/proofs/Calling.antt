@@ -26,7 +26,7 @@ use Rattle.feature_machine.specs.Turns.{Turn, turned}
 use Rattle.feature_machine.specs.declared.row.Row.{Row}
 use Rattle.feature_machine.proofs.Turning.{turned-joined}
 use Rattle.dccp_endpoint.specs.Calling.{aborts, aborts_in, asks_all, asks_now, closes, closes_in, closes_now, aborts_now, fires, fires_in, is_asking_now, lacks_vectors, most_data, opens, opens_as, preferring, prefers, prefers_in, prefers_so, prefers_wish, requests, requests_asking, sends_data, sends_payload, sends_unless, times_out}
-use Rattle.dccp_endpoint.specs.Causes.{Acknowledges, AreHeard, AreTurns, ByCall, CallsSent, CallsTimeout, Deaf, EveryStepHasOneEffect, Greatest, HasEffect, Keeps, LeavesIt, LooksNowhere, NotNow, Nothing, PrefersLater, PrefersNow, Repeating, StaysSo, is_waiting, is_without_connection}
+use Rattle.dccp_endpoint.specs.Causes.{Acknowledges, AreHeard, AreTurns, asks_for_request, ByCall, CallsSent, CallsTimeout, Deaf, EveryStepHasOneEffect, Greatest, HasEffect, InRequest, Keeps, LeavesIt, LooksNowhere, NotNow, Nothing, PrefersLater, PrefersNow, Repeating, StaysSo, is_waiting, is_without_connection}
 use Rattle.dccp_endpoint.specs.Drafts.{IsSendable, alone, carrying}
 use Rattle.dccp_endpoint.specs.Effects.{Next, Unheard, effect_of, end_after, frame_by, opened_by}
 use Rattle.dccp_endpoint.specs.End.{EndState, IsProper, is_connected, is_live, is_open, is_phase_of, with_rows}
@@ -56,8 +56,9 @@ none-for [] = All-nil (λ (k : Key). is_confirmed [] k ≡ false)
 none-for (k ∷ keys) = All-cons (λ (k : Key). is_confirmed [] k ≡ false) k keys refl (none-for keys)
 
 -- The Changes of all rows that ask go out again.
-abbrev repeating : {e : EndState} {given : Input} → AreTurns e given Unheard (sendings (next_number e) (due_keys e.rows))
-repeating {e = e} =
+abbrev repeating : {e : EndState} {given : Input} (in_flight : Bool) → given ≡ Fires timers.Negotiate in_flight
+    → AreTurns e given Unheard (sendings (next_number e) (due_keys e.rows))
+repeating {e = e} in_flight fired =
     record {
       heard = [];
       confirms = [];
@@ -66,7 +67,7 @@ repeating {e = e} =
       keys = due_keys e.rows;
       in_order = refl;
       hears = Deaf;
-      occasion = Repeating refl refl;
+      occasion = Repeating in_flight fired refl refl;
       apart = none-for (due_keys e.rows);
     }
 
@@ -112,7 +113,7 @@ module _ (o : EndState) (given : Input) (proper : IsProper (wide o)) where
       left ph dead its_role (λ is. absurd (false≢true (sym heard ∙ is))) (λ closed. inl (shut closed)) (Keeps (λ is. absurd (false≢true (sym dead ∙ is)))) LeavesIt NotNow
 
   idle-has : HasEffect e given e None []
-  idle-has = has-by (silent-caused (rest proper) e.owed e.unacked quiet refl refl (λ is. is))
+  idle-has = has-by (silent-caused (rest proper) e.owed e.unacked quiet refl refl refl (λ is. is))
 
   plain-has : {ph : Phase} {called : Bool} → Ready e given Unheard None false ph called None → (k : Kind) → has_forms true k ≡ true → HasDetail k
       → is_acking (packet_type k) ≡ false → Acknowledges e given e.marks.gsr (ack_of k) → is_without_connection e.config.role k ≡ false
@@ -122,12 +123,12 @@ module _ (o : EndState) (given : Input) (proper : IsProper (wide o)) where
   ack-has : is_connected e.phase ≡ true → Has e given (sends_ack e (alone (kind.Ack (Long e.marks.gsr))) true)
   ack-has connected = has-by (ack-caused (rest proper) quiet []
       (front-confirming-sendable (kind.Ack (Long e.marks.gsr)) (front_of (rest {given = given} proper) []) [] refl tt refl (vector-front _ _ _) no-confirms)
-      refl (inl refl) connected)
+      refl (inl refl) connected refl)
 
   -- A Request: all offers come up, and the Changes go out of all rows that ask then.
-  requested-has : (ph : Phase) (called : Bool) → Ready e given Unheard None false ph called None
+  requested-has : (ph : Phase) (called : Bool) → asks_for_request given ≡ true → Ready e given Unheard None false ph called None
       → Has e given (requests (record e { opened = opened_by e.opened called; phase = ph }) true)
-  requested-has ph called ready =
+  requested-has ph called due ready =
       let offered : List Turn = offerings (is_confirmed []) every_place in
       let keys : List Key = offered_keys e [] [] in
       let packet : Kind = kind.Request e.config.service in
@@ -138,20 +139,21 @@ module _ (o : EndState) (given : Input) (proper : IsProper (wide o)) where
       (has-by (next-caused ready e.owed e.unacked (offering hears) (saying packet [] (turned e.rows (offered_turns e [] [])) keys)
       (saying-sendable packet [] (turned e.rows (offered_turns e [] [])) keys refl tt refl no-confirms kept.sound
       (asking-few (turned e.rows offered) [] (offered-sound proper hears)))
-      refl (inl refl) refl Nothing refl))
+      refl (inl refl) refl Nothing refl (inr (InRequest _ due refl))))
 
   -- an Ack with the Changes of all rows that ask
-  asked-has : is_connected e.phase ≡ true → (keys : List Key) → due_keys e.rows ≡ keys → Has e given (asks_all e keys)
-  asked-has connected [] is = idle-has
-  asked-has connected (k ∷ keys) is =
+  asked-has : (in_flight : Bool) → given ≡ Fires timers.Negotiate in_flight → is_connected e.phase ≡ true → (keys : List Key) → due_keys e.rows ≡ keys
+      → Has e given (asks_all e keys)
+  asked-has in_flight fired connected [] is = idle-has
+  asked-has in_flight fired connected (k ∷ keys) is =
       let rows : List Row = turned e.rows (sendings (next_number e) (due_keys e.rows)) in
-      let turns : AreTurns e given Unheard (sendings (next_number e) (due_keys e.rows)) = repeating in
+      let turns : AreTurns e given Unheard (sendings (next_number e) (due_keys e.rows)) = repeating in_flight fired in
       let kept = rows-kept proper turns in
       subst (λ (ks : List Key). Has e given (asks_now e ks true)) is
-      (has-by (ack-caused (rest proper) repeating (change_items rows (due_keys e.rows))
+      (has-by (ack-caused (rest proper) (repeating in_flight fired) (change_items rows (due_keys e.rows))
       (front-saying-sendable (kind.Ack (Long e.marks.gsr)) (front_of (rest {given = given} proper) (sendings (next_number e) (due_keys e.rows))) [] rows
       (due_keys e.rows) refl tt refl (vector-front _ _ _) no-confirms kept.sound (due-few e.rows proper.rows.sound))
-      refl (inl refl) connected))
+      refl (inl refl) connected refl))
 
   -- prefer
   preferred-has : (k : Key) (values : List ℕ) → given ≡ Prefers k values → is_connected e.phase ≡ true → (wish : Wanted) → wish_of k.0 k.1 values ≡ Ok wish
@@ -162,9 +164,9 @@ module _ (o : EndState) (given : Input) (proper : IsProper (wide o)) where
       has-by (ack-caused (rest proper) (preferring-now k values wish called is now) (change_items rows (k ∷ []))
       (front-saying-sendable (kind.Ack (Long e.marks.gsr))
       (front_of (rest {given = given} proper) (turn_of k (event.Prefers wish) ∷ sendings (next_number e) (k ∷ []))) [] rows (k ∷ []) refl tt refl
-      (vector-front _ _ _) no-confirms kept.sound (omega arith)) refl (inl refl) connected)
+      (vector-front _ _ _) no-confirms kept.sound (omega arith)) refl (inl refl) connected refl)
   preferred-has k values called connected wish is false later =
-      has-by (silent-caused (rest proper) e.owed e.unacked (preferring-later k values wish called is later) refl refl (λ so. so))
+      has-by (silent-caused (rest proper) e.owed e.unacked (preferring-later k values wish called is later) refl refl refl (λ so. so))
 
   wished-has : (k : Key) (values : List ℕ) → given ≡ Prefers k values → is_connected e.phase ≡ true → (wish : Result Wanted PreferFault)
       → wish_of k.0 k.1 values ≡ wish → Has e given (prefers_wish e k wish)
@@ -179,7 +181,7 @@ module _ (o : EndState) (given : Input) (proper : IsProper (wide o)) where
   -- open
   opens-has : given ≡ Opens → (r : Role) → e.config.role ≡ r → (opened : Bool) → e.opened ≡ opened → Has e given (opens_as e r opened)
   opens-has called role.Client client false fresh =
-      requested-has phase.Request true
+      requested-has phase.Request true (ap asks_for_request called)
       (left phase.Request refl (ap (is_phase_of phase.Request) client) (λ waits. refl) (λ closed. inr refl) (Keeps (λ is. absurd (false≢true is))) LeavesIt
       (ByCall called client fresh))
   opens-has called role.Client client true opened = idle-has
@@ -220,7 +222,7 @@ module _ (o : EndState) (given : Input) (proper : IsProper (wide o)) where
 
   -- the phase alone becomes CLOSED
   closed-has : HasEffect e given (in_phase e phase.Closed) None []
-  closed-has = has-by (silent-caused (apart phase.Closed refl refl refl (λ closed. refl)) e.owed e.unacked quiet refl refl (λ is. absurd (false≢true is)))
+  closed-has = has-by (silent-caused (apart phase.Closed refl refl refl (λ closed. refl)) e.owed e.unacked quiet refl refl refl (λ is. absurd (false≢true is)))
 
   aborts-in : (ph : Phase) → Has e given (aborts_in e ph)
   aborts-in phase.Closed = idle-has
@@ -246,7 +248,7 @@ module _ (o : EndState) (given : Input) (proper : IsProper (wide o)) where
   data-has payload called in_open fits false =
       has-by (calling-caused (CallsSent payload called in_open refl)
       (next-caused (rest proper) e.owed e.unacked quiet (carrying kind.Data payload)
-      (data-sendable kind.Data payload (alone-sendable kind.Data refl tt) fits) refl (inl refl) refl Nothing refl))
+      (data-sendable kind.Data payload (alone-sendable kind.Data refl tt) fits) refl (inl refl) refl Nothing refl (inl refl)))
 
   -- whatever it is refused for
   sends-has : (payload : List ℕ) (may_send : Bool) → given ≡ input.Sends payload may_send → (in_open long lacks : Bool) → is_open e.phase ≡ in_open
@@ -266,18 +268,18 @@ module _ (o : EndState) (given : Input) (proper : IsProper (wide o)) where
   -- the timers
   times-out : given ≡ Fires timers.Rto true → e.phase ≡ phase.Open → Has e given (times_out e true)
   times-out called in_open =
-      has-by (calling-caused (CallsTimeout called in_open) (silent-caused (rest proper) e.owed e.unacked quiet refl refl (λ is. is)))
+      has-by (calling-caused (CallsTimeout called in_open) (silent-caused (rest proper) e.owed e.unacked quiet refl refl refl (λ is. is)))
 
   rto-has : (in_flight : Bool) → given ≡ Fires timers.Rto in_flight → e.phase ≡ phase.Open → Has e given (times_out e in_flight)
   rto-has true called in_open = times-out called in_open
   rto-has false called in_open = idle-has
 
   fires-in : (timer : Timer) (in_flight : Bool) (ph : Phase) → given ≡ Fires timer in_flight → e.phase ≡ ph → Has e given (fires_in e timer in_flight ph)
-  fires-in timers.Request in_flight phase.Request called is = requested-has e.phase false (rest proper)
+  fires-in timers.Request in_flight phase.Request called is = requested-has e.phase false (ap asks_for_request called) (rest proper)
   fires-in timers.Ack in_flight phase.PartOpen called is = ack-has (ap is_connected is)
   fires-in timers.Ack in_flight phase.Open called is = ack-has (ap is_connected is)
-  fires-in timers.Negotiate in_flight phase.PartOpen called is = asked-has (ap is_connected is) (due_keys e.rows) refl
-  fires-in timers.Negotiate in_flight phase.Open called is = asked-has (ap is_connected is) (due_keys e.rows) refl
+  fires-in timers.Negotiate in_flight phase.PartOpen called is = asked-has in_flight called (ap is_connected is) (due_keys e.rows) refl
+  fires-in timers.Negotiate in_flight phase.Open called is = asked-has in_flight called (ap is_connected is) (due_keys e.rows) refl
   fires-in timers.Rto in_flight phase.Open called is = rto-has in_flight called is
   fires-in timers.Close in_flight phase.CloseReq called is = plain-has (rest proper) (kind.CloseReq e.marks.gsr) refl tt refl Greatest refl
   fires-in timers.Close in_flight phase.Closing called is = plain-has (rest proper) (kind.Close e.marks.gsr) refl tt refl Greatest refl

@@ -20,7 +20,7 @@ use Rattle.dccp_states.specs.declared.phase.Phase.{Phase}
 use Rattle.dccp_states.specs.declared.phase.Phase.TheVariants as phase
 use Rattle.feature_machine.specs.Negotiating.{due_keys, every_place}
 use Rattle.feature_machine.specs.Turns.{Turn, turned}
-use Rattle.dccp_endpoint.specs.Causes.{HasEffect, Acknowledges, AcknowledgesHeard, AreHeard, AreTurns, CallsNothing, Deaf, HasFrame, HasNext, IsAcknowledging, IsCalling, IsCaused, IsFirst, IsHearing, IsOpened, IsOpening, IsSending, Keeps, LeavesIt, NotNow, Offering, Others, Plain, Refuses, Rests, Says, SaysAll, SaysApart, SaysNothing, StaysSo, Acks, IsLooking, LooksNowhere, is_waiting, vector_of, is_without_connection}
+use Rattle.dccp_endpoint.specs.Causes.{HasEffect, Acknowledges, AcknowledgesHeard, AreHeard, AreTurns, CallsNothing, Deaf, HasFrame, HasNext, IsAcknowledging, IsCalling, IsCaused, IsFirst, IsHearing, IsOffering, IsOpened, IsOpening, IsSending, Keeps, LeavesIt, NotNow, Offering, Others, Plain, Refuses, Rests, Says, SaysAll, SaysApart, SaysNothing, StaysSo, Acks, IsLooking, LooksNowhere, is_waiting, vector_of, is_without_connection}
 use Rattle.dccp_endpoint.specs.Drafts.{Draft, IsSendable, alone}
 use Rattle.dccp_endpoint.specs.Effects.{Effect, frame_by, Hearing, Unheard, Sending, Silent, Next, effect_of, end_after, greatest_by, heard_by, owed_by, rows_by, told_by}
 use Rattle.dccp_endpoint.specs.End.{EndState, IsProper, is_begun, is_connected, is_live, is_phase_of, with_rows, with_widths}
@@ -177,9 +177,9 @@ module _ {e : EndState} {given : Input} {h : Hearing} {ack : Option ℕ} {opens 
   abbrev pub caused : {turns : List Turn} (owed : Bool) (unacked : ℕ) (at : AreTurns e given h turns) (s : Sending)
       → (is_begun ph ≡ true → (is_begun e.phase ≡ true) ⊎ HasNext s)
       → Says e (effect_with turns h ack opens ph called looked owed unacked s) at.confirms at.keys s → HasFrame s
-      → IsSending e given (effect_with turns h ack opens ph called looked owed unacked s) s
+      → IsSending e given (effect_with turns h ack opens ph called looked owed unacked s) s → (at.offered ≡ []) ⊎ IsOffering given h s
       → IsCaused e given (effect_with turns h ack opens ph called looked owed unacked s)
-  caused owed unacked at s begun says framed sends =
+  caused owed unacked at s begun says framed sends offers =
       record {
         hears = ready.hears;
         acks = ready.acks;
@@ -188,6 +188,7 @@ module _ {e : EndState} {given : Input} {h : Hearing} {ack : Option ℕ} {opens 
         opened = ready.opened;
         looks = ready.looks;
         turns = at;
+        offers = offers;
         says = says;
         framed = framed;
         sends = sends;
@@ -196,24 +197,26 @@ module _ {e : EndState} {given : Input} {h : Hearing} {ack : Option ℕ} {opens 
 
   -- nothing goes out
   abbrev pub silent-caused : {turns : List Turn} (owed : Bool) (unacked : ℕ) (at : AreTurns e given h turns) → at.confirms ≡ [] → at.keys ≡ []
-      → (is_begun ph ≡ true → is_begun e.phase ≡ true) → IsCaused e given (effect_with turns h ack opens ph called looked owed unacked Silent)
-  silent-caused owed unacked at none unasked begun =
-      caused owed unacked at Silent (λ is. inl (begun is)) (SaysNothing none unasked) tt Rests
+      → at.offered ≡ [] → (is_begun ph ≡ true → is_begun e.phase ≡ true)
+      → IsCaused e given (effect_with turns h ack opens ph called looked owed unacked Silent)
+  silent-caused owed unacked at none unasked unoffered begun =
+      caused owed unacked at Silent (λ is. inl (begun is)) (SaysNothing none unasked) tt Rests (inl unoffered)
 
   -- a packet goes out that is no Ack and no DataAck
   abbrev pub next-caused : {turns : List Turn} (owed : Bool) (unacked : ℕ) (at : AreTurns e given h turns) (packet : Draft) → IsSendable packet
       → packet.options ≡ confirm_items at.confirms ++ change_items (turned e.rows turns) at.keys
       → (at.confirms ≡ []) ⊎ AcknowledgesHeard h (ack_of packet.kind) → is_acking (packet_type packet.kind) ≡ false
       → Acknowledges e given (greatest_by e.marks.gsr h) (ack_of packet.kind) → is_without_connection e.config.role packet.kind ≡ false
+      → (at.offered ≡ []) ⊎ IsOffering given h (Next packet)
       → IsCaused e given (effect_with turns h ack opens ph called looked owed unacked (Next packet))
-  next-caused {turns = turns} owed unacked at packet sendable says answers other acknowledges numbered =
+  next-caused {turns = turns} owed unacked at packet sendable says answers other acknowledges numbered offers =
       caused owed unacked at (Next packet) (λ is. inr tt)
       (SaysAll packet
       (says
       ∙ ap (λ (front : List Item). front ++ (confirm_items at.confirms ++ change_items (turned e.rows turns) at.keys))
       (no-vector e (effect_with turns h ack opens ph called looked owed unacked (Next packet)) packet.kind other))
       answers)
-      sendable (Others packet other acknowledges numbered)
+      sendable (Others packet other acknowledges numbered) offers
 
   -- the Ack Vector of what was received, and the Ack that goes out
   abbrev pub front_of : List Turn → List Item
@@ -224,12 +227,12 @@ module _ {e : EndState} {given : Input} {h : Hearing} {ack : Option ℕ} {opens 
 
   abbrev pub ack-caused : {turns : List Turn} (at : AreTurns e given h turns) (options : List Item) → IsSendable (ack_with turns options)
       → options ≡ confirm_items at.confirms ++ change_items (turned e.rows turns) at.keys
-      → (at.confirms ≡ []) ⊎ AcknowledgesHeard h (Some (greatest_by e.marks.gsr h)) → is_connected ph ≡ true
+      → (at.confirms ≡ []) ⊎ AcknowledgesHeard h (Some (greatest_by e.marks.gsr h)) → is_connected ph ≡ true → at.offered ≡ []
       → IsCaused e given (effect_with turns h ack opens ph called looked false 0 (Next (ack_with turns options)))
-  ack-caused {turns = turns} at options sendable says answers connected =
+  ack-caused {turns = turns} at options sendable says answers connected unoffered =
       caused false 0 at (Next (ack_with turns options)) (λ is. inr tt)
       (SaysAll (ack_with turns options) (ap (λ (rest : List Item). front_of turns ++ rest) says) answers) sendable
-      (Acks (ack_with turns options) refl refl connected refl refl)
+      (Acks (ack_with turns options) refl refl connected refl refl) (inl unoffered)
 
   -- a DataAck goes out with these data
   abbrev pub data_ack_with : List ℕ → Draft
@@ -239,7 +242,7 @@ module _ {e : EndState} {given : Input} {h : Hearing} {ack : Option ℕ} {opens 
       → IsCaused e given (effect_with [] h ack opens ph called looked false 0 (Next (data_ack_with payload)))
   data-ack-caused payload sendable connected =
       caused false 0 quiet (Next (data_ack_with payload)) (λ is. inr tt) (SaysAll (data_ack_with payload) refl (inl refl)) sendable
-      (Acks (data_ack_with payload) refl refl connected refl refl)
+      (Acks (data_ack_with payload) refl refl connected refl refl) (inl refl)
 
 -- one that says nothing of features, where nothing is looked up
 abbrev pub plain-caused : {e : EndState} {given : Input} {h : Hearing} {ack : Option ℕ} {opens : Bool} {ph : Phase} {called : Bool}
@@ -248,6 +251,7 @@ abbrev pub plain-caused : {e : EndState} {given : Input} {h : Hearing} {ack : Op
     → IsCaused e given (effect_of e h ack opens ph called (Next (alone k)))
 plain-caused {e = e} {h = h} ready k long detail other acknowledges numbered =
     next-caused ready (owed_by e.owed h) e.unacked quiet (alone k) (alone-sendable k long detail) refl (inl refl) other acknowledges numbered
+    (inl refl)
 
 -- The effect with these calls due to the congestion control. They decide no other part.
 abbrev pub calling : List Call → Effect → Effect
@@ -276,6 +280,7 @@ calling-caused {calls = calls} why because =
       opened = because.opened;
       looks = because.looks;
       turns = because.turns;
+      offers = because.offers;
       says = says-calling calls because.says;
       framed = because.framed;
       sends = sends-calling calls because.sends;
@@ -285,14 +290,14 @@ calling-caused {calls = calls} why because =
 -- all that there is to tell of a step of `receive`
 pub record Told (e : EndState) (bytes : List ℕ) (step : Step Outcome) : Type 0 where
   pub cause : HasCause e bytes step.answer
-  pub effect : HasEffectOf e (Arrives bytes) step.answer step.after step.frame step.calls
+  pub effect : HasEffectOf e bytes step.answer step.after step.frame step.calls
 
 -- the step of an effect, where it is known why that is so
 pub has-by : {e : EndState} {given : Input} {f : Effect} → IsCaused e given f → HasEffect e given (end_after e f) (frame_by e f.sending) f.calls
 has-by {f = f} because = record { effect = f; after_is = refl; frame_is = refl; calls_are = refl; because = because }
 
-pub told-by : {e : EndState} {bytes : List ℕ} {f : Effect} (outcome : Outcome) (because : IsCaused e (Arrives bytes) f) → HasCause e bytes outcome
-    → HasForm e (Arrives bytes) outcome f because.turns.confirms
+pub told-by : {e : EndState} {bytes : List ℕ} {f : Effect} (outcome : Outcome) (because : IsCaused e (Arrives bytes) f) (cause : HasCause e bytes outcome)
+    → HasForm e bytes outcome cause f because.turns
     → Told e bytes (record { after = end_after e f; frame = frame_by e f.sending; calls = f.calls; answer = outcome })
 told-by {f = f} outcome because cause form =
-    record { cause = cause; effect = record { effect = f; after_is = refl; frame_is = refl; calls_are = refl; because = because; form = form } }
+    record { cause = cause; effect = record { effect = f; after_is = refl; frame_is = refl; calls_are = refl; because = because; cause = cause; form = form } }

@@ -93,7 +93,7 @@ module _ {e : EndState} {input : Input} where
       → Occasion e input heard confirms offered preferred keys → AreLawful offered × AreLawful preferred
   occasion-lawful Plain = (All-nil Fit, All-nil Fit)
   occasion-lawful {confirms = confirms} Offering = (offerings-lawful (is_confirmed confirms) every_place, All-nil Fit)
-  occasion-lawful (Repeating deaf none) = (All-nil Fit, All-nil Fit)
+  occasion-lawful (Repeating in_flight fired deaf none) = (All-nil Fit, All-nil Fit)
   occasion-lawful (PrefersNow k values wish so is now deaf none) = (All-nil Fit, preferred-lawful k values wish is)
   occasion-lawful (PrefersLater k values wish so is later deaf none) = (All-nil Fit, preferred-lawful k values wish is)
 

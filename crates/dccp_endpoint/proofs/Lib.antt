@@ -9,12 +9,14 @@ pub mod OneRow
 pub mod Room
 pub mod Lawful
 pub mod OneConfirm
+pub mod FirstFaults
 pub mod Keys
 pub mod OwnPackets
 pub mod Deriving
 pub mod Walking
 pub mod Calling
 pub mod Exactly
+pub mod Dropped
 pub mod Staying
 pub mod Wishes
 pub mod Writing

@@ -1,6 +1,6 @@
 -- Of a packet's options a row hears the first that speaks to it, and the Confirm that is due is the row's answer (RFC 4340, section 6).
 use Rattle.std.proofs.Common.{◌≡◌, ◌==◌, ◌&&◌, ◌<◌, ◌≤◌, not, refl, sym, ap, ◌∙◌, subst, arith, ℕ, ◌+◌, suc, Bool, true, false, List, [], ◌∷◌, ◌++◌, drop, length, Option, Some, None, Result, Ok, Err, length-set, get_or-set_same, get_or-set_other, eqb-true}
-use Rattle.std.specs.Prelude.{if◌then◌else◌, nat_le, nat_lt, slice_index_or}
+use Rattle.std.specs.Prelude.{if◌then◌else◌, filter, nat_le, nat_lt, slice_index_or}
 use Rattle.std.proofs.lemmas.Bool.{eq-eqb, and_from, and_left, and_parts, and_right, cond-false, cond-true, eqb-false, false_from_ne_true, false≢true, le-leb, leb-true, lt-ltb}
 use Rattle.std.proofs.lemmas.List.{get_or-replicate, length-replicate}
 use Rattle.dccp_options.specs.Grammar.{Entry}
@@ -19,8 +19,9 @@ use Rattle.feature_machine.specs.declared.stands.Stand.TheVariants as stand
 use Rattle.feature_machine.specs.Turns.{Turn, events_of, confirm_of, reply_due}
 use Rattle.feature_machine.specs.declared.row.Row.{Row}
 use Rattle.feature_machine.proofs.Places.{numbered}
+use Rattle.dccp_endpoint.proofs.FirstFaults.{item-counts}
 use Rattle.dccp_endpoint.specs.Heeding.{Due, Heeding, body_turns, by_answered, by_settling, counted, entry_turns, event_of, fault_of, feature_turns, heard_turns, heeds, heeds_body, heeds_entry, heeds_feature, heeds_first, heeds_then, is_change, is_left, is_of_negotiation, is_too_many, met, misunderstood, place_in_used, turn_known, turns_then, unheeded}
-use Rattle.dccp_endpoint.specs.Saying.{ConfirmsAreSingle, RowsHearThePacket, begins_with_number, body_if, confirm_for, event_in, once_if, said_to, speaks_to, times_confirmed}
+use Rattle.dccp_endpoint.specs.Saying.{ConfirmsAreSingle, RowsHearThePacket, begins_with_number, changes_among, has_feature_number, is_change_item, negotiates_by, body_if, confirm_for, event_in, once_if, said_to, speaks_to, times_confirmed}
 use Rattle.dccp_endpoint.specs.Speaking.{is_for, is_of_place}
 use Rattle.dccp_endpoint.specs.Turns.{Key}
 use Rattle.end_answers.specs.declared.outcome.Fault.{Fault}
@@ -53,7 +54,6 @@ is_used k h = slice_index_or h.used (spot k) false
 record Keeps (h next : Heeding) : Type 0 where
   rows : length next.rows ≡ length h.rows
   used : length next.used ≡ length h.used
-  changes : next.changes ≤ h.changes + 1
 
 -- What an option that does not speak to the row leaves, or one that was spoken to before.
 record Passes (k : Key) (h next : Heeding) (turns : List Turn) : Type 0 where
@@ -72,13 +72,6 @@ record Tells (k : Key) (h next : Heeding) (event : RowEvent) (turns : List Turn)
   confirm : confirm_for k h.confirms ≡ None → confirm_for k next.confirms ≡ confirm_of (row_step (row_at h.rows k.0 k.1) event).answer
   times : times_confirmed k next.confirms ≤ times_confirmed k h.confirms + 1
 
-counted-more : (changes : ℕ) (change : Bool) → counted changes change ≤ changes + 1
-counted-more changes false = omega arith
-counted-more changes true = by (nat_lt changes 64) where
-  by : (few : Bool) → (if few then changes + 1 else changes) ≤ changes + 1
-  by true = omega arith
-  by false = omega arith
-
 -- reading went on with this
 abbrev fine : Heeding → Result Heeding Fault
 fine h = Ok h
@@ -89,7 +82,7 @@ again h change = record h { changes = counted h.changes change }
 
 again-passes : (k : Key) (h : Heeding) (change : Bool) → Passes k h (again h change) []
 again-passes k h change = record {
-  keeps = record { rows = refl; used = refl; changes = counted-more h.changes change };
+  keeps = record { rows = refl; used = refl };
   events = refl;
   row = refl;
   used = refl;
@@ -99,7 +92,7 @@ again-passes k h change = record {
 
 still-passes : (k : Key) (h : Heeding) → Passes k h h []
 still-passes k h = record {
-  keeps = record { rows = refl; used = refl; changes = omega arith };
+  keeps = record { rows = refl; used = refl };
   events = refl;
   row = refl;
   used = refl;
@@ -109,14 +102,18 @@ still-passes k h = record {
 
 met-keeps : (h : Heeding) (place : ℕ) (change : Bool) (rows : List Row) (confirms : List Due) → length rows ≡ length h.rows
     → Keeps h (met h place change rows confirms)
-met-keeps h place change rows confirms size = record { rows = size; used = length-set h.used place true; changes = counted-more h.changes change }
+met-keeps h place change rows confirms size = record { rows = size; used = length-set h.used place true }
 
-not_many : (h : Heeding) (change : Bool) → h.changes < 64 → is_too_many h change ≡ false
-not_many h true few = let less : nat_lt h.changes 64 ≡ true = lt-ltb h.changes 64 few in rw less refl
+not_many : (h : Heeding) (change : Bool) → (change ≡ true → h.changes < 64) → is_too_many h change ≡ false
+not_many h true few = let less : nat_lt h.changes 64 ≡ true = lt-ltb h.changes 64 (few refl) in rw less refl
 not_many h false few = refl
 
+less-so : (b : Bool) → not b ≡ false → b ≡ true
+less-so true is = refl
+less-so false is = cc is
+
 -- an option for another row
-module _ (k : Key) (ack : Option ℕ) (h next : Heeding) (entry : Entry) (left : Bool) (number : ℕ) (body : List ℕ) (beside : IsBeside k left number) (few : h.changes < 64) where
+module _ (k : Key) (ack : Option ℕ) (h next : Heeding) (entry : Entry) (left : Bool) (number : ℕ) (body : List ℕ) (beside : IsBeside k left number) where
   abbrev place : ℕ
   place = place_in_used left number
 
@@ -170,24 +167,24 @@ module _ (k : Key) (ack : Option ℕ) (h next : Heeding) (entry : Entry) (left :
   settling-passes rows row size Waits is = silent-passes false rows row size is
   settling-passes rows row size Quiet is = silent-passes false rows row size is
 
-  first-passes : (change : Bool) → heeds_first ack h entry change left number body ≡ Ok next → Passes k h next (its_turns change)
-  first-passes true is =
+  first-passes : (change : Bool) → is_too_many h change ≡ false → heeds_first ack h entry change left number body ≡ Ok next → Passes k h next (its_turns change)
+  first-passes true few is =
       let leaves = changes-leaves k h.rows left number body entry.mandatory beside in
-      let less : nat_lt h.changes 64 ≡ true = lt-ltb h.changes 64 few in
+      let less : nat_lt h.changes 64 ≡ true = less-so (nat_lt h.changes 64) few in
       answer-passes (changes h.rows left number body entry.mandatory).rows leaves.row leaves.size
       (changes h.rows left number body entry.mandatory).answer
       (sym (cond-true (nat_lt h.changes 64) _ _ less) ∙ is)
-  first-passes false is =
+  first-passes false few is =
       let leaves = confirmed-leaves k h.rows left number body ack beside in
       settling-passes (confirmed h.rows left number body ack).rows leaves.row leaves.size (confirmed h.rows left number body ack).answer is
 
-  beside-passes : (change : Bool) → heeds_feature ack h entry change left number body ≡ Ok next
+  beside-passes : (change : Bool) → is_too_many h change ≡ false → heeds_feature ack h entry change left number body ≡ Ok next
       → Passes k h next (feature_turns ack h entry change left number body)
-  beside-passes change is = by (slice_index_or h.used place false) is where
+  beside-passes change few is = by (slice_index_or h.used place false) is where
     by : (was : Bool) → (if was then fine (again h change) else heeds_first ack h entry change left number body) ≡ Ok next
         → Passes k h next (if was then [] else if is_too_many h change then [] else its_turns change)
     by true is = let same : again h change ≡ next = cc is in subst (λ end. Passes k h end []) same (again-passes k h change)
-    by false is = rw (not_many h change few) (first-passes change is)
+    by false is = rw few (first-passes change few is)
 
 -- No row answers a Confirm by one.
 settles-silent : (row : Row) (its : Stand) (judged : Confirmation) → confirm_of (row_line row its (Confirmed judged)).answer ≡ None
@@ -213,7 +210,7 @@ confirmed-own : (k : Key) (rows : List Row) (body : List ℕ) (ack : Option ℕ)
     → confirmed rows (letter_to k.1) (feature_number k.0) body ack ≡ stepped rows k.0 k.1 (Confirm body ack)
 confirmed-own k rows body ack = rw (numbered k.0, letter-place k.1) refl
 
-module _ (k : Key) (ack : Option ℕ) (h next : Heeding) (entry : Entry) (body : List ℕ) (few : h.changes < 64) (size : length h.used ≡ 512) where
+module _ (k : Key) (ack : Option ℕ) (h next : Heeding) (entry : Entry) (body : List ℕ) (size : length h.used ≡ 512) where
   abbrev event : Bool → RowEvent
   event change = event_of ack entry change body
 
@@ -270,26 +267,26 @@ module _ (k : Key) (ack : Option ℕ) (h next : Heeding) (entry : Entry) (body :
   settling-tells rows same_size none Waits is = silent-tells false rows same_size none is
   settling-tells rows same_size none Quiet is = silent-tells false rows same_size none is
 
-  first-tells : (change : Bool) → heeds_first ack h entry change (letter_to k.1) (feature_number k.0) body ≡ Ok next
+  first-tells : (change : Bool) → is_too_many h change ≡ false → heeds_first ack h entry change (letter_to k.1) (feature_number k.0) body ≡ Ok next
       → Tells k h next (event change) (own_turns change)
-  first-tells true is =
+  first-tells true few is =
       let own = changes-own k h.rows body entry.mandatory in
-      let less : nat_lt h.changes 64 ≡ true = lt-ltb h.changes 64 few in
+      let less : nat_lt h.changes 64 ≡ true = less-so (nat_lt h.changes 64) few in
       let given = sym (cond-true (nat_lt h.changes 64) _ _ less) ∙ is in
       answer-tells (stepped h.rows k.0 k.1 (Change body entry.mandatory)).rows
       (length-set h.rows (index_of k.0 k.1) (row_step (row_at h.rows k.0 k.1) (Change body entry.mandatory)).row) (answer true) refl
       (subst (λ (step : RowsStep). by_answered h (spot k) step.rows entry (answered (letter_to k.1) (feature_number k.0) step.answer) ≡ Ok next) own given)
-  first-tells false is =
+  first-tells false few is =
       let own = confirmed-own k h.rows body ack in
       settling-tells (stepped h.rows k.0 k.1 (Confirm body ack)).rows
       (length-set h.rows (index_of k.0 k.1) (row_step (row_at h.rows k.0 k.1) (Confirm body ack)).row)
       (settles-silent (row_at h.rows k.0 k.1) (row_at h.rows k.0 k.1).stand (confirmation (row_at h.rows k.0 k.1) body ack)) (answer false)
       (subst (λ (step : RowsStep). by_settling h (spot k) step.rows entry (settling_of step.answer) ≡ Ok next) own is)
 
-  own-tells : (change : Bool) → is_used k h ≡ false → heeds_feature ack h entry change (letter_to k.1) (feature_number k.0) body ≡ Ok next
+  own-tells : (change : Bool) → is_too_many h change ≡ false → is_used k h ≡ false → heeds_feature ack h entry change (letter_to k.1) (feature_number k.0) body ≡ Ok next
       → Tells k h next (event change) (feature_turns ack h entry change (letter_to k.1) (feature_number k.0) body)
-  own-tells change unused is =
-      rw (unused, not_many h change few) (first-tells change (sym (cond-false (is_used k h) _ _ unused) ∙ is))
+  own-tells change few unused is =
+      rw (unused, few) (first-tells change few (sym (cond-false (is_used k h) _ _ unused) ∙ is))
 
   own-passes : (change : Bool) → is_used k h ≡ true → heeds_feature ack h entry change (letter_to k.1) (feature_number k.0) body ≡ Ok next
       → Passes k h next (feature_turns ack h entry change (letter_to k.1) (feature_number k.0) body)
@@ -345,7 +342,7 @@ mute-so k entry is = by entry.body is where
       and_left (is_of_negotiation entry.kind) (number == feature_number k.0 && its_place)
       (false_from_ne_true (is_of_negotiation entry.kind) (λ its. false≢true (sym is ∙ understood-so entry.kind (length body) its)))
 
-module _ (k : Key) (count : Bool) (ack : Option ℕ) (h next : Heeding) (entry : Entry) (few : h.changes < 64) (size : length h.used ≡ 512) where
+module _ (k : Key) (count : Bool) (ack : Option ℕ) (h next : Heeding) (entry : Entry) (few : is_change_item (Ok entry) ≡ true → h.changes < 64) (size : length h.used ≡ 512) where
   abbrev Its : List Turn → Type 0
   Its turns = Way k count ack h next entry turns
 
@@ -364,35 +361,44 @@ module _ (k : Key) (count : Bool) (ack : Option ℕ) (h next : Heeding) (entry :
       ∙ and-nested count (is_of_negotiation entry.kind) (begins_with_number (feature_number k.0) body && is_of_place (is_left entry.kind) (opposite k.1))
       ∙ ap (λ (its : Bool). its && (begins_with_number (feature_number k.0) body && is_of_place (is_left entry.kind) (opposite k.1))) counts
 
-  own-way : (number : ℕ) (body : List ℕ) → entry.body ≡ number ∷ body → (count && speaks_to k entry) ≡ true → (was : Bool) → is_used k h ≡ was
+  own-way : (number : ℕ) (body : List ℕ) → is_too_many h change ≡ false → entry.body ≡ number ∷ body → (count && speaks_to k entry) ≡ true → (was : Bool) → is_used k h ≡ was
       → heeds_feature ack h entry change (letter_to k.1) (feature_number k.0) body ≡ Ok next
       → Its (feature_turns ack h entry change (letter_to k.1) (feature_number k.0) body)
-  own-way number body is speaks true used so = Repeating used (own-passes k ack h next entry body few size change used so)
-  own-way number body is speaks false unused so =
+  own-way number body some is speaks true used so = Repeating used (own-passes k ack h next entry body size change used so)
+  own-way number body some is speaks false unused so =
       let same : event_in ack entry ≡ event_of ack entry change body = ap (λ (bytes : List ℕ). event_of ack entry change (drop 1 bytes)) is in
       Telling unused speaks
       (subst (λ its. Tells k h next its (feature_turns ack h entry change (letter_to k.1) (feature_number k.0) body)) (sym same)
-      (own-tells k ack h next entry body few size change unused so))
+      (own-tells k ack h next entry body size change some unused so))
 
-  body-way : (body : List ℕ) → entry.body ≡ body → (count && is_of_negotiation entry.kind) ≡ true → heeds_body ack h entry body ≡ Ok next
-      → Its (body_turns ack h entry body)
-  body-way [] is counts so = nothing-way (speaks-so [] is counts) so
-  body-way (number ∷ body) is counts so = by (is_to k (is_left entry.kind) number) refl (speaks-so (number ∷ body) is counts) where
+  body-way : (body : List ℕ) → is_understood entry.kind (length entry.body) ≡ true → entry.body ≡ body → (count && is_of_negotiation entry.kind) ≡ true
+      → heeds_body ack h entry body ≡ Ok next → Its (body_turns ack h entry body)
+  body-way [] known is counts so = nothing-way (speaks-so [] is counts) so
+  body-way (number ∷ body) known is counts so = by (is_to k (is_left entry.kind) number) refl (speaks-so (number ∷ body) is counts) where
+    some : is_too_many h change ≡ false
+    some =
+        not_many h change
+        (λ asks. few
+        (and_from (negotiates_by entry) change
+        (and_from (is_understood entry.kind (length entry.body)) (is_of_negotiation entry.kind && has_feature_number entry.body) known
+        (and_from (is_of_negotiation entry.kind) (has_feature_number entry.body) (and_parts count (is_of_negotiation entry.kind) counts).1 (ap has_feature_number is)))
+        asks))
+
     by : (to : Bool) → is_to k (is_left entry.kind) number ≡ to → (count && speaks_to k entry) ≡ is_to k (is_left entry.kind) number
         → Its (feature_turns ack h entry change (is_left entry.kind) number body)
     by false to speaks =
-        Passing (speaks ∙ to) (beside-passes k ack h next entry (is_left entry.kind) number body (beside-so k (is_left entry.kind) number to) few change so)
+        Passing (speaks ∙ to) (beside-passes k ack h next entry (is_left entry.kind) number body (beside-so k (is_left entry.kind) number to) change some so)
     by true to speaks =
         let its = to-so k (is_left entry.kind) number to in
         subst (λ (left : Bool). heeds_feature ack h entry change left number body ≡ Ok next → Its (feature_turns ack h entry change left number body)) (sym its.left_is)
         (subst (λ (n : ℕ). heeds_feature ack h entry change (letter_to k.1) n body ≡ Ok next → Its (feature_turns ack h entry change (letter_to k.1) n body)) (sym its.number_is)
-        (own-way number body is (speaks ∙ to) (is_used k h) refl)) so
+        (own-way number body some is (speaks ∙ to) (is_used k h) refl)) so
 
-  counting-way : (counts : Bool) → (count && is_of_negotiation entry.kind) ≡ counts
+  counting-way : is_understood entry.kind (length entry.body) ≡ true → (counts : Bool) → (count && is_of_negotiation entry.kind) ≡ counts
       → (if counts then heeds_body ack h entry entry.body else fine h) ≡ Ok next
       → Its (if counts then body_turns ack h entry entry.body else [])
-  counting-way true is so = body-way entry.body refl is so
-  counting-way false is so =
+  counting-way known true is so = body-way entry.body known refl is so
+  counting-way known false is so =
       let silent = and-nested count (is_of_negotiation entry.kind) (begins_with_number (feature_number k.0) entry.body && is_of_place (is_left entry.kind) (opposite k.1)) in
       nothing-way (silent ∙ and_left (count && is_of_negotiation entry.kind) _ is) so
 
@@ -407,7 +413,7 @@ module _ (k : Key) (count : Bool) (ack : Option ℕ) (h next : Heeding) (entry :
         else if count && is_of_negotiation entry.kind then heeds_body ack h entry entry.body
         else fine h) ≡ Ok next
         → Its (if not understood then [] else if count && is_of_negotiation entry.kind then body_turns ack h entry entry.body else [])
-    by true is so = counting-way (count && is_of_negotiation entry.kind) refl so
+    by true is so = counting-way is (count && is_of_negotiation entry.kind) refl so
     by false is so = nothing-way (and_right count (speaks_to k entry) (mute-so k entry is)) (missed entry.mandatory so)
 
 -- what the options do that come behind one that spoke to the row
@@ -423,20 +429,34 @@ passes-on k h next end turns later passes stays = record {
   times = stays.times ∙ passes.times;
 }
 
--- there is room for the options that are left, and each row has its place
+-- there is room for the Changes that are left, and each row has its place
 record HasRoom (h : Heeding) (items : List (Result Entry OptFault)) : Type 0 where
-  few : h.changes + length items ≤ 64
+  few : h.changes + changes_among items ≤ 64
   size : length h.used ≡ 512
 
-room-next : (h next : Heeding) (item : Result Entry OptFault) (rest : List (Result Entry OptFault)) → Keeps h next → HasRoom h (item ∷ rest)
-    → HasRoom next rest
-room-next h next item rest keeps room = record {
-  few = let more = keeps.changes in let few : h.changes + suc (length rest) ≤ 64 = room.few in omega (arith, more, few);
+changes-first : (item : Result Entry OptFault) (rest : List (Result Entry OptFault)) → changes_among (item ∷ rest) ≡ once_if (is_change_item item) + changes_among rest
+changes-first item rest = by (is_change_item item) where
+  by : (change : Bool) → length (if change then item ∷ filter is_change_item rest else filter is_change_item rest) ≡ once_if change + changes_among rest
+  by true = omega arith
+  by false = omega arith
+
+room-next : (count : Bool) (ack : Option ℕ) (h next : Heeding) (entry : Entry) (rest : List (Result Entry OptFault)) → Keeps h next
+    → heeds_entry count ack h entry ≡ Ok next → HasRoom h (Ok entry ∷ rest) → HasRoom next rest
+room-next count ack h next entry rest keeps step room = record {
+  few =
+      let more = item-counts count ack h next entry step in
+      let all = changes-first (Ok entry) rest in
+      let few = room.few in
+      omega (arith, more, all, few);
   size = keeps.used ∙ room.size;
 }
 
-room-now : (h : Heeding) (item : Result Entry OptFault) (rest : List (Result Entry OptFault)) → HasRoom h (item ∷ rest) → h.changes < 64
-room-now h item rest room = let few : h.changes + suc (length rest) ≤ 64 = room.few in omega (arith, few)
+room-now : (h : Heeding) (entry : Entry) (rest : List (Result Entry OptFault)) → HasRoom h (Ok entry ∷ rest) → is_change_item (Ok entry) ≡ true → h.changes < 64
+room-now h entry rest room is =
+    let one : once_if (is_change_item (Ok entry)) ≡ 1 = ap once_if is in
+    let all = changes-first (Ok entry) rest in
+    let few = room.few in
+    omega (arith, one, all, few)
 
 module _ (k : Key) (count : Bool) (ack : Option ℕ) where
   stays-so : (items : List (Result Entry OptFault)) (h end : Heeding) → is_used k h ≡ true → HasRoom h items → heeds count ack h items ≡ Ok end
@@ -449,10 +469,10 @@ module _ (k : Key) (count : Bool) (ack : Option ℕ) where
         → ((next : Heeding) → is_used k next ≡ true → HasRoom next rest → heeds count ack next rest ≡ Ok end → Stays k next end (heard_turns count ack next rest))
         → Stays k h end (entry_turns count ack h entry ++ turns_then step (λ next. heard_turns count ack next rest))
     by (Err fault) step is later = cc is
-    by (Ok next) step is later = way (entry-way k count ack h next entry (room-now h (Ok entry) rest room) room.size step) where
+    by (Ok next) step is later = way (entry-way k count ack h next entry (room-now h entry rest room) room.size step) where
       passed : Passes k h next (entry_turns count ack h entry) → Stays k h end (entry_turns count ack h entry ++ heard_turns count ack next rest)
       passed passes =
-          passes-on k h next end _ _ passes (later next (passes.used ∙ used) (room-next h next (Ok entry) rest passes.keeps room) is)
+          passes-on k h next end _ _ passes (later next (passes.used ∙ used) (room-next count ack h next entry rest passes.keeps step room) is)
 
       way : Way k count ack h next entry (entry_turns count ack h entry) → Stays k h end (entry_turns count ack h entry ++ heard_turns count ack next rest)
       way (Passing silent passes) = passed passes
@@ -522,20 +542,20 @@ module _ (k : Key) (count : Bool) (ack : Option ℕ) where
         → ((next : Heeding) → IsFresh k next → HasRoom next rest → heeds count ack next rest ≡ Ok end → Hears k count ack next end rest)
         → Hears k count ack h end (Ok entry ∷ rest)
     by (Err fault) step is later = cc is
-    by (Ok next) step is later = way (entry-way k count ack h next entry (room-now h (Ok entry) rest room) room.size step) where
+    by (Ok next) step is later = way (entry-way k count ack h next entry (room-now h entry rest room) room.size step) where
       still : Passes k h next (entry_turns count ack h entry) → IsFresh k next
       still passes = record { unused = passes.used ∙ fresh.unused; none = passes.confirm ∙ fresh.none; times = passes.times ∙ fresh.times }
 
       way : Way k count ack h next entry (entry_turns count ack h entry) → Hears k count ack h end (Ok entry ∷ rest)
       way (Passing silent passes) =
           hears-later entry rest h next end step silent passes
-          (later next (still passes) (room-next h next (Ok entry) rest passes.keeps room) is)
+          (later next (still passes) (room-next count ack h next entry rest passes.keeps step room) is)
       way (Repeating was passes) = absurd (false≢true (sym fresh.unused ∙ was))
       way (Telling unused speaks tells) =
           hears-now entry rest h next end fresh step speaks tells
-          (stays-so k count ack rest next end tells.used (room-next h next (Ok entry) rest tells.keeps room) is)
+          (stays-so k count ack rest next end tells.used (room-next count ack h next entry rest tells.keeps step room) is)
 
-  pub whole-heard : (rows : List Row) (items : List (Result Entry OptFault)) (end : Heeding) → length items ≤ 64
+  pub whole-heard : (rows : List Row) (items : List (Result Entry OptFault)) (end : Heeding) → changes_among items ≤ 64
       → heeds count ack (unheeded rows) items ≡ Ok end → Hears k count ack (unheeded rows) end items
   whole-heard rows items end few is =
       hears-so items (unheeded rows) end

@@ -23,7 +23,7 @@ use Rattle.dccp_endpoint.specs.End.{EndState}
 use Rattle.dccp_endpoint.specs.Incoming.{Incoming}
 use Rattle.dccp_endpoint.specs.Inputs.{Input}
 use Rattle.dccp_endpoint.specs.Heeding.{Due, event_of, is_change, is_left, is_of_negotiation}
-use Rattle.dccp_endpoint.specs.Saying.{OwnPacketsSayOfARow, OwnPacketsSpeakOnce, body_if, change_if, confirm_for, event_in, has_key, is_key, once_if, own_options, said_of, said_to, speaks_to, times_confirmed, times_said_to}
+use Rattle.dccp_endpoint.specs.Saying.{changes_among, OwnPacketsSayOfARow, OwnPacketsSpeakOnce, body_if, change_if, confirm_for, event_in, has_key, is_key, once_if, own_options, said_of, said_to, speaks_to, times_confirmed, times_said_to}
 use Rattle.dccp_endpoint.specs.Speaking.{change_item, change_items, change_type, confirm_item, confirm_items, confirm_type, is_confirmed, is_for, is_of_place, wish_bytes}
 use Rattle.dccp_endpoint.specs.Turns.{Key, offerings}
 use Rattle.dccp_endpoint.proofs.Keys.{AreDistinct, apart-so, asking-distinct, due-distinct, first-apart, key-so, none-distinct, one-distinct, rest-distinct, times-none}
@@ -224,20 +224,20 @@ pub keys-distinct : (e : EndState) (given : Input) (heard offered preferred : Li
 keys-distinct e given heard _ _ confirms _ sound later Plain = none-distinct
 keys-distinct e given heard _ _ confirms _ sound later Offering =
     asking-distinct (turned e.rows (heard ++ offerings (is_confirmed confirms) every_place)) confirms later
-keys-distinct e given heard _ _ confirms _ sound later (Repeating no_turns no_confirms) = due-distinct e.rows sound
+keys-distinct e given heard _ _ confirms _ sound later (Repeating in_flight fired no_turns no_confirms) = due-distinct e.rows sound
 keys-distinct e given heard _ _ confirms _ sound later (PrefersNow k values wish is wants now no_turns no_confirms) = one-distinct k
 keys-distinct e given heard _ _ confirms _ sound later (PrefersLater k values wish is wants waits no_turns no_confirms) = none-distinct
 
 -- No row has two of the Confirms that are due in one step.
 pub confirms-single : (e : EndState) (given : Input) (hearing : Hearing) (heard : List Turn) (confirms : List Due) (k : Key) → IsNegotiation e.rows
-    → ((a : Incoming) → Came e given a → length a.options ≤ 64) → AreHeard e given hearing heard confirms → times_confirmed k confirms ≤ 1
+    → ((a : Incoming) → Came e given a → changes_among a.options ≤ 64) → AreHeard e given hearing heard confirms → times_confirmed k confirms ≤ 1
 confirms-single e given hearing _ _ k sound few Deaf = omega arith
 confirms-single e given hearing _ _ k sound few (Heeds a h taken heeded) =
     confirms_are_single (counts_in e a) a.ack e.rows a.options h k sound (few a taken.came) heeded
 
--- So what goes out in one step speaks to a row of the peer once at most, where no packet has more than 64 options.
+-- So what goes out in one step speaks to a row of the peer once at most, where no packet has more than 64 Changes.
 pub spoken-once : (e : EndState) (given : Input) (hearing : Hearing) (turns : List Turn) (its : AreTurns e given hearing turns) → IsNegotiation e.rows
-    → IsNegotiation (turned e.rows (its.heard ++ its.offered)) → ((a : Incoming) → Came e given a → length a.options ≤ 64)
+    → IsNegotiation (turned e.rows (its.heard ++ its.offered)) → ((a : Incoming) → Came e given a → changes_among a.options ≤ 64)
     → (has_vector : Bool) (set : MarkedSet) (greatest : ℕ) (rows : List Row) (k : Key)
     → times_said_to (k.0, opposite k.1) (map Ok (entries_at 0 (own_options has_vector set greatest its.confirms rows its.keys))) ≤ 1
 spoken-once e given hearing turns its sound later few has_vector set greatest rows k =

@@ -16,13 +16,8 @@ use Rattle.validity_windows.specs.declared.verdict.Verdict.{Verdict}
 use Rattle.validity_windows.specs.declared.verdict.Verdict.TheVariants as verdicts
 use Rattle.dccp_endpoint.specs.Causes.{is_code_without_connection}
 use Rattle.dccp_endpoint.specs.Reporting.{is_acking}
-use Rattle.dccp_endpoint.specs.Effects.{gar_by}
+use Rattle.dccp_endpoint.specs.Effects.{gar_by, raising}
 use Rattle.dccp_endpoint.specs.Receiving.{is_other_service}
-
--- what a packet acknowledges raises GAR, but for a Sync
-abbrev pub raising : PacketType → Option ℕ → Option ℕ
-raising types.Sync ack = None
-raising _ ack = ack
 
 pub gar-by : (gar : ℕ) (t : PacketType) (ack : Option ℕ) → gar_after gar t ack ≡ gar_by gar (raising t ack)
 gar-by gar types.Sync ack = refl

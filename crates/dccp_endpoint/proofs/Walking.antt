@@ -37,20 +37,20 @@ use Rattle.feature_machine.specs.Negotiating.{every_place}
 use Rattle.feature_machine.specs.Turns.{Turn, turned}
 use Rattle.feature_machine.specs.declared.row.Row.{Row}
 use Rattle.feature_machine.proofs.Turning.{turned-joined}
-use Rattle.dccp_endpoint.specs.Causes.{is_code_without_connection, is_waiting, IsLooking, Looks, LooksNowhere, Acknowledges, AreHeard, Arrived, BecomesOpen, ByVerdict, ByWindow, CallsFor, Came, FitsPassing, Greatest, Heeds, IsAcknowledging, IsCaused, AreOptionsRead, IsHearing, IsOpening, Keeps, LeavesIt, NotNow, Raises, Refuses, SaysApart, Starts, StaysSo, counts_in, entrance_of, turns_in, verdict_of}
+use Rattle.dccp_endpoint.specs.Causes.{is_code_without_connection, is_waiting, IsLooking, Looks, LooksNowhere, Acknowledges, AreHeard, AreTurns, Arrived, BecomesOpen, ByVerdict, ByWindow, CallsFor, Came, FitsPassing, Greatest, Heeds, InResponse, IsAcknowledging, IsCaused, AreOptionsRead, IsHearing, IsOpening, Keeps, LeavesIt, NotNow, Raises, Refuses, SaysApart, Starts, StaysSo, counts_in, entrance_of, turns_in, verdict_of}
 use Rattle.dccp_endpoint.specs.Congesting.{calls_for}
 use Rattle.dccp_endpoint.specs.Drafts.{alone}
-use Rattle.dccp_endpoint.specs.Effects.{Effect, Hearing, Heard, Next, Passing, Refused, Sending, Shut, Silent, Taken, WithoutConnection, effect_of, end_after, frame_by, greatest_or, is_acking_sent}
+use Rattle.dccp_endpoint.specs.Effects.{Effect, Hearing, Heard, Next, Passing, Refused, Sending, Shut, Silent, Taken, WithoutConnection, effect_of, end_after, frame_by, greatest_or, is_acking_sent, raising}
 use Rattle.dccp_endpoint.specs.End.{EndState, IsProper, is_begun, is_connected, is_live, is_open, is_phase_of, phase_entered, with_rows}
 use Rattle.dccp_endpoint.specs.Faults.{counts}
 use Rattle.dccp_endpoint.specs.Heeding.{Due, Heeding, heeds, unheeded}
 use Rattle.dccp_endpoint.specs.Incoming.{Incoming, incoming, is_newest}
 use Rattle.dccp_endpoint.specs.Inputs.{Input, Arrives}
-use Rattle.dccp_endpoint.specs.Outcomes.{Answering, Closing, HasCause, HasForm, IsNoAnswer, IsValidReset, replying, Correcting, IsAdmitted, IsReset, IsValid, IsValidPacket, Refusing, SyncsInvalid, SyncsUnexpected, OutOfWindow, Unexpected, NoConnection, OtherService, NoAnswer, OtherType, OtherRequest, WrongService, Faulted, AnswersClose, OpensConnection, ResponseToRequest, PacketInWindow, ResetToRequest, ResetInWindow, StrayWithoutConnection, StrayInRequest, is_for_another, IsTaken, IsTaking, kind_sent, unacked_by}
+use Rattle.dccp_endpoint.specs.Outcomes.{HasCause, HasForm, IsNoAnswer, IsValidReset, data_sent, effect_of_closing, effect_of_refusing, effect_of_reset, hears_first, offered_with, replying, IsAdmitted, IsReset, IsValid, IsValidPacket, OutOfWindow, Unexpected, NoConnection, OtherService, NoAnswer, OtherType, OtherRequest, WrongService, Faulted, AnswersClose, OpensConnection, ResponseToRequest, PacketInWindow, ResetToRequest, ResetInWindow, StrayWithoutConnection, StrayInRequest, is_for_another, IsTaken, IsTaking, kind_sent, unacked_by}
 use Rattle.dccp_endpoint.specs.Receiving.{Goes, acknowledges, acknowledges_in_window, answers, becomes_open, by_ports, by_sum, by_verdict, checks_numbers, checks_type, ends_as, ends_by_reset, expects, heeded, is_of_connection, is_own_service, is_unexpected, long_number, moved_to, needs_ack, number_without_connection, opens_connection, packet_fault, raises, reads_options, received, receives, replies, resets, resets_without_connection, responds, responds_asking, responds_offering, serves, started, takes_answer, the_steps, through, with_own_number, with_packet, with_raised_marks}
 use Rattle.dccp_endpoint.specs.Reporting.{counts_data, delivered_if, delivers, is_acking, is_enough, looked_up, looks_up, marks, unacked_after}
 use Rattle.dccp_endpoint.specs.Speaking.{asking, confirm_items, confirming, has_confirms, is_confirmed, saying}
-use Rattle.dccp_endpoint.specs.Steps.{Step, in_phase, detail_of, idle, next_number, sends, with_calls, without_detail}
+use Rattle.dccp_endpoint.specs.Steps.{Step, in_phase, detail_of, idle, next_number, reset_of, sends, with_calls, without_detail}
 use Rattle.dccp_endpoint.specs.Turns.{Key, offerings, sendings}
 use Rattle.end_answers.specs.declared.outcome.Fault.{Fault}
 use Rattle.end_answers.specs.declared.outcome.Outcome.{Outcome}
@@ -63,7 +63,7 @@ use Rattle.dccp_endpoint.proofs.Lawful.{offered-sound, rows-kept}
 use Rattle.dccp_endpoint.proofs.OwnFrames.{alone-sendable}
 use Rattle.dccp_endpoint.proofs.Phases.{MaySay, accept-so, after-heard, after_fits, answer-so, answers-close, begun-not-closed, check-live, fits-reply, listens-server, live-begun, live-entered, live-heard, may-say, open-is, requests-client}
 use Rattle.dccp_endpoint.proofs.Room.{AreShort, IsBoundedReading, asking-few, confirming-sendable, confirms-short, front-confirming-sendable, reading-bounded, saying-sendable, vector-front}
-use Rattle.dccp_endpoint.proofs.Tables.{gar-by, no-connection-code, numbered-code, other-service-asked, raising, sync-acknowledges, unexpected-no-ack}
+use Rattle.dccp_endpoint.proofs.Tables.{gar-by, no-connection-code, numbered-code, other-service-asked, sync-acknowledges, unexpected-no-ack}
 
 -- a Request acknowledges nothing
 request-no-ack : (k : Kind) → packet_type k ≡ types.Request → ack_of k ≡ None
@@ -118,11 +118,11 @@ record Entry (e : EndState) (bytes : List ℕ) (a : Incoming) : Type 0 where
   came : Came e (Arrives bytes) a
   first : Bool
   ph : Phase
-  ack : Option ℕ
-  valid : IsValid e a (entered_as e first ph a.number ack)
+  first_so : first ≡ hears_first e
+  valid : IsValid e a (entered_as e first ph a.number (raising a.kind a.ack))
   entered : ph ≡ phase_entered e.phase
   hears : (to : Phase) (how : Passing) → how ≢ Refused → FitsPassing to a.kind how → IsHearing e (Arrives bytes) to (Heard first a.number how)
-  acks : IsAcknowledging e (Arrives bytes) ack
+  acks : IsAcknowledging e (Arrives bytes) (raising a.kind a.ack)
   its_role : is_phase_of ph e.config.role ≡ true
   live : (is_live e.phase ≡ true) ⊎ (first ≡ true)
   begun : (is_begun e.phase ≡ true) ⊎ (after ph a.kind ≡ (phase.Respond, reply.Response))
@@ -130,8 +130,8 @@ record Entry (e : EndState) (bytes : List ℕ) (a : Incoming) : Type 0 where
   moves_on : is_waiting (after ph a.kind).0 ≡ false
   not_closed : e.phase ≢ phase.Closed
   greatest : a.newest ≡ true → greatest_or first a.number e.marks.gsr ≡ a.number
-  refused : is_unexpected (entered_as e first ph a.number ack) a ≡ true
-      → Told e bytes (sends (entered_as e first ph a.number ack) (alone (kind.Sync a.number)) (Synced a.number))
+  refused : is_unexpected (entered_as e first ph a.number (raising a.kind a.ack)) a ≡ true
+      → Told e bytes (sends (entered_as e first ph a.number (raising a.kind a.ack)) (alone (kind.Sync a.number)) (Synced a.number))
 
 -- steps 7 and 8, behind the test of Resets
 abbrev Behind : EndState → List ℕ → Incoming → PacketType → EndState → Type 0
@@ -144,58 +144,67 @@ module _ (o : EndState) (bytes : List ℕ) (proper : IsProper (wide o)) where
   -- a packet that leaves before it enters
 
   dropped-told : (w : Why) → HasCause e bytes (Dropped w) → Told e bytes (idle e (Dropped w))
-  dropped-told w cause = told-by (Dropped w) (silent-caused (rest proper) e.owed e.unacked quiet refl refl (λ is. is)) cause refl
+  dropped-told w cause = told-by (Dropped w) (silent-caused (rest proper) e.owed e.unacked quiet refl refl refl (λ is. is)) cause refl
 
   module _ (a : Incoming) (came : Came e (Arrives bytes) a) where
     synced-told : (n : ℕ) → entrance_of e a ≡ entrance.Check → verdict_of e a ≡ verdicts.SyncFor n → Told e bytes (sends e (alone (kind.Sync n)) (Synced n))
     synced-told n check bad =
         told-by (Synced n)
         (plain-caused (rest proper) (kind.Sync n) refl tt refl (either (sync-acknowledges e.marks a.kind a.number a.ack n bad)) refl)
-        (OutOfWindow a came check bad) SyncsInvalid where
+        (OutOfWindow a came check bad) refl where
           either : (n ≡ a.number) ⊎ (n ≡ e.marks.gsr) → Acknowledges e (Arrives bytes) e.marks.gsr (Some n)
           either (inl is) = rw is (Arrived a came)
           either (inr is) = rw is Greatest
 
-    refused-told : (code : ℕ) → is_code_without_connection e.config.role code ≡ true → IsReset e bytes (without_detail code)
-        → Told e bytes (resets_without_connection e a (without_detail code))
-    refused-told code is_code why =
+    refused-told : (code : ℕ) → is_code_without_connection e.config.role code ≡ true → (why : IsReset e bytes (without_detail code))
+        → effect_of_reset e bytes (without_detail code) why ≡ effect_of_refusing e a (without_detail code) → Told e bytes (resets_without_connection e a (without_detail code))
+    refused-told code is_code why form =
         let number : ℕ = number_without_connection a.ack in
         let packet : Kind = kind.Reset a.number code (detail_of (without_detail code)) in
         told-by _
         (caused (rest proper) e.owed e.unacked quiet (WithoutConnection number packet) (λ is. inl is) (SaysApart number packet refl refl) (alone-sendable packet refl refl)
-        (Refuses a code came is_code refl refl refl))
-        (record { fault = without_detail code; why = why; has_code = refl; has_detail = refl }) (Refusing number a.number is_code)
+        (Refuses a code came is_code refl refl refl) (inl refl))
+        (record { fault = without_detail code; why = why; has_code = refl; has_detail = refl }) (sym form)
 
     corrected-told : IsNoAnswer e a → Told e bytes (resets e a.number (packet_fault a))
     corrected-told no_answer =
         let code : ℕ = number_of_code codes.PacketError in
         told-by _
         (plain-caused (rest proper) (kind.Reset a.number code (detail_of (packet_fault a))) refl refl refl (Arrived a came) (numbered-code e.config.role code refl))
-        (record { fault = packet_fault a; why = NoAnswer a came no_answer; has_code = refl; has_detail = refl }) (Correcting a.number refl)
+        (record { fault = packet_fault a; why = NoAnswer a came no_answer; has_code = refl; has_detail = refl }) refl
 
     ended-told : a.kind ≡ types.Reset → IsValidReset e a → is_begun e.phase ≡ true → Told e bytes (idle (in_phase e phase.TimeWait) (WasReset a.code))
     ended-told reset valid begun =
         told-by (WasReset a.code)
         (silent-caused (left phase.TimeWait refl refl (λ is. absurd (false≢true is)) (λ closed. absurd (begun-not-closed e.phase begun closed))
-        (Keeps (λ is. absurd (false≢true is))) LeavesIt NotNow) e.owed e.unacked quiet refl refl (λ is. begun))
+        (Keeps (λ is. absurd (false≢true is))) LeavesIt NotNow) e.owed e.unacked quiet refl refl refl (λ is. begun))
         (record { packet = a; came = came; is_reset = reset; is_valid = valid; has_code = refl }) refl
 
   module _ (a : Incoming) (entry : Entry e bytes a) where
     abbrev end : EndState
-    end = entered_as e entry.first entry.ph a.number entry.ack
+    end = entered_as e entry.first entry.ph a.number (raising a.kind a.ack)
 
     valid-packet : IsValidPacket e bytes a end
     valid-packet = record { came = entry.came; is_valid = entry.valid }
 
+    -- with its number heard as the first or not
+    closing-form : (how : Passing) (fault : Fault)
+        → effect_of e (Heard entry.first a.number how) (raising a.kind a.ack) false phase.Closed false (Next (reset_of end.marks.gsr fault))
+        ≡ effect_of_closing e a how fault
+    closing-form how fault =
+        ap (λ (first : Bool).
+        effect_of e (Heard first a.number how) (raising a.kind a.ack) false phase.Closed false (Next (reset_of (greatest_or first a.number e.marks.gsr) fault)))
+        entry.first_so
+
     -- it closes the end
-    shut-told : (fault : Fault) → is_code_without_connection e.config.role fault.code ≡ false → IsReset e bytes fault
-        → Told e bytes (resets (in_phase end phase.Closed) end.marks.gsr fault)
-    shut-told fault numbered why =
+    shut-told : (fault : Fault) → is_code_without_connection e.config.role fault.code ≡ false → (why : IsReset e bytes fault)
+        → effect_of_reset e bytes fault why ≡ effect_of_closing e a Shut fault → Told e bytes (resets (in_phase end phase.Closed) end.marks.gsr fault)
+    shut-told fault numbered why form =
         told-by _
         (plain-caused (left phase.Closed refl refl (λ is. absurd (false≢true is)) (λ closed. inl refl)
         (entry.hears phase.Closed Shut (λ is. cc is) refl) entry.acks NotNow)
         (kind.Reset end.marks.gsr fault.code (detail_of fault)) refl refl refl Greatest numbered)
-        (record { fault = fault; why = why; has_code = refl; has_detail = refl }) (Closing entry.first a.number entry.ack)
+        (record { fault = fault; why = why; has_code = refl; has_detail = refl }) (closing-form Shut fault ∙ sym form)
 
     -- it is taken: the row of the table
     abbrev IsRow : Phase → Reply → Type 0
@@ -213,7 +222,7 @@ module _ (o : EndState) (bytes : List ℕ) (proper : IsProper (wide o)) where
       by true is (Some n) same = Looks n a (record { came = entry.came; first = entry.first; is_heard = refl }) is same
 
     taken-ready : (looked : Option ℕ) → IsLooking e (Arrives bytes) heard_so looked → (to : Phase) (r : Reply) → IsRow to r
-        → Ready e (Arrives bytes) heard_so entry.ack (becomes_open entry.ph to) to false looked
+        → Ready e (Arrives bytes) heard_so (raising a.kind a.ack) (becomes_open entry.ph to) to false looked
     taken-ready looked looks to r row =
         record {
           hears = entry.hears to Taken (λ is. cc is) tt;
@@ -231,7 +240,7 @@ module _ (o : EndState) (bytes : List ℕ) (proper : IsProper (wide o)) where
     abbrev looked : Option ℕ
     looked = looked_up a.kind a.ack
 
-    ready-so : (to : Phase) (r : Reply) → IsRow to r → Ready e (Arrives bytes) heard_so entry.ack (becomes_open entry.ph to) to false looked
+    ready-so : (to : Phase) (r : Reply) → IsRow to r → Ready e (Arrives bytes) heard_so (raising a.kind a.ack) (becomes_open entry.ph to) to false looked
     ready-so to r row = taken-ready looked looking to r row
 
     -- whether its data are delivered
@@ -270,8 +279,8 @@ module _ (o : EndState) (bytes : List ℕ) (proper : IsProper (wide o)) where
       abbrev Takes : Step Outcome → Type 0
       Takes step = Told e bytes (with_calls due step)
 
-      takes-by : {f : Effect} (outcome : Outcome) (because : IsCaused e (Arrives bytes) f) → f.hearing ≡ heard_so → HasCause e bytes outcome
-          → HasForm e (Arrives bytes) outcome (calling due f) because.turns.confirms
+      takes-by : {f : Effect} (outcome : Outcome) (because : IsCaused e (Arrives bytes) f) → f.hearing ≡ heard_so → (cause : HasCause e bytes outcome)
+          → HasForm e bytes outcome cause (calling due f) because.turns
           → Told e bytes (record { after = end_after e f; frame = frame_by e f.sending; calls = due; answer = outcome })
       takes-by outcome because is_heard cause form =
           told-by outcome (calling-caused (CallsFor a h (record { came = entry.came; first = entry.first; is_heard = is_heard }) heeded-so) because) cause form
@@ -310,7 +319,7 @@ module _ (o : EndState) (bytes : List ℕ) (proper : IsProper (wide o)) where
       mute-none to r row never = ap (λ (x : Heeding). x.confirms) (mute to r row never)
 
       -- what it is told to be
-      was-taken : (to : Phase) (r : Reply) (new : Bool) → IsRow to r → IsDelivery to new → r ≢ reply.ResetClosed → IsTaken e bytes (delivered_if new a.data_place)
+      abbrev was-taken : (to : Phase) (r : Reply) (new : Bool) → IsRow to r → IsDelivery to new → r ≢ reply.ResetClosed → IsTaken e bytes (delivered_if new a.data_place)
       was-taken to r new row delivery no_reset =
           record {
             packet = a;
@@ -325,33 +334,47 @@ module _ (o : EndState) (bytes : List ℕ) (proper : IsProper (wide o)) where
             delivery = ap (λ (so : Bool). delivered_if so a.data_place) delivery;
           }
 
-      taking : (to : Phase) (r : Reply) (new : Bool) (turns : List Turn) (owed : Bool) (unacked : ℕ) (s : Sending) → IsRow to r → owed ≡ not (is_acking_sent s)
-          → unacked ≡ unacked_by e.unacked new s
+      taking : (to : Phase) (r : Reply) (new : Bool) (turns : List Turn) (at : AreTurns e (Arrives bytes) heard_so turns) (owed : Bool) (unacked : ℕ) (s : Sending)
+          (row : IsRow to r) (delivery : IsDelivery to new) (no_reset : r ≢ reply.ResetClosed) → at.heard ≡ heard → at.confirms ≡ h.confirms
+          → at.offered ≡ offered_with r at.confirms → owed ≡ not (is_acking_sent s) → unacked ≡ unacked_by e.unacked new s
           → kind_sent s
-          ≡ replying e (needs_ack to h.confirms (turned e.rows turns) (unacked_so new)) (greatest_or entry.first a.number e.marks.gsr) a.number r
-          → IsTaking e (Arrives bytes) (delivered_if new a.data_place)
-          (calling due (effect_with turns heard_so entry.ack (becomes_open entry.ph to) to false looked owed unacked s)) h.confirms
-      taking to r new turns owed unacked s row owes counted replied =
+          ≡ replying e (needs_ack to at.confirms (turned e.rows turns) (unacked_so new)) (greatest_or entry.first a.number e.marks.gsr) a.number r
+          → data_sent s ≡ []
+          → IsTaking e bytes (delivered_if new a.data_place) (was-taken to r new row delivery no_reset)
+          (calling due (effect_with turns heard_so (raising a.kind a.ack) (becomes_open entry.ph to) to false looked owed unacked s)) at
+      taking to r new turns at owed unacked s row delivery no_reset listens confirms offers owes counted replied without_data =
           record {
-            packet = a;
-            came = entry.came;
-            first = entry.first;
-            to = to;
-            answer = r;
-            row = ap (λ (ph : Phase). after ph a.kind) (sym entry.entered) ∙ row;
-            heard = refl;
+            heard = ap (λ (first : Bool). Heard first a.number Taken) entry.first_so;
+            acknowledged = refl;
+            looked = refl;
             moved = refl;
             opening = ap (λ (ph : Phase). becomes_open ph to) entry.entered;
-            looked = refl;
+            listens = listens;
+            confirms = confirms;
+            offers = offers;
             owes = owes;
             counted = counted ∙ ap (λ (so : Bool). unacked_by e.unacked so s) (sym (some-if new a.data_place));
-            heeding = h;
-            heeds = heeded-so;
             calls = refl;
             replied = replied
-                ∙ ap (λ (so : Bool). replying e (needs_ack to h.confirms (turned e.rows turns) (unacked_so so)) (greatest_or entry.first a.number e.marks.gsr) a.number r)
-                (sym (some-if new a.data_place));
+                ∙ ap (λ (so : Bool). replying e (needs_ack to at.confirms (turned e.rows turns) (unacked_so so)) (greatest_or entry.first a.number e.marks.gsr) a.number r)
+                (sym (some-if new a.data_place))
+                ∙ ap (λ (first : Bool).
+                replying e (needs_ack to at.confirms (turned e.rows turns) (unacked_after e.unacked (is_some (delivered_if new a.data_place))))
+                (greatest_or first a.number e.marks.gsr) a.number r)
+                entry.first_so;
+            without_data = without_data;
           }
+
+      -- a reply without offers
+      listening : (to : Phase) (r : Reply) (new : Bool) (owed : Bool) (unacked : ℕ) (s : Sending) (row : IsRow to r) (delivery : IsDelivery to new)
+          (no_reset : r ≢ reply.ResetClosed) → [] ≡ offered_with r h.confirms → owed ≡ not (is_acking_sent s) → unacked ≡ unacked_by e.unacked new s
+          → kind_sent s
+          ≡ replying e (needs_ack to h.confirms (turned e.rows heard) (unacked_so new)) (greatest_or entry.first a.number e.marks.gsr) a.number r
+          → data_sent s ≡ []
+          → IsTaking e bytes (delivered_if new a.data_place) (was-taken to r new row delivery no_reset)
+          (calling due (effect_with heard heard_so (raising a.kind a.ack) (becomes_open entry.ph to) to false looked owed unacked s)) (hearing hears)
+      listening to r new owed unacked s row delivery no_reset unoffered owes counted replied without_data =
+          taking to r new heard (hearing hears) owed unacked s row delivery no_reset refl refl unoffered owes counted replied without_data
 
       -- the end before its reply, with these rows
       abbrev moved_with : Option ℕ → Phase → List Row → Bool → EndState
@@ -361,16 +384,17 @@ module _ (o : EndState) (bytes : List ℕ) (proper : IsProper (wide o)) where
       moved to rows new = moved_with looked to rows new
 
       acked-told : (to : Phase) (r : Reply) (new : Bool) → IsRow to r → IsDelivery to new → r ≢ reply.ResetClosed → is_connected to ≡ true
+          → [] ≡ offered_with r h.confirms
           → Some (kind.Ack (Long end.marks.gsr))
           ≡ replying e (needs_ack to h.confirms (turned e.rows heard) (unacked_so new)) (greatest_or entry.first a.number e.marks.gsr) a.number r
           → Takes (acknowledges (moved to (turned e.rows heard) new) h.confirms (took new))
-      acked-told to r new row delivery no_reset connected replied =
+      acked-told to r new row delivery no_reset connected unoffered replied =
           takes-by (took new)
           (ack-caused (ready-so to r row) (hearing hears) (confirm_items h.confirms)
           (front-confirming-sendable (kind.Ack (Long end.marks.gsr)) (front_of (ready-so to r row) heard) h.confirms refl tt refl
           (vector-front _ _ _) short)
-          (sym (append-nil (confirm_items h.confirms))) answers-so connected)
-          refl (was-taken to r new row delivery no_reset) (taking to r new heard false 0 _ row refl refl replied)
+          (sym (append-nil (confirm_items h.confirms))) answers-so connected refl)
+          refl (was-taken to r new row delivery no_reset) (listening to r new false 0 _ row delivery no_reset unoffered refl refl replied refl)
 
       nothing-told : (to : Phase) (new : Bool) → IsRow to reply.Nothing → IsDelivery to new → (needed : Bool)
           → needs_ack to h.confirms (turned e.rows heard) (unacked_so new) ≡ needed
@@ -378,12 +402,13 @@ module _ (o : EndState) (bytes : List ℕ) (proper : IsProper (wide o)) where
           else idle (moved to (turned e.rows heard) new) (took new))
       nothing-told to new row delivery true is =
           acked-told to reply.Nothing new row delivery (λ same. cc same)
-          (and_parts (is_connected to) (has_confirms h.confirms || (is_open to && is_enough (turned e.rows heard) (unacked_so new))) is).0 (rw is refl)
+          (and_parts (is_connected to) (has_confirms h.confirms || (is_open to && is_enough (turned e.rows heard) (unacked_so new))) is).0 refl (rw is refl)
       nothing-told to new row delivery false is =
           takes-by (took new)
-          (silent-caused (ready-so to reply.Nothing row) true (unacked_so new) (hearing hears) none refl
+          (silent-caused (ready-so to reply.Nothing row) true (unacked_so new) (hearing hears) none refl refl
           (λ _. silent-begun to reply.Nothing row (λ same. cc same)))
-          refl (was-taken to reply.Nothing new row delivery (λ same. cc same)) (taking to reply.Nothing new heard true (unacked_so new) Silent row refl refl (rw is refl)) where
+          refl (was-taken to reply.Nothing new row delivery (λ same. cc same))
+          (listening to reply.Nothing new true (unacked_so new) Silent row delivery (λ same. cc same) refl refl refl (rw is refl) refl) where
             by : (on : Bool) → counts_in e a ≡ on → h.confirms ≡ []
             by false off = ap (λ (x : Heeding). x.confirms) (deaf off)
             by true on =
@@ -411,9 +436,10 @@ module _ (o : EndState) (bytes : List ℕ) (proper : IsProper (wide o)) where
           (saying packet h.confirms (turned e.rows (offered_turns e heard h.confirms)) keys)
           (saying-sendable packet h.confirms (turned e.rows (offered_turns e heard h.confirms)) keys refl tt refl short
           (rows-kept proper (offering hears)).sound (asking-few middle h.confirms (offered-sound proper hears)))
-          refl answers-so refl Greatest refl)
+          refl answers-so refl Greatest refl (inr (InResponse _ entry.first a.number refl refl)))
           refl (was-taken to reply.Response new row delivery (λ same. cc same))
-          (taking to reply.Response new (offered_turns e heard h.confirms) true (unacked_so new) _ row refl refl refl)
+          (taking to reply.Response new (offered_turns e heard h.confirms) (offering hears) true (unacked_so new) _ row delivery (λ same. cc same) refl refl refl refl
+          refl refl refl)
 
       responds-told : (to : Phase) (new : Bool) → IsRow to reply.Response → IsDelivery to new
           → Takes (responds (moved to (turned e.rows heard) new) h.confirms (took new))
@@ -432,27 +458,28 @@ module _ (o : EndState) (bytes : List ℕ) (proper : IsProper (wide o)) where
           nothing-told to new row delivery (needs_ack to h.confirms (turned e.rows heard) (unacked_so new)) refl
       reply-told to reply.Torn new row delivery no_reset =
           takes-by (took new)
-          (silent-caused (ready-so to reply.Torn row) true (unacked_so new) (hearing hears) (mute-none to reply.Torn row (λ may. may)) refl
+          (silent-caused (ready-so to reply.Torn row) true (unacked_so new) (hearing hears) (mute-none to reply.Torn row (λ may. may)) refl refl
           (λ _. silent-begun to reply.Torn row (λ same. cc same)))
-          refl (was-taken to reply.Torn new row delivery no_reset) (taking to reply.Torn new heard true (unacked_so new) Silent row refl refl refl)
+          refl (was-taken to reply.Torn new row delivery no_reset)
+          (listening to reply.Torn new true (unacked_so new) Silent row delivery no_reset refl refl refl refl refl)
       reply-told to reply.Response new row delivery no_reset = responds-told to new row delivery
       reply-told to reply.Close new row delivery no_reset =
           let none : h.confirms ≡ [] = mute-none to reply.Close row (λ may. may) in
           let packet : Kind = kind.Close end.marks.gsr in
           takes-by (took new)
           (next-caused (ready-so to reply.Close row) true (unacked_so new) (hearing hears) (alone packet) (alone-sendable packet refl tt) (rw none refl) (inl none)
-          refl Greatest refl)
+          refl Greatest refl (inl refl))
           refl (was-taken to reply.Close new row delivery no_reset)
-          (taking to reply.Close new heard true (unacked_so new) (Next (alone packet)) row refl refl refl)
+          (listening to reply.Close new true (unacked_so new) (Next (alone packet)) row delivery no_reset refl refl refl refl refl)
       reply-told to reply.SyncAck new row delivery no_reset =
           let packet : Kind = kind.SyncAck a.number in
           takes-by (took new)
           (next-caused (ready-so to reply.SyncAck row) true (unacked_so new) (hearing hears) (confirming packet h.confirms)
           (confirming-sendable packet h.confirms refl tt refl short)
-          (sym (append-nil (confirm_items h.confirms))) (inr refl) refl (Arrived a entry.came) refl)
+          (sym (append-nil (confirm_items h.confirms))) (inr refl) refl (Arrived a entry.came) refl (inl refl))
           refl (was-taken to reply.SyncAck new row delivery no_reset)
-          (taking to reply.SyncAck new heard true (unacked_so new) (Next (confirming packet h.confirms)) row refl refl refl)
-      reply-told to reply.Ack new row delivery no_reset = acked-told to reply.Ack new row delivery no_reset (fits-reply entry.ph a.kind to reply.Ack row) refl
+          (listening to reply.SyncAck new true (unacked_so new) (Next (confirming packet h.confirms)) row delivery no_reset refl refl refl refl refl)
+      reply-told to reply.Ack new row delivery no_reset = acked-told to reply.Ack new row delivery no_reset (fits-reply entry.ph a.kind to reply.Ack row) refl refl
       reply-told to reply.ResetClosed new row delivery no_reset = absurd (no_reset refl)
 
       -- A Close is answered with a Reset; its options say nothing to rows, it acknowledges nothing that is looked up, and it has no data.
@@ -464,7 +491,7 @@ module _ (o : EndState) (bytes : List ℕ) (proper : IsProper (wide o)) where
           (plain-caused (taken-ready None LooksNowhere phase.Closed reply.ResetClosed row) (kind.Reset end.marks.gsr fault.code (detail_of fault)) refl refl refl
           Greatest (numbered-code e.config.role fault.code refl))
           refl (record { fault = fault; why = AnswersClose a end h phase.Closed admitted read row; has_code = refl; has_detail = refl })
-          (Answering a h entry.first entry.ack entry.came heeded-so refl)
+          (ap (calling due) (closing-form Taken fault))
 
       closed-so : (to : Phase) (rows : List Row) (number : Option ℕ) (new : Bool) → to ≡ phase.Closed → rows ≡ e.rows → number ≡ None → new ≡ false
           → IsRow to reply.ResetClosed → Takes (replies (moved_with number to rows new) a h.confirms (took new) reply.ResetClosed)
@@ -483,7 +510,7 @@ module _ (o : EndState) (bytes : List ℕ) (proper : IsProper (wide o)) where
 
     -- step 8
     heeding-told : IsAdmitted e bytes a end → (r : Result Heeding Fault) → reads_options end a ≡ r → IsBoundedReading r → Told e bytes (heeded end a r)
-    heeding-told admitted (Err fault) is numbered = shut-told fault (numbered-code e.config.role fault.code numbered) (Faulted a end fault admitted is)
+    heeding-told admitted (Err fault) is numbered = shut-told fault (numbered-code e.config.role fault.code numbered) (Faulted a end fault admitted is) refl
     heeding-told admitted (Ok h) is bounded = replied-told admitted h is (after entry.ph a.kind).0 (after entry.ph a.kind).1 _ refl refl
 
     -- step 7
@@ -491,7 +518,8 @@ module _ (o : EndState) (bytes : List ℕ) (proper : IsProper (wide o)) where
     served-told expected true other =
         let code : ℕ = number_of_code codes.BadServiceCode in
         let client : e.config.role ≡ role.Client = requests-client e.config.role entry.ph (other-service-asked end entry.ph a.kind a.service other) entry.its_role in
-        shut-told (without_detail code) (ap (λ (r : Role). is_code_without_connection r code) client) (WrongService a end valid-packet expected other)
+        shut-told (without_detail code) (ap (λ (r : Role). is_code_without_connection r code) client)
+        (WrongService a end valid-packet expected other) refl
     served-told expected false other =
         heeding-told (record { valid = valid-packet; expected = expected; for_us = other }) (reads_options end a) refl
         (reading-bounded (a.newest && counts end.phase a.kind) a.ack end.rows a.options proper.rows.sound)
@@ -525,7 +553,7 @@ module _ (o : EndState) (bytes : List ℕ) (proper : IsProper (wide o)) where
           came = came;
           first = true;
           ph = phase.Respond;
-          ack = raising a.kind a.ack;
+          first_so = sym (ap (λ (ph : Phase). not (is_live ph)) listens);
           valid = OpensConnection is ours (sym (started-is phase.Respond a));
           entered = sym (ap phase_entered listens);
           hears = λ to how fine fits. Starts a how came (λ reset. cc (request, reset)) (inl is) fine fits;
@@ -553,7 +581,7 @@ module _ (o : EndState) (bytes : List ℕ) (proper : IsProper (wide o)) where
           came = came;
           first = true;
           ph = e.phase;
-          ack = raising a.kind a.ack;
+          first_so = sym (ap (λ (ph : Phase). not (is_live ph)) asks);
           valid = ResponseToRequest is no_reset fits (sym (started-is e.phase a));
           entered = asks ∙ sym (ap phase_entered asks);
           hears = λ to how fine so. Starts a how came no_reset (inr is) fine so;
@@ -578,7 +606,7 @@ module _ (o : EndState) (bytes : List ℕ) (proper : IsProper (wide o)) where
           came = came;
           first = false;
           ph = e.phase;
-          ack = raising a.kind a.ack;
+          first_so = sym (ap not live);
           valid = valid;
           entered = sym (live-entered e.phase live);
           hears = λ to how fine so. Raises a how came no_reset is fits so;
@@ -604,7 +632,9 @@ module _ (o : EndState) (bytes : List ℕ) (proper : IsProper (wide o)) where
                 looks = LooksNowhere;
               } in
               told-by (Synced a.number) (plain-caused ready (kind.Sync a.number) refl tt refl (Arrived a came) refl)
-              (Unexpected a _ (record { came = came; is_valid = valid }) out refl) (SyncsUnexpected (raising a.kind a.ack));
+              (Unexpected a _ (record { came = came; is_valid = valid }) out refl)
+              (ap (λ (first : Bool). effect_of e (Heard first a.number Refused) (raising a.kind a.ack) false e.phase false (Next (alone (kind.Sync a.number))))
+              (sym (ap not live)));
         }
 
     -- steps 5 and 6
@@ -646,12 +676,12 @@ module _ (o : EndState) (bytes : List ℕ) (proper : IsProper (wide o)) where
     accepted-told is false other =
         let code : ℕ = number_of_code codes.BadServiceCode in
         let server : e.config.role ≡ role.Server = listens-server e.config.role e.phase (accept-so e.phase a.kind is).0 proper.phase_fits in
-        refused-told a came code (ap (λ (r : Role). is_code_without_connection r code) server) (OtherService a came is other)
+        refused-told a came code (ap (λ (r : Role). is_code_without_connection r code) server) (OtherService a came is other) refl
 
     -- steps 2 to 16
     entered-told : (how : Entrance) → entrance_of e a ≡ how → Told e bytes (ends_as a (through (Goes e) (the_steps a how)))
     entered-told entrance.NoConnection is =
-        refused-told a came (number_of_code codes.NoConnection) (no-connection-code e.config.role) (NoConnection a came is)
+        refused-told a came (number_of_code codes.NoConnection) (no-connection-code e.config.role) (NoConnection a came is) refl
     entered-told entrance.Stray is = dropped-told why.StrayReset (StrayWithoutConnection a came is)
     entered-told entrance.Accept is = accepted-told is (is_own_service e a.service) refl
     entered-told entrance.InRequest is = answered-told is a.kind refl (acknowledges_in_window e a) refl

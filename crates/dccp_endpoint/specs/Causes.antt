@@ -202,7 +202,8 @@ pub data Occasion (e : EndState) (given : Input) (heard : List Turn) (confirms :
   Offering : Occasion e given heard confirms (offerings (is_confirmed confirms) every_place) []
       (asking (turned e.rows (heard ++ offerings (is_confirmed confirms) every_place)) confirms)
   -- the timer negotiate: the Changes of all rows that ask go out again
-  Repeating : heard ≡ [] → confirms ≡ [] → Occasion e given heard confirms [] [] (due_keys e.rows)
+  Repeating : (in_flight : Bool) → given ≡ input.Fires timers.Negotiate in_flight → heard ≡ [] → confirms ≡ []
+      → Occasion e given heard confirms [] [] (due_keys e.rows)
   -- a preference, which goes out at once or on a later occasion
   PrefersNow : (k : Key) (values : List ℕ) (wish : Wanted) → given ≡ input.Prefers k values → wish_of k.0 k.1 values ≡ Ok wish
       → is_asking_now e k wish ≡ true → heard ≡ [] → confirms ≡ []
@@ -223,6 +224,23 @@ pub record AreTurns (e : EndState) (given : Input) (hearing : Hearing) (turns : 
   pub hears : AreHeard e given hearing heard confirms
   pub occasion : Occasion e given heard confirms offered preferred keys
   pub apart : All (λ k. is_confirmed confirms k ≡ false) keys
+
+-- a Request is due: the call `open`, or the timer request
+abbrev pub asks_for_request : Input → Bool
+asks_for_request (Arrives bytes) = false
+asks_for_request Opens = true
+asks_for_request input.Closes = false
+asks_for_request input.Aborts = false
+asks_for_request (input.Prefers key values) = false
+asks_for_request (input.Sends payload may_send) = false
+asks_for_request (input.Fires timers.Request in_flight) = true
+asks_for_request (input.Fires _ in_flight) = false
+
+-- With what offers come up: the Request, as the client opens and again, and the Response to a packet that was taken (own).
+pub data IsOffering (given : Input) (hearing : Hearing) : Sending → Type 0 where
+  InRequest : (packet : Draft) → asks_for_request given ≡ true → packet_type packet.kind ≡ types.Request → IsOffering given hearing (Next packet)
+  InResponse : (packet : Draft) (first : Bool) (number : ℕ) → hearing ≡ Heard first number Taken → packet_type packet.kind ≡ types.Response
+      → IsOffering given hearing (Next packet)
 
 -- the acknowledgement number is that of the packet that was heard
 abbrev pub AcknowledgesHeard : Hearing → Option ℕ → Type 0
@@ -266,6 +284,7 @@ pub record IsCaused (e : EndState) (given : Input) (f : Effect) : Type 0 where
   pub opened : IsOpened e given f.opens
   pub looks : IsLooking e given f.hearing f.looked_up
   pub turns : AreTurns e given f.hearing f.turns
+  pub offers : (turns.offered ≡ []) ⊎ IsOffering given f.hearing f.sending
   pub says : Says e f turns.confirms turns.keys f.sending
   pub framed : HasFrame f.sending
   pub sends : IsSending e given f f.sending
@@ -279,7 +298,7 @@ pub record HasEffect (e : EndState) (given : Input) (after : EndState) (frame : 
   pub calls_are : calls ≡ effect.calls
   pub because : IsCaused e given effect
 
--- Every step of a proper end has an effect.
+-- Every step of a proper end has an effect: the end after it, its frame and its calls are those of the record.
 abbrev pub EveryStepHasOneEffect : Type 0
 EveryStepHasOneEffect =
     (e : EndState) (given : Input) → IsProper e → HasEffect e given (end_stepped e given).after (end_stepped e given).frame (end_stepped e given).calls

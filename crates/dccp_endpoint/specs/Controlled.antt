@@ -15,6 +15,10 @@ pub record End (C : Type 0) : Type 0 where
   pub state : EndState
   pub congestion : C
 
+-- an end of this state and this congestion control
+abbrev pub end_with : {C : Type 0} → EndState → C → End C
+end_with state congestion = record { state = state; congestion = congestion }
+
 -- both after a step, the frame that goes out, if any, and the answer
 pub record EndStep (C Answer : Type 0) : Type 0 where
   pub after : End C

@@ -6,6 +6,8 @@ use Rattle.seq_circle.specs.Circle.{later_of}
 use Rattle.congestion_trait.specs.Calls.{Call}
 use Rattle.dccp_packets.specs.Grammar.{packet_type}
 use Rattle.dccp_packets.specs.declared.header.Kind.{Kind}
+use Rattle.dccp_packets.specs.declared.header.PacketType.{PacketType}
+use Rattle.dccp_packets.specs.declared.header.PacketType.TheVariants as types
 use Rattle.dccp_states.specs.declared.phase.Phase.{Phase}
 use Rattle.dccp_endpoint.specs.Drafts.{Draft, alone, frame_of}
 use Rattle.dccp_endpoint.specs.End.{EndState, value_in}
@@ -113,6 +115,11 @@ greatest_by old (Heard first number how) = greatest_or first number old
 abbrev pub osr_by : ℕ → Hearing → Bool → ℕ
 osr_by old Unheard opening = old
 osr_by old (Heard first number how) opening = osr_after (isr_or first number old) number opening
+
+-- What a packet acknowledges raises GAR, but for a Sync.
+abbrev pub raising : PacketType → Option ℕ → Option ℕ
+raising types.Sync ack = None
+raising _ ack = ack
 
 -- GAR by what was acknowledged
 abbrev pub gar_by : ℕ → Option ℕ → ℕ

@@ -11,6 +11,7 @@ pub mod Heeding
 pub mod Speaking
 pub mod Reporting
 pub mod Saying
+pub mod FirstFault
 pub mod Receiving
 pub mod Calling
 pub mod Inputs

@@ -1,5 +1,5 @@
 -- Why each outcome of `receive` comes, and what the step's effect then is (RFC 4340, section 8.5).
-use Rattle.std.specs.Prelude.{◌≡◌, ◌≢◌, not, if◌then◌else◌, ℕ, Bool, true, false, List, Option, Some, None, Ok, Err, is_some}
+use Rattle.std.specs.Prelude.{◌≡◌, ◌≢◌, not, if◌then◌else◌, ℕ, Bool, true, false, List, [], Option, Some, None, Ok, Err, is_some}
 use Rattle.congestion_trait.specs.Calls.{Call}
 use Rattle.dccp_sum.specs.Checksum.{checked}
 use Rattle.dccp_sum.specs.declared.packet_sum.SumFault.{SumFault}
@@ -14,21 +14,25 @@ use Rattle.dccp_states.specs.declared.phase.Phase.{Phase}
 use Rattle.dccp_states.specs.declared.phase.Phase.TheVariants as phases
 use Rattle.dccp_states.specs.declared.reply.Reply.{Reply}
 use Rattle.dccp_states.specs.declared.reply.Reply.TheVariants as reply
+use Rattle.feature_machine.specs.Negotiating.{every_place}
+use Rattle.feature_machine.specs.Turns.{Turn}
 use Rattle.run_list.specs.MarkedSet.{answer_to}
 use Rattle.validity_windows.specs.declared.verdict.Verdict.TheVariants as verdicts
-use Rattle.dccp_endpoint.specs.Causes.{AreOptionsRead, Came, IsCaused, entrance_of, is_code_without_connection, verdict_of}
+use Rattle.dccp_endpoint.specs.Causes.{AreTurns, Came, IsCaused, entrance_of, turns_in, verdict_of}
 use Rattle.dccp_endpoint.specs.Congesting.{calls_for}
 use Rattle.dccp_endpoint.specs.Drafts.{alone}
-use Rattle.dccp_endpoint.specs.Effects.{Effect, Sending, Silent, Next, WithoutConnection, Heard, Refused, Shut, Taken, effect_of, effect_of_sending, end_after, frame_by, greatest_or, is_acking_sent, rows_by}
-use Rattle.dccp_endpoint.specs.End.{EndState, phase_entered}
+use Rattle.dccp_endpoint.specs.Effects.{Effect, Passing, Sending, Silent, Next, WithoutConnection, Heard, Refused, Shut, Taken, effect_of, effect_of_sending, end_after, frame_by, greatest_or, is_acking_sent, raising, rows_by}
+use Rattle.dccp_endpoint.specs.End.{EndState, is_live, phase_entered}
 use Rattle.dccp_endpoint.specs.Heeding.{Due, Heeding}
 use Rattle.dccp_endpoint.specs.Incoming.{Incoming}
-use Rattle.dccp_endpoint.specs.Inputs.{Input, Arrives}
-use Rattle.dccp_endpoint.specs.Receiving.{acknowledges_in_window, becomes_open, is_of_connection, is_other_service, is_own_service, is_unexpected, needs_ack, packet_fault, reads_options, started, with_raised_marks}
+use Rattle.dccp_endpoint.specs.Inputs.{Arrives}
+use Rattle.dccp_endpoint.specs.Receiving.{acknowledges_in_window, becomes_open, is_of_connection, is_other_service, is_own_service, is_unexpected, needs_ack, number_without_connection, packet_fault, reads_options, started, with_raised_marks}
 use Rattle.dccp_packets.specs.ResetCodes.{number_of_code}
 use Rattle.dccp_packets.specs.declared.reset_code.ResetCode.TheVariants as codes
 use Rattle.dccp_endpoint.specs.Reporting.{delivered_if, delivers, looked_up, unacked_after}
-use Rattle.dccp_endpoint.specs.Steps.{detail_of, without_detail}
+use Rattle.dccp_endpoint.specs.Speaking.{is_confirmed}
+use Rattle.dccp_endpoint.specs.Steps.{detail_of, reset_of, without_detail}
+use Rattle.dccp_endpoint.specs.Turns.{offerings}
 use Rattle.end_answers.specs.declared.outcome.Fault.{Fault}
 use Rattle.end_answers.specs.declared.outcome.Outcome.{Outcome}
 use Rattle.end_answers.specs.declared.outcome.Outcome.TheVariants.{Took, Dropped, Synced, WasReset, SentReset}
@@ -174,27 +178,45 @@ HasCause e bytes (Took delivered) = IsTaken e bytes delivered
 abbrev pub HasNoOtherCause : EndState → List ℕ → Outcome → Type 0
 HasNoOtherCause e bytes outcome = (other : Outcome) → HasCause e bytes other → outcome ≡ other
 
--- The effect of a Sync. Where the packet's numbers are not valid, only the greatest number sent changes.
-pub data IsSyncing (e : EndState) (number : ℕ) : Effect → Type 0 where
-  SyncsInvalid : IsSyncing e number (effect_of_sending e (Next (alone (kind.Sync number))))
-  SyncsUnexpected : (ack : Option ℕ) → IsSyncing e number (effect_of e (Heard false number Refused) ack false e.phase false (Next (alone (kind.Sync number))))
+-- A valid packet is the first of its connection, and sets ISR, where the end heard none before: in LISTEN and REQUEST.
+abbrev pub hears_first : EndState → Bool
+hears_first e = not (is_live e.phase)
 
--- The effect of a Reset. Without a connection (codes 3 and 8) nothing changes; with the code 4 only the greatest number sent does; any
--- other closes the end, and acknowledges the greatest number received, the packet's included. A Close alone was taken, and what it reports
--- is due to the congestion control.
-pub data IsResetting (e : EndState) (given : Input) (code : ℕ) (detail : List ℕ) : Effect → Type 0 where
-  Refusing : (number ack : ℕ) → is_code_without_connection e.config.role code ≡ true
-      → IsResetting e given code detail (effect_of_sending e (WithoutConnection number (kind.Reset ack code detail)))
-  Correcting : (ack : ℕ) → code ≡ (number_of_code codes.PacketError)
-      → IsResetting e given code detail (effect_of_sending e (Next (alone (kind.Reset ack code detail))))
-  Closing : (first : Bool) (number : ℕ) (ack : Option ℕ)
-      → IsResetting e given code detail (effect_of e (Heard first number Shut) ack false phases.Closed false (Next (alone (kind.Reset (greatest_or first number e.marks.gsr) code detail))))
-  Answering : (packet : Incoming) (heeding : Heeding) (first : Bool) (ack : Option ℕ) → Came e given packet → AreOptionsRead e packet heeding
-      → code ≡ (number_of_code codes.Closed)
-      → IsResetting e given code detail
-      (record (effect_of e (Heard first packet.number Taken) ack false phases.Closed false (Next (alone (kind.Reset (greatest_or first packet.number e.marks.gsr) code detail)))) {
-        calls = calls_for packet e.rows heeding.rows;
-      })
+-- GSR with the packet's number
+abbrev pub greatest_with : EndState → Incoming → ℕ
+greatest_with e a = greatest_or (hears_first e) a.number e.marks.gsr
+
+-- The effect of a valid packet that moves no row: its number and what it acknowledges are heard, the phase is this then, and this
+-- goes out.
+abbrev pub effect_of_packet : EndState → Incoming → Passing → Phase → Sending → Effect
+effect_of_packet e a how phase sending = effect_of e (Heard (hears_first e) a.number how) (raising a.kind a.ack) false phase false sending
+
+-- The end closes, and its Reset tells of this fault and acknowledges GSR, the packet's number included.
+abbrev pub effect_of_closing : EndState → Incoming → Passing → Fault → Effect
+effect_of_closing e a how fault = effect_of_packet e a how phases.Closed (Next (reset_of (greatest_with e a) fault))
+
+-- The effect of a Sync, by its cause. Where the packet's numbers are not valid only GSS changes; where it is unexpected GSR and GAR
+-- do, too.
+abbrev pub effect_of_sync : (e : EndState) (bytes : List ℕ) (number : ℕ) → IsSynced e bytes number → Effect
+effect_of_sync e bytes number (OutOfWindow a came check bad) = effect_of_sending e (Next (alone (kind.Sync number)))
+effect_of_sync e bytes number (Unexpected a entered valid out same) = effect_of_packet e a Refused e.phase (Next (alone (kind.Sync number)))
+
+-- A Reset without a connection takes its numbers from the packet, and nothing changes.
+abbrev pub effect_of_refusing : EndState → Incoming → Fault → Effect
+effect_of_refusing e a fault =
+    effect_of_sending e (WithoutConnection (number_without_connection a.ack) (kind.Reset a.number fault.code (detail_of fault)))
+
+-- The effect of a Reset, by its cause: nothing changes without a connection (codes 3 and 8); for the code 4 only GSS does, and the
+-- Reset acknowledges the packet; another service and a fault of the options close the end, and nothing is marked; and a Close was
+-- taken, so that it is marked, and what it reports is due to the congestion control.
+abbrev pub effect_of_reset : (e : EndState) (bytes : List ℕ) (fault : Fault) → IsReset e bytes fault → Effect
+effect_of_reset e bytes fault (NoConnection a came is) = effect_of_refusing e a fault
+effect_of_reset e bytes fault (OtherService a came is other) = effect_of_refusing e a fault
+effect_of_reset e bytes fault (NoAnswer a came no_answer) = effect_of_sending e (Next (reset_of a.number fault))
+effect_of_reset e bytes fault (WrongService a entered valid expected other) = effect_of_closing e a Shut fault
+effect_of_reset e bytes fault (Faulted a entered first admitted is) = effect_of_closing e a Shut fault
+effect_of_reset e bytes fault (AnswersClose a entered h to admitted is row) =
+    record (effect_of_closing e a Taken fault) { calls = calls_for a e.rows h.rows }
 
 -- The type with its fields of the packet that a row of the table answers with, if any. A SyncAck acknowledges the Sync, and all others
 -- the greatest number received; where the row has none, an Ack goes out if it is needed.
@@ -217,41 +239,61 @@ kind_sent (WithoutConnection number packet) = None
 abbrev pub unacked_by : ℕ → Bool → Sending → ℕ
 unacked_by unacked delivered sending = if is_acking_sent sending then 0 else unacked_after unacked delivered
 
--- The effect of a packet that was taken, with the data that are delivered and the Confirms that are due: the row of its phase and type,
--- the packet as one that is to be acknowledged, unless that was done, and what it has for the congestion control.
-pub record IsTaking (e : EndState) (given : Input) (delivered : Option (ℕ × ℕ)) (f : Effect) (confirms : List Due) : Type 0 where
-  pub packet : Incoming
-  pub came : Came e given packet
-  pub first : Bool
-  pub to : Phase
-  pub answer : Reply
-  pub row : after (phase_entered e.phase) packet.kind ≡ (to, answer)
-  pub heard : f.hearing ≡ Heard first packet.number Taken
-  pub moved : f.phase ≡ to
-  pub opening : f.opening ≡ becomes_open (phase_entered e.phase) to
-  pub looked : f.looked_up ≡ looked_up packet.kind packet.ack
+-- the data that go out
+abbrev pub data_sent : Sending → List ℕ
+data_sent Silent = []
+data_sent (Next packet) = packet.payload
+data_sent (WithoutConnection number packet) = []
+
+-- the offers that come up with a reply: all that were not made yet with a Response, and none with another
+abbrev pub offered_with : Reply → List Due → List Turn
+offered_with reply.Response confirms = offerings (is_confirmed confirms) every_place
+offered_with _ confirms = []
+
+-- The effect of a packet that was taken. Its number and what it acknowledges are heard, and looked up; the row of the table moves the
+-- phase and answers, without data; the rows hear its options, and the Confirms that come of them are due; it is to be acknowledged,
+-- unless that was done; and the congestion control hears what it has for it.
+pub record IsTaking (e : EndState) (bytes : List ℕ) (delivered : Option (ℕ × ℕ)) (taken : IsTaken e bytes delivered) (f : Effect)
+    (turns : AreTurns e (Arrives bytes) f.hearing f.turns) : Type 0 where
+  pub heard : f.hearing ≡ Heard (hears_first e) taken.packet.number Taken
+  pub acknowledged : f.acknowledged ≡ raising taken.packet.kind taken.packet.ack
+  pub looked : f.looked_up ≡ looked_up taken.packet.kind taken.packet.ack
+  pub moved : f.phase ≡ taken.to
+  pub opening : f.opening ≡ becomes_open (phase_entered e.phase) taken.to
+  pub listens : turns.heard ≡ turns_in e taken.packet
+  pub confirms : turns.confirms ≡ taken.heeding.confirms
+  pub offers : turns.offered ≡ offered_with taken.answer turns.confirms
   pub owes : f.owed ≡ not (is_acking_sent f.sending)
   pub counted : f.unacked ≡ unacked_by e.unacked (is_some delivered) f.sending
-  pub heeding : Heeding
-  pub heeds : AreOptionsRead e packet heeding
-  pub calls : f.calls ≡ calls_for packet e.rows heeding.rows
+  pub calls : f.calls ≡ calls_for taken.packet e.rows taken.heeding.rows
   pub replied : kind_sent f.sending
-      ≡ replying e (needs_ack to confirms (rows_by e.rows f) (unacked_after e.unacked (is_some delivered))) (greatest_or first packet.number e.marks.gsr)
-      packet.number answer
+      ≡ replying e (needs_ack taken.to turns.confirms (rows_by e.rows f) (unacked_after e.unacked (is_some delivered))) (greatest_with e taken.packet)
+      taken.packet.number taken.answer
+  pub without_data : data_sent f.sending ≡ []
 
--- What an outcome tells of the step's effect, with the Confirms that are due.
-abbrev pub HasForm : EndState → Input → Outcome → Effect → List Due → Type 0
-HasForm e given (Dropped why) f confirms = f ≡ effect_of_sending e Silent
-HasForm e given (Synced number) f confirms = IsSyncing e number f
-HasForm e given (WasReset code) f confirms = f ≡ record (effect_of_sending e Silent) { phase = phases.TimeWait }
-HasForm e given (SentReset code detail) f confirms = IsResetting e given code detail f
-HasForm e given (Took delivered) f confirms = IsTaking e given delivered f confirms
+-- What the step's effect is, by the outcome and its cause: one form for each cause.
+abbrev pub HasForm : (e : EndState) (bytes : List ℕ) (outcome : Outcome) → HasCause e bytes outcome → (f : Effect)
+    → AreTurns e (Arrives bytes) f.hearing f.turns → Type 0
+HasForm e bytes (Dropped why) cause f turns = f ≡ effect_of_sending e Silent
+HasForm e bytes (Synced number) cause f turns = f ≡ effect_of_sync e bytes number cause
+HasForm e bytes (WasReset code) cause f turns = f ≡ record (effect_of_sending e Silent) { phase = phases.TimeWait }
+HasForm e bytes (SentReset code detail) cause f turns = f ≡ effect_of_reset e bytes cause.fault cause.why
+HasForm e bytes (Took delivered) cause f turns = IsTaking e bytes delivered cause f turns
 
--- The step is this effect's, and the effect has the outcome's form.
-pub record HasEffectOf (e : EndState) (given : Input) (outcome : Outcome) (after : EndState) (frame : Option (List ℕ)) (calls : List Call) : Type 0 where
+-- The step is this effect's, and the effect has the form of the outcome's cause.
+pub record HasEffectOf (e : EndState) (bytes : List ℕ) (outcome : Outcome) (after : EndState) (frame : Option (List ℕ)) (calls : List Call) : Type 0 where
   pub effect : Effect
   pub after_is : after ≡ end_after e effect
   pub frame_is : frame ≡ frame_by e effect.sending
   pub calls_are : calls ≡ effect.calls
-  pub because : IsCaused e given effect
-  pub form : HasForm e given outcome effect because.turns.confirms
+  pub because : IsCaused e (Arrives bytes) effect
+  pub cause : HasCause e bytes outcome
+  pub form : HasForm e bytes outcome cause effect because.turns
+
+-- what holds where the packet was dropped
+abbrev pub OnDropped : Outcome → Type 0 → Type 0
+OnDropped (Dropped why) holds = holds
+OnDropped (Synced number) holds = Unit {0}
+OnDropped (WasReset code) holds = Unit {0}
+OnDropped (SentReset code detail) holds = Unit {0}
+OnDropped (Took delivered) holds = Unit {0}

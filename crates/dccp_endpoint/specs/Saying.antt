@@ -1,7 +1,8 @@
 -- What a packet says to a row of the end that it reaches, and what an end's own packets say of its rows (RFC 4340, section 6).
-use Rattle.std.specs.Prelude.{◌≡◌, ◌≢◌, ◌==◌, ◌&&◌, ◌≤◌, if◌then◌else◌, ℕ, ◌+◌, Bool, true, false, List, [], ◌∷◌, ◌++◌, drop, length, map, Option, Some, None, Result, Ok, Err, AllPairs}
+use Rattle.std.specs.Prelude.{◌≡◌, ◌≢◌, ◌==◌, ◌&&◌, ◌≤◌, if◌then◌else◌, ℕ, ◌+◌, Bool, true, false, List, [], ◌∷◌, ◌++◌, drop, filter, length, map, Option, Some, None, Result, Ok, Err, AllPairs}
 use Rattle.std.specs.List.{list_any}
 use Rattle.dccp_options.specs.Grammar.{Entry}
+use Rattle.dccp_options.specs.Kinds.{is_understood}
 use Rattle.dccp_options.specs.Written.{Item, entries_at}
 use Rattle.dccp_options.specs.declared.option.OptFault.{OptFault}
 use Rattle.feature_lists.specs.Features.{feature_number}
@@ -45,12 +46,30 @@ abbrev pub confirm_for : Key → List Due → Option (List ℕ)
 confirm_for k [] = None
 confirm_for k (due ∷ rest) = body_if (is_for k due) due.body (confirm_for k rest)
 
+-- the data begin with some feature number
+abbrev pub has_feature_number : List ℕ → Bool
+has_feature_number [] = false
+has_feature_number (number ∷ rest) = true
+
+-- the option is understood, and is a Change or a Confirm with some feature number
+abbrev pub negotiates_by : Entry → Bool
+negotiates_by entry = is_understood entry.kind (length entry.body) && (is_of_negotiation entry.kind && has_feature_number entry.body)
+
+-- the item is a Change, of whatever feature, whether it is the first for that or not
+abbrev pub is_change_item : Result Entry OptFault → Bool
+is_change_item (Ok entry) = negotiates_by entry && is_change entry.kind
+is_change_item (Err fault) = false
+
+-- how many Changes there are
+abbrev pub changes_among : List (Result Entry OptFault) → ℕ
+changes_among options = length (filter is_change_item options)
+
 -- Of a packet that was read whole each row hears what the packet says to it, and nothing else, and the Confirm that is due for it is
--- the row's answer. No packet has more options than 64 that count.
+-- the row's answer. The packet has at most 64 Changes, for all of which count.
 abbrev pub RowsHearThePacket : Type 0
 RowsHearThePacket =
     (count : Bool) (ack : Option ℕ) (rows : List Row) (options : List (Result Entry OptFault)) (h : Heeding) (k : Key) → IsNegotiation rows
-    → length options ≤ 64 → heeds count ack (unheeded rows) options ≡ Ok h
+    → changes_among options ≤ 64 → heeds count ack (unheeded rows) options ≡ Ok h
     → (events_of k.0 k.1 (heard_turns count ack (unheeded rows) options) ≡ said_to count ack k options)
     × (confirm_for k h.confirms ≡ reply_due (row_at rows k.0 k.1) (said_to count ack k options))
 
@@ -106,11 +125,11 @@ times_said_to k [] = 0
 times_said_to k (Err _ ∷ rest) = times_said_to k rest
 times_said_to k (Ok entry ∷ rest) = once_if (speaks_to k entry) + times_said_to k rest
 
--- Of a packet that was read whole no row has two Confirms that are due.
+-- Of a packet of at most 64 Changes that was read whole no row has two Confirms that are due.
 abbrev pub ConfirmsAreSingle : Type 0
 ConfirmsAreSingle =
     (count : Bool) (ack : Option ℕ) (rows : List Row) (options : List (Result Entry OptFault)) (h : Heeding) (k : Key) → IsNegotiation rows
-    → length options ≤ 64 → heeds count ack (unheeded rows) options ≡ Ok h → times_confirmed k h.confirms ≤ 1
+    → changes_among options ≤ 64 → heeds count ack (unheeded rows) options ≡ Ok h → times_confirmed k h.confirms ≤ 1
 
 -- So an end's own packet speaks to a row of the peer once at most: no row's Change goes out twice, nor beside a Confirm for it.
 abbrev pub OwnPacketsSpeakOnce : Type 0

@@ -75,9 +75,10 @@ impl Model for Connection {
 
 impl Connection {
     ghost use Rattle.std.specs.Prelude.{◌≡◌, IfOk};
-    ghost use Rattle.dccp_endpoint.specs.End.{EndState, floor_of, held_of, marked_of, new_end, with_rows};
+    ghost use Rattle.dccp_endpoint.specs.End.{EndState, IsProper, floor_of, held_of, marked_of, new_end, with_rows};
     ghost use Rattle.feature_machine.specs.Negotiating.{AreRowsOf};
     ghost use Rattle.run_list.specs.MarkedSet.{IsSound};
+    ghost use Rattle.validity_windows.specs.Windows.{InRange};
 
     /// An end of its configuration: CLOSED for a client, LISTEN for a server (RFC 4340, section 8.1).
     pub(crate) fn new(alloc: Global, config: Config) -> Result<Connection, NoMemory>
@@ -110,7 +111,9 @@ impl Connection {
 
     /// The first and greatest numbers sent and received, and the widths of the windows (RFC 4340, section 7.1).
     pub(crate) fn marks(&self) -> Marks
-        ensures { result ≡ self.now.marks }
+        ensures value { result ≡ self.now.marks }
+        ensures in_range { InRange result }
+        ensures proper { IsProper self.now }
     {
         self.marks
     }

@@ -109,11 +109,11 @@ impl<C: Congestion> Endpoint<C> {
     ghost use Rattle.feature_lists.specs.declared.features.Place.TheVariants as place;
     ghost use Rattle.feature_lists.specs.declared.wishes.PreferFault.TheVariants as prefer;
     ghost use Rattle.run_list.specs.MarkedSet.{IsSound};
+    ghost use Rattle.validity_windows.specs.Windows.{InRange};
     ghost use Rattle.dccp_endpoint.specs.Calling.{aborts, applies, closes, fires, opens, prefers, sends_payload};
     ghost use Rattle.dccp_endpoint.specs.Controlled.{has_in_flight, in_flight_of, window_of, with_control};
-    ghost use Rattle.dccp_endpoint.specs.End.{floor_of, held_of, is_connected, marked_of, value_in};
-    ghost use Rattle.dccp_endpoint.specs.Inputs.{Arrives};
-    ghost use Rattle.dccp_endpoint.specs.Outcomes.{HasCause, HasEffectOf, HasNoOtherCause};
+    ghost use Rattle.dccp_endpoint.specs.End.{IsProper, floor_of, held_of, is_connected, marked_of, value_in};
+    ghost use Rattle.dccp_endpoint.specs.Outcomes.{HasCause, HasEffectOf, HasNoOtherCause, OnDropped};
     ghost use Rattle.dccp_endpoint.specs.Receiving.{receives};
     ghost use Rattle.end_answers.specs.declared.calls.Timer.TheVariants as timers;
 
@@ -124,9 +124,13 @@ impl<C: Congestion> Endpoint<C> {
         self.connection.phase()
     }
 
-    /// The first and greatest numbers sent and received, and the widths of the windows (RFC 4340, section 7.1).
+    /// The first and greatest numbers sent and received, and the widths of the windows (RFC 4340, section 7.1). The
+    /// widths are in their range, so that `Marks::windows` and `Marks::check` may be called on them; and the end is
+    /// proper, as an end always is.
     pub fn marks(&self) -> Marks
-        ensures { result ≡ self.now.state.marks }
+        ensures value { result ≡ self.now.state.marks }
+        ensures in_range { InRange result }
+        ensures proper { IsProper self.now.state }
     {
         self.connection.marks()
     }
@@ -310,16 +314,18 @@ impl<C: Congestion> Endpoint<C> {
     /// every packet with an acknowledgement number but a Sync, with the Ack Ratio here after the packet; and then it is
     /// started with the new CCID where that of this end changed, if it knows it.
     ///
-    /// Each outcome comes exactly for its causes (`cause`, `no_other_cause`), and tells what has changed (`effect`). A
-    /// packet that is dropped changes nothing and sends nothing. A valid Reset moves the phase to TIMEWAIT, and nothing
-    /// else. A Sync takes the next number and acknowledges the number that `Synced` has; nothing else changes where the
-    /// packet's numbers are not valid, and where it is unexpected it has raised the greatest numbers received. A Reset
-    /// has the code and the detail that `SentReset` has. Without a connection (codes 3 and 8) it changes nothing. In
-    /// REQUEST, where the packet is neither a Reset nor a Response that acknowledges within the window (code 4), it
-    /// takes the next number, and nothing else changes. Otherwise (codes 1, 5, 6 and 8) the packet's numbers were
-    /// taken, the end closes, and the Reset takes the next number and acknowledges the greatest number received. The
-    /// first fault of the options (codes 5 and 6) leaves what was negotiated as it was before the packet, and its
-    /// number unmarked.
+    /// Each outcome comes exactly for its causes (`cause`, `no_other_cause`), and each cause has one effect (`effect`).
+    /// A packet that is dropped changes nothing and sends nothing (`dropped`). A valid Reset moves the phase to
+    /// TIMEWAIT, and nothing else. A Sync takes the next number and acknowledges the number that `Synced` has; nothing
+    /// else changes where the packet's numbers are not valid, and where it is unexpected it has raised the greatest
+    /// number received and, unless it is a Sync, the greatest acknowledged. A Reset has the code and the detail that
+    /// `SentReset` has. Without a connection (codes 3 and 8) it changes nothing. In REQUEST, where the packet is
+    /// neither a Reset nor a Response that acknowledges within the window (code 4), it takes the next number and
+    /// acknowledges the packet, and nothing else changes. Otherwise (codes 1, 5, 6 and 8) the packet's numbers were
+    /// taken, the end closes, and the Reset takes the next number and acknowledges the greatest number received.
+    /// Another service (8) and the first fault of the options (5 and 6) leave what was negotiated as it was before the
+    /// packet, and its number unmarked; a Close (1) was marked. Which option goes wrong first is said by
+    /// `reading_stops_at_the_first_fault`.
     ///
     /// A packet that is `Took` moves the phase and is answered by the table of phases; its data are delivered where it
     /// is a Data or a DataAck, the end is OPEN then and its number is new. The rows have heard its options in their
@@ -332,7 +338,8 @@ impl<C: Congestion> Endpoint<C> {
         ensures step { record { after = self.new; frame = out.new; answer = result } ≡ with_control C.control self.old.congestion (receives self.old.state bytes.now) }
         ensures cause { HasCause self.old.state bytes.now result }
         ensures no_other_cause { HasNoOtherCause self.old.state bytes.now result }
-        ensures effect { HasEffectOf self.old.state (Arrives bytes.now) result self.new.state out.new (receives self.old.state bytes.now).calls }
+        ensures dropped { OnDropped result ((self.new ≡ self.old) × (out.new ≡ None)) }
+        ensures effect { HasEffectOf self.old.state bytes.now result self.new.state out.new (receives self.old.state bytes.now).calls }
     {
         self.connection.receive(bytes, out, &mut self.congestion)
     }

@@ -5,6 +5,7 @@ ghost use Rattle.dccp_packets.specs.Widths.{in_widths};
 ghost use Rattle.dccp_endpoint.specs.declared.config.Config.{Config};
 ghost use Rattle.dccp_endpoint.specs.Causes.{EveryStepHasOneEffect};
 ghost use Rattle.dccp_endpoint.specs.Drafts.{Draft, Fits, IsSendable, ReadsAs, frame_of, own_header};
+ghost use Rattle.dccp_endpoint.specs.FirstFault.{ReadingGoesThrough, ReadingStopsAtTheFirstFault};
 ghost use Rattle.dccp_endpoint.specs.Saying.{ConfirmsAreSingle, OwnPacketsSayOfARow, OwnPacketsSpeakOnce, RowsHearThePacket};
 
 /// What an end writes is read as it was meant: each frame of a draft is a packet with the draft's type, options and
@@ -17,16 +18,28 @@ pub fn own_frames_are_read()
         → ReadsAs (in_widths (own_header config number draft.kind)) config.pseudo_out draft (frame_of config number draft) }
 {}
 
-/// Each step of an end has one effect: a record of what becomes of each part of the end, of what goes out and why
-/// (own). What two ends do to each other follows from the effects of their steps.
+/// Each step of an end has an effect, one for the whole step: a record of what becomes of each part of the end, of what
+/// goes out and why (own). The law says that there is one, and the end after the step, its frame and its calls are
+/// those of it; not that no other record tells the same. What two ends do to each other follows from the effects of
+/// their steps.
 pub fn every_step_has_one_effect()
     ensures { EveryStepHasOneEffect }
 {}
 
-/// A packet of at most 64 options that is read whole says one thing to a row at most: what the first option says that
+/// The options of a packet are read in order, and the first that goes wrong is the fault: Mandatory with no option
+/// behind it, or with another Mandatory; an option that is not understood behind Mandatory (RFC 4340, section 5.8.2); the first
+/// Change for a feature by its letter, of the first 64 Changes, that its row cannot accept; or the first Confirm for a
+/// feature by its letter that its row cannot accept (that only these count is own). All options before it were read
+/// without a fault. Where none goes wrong, they are read to their end.
+pub fn reading_stops_at_the_first_fault()
+    ensures stops { ReadingStopsAtTheFirstFault }
+    ensures goes_through { ReadingGoesThrough }
+{}
+
+/// A packet of at most 64 Changes that is read whole says one thing to a row at most: what the first option says that
 /// speaks to it, a Change or a Confirm (RFC 4340, sections 6.1 and 6.2; that only the first counts where there are
-/// several, and that none has more options that count, is own). The row hears that and nothing else, and a Confirm for
-/// it is due exactly where its answer is one, and once.
+/// several, and of Changes only the first 64, is own). The row hears that and nothing else, and a Confirm for it is due
+/// exactly where its answer is one, and once.
 pub fn packets_say_one_thing_to_a_row()
     ensures heard { RowsHearThePacket }
     ensures single { ConfirmsAreSingle }

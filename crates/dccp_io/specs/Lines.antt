@@ -1,5 +1,5 @@
 -- The lines of an input, and where they are too long or too much (own).
-use Rattle.std.specs.Prelude.{◌≡◌, ℕ, suc, ◌+◌, ◌≤◌, ◌<◌, ◌⊎◌, ◌==◌, nat_le, min, Bool, true, false, if◌then◌else◌, List, [], ◌∷◌, length, take, drop, Option, Some, None, IfSome, Result, Ok, Err, ⊤}
+use Rattle.std.specs.Prelude.{◌≡◌, ℕ, suc, ◌+◌, ◌-◌, ◌≤◌, ◌<◌, ◌⊎◌, ◌==◌, ◌||◌, nat_le, nat_lt, is_some, min, Bool, true, false, if◌then◌else◌, List, [], ◌∷◌, length, take, drop, Option, Some, None, IfSome, Result, Ok, Err, ⊤}
 use Rattle.std.specs.Io.KnownBytes.{prepend_known}
 use Rattle.dccp_io.specs.Ahead.{BytesAhead, ahead_of}
 use Rattle.dccp_io.specs.Counts.{Rose}
@@ -88,6 +88,14 @@ IsLineOf given bytes _ = ⊤
 abbrev pub IsSought : ℕ → List ℕ → Option (List ℕ) → Type 0
 IsSought asked pending left = (asked ≤ text_length pending) ⊎ ((text_length pending < length pending) ⊎ IfSome left (λ more. more ≡ []))
 
+-- How many bytes of a line settle what stands next, behind so many that were given: as many as make it too long, or too much.
+abbrev pub enough : ℕ → ℕ
+enough given = min one_too_many (most_input_bytes - given + 1)
+
+-- The bytes that are pending settle what stands next: so many of the first line's are there, or its newline is.
+abbrev pub is_line_settled : ℕ → List ℕ → Bool
+is_line_settled asked pending = nat_le asked (text_length pending) || nat_lt (text_length pending) (length pending)
+
 -- What seeking keeps: what is still to come, the block, and whose source it is.
 pub record Seeks {S : Type 0} (left : S → Option (List ℕ)) (faults lender : S → ℕ) (old new : BytesAhead) (before after : S) : Type 0 where
   pub same_ahead : ahead_of new (left after) ≡ ahead_of old (left before)
@@ -104,6 +112,10 @@ pub record LinesState (S : Type 0) : Type 0 where
   pub line : List ℕ
   pub given : ℕ
   pub stop : Option Stop
+
+-- The next call reads nothing: what is pending settles its answer, or no further line comes.
+abbrev pub holds_next : {S : Type 0} → LinesState S → Bool
+holds_next l = is_some l.stop || is_line_settled (enough l.given) l.pending
 
 -- what is left of the input behind the lines that were given, where the source tells its bytes
 abbrev pub rest_of_input : {S : Type 0} → (S → Option (List ℕ)) → LinesState S → Option (List ℕ)

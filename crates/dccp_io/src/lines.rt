@@ -1,8 +1,8 @@
 //! The lines of an input, one by one.
-ghost use Rattle.std.specs.Prelude.{◌≡◌, ◌+◌, ◌-◌, ◌≤◌, [], length, take, drop, min, None, IfOk, OnErr, IfSome};
+ghost use Rattle.std.specs.Prelude.{◌≡◌, ◌+◌, ◌≤◌, [], length, take, drop, true, None, IfOk, OnErr, IfSome};
 ghost use Rattle.dccp_io.specs.Counts.{Rose};
 ghost use Rattle.dccp_io.specs.Ahead.{ahead_of};
-ghost use Rattle.dccp_io.specs.Lines.{IsLineOf, IsSought, Seeks, first_line, made_out, next_in_bytes, text_length};
+ghost use Rattle.dccp_io.specs.Lines.{IsLineOf, IsSought, Seeks, enough, first_line, holds_next, is_line_settled, made_out, next_in_bytes, text_length};
 
 use crate::{Failed, ReadAhead, Source};
 use seq_circle::NoMemory;
@@ -80,6 +80,7 @@ fn seek<S: Source>(source: &mut S, ahead: &mut ReadAhead, asked: usize) -> Resul
     ensures seeks { Seeks S.left S.faults S.lender ahead.old ahead.new source.old source.new }
     ensures value { IfOk result (λ seen. seen ≡ text_length ahead.new.pending) }
     ensures sought { IfOk result (λ seen. IsSought asked ahead.new.pending (S.left source.new)) }
+    ensures unread { is_line_settled asked ahead.old.pending ≡ true → source.new ≡ source.old }
     ensures cause { OnErr result (Rose (S.faults source.old) (S.faults source.new)) }
 {
     let mut seen = text_length(ahead.pending(), 0);
@@ -132,10 +133,18 @@ fn first_in(pending: &[u8], seen: usize, given: u64) -> Stands
 // How many bytes of a line settle what stands next.
 fn enough(given: u64) -> usize
     requires { given ≤ 16777216 }
-    ensures { result ≡ min 4097 (16777216 - given + 1) }
+    ensures { result ≡ enough given }
 {
     let room = MOST_BYTES - given;
     (ONE_TOO_MANY as u64).min(room + 1) as usize
+}
+
+// The bytes that are pending settle what stands next: the first line's newline is among them, or so many bytes of it are.
+fn is_line_settled(asked: usize, pending: &[u8]) -> bool
+    ensures { result ≡ is_line_settled asked pending.now }
+{
+    let seen = text_length(pending, 0);
+    asked <= seen || seen < pending.len()
 }
 
 // Reads on until it is known what stands next.
@@ -149,6 +158,7 @@ fn stands_next<S: Source>(
     ensures seeks { Seeks S.left S.faults S.lender ahead.old ahead.new source.old source.new }
     ensures next { IfOk result (λ stands. IfSome (ahead_of ahead.old (S.left source.old)) (λ bytes. next_in_bytes given bytes ≡ made_out ahead.new.pending stands)) }
     ensures fits { IfOk result (λ stands. IsLineOf given ahead.new.pending stands) }
+    ensures unread { is_line_settled (enough given) ahead.old.pending ≡ true → source.new ≡ source.old }
     ensures cause { OnErr result (Rose (S.faults source.old) (S.faults source.new)) }
 {
     let asked = enough(given);
@@ -210,9 +220,10 @@ impl<S: Source + Drop> Lines<S> {
     /// Finds the next line, whole however the reads were cut, which is then `line`; false is the end of the input. It
     /// takes no memory. At most 8,192 bytes are read past the lines that were given. TooLong and TooMuch come exactly
     /// where the next line is so, too much before too long, and Failed only where the source failed. After one of these
-    /// each further call answers the same, and does nothing.
+    /// each further call answers the same, and does nothing. Where `holds_next` is true the source is not read.
     pub fn find(&mut self) -> Result<bool, Stop>
-        ensures { Finds S.left S.faults S.lender self.old self.new result }
+        ensures finds { Finds S.left S.faults S.lender self.old self.new result }
+        ensures unread { holds_next self.old ≡ true → self.new.source ≡ self.old.source }
     {
         if let Some(stop) = self.stop {
             return Err(stop);
@@ -241,6 +252,18 @@ impl<S: Source + Drop> Lines<S> {
         }
     }
 
+    /// Tells that the next call of `find` reads nothing: what was read already settles its answer, or no further line
+    /// comes.
+    pub fn holds_next(&self) -> bool
+        ensures { result ≡ holds_next self.now }
+    {
+        if self.stop.is_some() {
+            return true;
+        }
+        let (_, pending) = self.ahead.pending().split_at(self.used);
+        is_line_settled(enough(self.given), pending)
+    }
+
     /// The line that was given last, with its newline.
     pub fn line(&self) -> &[u8]
         ensures { result.now ≡ self.now.line }
@@ -248,8 +271,8 @@ impl<S: Source + Drop> Lines<S> {
         &self.ahead.pending()[..self.used]
     }
 
-    // The same without its newline.
-    fn text(&self) -> &[u8]
+    /// The same without its newline.
+    pub fn text(&self) -> &[u8]
         ensures { result.now ≡ text_of self.now.line }
     {
         let line = self.line();

@@ -1,3 +1,4 @@
+pub mod Additive
 pub mod Alarms
 pub mod Handing
 pub mod Session

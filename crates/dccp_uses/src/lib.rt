@@ -5,11 +5,12 @@
 //! the time: a datagram that arrived, data to send, a feature's new value, the end of the connection, and the time
 //! itself. Each frame that the end makes is handed to a [`Network`]. [`accept`] is what a server does with a datagram
 //! of a peer that it does not know. There is no socket here and no clock, and no memory is taken once a session is
-//! made.
+//! made. Two kinds of congestion control are its own, [`OneAtATime`] and [`AdditiveWindow`].
 //!
 //! This crate is an example to read whole and to copy from; nothing stands on it.
 #![tactic(auto)]
 
+mod additive_window;
 mod alarms;
 mod listening;
 mod network;
@@ -19,6 +20,7 @@ mod session;
 #[cfg(test)]
 mod tests;
 
+pub use crate::additive_window::AdditiveWindow;
 pub use crate::alarms::{Alarm, Alarms, Condition};
 pub use crate::listening::accept;
 pub use crate::network::Network;

@@ -8,6 +8,7 @@ use ccid_two::Kinds;
 use dccp_endpoint::{Congestion, Feature, Held, Phase, Role, Stand, Timer};
 use std::alloc::Global;
 
+mod additive;
 mod pair;
 mod wire;
 

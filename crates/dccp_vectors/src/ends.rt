@@ -96,6 +96,7 @@ fn tell_outcome(outcome: &Outcome, told: &mut String) -> Result<(), Fail> {
             let number = acknowledged.get();
             write!(told, " synced {number}")?;
         }
+        Outcome::WasReset(code) => write!(told, " was reset {code}")?,
         Outcome::Dropped(Why::StrayReset) => told.push_str(" dropped StrayReset")?,
         _ => return Err(Fail::from("another outcome")),
     }

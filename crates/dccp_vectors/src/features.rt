@@ -39,20 +39,29 @@ const EDGES: &str = "\
     here/4/0: not BadList\n\
     here/4/2: not BadList\n\
     there/4/0: permitted [0]\n\
+    there/4/1: permitted [1]\n\
     there/4/2: not BadList\n\
     here/5/0: permitted 0\n\
     here/5/65535: permitted 65535\n\
     here/5/65536: not BadList\n\
+    here/6/0: permitted [0]\n\
     here/6/1: permitted [1]\n\
     here/6/2: not BadList\n\
     there/6/0: permitted [0]\n\
+    there/6/1: permitted [1]\n\
     there/6/2: not BadList\n\
     here/7/0: permitted [0]\n\
     here/7/1: not BadList\n\
+    there/7/0: permitted [0]\n\
+    there/7/1: not BadList\n\
+    here/8/0: permitted [0]\n\
     here/8/15: permitted [15]\n\
     here/8/16: not BadList\n\
     there/8/0: permitted [0]\n\
+    there/8/15: permitted [15]\n\
     there/8/16: not BadList\n\
+    here/9/0: permitted [0]\n\
+    here/9/1: not BadList\n\
     there/9/0: permitted [0]\n\
     there/9/1: not BadList\n";
 

@@ -45,6 +45,18 @@ const STORIES: &str = "\
     # An offer's Mandatory goes with each of its Changes, and with no other wish\n\
     server/ open/there/6/ carries/there/6/ send/there/6/1 send/there/6/2 carries/there/6/ prefer/there/6/0,1 carries/there/6/ send/there/6/3 carries/there/6/: opens Mandatory Mandatory Later plain plain\n\
     client/ open/there/6/ carries/there/6/ send/there/6/1 send/there/6/2 carries/there/6/ prefer/there/6/0,1 carries/there/6/ send/there/6/3 carries/there/6/: opens Mandatory Mandatory Later plain plain\n\
+    # Nor with a wish of the program's own once the offer has settled\n\
+    server/ open/there/6/ send/there/6/1 confirm/there/6/0101@1 prefer/there/6/0,1 carries/there/6/ send/there/6/2 carries/there/6/: opens Settled Now plain plain\n\
+    client/ open/there/6/ send/there/6/1 confirm/there/6/0101@1 prefer/there/6/0,1 carries/there/6/ send/there/6/2 carries/there/6/: opens Settled Now plain plain\n\
+    server/ open/here/4/ send/here/4/1 confirm/here/4/0101@1 held/here/4/ prefer/here/4/1 carries/here/4/: opens Settled 1 Now plain\n\
+    client/ open/here/4/ send/here/4/1 confirm/here/4/0101@1 held/here/4/ prefer/here/4/1 carries/here/4/: opens Settled 1 Now plain\n\
+    # Of what is offered or wished twice the last counts, and a wish leaves the offer\n\
+    wish/there/8/5 wish/there/8/6,7 listed/there/8/: ok ok [6, 7]\n\
+    offer/there/8/ must/there/8/ server/ open/there/8/ carries/there/8/: ok ok opens Mandatory\n\
+    must/there/8/ offer/there/8/ server/ open/there/8/ carries/there/8/: ok ok opens plain\n\
+    must/there/8/ wish/there/8/5 client/ open/there/8/ carries/there/8/ active/there/8/: ok ok opens Mandatory [5]\n\
+    wish/there/8/5 offer/there/8/ wish/there/8/6 client/ open/there/8/ carries/there/8/ active/there/8/: ok ok ok opens plain [6]\n\
+    wish/there/8/5 offer/there/8/ plain/ server/ open/there/8/ active/there/8/: ok ok stays [5]\n\
     offer/here/8/ server/ open/here/8/ carries/here/8/: ok opens plain\n\
     offer/here/8/ client/ open/here/8/ carries/here/8/: ok opens plain\n\
     # Unknown features, and values that are told\n\

@@ -18,3 +18,4 @@ pub mod Listed
 pub mod Taking
 pub mod Truthful
 pub mod Confirmed
+pub mod Staying

@@ -1,7 +1,7 @@
 //! The laws on a feature's two sides.
-ghost use Rattle.std.specs.Prelude.{ℕ, Bool, List, IsTrue};
-ghost use Rattle.feature_agreement.specs.View.{Carried, FeatureSide};
-ghost use Rattle.feature_agreement.specs.Moves.{Rule, Pair, Moves, swapped, new_side, IsReachable, at_server, at_client};
+ghost use Rattle.std.specs.Prelude.{◌≡◌, ℕ, ◌<◌, Bool, List, Some, None, IsTrue};
+ghost use Rattle.feature_agreement.specs.View.{Carried, FeatureSide, carried_at, wish_carried};
+ghost use Rattle.feature_agreement.specs.Moves.{Rule, Pair, Move, Moves, swapped, new_side, IsReachable, at_server, at_client};
 ghost use Rattle.feature_agreement.specs.Exchanges.{server_asked, client_asking, server_crossing, client_crossing};
 ghost use Rattle.feature_agreement.specs.Facts.{SpeaksForItsRow, IsConfirmed};
 ghost use Rattle.feature_agreement.specs.Agreement.{SidesAgree, SidesAreGiven, AgreeByLocation, GivenByLocation};
@@ -28,6 +28,14 @@ pub fn reachable_sides_agree()
         → IsReachable pair server client → SidesAgree pair.rule server client }
     ensures given { (pair : Pair) (server client : FeatureSide)
         → IsReachable pair server client → ∥ SidesAreGiven pair.initial pair.rule server client ∥₁ }
+{}
+
+/// Where nothing is shared the value is the one held before (own): if the rule gives no value for a side's active wish
+/// and any wish of the peer's that it has not yet taken, no move changes the side's value.
+pub fn where_nothing_is_shared_the_value_stays()
+    ensures { (rule : Rule) (opens : List ℕ → Bool) (there : List Carried) (side after : FeatureSide) → Move rule opens there side after
+        → ((count : ℕ) (wish : List ℕ) → side.greatest < count → wish_carried (carried_at there count) ≡ Some wish → rule side.active wish ≡ None)
+        → after.value ≡ side.value }
 {}
 
 /// Why they agree: what a side's frames say is true of what it holds, towards its peer, at the server and at the

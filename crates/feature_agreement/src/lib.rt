@@ -18,6 +18,7 @@ pub use crate::features::{
 pub use crate::laws::{
     exchanges_settle, location_decides, reachable_sides_agree, reachable_sides_are_truthful,
     remote_rows_confirm_what_was_told, steps_stay_reachable,
+    where_nothing_is_shared_the_value_stays,
 };
 pub use crate::lines::{
     offering_is_a_move, preferring_is_a_move, rows_stay_begun, sending_is_a_move,

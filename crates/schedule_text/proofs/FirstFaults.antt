@@ -15,9 +15,9 @@ use Rattle.world_events.specs.declared.event.Side.TheVariants.{Client, Server}
 use Rattle.world_events.specs.declared.event.Event.TheVariants as event
 use Rattle.schedule_text.specs.declared.line.Line.{Line}
 use Rattle.schedule_text.specs.declared.line.Line.TheVariants as line
-use Rattle.schedule_text.specs.declared.line.LineFault.{LineFault}
-use Rattle.schedule_text.specs.declared.line.LineWhy.{LineWhy}
-use Rattle.schedule_text.specs.declared.line.LineWhy.TheVariants as why
+use Rattle.tool_words.specs.declared.faults.LineFault.{LineFault}
+use Rattle.tool_words.specs.declared.faults.LineWhy.{LineWhy}
+use Rattle.tool_words.specs.declared.faults.LineWhy.TheVariants as why
 use Rattle.schedule_text.specs.declared.names.Form.{Form}
 use Rattle.schedule_text.specs.declared.names.Form.TheVariants as form
 use Rattle.schedule_text.specs.Names.{form_named, side_named, place_named, timer_of}
@@ -25,7 +25,8 @@ use Rattle.schedule_text.specs.Numbers.{indices, values_of, feature_of}
 use Rattle.tool_text.specs.Numbers.{number_below}
 use Rattle.schedule_text.specs.Digits.{flaw_of}
 use Rattle.schedule_text.specs.Words.{WordAt, WordsLeft, first_word, later, words_of}
-use Rattle.schedule_text.specs.Reading.{◌>>=◌, ◌>>◌, fault_at, present, needed, form_word, side_word, place_word, timer_word, number_word, feature_word, values_word, delivery, frame_index, named, name_word, digits_or_flaw, digits_word, hex_word, mandatory_first, mandatory_word, none_left, ended, wished, offered, plain_line, iss_line, set_line, offer_line, open_line, deliver_line, send_line, prefer_line, timer_line, close_line, abort_line, line_of, read_words, first_other, text_or_other, clean, says_nothing, read_clean, read_line}
+use Rattle.schedule_text.specs.Reading.{◌>>=◌, ◌>>◌, present, needed, form_word, side_word, place_word, timer_word, number_word, feature_word, values_word, delivery, frame_index, named, name_word, digits_or_flaw, digits_word, hex_word, mandatory_first, mandatory_word, none_left, ended, wished, offered, plain_line, iss_line, set_line, offer_line, open_line, deliver_line, send_line, prefer_line, timer_line, close_line, abort_line, line_of, read_words, first_other, text_or_other, clean, says_nothing, read_clean, read_line}
+use Rattle.tool_words.specs.Refusals.{fault_at}
 use Rattle.schedule_text.specs.Faults.{first_or, unless, word_fault, a_side, a_place, a_timer, a_number, a_feature, some_values, name_cause, names_frame, a_name, bad_digit, digits_fault, some_bytes, maybe_first, maybe_mandatory, judges_of, nothing_more, words_fault, refused_wish, refused_set, refused_offer, end_fault, form_fault, spoken_fault, no_text, line_fault}
 
 -- the fault of a result, if it is one

@@ -2,11 +2,12 @@
 use Rattle.std.proofs.Common.{◌≡◌, refl, sym, ap, ◌∙◌, ℕ, List, length, Bool, true, false, ◌==◌, ◌&&◌, if◌then◌else◌, nat_lt, Option, Some, None, Ok, Err}
 use Rattle.std.specs.Prelude.{◌↔◌}
 use Rattle.schedule_text.specs.declared.line.FrameLine.{FrameLine}
-use Rattle.schedule_text.specs.declared.line.LineFault.{LineFault}
-use Rattle.schedule_text.specs.declared.line.LineWhy.TheVariants as why
+use Rattle.tool_words.specs.declared.faults.LineFault.{LineFault}
+use Rattle.tool_words.specs.declared.faults.LineWhy.TheVariants as why
 use Rattle.schedule_text.specs.Digits.{flaw_of, bytes_of}
 use Rattle.schedule_text.specs.Words.{WordAt, WordsLeft, first_word, later, words_of}
-use Rattle.schedule_text.specs.Reading.{◌>>◌, fault_at, digits_or_flaw, digits_word, ended, clean, says_nothing, first_other}
+use Rattle.schedule_text.specs.Reading.{◌>>◌, digits_or_flaw, digits_word, ended, clean, says_nothing, first_other}
+use Rattle.tool_words.specs.Refusals.{fault_at}
 use Rattle.schedule_text.specs.Faults.{first_or, digits_fault, nothing_more, no_text}
 use Rattle.schedule_text.specs.Frames.{frame_line, sized, frame_read, seals, read_digits, read_clean_frame, read_frame, size_fault, digits_line_fault, replayed_fault, frame_fault}
 use Rattle.schedule_text.proofs.FirstFaults.{fault_of, bind-fault, then-fault, first-assoc, by-presence-ok, digits-word-fault, end-fault, clean-fault, refused-is}

@@ -9,7 +9,7 @@ use Rattle.std.proofs.lemmas.Bool.Decides.{nat_tests}
 use Rattle.hex.specs.Hex.{IsBytes, encode_lower, encode_with, lower_digits, is_hex_digit, decode_pairs, decode_sized}
 use Rattle.hex.specs.declared.error.FromHexError.TheVariants.{OddLength, InvalidStringLength}
 use Rattle.hex.proofs.HexLemmas.{length-encode_with, decode_of-encode_lower, decode_of-even}
-use Rattle.schedule_text.specs.declared.line.LineFault.{LineFault}
+use Rattle.tool_words.specs.declared.faults.LineFault.{LineFault}
 use Rattle.schedule_text.specs.Digits.{flaw_or_odd, flaw_of, bytes_of}
 use Rattle.schedule_text.specs.Words.{word_at_column}
 use Rattle.schedule_text.specs.Reading.{◌>>◌, digits_or_flaw, digits_word, hex_word}

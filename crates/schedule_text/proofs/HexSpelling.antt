@@ -8,11 +8,12 @@ use Rattle.std.specs.Cmp.Lexicographic.{bytes_decides}
 use Rattle.std.proofs.lemmas.Bool.Decides.{nat_tests}
 use Rattle.hex.specs.Hex.{hex_digit_value, is_hex_digit, digit_or_error, value_at, pair_value, decode_pairs, decode_sized, ◌>>=◌ as then_read}
 use Rattle.hex.specs.declared.error.FromHexError.{FromHexError}
-use Rattle.schedule_text.specs.declared.line.LineFault.{LineFault}
-use Rattle.schedule_text.specs.declared.line.LineWhy.TheVariants as why
+use Rattle.tool_words.specs.declared.faults.LineFault.{LineFault}
+use Rattle.tool_words.specs.declared.faults.LineWhy.TheVariants as why
 use Rattle.schedule_text.specs.Digits.{first_other, flaw_or_odd, flaw_of, bytes_of}
 use Rattle.schedule_text.specs.Words.{word_at_column}
-use Rattle.schedule_text.specs.Reading.{◌>>◌, fault_at, digits_or_flaw, digits_word, hex_word}
+use Rattle.schedule_text.specs.Reading.{◌>>◌, digits_or_flaw, digits_word, hex_word}
+use Rattle.tool_words.specs.Refusals.{fault_at}
 use Rattle.schedule_text.specs.Forms.{AreDigitsOf, SpellsBytes}
 use Rattle.schedule_text.proofs.WordTexts.{if-false, both-true, and-true, all-weaker, is_word_byte, is_word}
 use Rattle.schedule_text.proofs.ReadBack.{present-some}
@@ -169,6 +170,13 @@ digits-spelled column text bytes read =
     let is : bytes ≡ back.bytes = flaw.1 ∙ ap (λ (r : Result (List ℕ) FromHexError). result_unwrap_or r []) (sized-pairs text whole.even ∙ back.decodes) in
     subst (λ (bs : List ℕ). IsSpelled text bs) (sym is) (spelled-some text back.bytes some back.size back.digits)
 
+-- a word of digits has some bytes, for a dash is no digit
+pub digits-are : (column : ℕ) (text bytes : List ℕ) → digits_word (word_at_column column text) ≡ Ok bytes → AreDigitsOf text bytes × (1 ≤ length bytes)
+digits-are column text [] read =
+    let dash : text ≡ codes "-" = (digits-spelled column text [] read).spells in
+    absurd (cc (subst (λ (t : List ℕ). digits_word (word_at_column column t) ≡ Ok []) dash read))
+digits-are column text (byte ∷ bytes) read = ((digits-spelled column text (byte ∷ bytes) read).spells, omega arith)
+
 dash-by : (column : ℕ) (text bytes : List ℕ) (dash : Bool) → (dash ≡ true → text ≡ codes "-") → (if dash then Ok [] else digits_word (word_at_column column text)) ≡ Ok bytes → IsSpelled text bytes
 dash-by column text bytes true means read =
     let none : [] ≡ bytes = cc read in
@@ -228,15 +236,19 @@ not-dash-by text bytes are =
     let size = are.size in
     absurd (omega arith))
 
-spelled-read : (column : ℕ) (text : List ℕ) (byte : ℕ) (bytes : List ℕ) → AreDigitsOf text (byte ∷ bytes) → hex_word (word_at_column column text) ≡ Ok (byte ∷ bytes)
-spelled-read column text byte bytes digits =
+pub digits-read : (column : ℕ) (text : List ℕ) (byte : ℕ) (bytes : List ℕ) → AreDigitsOf text (byte ∷ bytes) → digits_word (word_at_column column text) ≡ Ok (byte ∷ bytes)
+digits-read column text byte bytes digits =
     let are = are-read text (byte ∷ bytes) digits in
     let size = are.size in
     let even : length text % 2 ≡ 0 = omega arith in
-    if-false (bytes_eq text (codes "-")) (Ok []) (digits_word (word_at_column column text)) (not-dash-by text (byte ∷ bytes) are)
-    ∙ ap (λ (r : Result (Unit {0}) LineFault). r >> digits_or_flaw (word_at_column column text) (flaw_of text)) (present-some column text (omega arith))
+    ap (λ (r : Result (Unit {0}) LineFault). r >> digits_or_flaw (word_at_column column text) (flaw_of text)) (present-some column text (omega arith))
     ∙ ap (digits_or_flaw (word_at_column column text)) (flaw-of-read text (byte ∷ bytes) are)
     ∙ ap (λ (r : Result (List ℕ) FromHexError). Ok (result_unwrap_or r [])) (sized-pairs text even ∙ decodes 0 text (byte ∷ bytes) digits)
+
+spelled-read : (column : ℕ) (text : List ℕ) (byte : ℕ) (bytes : List ℕ) → AreDigitsOf text (byte ∷ bytes) → hex_word (word_at_column column text) ≡ Ok (byte ∷ bytes)
+spelled-read column text byte bytes digits =
+    if-false (bytes_eq text (codes "-")) (Ok []) (digits_word (word_at_column column text)) (not-dash-by text (byte ∷ bytes) (are-read text (byte ∷ bytes) digits))
+    ∙ digits-read column text byte bytes digits
 
 pub hex-read : (column : ℕ) (text bytes : List ℕ) → SpellsBytes text bytes → hex_word (word_at_column column text) ≡ Ok bytes
 hex-read column text [] dash = subst (λ (t : List ℕ). hex_word (word_at_column column t) ≡ Ok []) (sym dash) refl
@@ -253,6 +265,12 @@ hex-text text (byte ∷ bytes) digits few =
     let are = are-read text (byte ∷ bytes) digits in
     let size = are.size in
     record { word = all-weaker is_hex_digit is_word_byte digit-word text are.all; size = omega arith }
+
+-- digits are a word, two bytes of it for each
+pub digits-word : (text bytes : List ℕ) → AreDigitsOf text bytes → (is_word text ≡ true) × (length text ≡ 2 * length bytes)
+digits-word text bytes digits =
+    let are = are-read text bytes digits in
+    (all-weaker is_hex_digit is_word_byte digit-word text are.all, are.size)
 
 -- digits without a flaw decode
 pub decodes-flawless : (text : List ℕ) → flaw_of text ≡ None → (bytes : List ℕ) × (decode_sized text (length text / 2) ≡ Ok bytes)

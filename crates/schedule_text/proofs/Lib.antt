@@ -1,5 +1,6 @@
 pub mod FirstFaults
 pub mod FrameFaults
+pub mod FrameForms
 pub mod HexBack
 pub mod HexSpelling
 pub mod LinesBack

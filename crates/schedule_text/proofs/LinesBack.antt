@@ -20,7 +20,7 @@ use Rattle.end_answers.specs.declared.calls.Timer.{Timer}
 use Rattle.end_answers.specs.declared.calls.Timer.TheVariants as timer
 use Rattle.schedule_text.specs.declared.line.Line.{Line}
 use Rattle.schedule_text.specs.declared.line.Line.TheVariants as line
-use Rattle.schedule_text.specs.declared.line.LineFault.{LineFault}
+use Rattle.tool_words.specs.declared.faults.LineFault.{LineFault}
 use Rattle.schedule_text.specs.Names.{side_name, place_name, timer_name}
 use Rattle.schedule_text.specs.Words.{word_at_column, placed, words_left}
 use Rattle.schedule_text.specs.Reading.{◌>>=◌, ◌>>◌, place_word, timer_word, number_word, feature_word, values_word, hex_word, wished, offered, iss_line, set_line, offer_line, send_line, prefer_line, timer_line, read_line}

@@ -15,13 +15,14 @@ use Rattle.world_events.specs.declared.event.Side.TheVariants.{Client, Server}
 use Rattle.world_events.specs.declared.event.Event.TheVariants as event
 use Rattle.schedule_text.specs.declared.line.Line.{Line}
 use Rattle.schedule_text.specs.declared.line.Line.TheVariants as line
-use Rattle.schedule_text.specs.declared.line.LineFault.{LineFault}
-use Rattle.schedule_text.specs.declared.line.LineWhy.TheVariants as why
+use Rattle.tool_words.specs.declared.faults.LineFault.{LineFault}
+use Rattle.tool_words.specs.declared.faults.LineWhy.TheVariants as why
 use Rattle.schedule_text.specs.declared.names.Form.{Form}
 use Rattle.schedule_text.specs.declared.names.Form.TheVariants as form
 use Rattle.schedule_text.specs.Names.{form_name, side_name, place_name, timer_name}
 use Rattle.schedule_text.specs.Words.{word_at_column, words_left, words_of, placed, parted_by, first_word, later}
-use Rattle.schedule_text.specs.Reading.{◌>>=◌, ◌>>◌, fault_at, form_word, side_word, place_word, timer_word, number_word, feature_word, values_word, name_word, hex_word, mandatory_word, ended, wished, offered, iss_line, set_line, offer_line, deliver_line, send_line, prefer_line, timer_line, close_line, abort_line, line_of, read_words, is_text, first_other, text_or_other, clean, says_nothing, read_clean, read_line}
+use Rattle.schedule_text.specs.Reading.{◌>>=◌, ◌>>◌, form_word, side_word, place_word, timer_word, number_word, feature_word, values_word, name_word, hex_word, mandatory_word, ended, wished, offered, iss_line, set_line, offer_line, deliver_line, send_line, prefer_line, timer_line, close_line, abort_line, line_of, read_words, is_text, first_other, text_or_other, clean, says_nothing, read_clean, read_line}
+use Rattle.tool_words.specs.Refusals.{fault_at}
 use Rattle.schedule_text.specs.Printing.{joined, frame_name, values_text, mandatory_words}
 use Rattle.schedule_text.specs.Forms.{SpellsBytes, IsLine}
 use Rattle.schedule_text.proofs.FirstFaults.{by-presence-ok}
@@ -33,7 +34,7 @@ use Rattle.schedule_text.proofs.Spelling.{bind-ok, then-ok, with-step, end-ok, f
 
 -- Ends of lines
 
-end-then : {B : Type 0} (column absent : ℕ) (parts : List (List ℕ)) (next : Result B LineFault) (y : B) → (ended (words_left (placed column parts) absent) >> next) ≡ Ok y → (parts ≡ []) × (next ≡ Ok y)
+pub end-then : {B : Type 0} (column absent : ℕ) (parts : List (List ℕ)) (next : Result B LineFault) (y : B) → (ended (words_left (placed column parts) absent) >> next) ≡ Ok y → (parts ≡ []) × (next ≡ Ok y)
 end-then column absent [] next y is = (refl, is)
 end-then column absent (word ∷ rest) next y is = cc is
 
@@ -247,7 +248,7 @@ all-text : (from : ℕ) (text : List ℕ) → position_from (λ byte. not (is_te
 all-text from [] none = refl
 all-text from (byte ∷ rest) none = text-by from byte rest (is_text byte) none (all-text (from + 1) rest)
 
-record IsClean (text : List ℕ) : Type 0 where
+pub record IsClean (text : List ℕ) : Type 0 where
   pub short : length text ≤ 4096
   pub all : list_all is_text text ≡ true
 
@@ -255,10 +256,10 @@ other-none : (place : Option ℕ) → text_or_other place ≡ Ok tt → place �
 other-none None is = refl
 other-none (Some place) is = cc is
 
-not-long : (n : ℕ) → nat_lt 4096 n ≡ false → n ≤ 4096
+pub not-long : (n : ℕ) → nat_lt 4096 n ≡ false → n ≤ 4096
 not-long n is = grind (arith, nat_tests)
 
-clean-by : (text : List ℕ) (long : Bool) → (long ≡ false → length text ≤ 4096) → (if long then Err (fault_at 4097 why.LineTooLong) else text_or_other (first_other text)) ≡ Ok tt → IsClean text
+pub clean-by : (text : List ℕ) (long : Bool) → (long ≡ false → length text ≤ 4096) → (if long then Err (fault_at 4097 why.LineTooLong) else text_or_other (first_other text)) ≡ Ok tt → IsClean text
 clean-by text true means is = cc is
 clean-by text false means is = record { short = means refl; all = all-text 0 text (other-none (first_other text) is) }
 

@@ -15,8 +15,8 @@ use Rattle.world_events.specs.declared.event.Side.TheVariants.{Client, Server}
 use Rattle.world_events.specs.declared.event.Event.TheVariants as event
 use Rattle.end_answers.specs.declared.calls.Timer.{Timer}
 use Rattle.end_answers.specs.declared.calls.Timer.TheVariants as timer
-use Rattle.schedule_text.specs.declared.line.LineFault.{LineFault}
-use Rattle.schedule_text.specs.declared.line.LineWhy.TheVariants as why
+use Rattle.tool_words.specs.declared.faults.LineFault.{LineFault}
+use Rattle.tool_words.specs.declared.faults.LineWhy.TheVariants as why
 use Rattle.schedule_text.specs.Names.{side_name, place_name, timer_name}
 use Rattle.schedule_text.specs.Numbers.{sequence_numbers, number_and_rest, numbers_read, at_most_nine, values_of, feature_of}
 use Rattle.tool_text.specs.Numbers.{number_below}

@@ -21,15 +21,16 @@ use Rattle.world_events.specs.declared.event.Event.{Event}
 use Rattle.world_events.specs.declared.event.Event.TheVariants as event
 use Rattle.end_answers.specs.declared.calls.Timer.{Timer}
 use Rattle.end_answers.specs.declared.calls.Timer.TheVariants as timer
-use Rattle.schedule_text.specs.declared.line.LineFault.{LineFault}
-use Rattle.schedule_text.specs.declared.line.LineWhy.TheVariants as why
+use Rattle.tool_words.specs.declared.faults.LineFault.{LineFault}
+use Rattle.tool_words.specs.declared.faults.LineWhy.TheVariants as why
 use Rattle.schedule_text.specs.declared.names.Form.{Form}
 use Rattle.schedule_text.specs.declared.names.Form.TheVariants as form
 use Rattle.schedule_text.specs.Names.{form_name, form_named, side_name, side_named, place_name, place_named, timer_name, timer_of}
 use Rattle.schedule_text.specs.Numbers.{sequence_numbers, number_and_rest, numbers_read, at_most_nine, values_of, feature_of}
 use Rattle.tool_text.specs.Numbers.{number_below}
 use Rattle.schedule_text.specs.Words.{WordAt, WordsLeft, word_at_column, words_left, placed, parted_by, first_word, later}
-use Rattle.schedule_text.specs.Reading.{◌>>=◌, ◌>>◌, fault_at, form_word, side_word, place_word, timer_word, number_word, feature_word, values_word, delivery, frame_index, named, name_word, ended}
+use Rattle.schedule_text.specs.Reading.{◌>>=◌, ◌>>◌, form_word, side_word, place_word, timer_word, number_word, feature_word, values_word, delivery, frame_index, named, name_word, ended}
+use Rattle.tool_words.specs.Refusals.{fault_at}
 use Rattle.schedule_text.specs.Printing.{values_text, frame_name}
 use Rattle.schedule_text.specs.Range.{AreValues}
 use Rattle.schedule_text.proofs.Numerals.{number-spelled}

@@ -6,11 +6,12 @@ use Rattle.std.proofs.lemmas.Bool.Decides.{nat_tests}
 use Rattle.std.proofs.lemmas.List.Folds.{list_all-append}
 use Rattle.std.proofs.lemmas.Fmt.{decimal_by_steps}
 use Rattle.schedule_text.specs.declared.line.Line.TheVariants as line
-use Rattle.schedule_text.specs.declared.line.LineFault.{LineFault}
-use Rattle.schedule_text.specs.declared.line.LineWhy.TheVariants as why
+use Rattle.tool_words.specs.declared.faults.LineFault.{LineFault}
+use Rattle.tool_words.specs.declared.faults.LineWhy.TheVariants as why
 use Rattle.tool_text.specs.Numbers.{is_digit}
 use Rattle.schedule_text.specs.Words.{placed, words_left, words_of}
-use Rattle.schedule_text.specs.Reading.{◌>>◌, fault_at, is_text, first_other, text_or_other, clean, says_nothing, read_clean, read_line, read_words}
+use Rattle.schedule_text.specs.Reading.{◌>>◌, is_text, first_other, text_or_other, clean, says_nothing, read_clean, read_line, read_words}
+use Rattle.tool_words.specs.Refusals.{fault_at}
 use Rattle.schedule_text.specs.Printing.{joined}
 
 pub both-true : (a b : Bool) → (a && b) ≡ true → (a ≡ true) × (b ≡ true)
@@ -51,7 +52,7 @@ is_word word = list_all is_word_byte word
 word-byte-text : (byte : ℕ) → is_word_byte byte ≡ true → is_text byte ≡ true
 word-byte-text byte is = grind (arith, nat_tests)
 
-word-byte-lacks : (byte : ℕ) → is_word_byte byte ≡ true → lacks 32 byte ≡ true
+pub word-byte-lacks : (byte : ℕ) → is_word_byte byte ≡ true → lacks 32 byte ≡ true
 word-byte-lacks byte is = grind (arith, nat_tests)
 
 digit-word-byte : (byte : ℕ) → is_digit byte ≡ true → is_word_byte byte ≡ true
@@ -96,7 +97,7 @@ joined-parts mark w (next ∷ ws) all =
 
 -- Clean lines
 
-joined-text : (w : List ℕ) (ws : List (List ℕ)) → list_all is_word (w ∷ ws) ≡ true → list_all is_text (joined (w ∷ ws)) ≡ true
+pub joined-text : (w : List ℕ) (ws : List (List ℕ)) → list_all is_word (w ∷ ws) ≡ true → list_all is_text (joined (w ∷ ws)) ≡ true
 joined-text w [] all = all-weaker is_word_byte is_text word-byte-text w (both-true (is_word w) true all).0
 joined-text w (next ∷ ws) all =
     let both = both-true (is_word w) (list_all is_word (next ∷ ws)) all in
@@ -124,7 +125,7 @@ abbrev pub words_length : List (List ℕ) → ℕ
 words_length [] = 0
 words_length (w ∷ ws) = length w + 1 + words_length ws
 
-joined-length : (w : List ℕ) (ws : List (List ℕ)) → length (joined (w ∷ ws)) + 1 ≡ words_length (w ∷ ws)
+pub joined-length : (w : List ℕ) (ws : List (List ℕ)) → length (joined (w ∷ ws)) + 1 ≡ words_length (w ∷ ws)
 joined-length w [] = omega arith
 joined-length w (next ∷ ws) = let rest = joined-length next ws in omega (arith, length-append w (32 ∷ joined (next ∷ ws)))
 

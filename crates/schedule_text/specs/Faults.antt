@@ -6,9 +6,9 @@ use Rattle.feature_lists.specs.declared.features.Feature.{Feature}
 use Rattle.feature_lists.specs.declared.features.Place.{Place}
 use Rattle.feature_lists.specs.declared.wishes.PreferFault.{PreferFault}
 use Rattle.feature_lists.specs.declared.wishes.Wanted.{Wanted}
-use Rattle.schedule_text.specs.declared.line.LineFault.{LineFault}
-use Rattle.schedule_text.specs.declared.line.LineWhy.{LineWhy}
-use Rattle.schedule_text.specs.declared.line.LineWhy.TheVariants as why
+use Rattle.tool_words.specs.declared.faults.LineFault.{LineFault}
+use Rattle.tool_words.specs.declared.faults.LineWhy.{LineWhy}
+use Rattle.tool_words.specs.declared.faults.LineWhy.TheVariants as why
 use Rattle.schedule_text.specs.declared.names.Form.{Form}
 use Rattle.schedule_text.specs.declared.names.Form.TheVariants as form
 use Rattle.schedule_text.specs.Names.{form_named, side_named, place_named, timer_of}
@@ -16,7 +16,8 @@ use Rattle.schedule_text.specs.Numbers.{values_of, feature_of}
 use Rattle.tool_text.specs.Numbers.{number_below}
 use Rattle.schedule_text.specs.Digits.{flaw_of}
 use Rattle.schedule_text.specs.Words.{WordAt, WordsLeft, first_word, later, word_at, words_of}
-use Rattle.schedule_text.specs.Reading.{fault_at, wish_fault, first_other, says_nothing}
+use Rattle.schedule_text.specs.Reading.{wish_fault, first_other, says_nothing}
+use Rattle.tool_words.specs.Refusals.{fault_at}
 
 -- of two faults the first, if there is one
 abbrev pub first_or : Option LineFault → Option LineFault → Option LineFault

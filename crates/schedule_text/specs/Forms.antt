@@ -1,8 +1,9 @@
 -- The lines that are accepted, by their words (own).
-use Rattle.std.specs.Prelude.{◌≡◌, ℕ, ◌/◌, ◌%◌, ◌≤◌, true, List, [], ◌∷◌, length, codes, Some}
+use Rattle.std.specs.Prelude.{◌≡◌, ℕ, ◌/◌, ◌%◌, ◌≤◌, Bool, true, if◌then◌else◌, List, [], ◌∷◌, length, codes, Option, Some, None}
 use Rattle.std.specs.List.{list_all}
 use Rattle.hex.specs.Hex.{hex_digit_value}
 use Rattle.world_events.specs.declared.event.Event.TheVariants as event
+use Rattle.schedule_text.specs.declared.line.FrameLine.{FrameLine}
 use Rattle.schedule_text.specs.declared.line.Line.{Line}
 use Rattle.schedule_text.specs.declared.line.Line.TheVariants as line
 use Rattle.schedule_text.specs.declared.names.Form.TheVariants as form
@@ -51,3 +52,21 @@ IsLine text (line.Event (event.Prefer side feature place values)) =
 IsLine text (line.Event (event.Timer side timer)) = text ≡ joined (line_words (line.Event (event.Timer side timer)))
 IsLine text (line.Event (event.Close side)) = text ≡ joined (line_words (line.Event (event.Close side)))
 IsLine text (line.Event (event.Abort side)) = text ≡ joined (line_words (line.Event (event.Abort side)))
+
+-- The words of a line with a frame: `seal` where its checksum is to be set, then its digits.
+abbrev pub frame_words : Bool → List ℕ → List (List ℕ)
+frame_words seal digits = if seal then codes "seal" ∷ (digits ∷ []) else digits ∷ []
+
+-- a text is a frame's words: digits of 1 to 2,044 bytes, of 8 at least where the checksum is to be set
+pub record IsFrameOf (text : List ℕ) (frame : FrameLine) : Type 0 where
+  pub digits : List ℕ
+  pub spells : AreDigitsOf digits frame.bytes
+  pub words : text ≡ joined (frame_words frame.seal digits)
+  pub some : 1 ≤ length frame.bytes
+  pub few : length frame.bytes ≤ 2044
+  pub covered : frame.seal ≡ true → 8 ≤ length frame.bytes
+
+-- a text is a replay's line that has this frame, or it has none: it is an empty line or a comment
+abbrev pub IsFrameLine : List ℕ → Option FrameLine → Type 0
+IsFrameLine text None = (says_nothing text ≡ true) × (length text ≤ 4096) × (list_all is_text text ≡ true)
+IsFrameLine text (Some frame) = IsFrameOf text frame

@@ -2,11 +2,12 @@
 use Rattle.std.specs.Prelude.{ℕ, Bool, true, false, ◌&&◌, nat_lt, if◌then◌else◌, List, length, codes, Option, Some, None, Result, Ok, Err}
 use Rattle.std.specs.Str.{bytes_eq}
 use Rattle.schedule_text.specs.declared.line.FrameLine.{FrameLine}
-use Rattle.schedule_text.specs.declared.line.LineFault.{LineFault}
-use Rattle.schedule_text.specs.declared.line.LineWhy.TheVariants as why
+use Rattle.tool_words.specs.declared.faults.LineFault.{LineFault}
+use Rattle.tool_words.specs.declared.faults.LineWhy.TheVariants as why
 use Rattle.schedule_text.specs.Words.{WordsLeft, first_word, later, words_of}
 use Rattle.schedule_text.specs.Digits.{bytes_of}
-use Rattle.schedule_text.specs.Reading.{◌>>=◌, ◌>>◌, fault_at, digits_word, ended, clean, says_nothing, first_other}
+use Rattle.schedule_text.specs.Reading.{◌>>=◌, ◌>>◌, digits_word, ended, clean, says_nothing, first_other}
+use Rattle.tool_words.specs.Refusals.{fault_at}
 use Rattle.schedule_text.specs.Faults.{first_or, digits_fault, nothing_more, no_text}
 
 -- a frame, whose checksum is to be set or stands in it

@@ -1,12 +1,13 @@
 //! Laws above the definitions.
-ghost use Rattle.std.specs.Prelude.{◌≡◌, ◌↔◌, ℕ, List, Some, Ok, Err};
+ghost use Rattle.std.specs.Prelude.{◌≡◌, ◌↔◌, ℕ, List, Option, Some, Ok, Err};
 ghost use Rattle.world_events.specs.declared.event.Event.{Event};
+ghost use Rattle.schedule_text.specs.declared.line.FrameLine.{FrameLine};
 ghost use Rattle.schedule_text.specs.declared.line.Line.{Line};
 ghost use Rattle.schedule_text.specs.declared.line.Line.TheVariants as line;
-ghost use Rattle.schedule_text.specs.declared.line.LineFault.{LineFault};
+ghost use Rattle.tool_words.specs.declared.faults.LineFault.{LineFault};
 ghost use Rattle.schedule_text.specs.Columns.{AreWordsOf};
 ghost use Rattle.schedule_text.specs.Faults.{line_fault};
-ghost use Rattle.schedule_text.specs.Forms.{IsLine};
+ghost use Rattle.schedule_text.specs.Forms.{IsFrameLine, IsLine};
 ghost use Rattle.schedule_text.specs.Frames.{read_frame, frame_fault};
 ghost use Rattle.schedule_text.specs.Printing.{event_text};
 ghost use Rattle.schedule_text.specs.Range.{IsPrintable};
@@ -36,6 +37,13 @@ pub fn lines_are_their_forms()
 /// says what each word is judged for (own).
 pub fn the_first_fault_is_answered()
     ensures { (text : List ℕ) (fault : LineFault) → (read_line text ≡ Err fault) ↔ (line_fault text ≡ Some fault) }
+{}
+
+/// A line of a replay is accepted exactly where it is the words of its frame: the digits of 1 to 2,044 bytes in either
+/// case, and `seal` in front of them where the checksum is to be set, then of 8 bytes at least; and it has no frame
+/// exactly where it is an empty line or a comment of text that is not too long (own).
+pub fn frames_are_their_forms()
+    ensures { (text : List ℕ) (said : Option FrameLine) → (read_frame text ≡ Ok said) ↔ IsFrameLine text said }
 {}
 
 /// A line of a replay is refused exactly for its first fault, at that fault's column (own).

@@ -1,5 +1,6 @@
 //! Lines of schedules, read.
 ghost use Rattle.std.specs.Prelude.{◌≡◌, ◌<◌, ◌≤◌, length, OnOk, OnErr, IfOk, IfSome, MatchResult, None, Ok, Err};
+ghost use Rattle.tool_words.specs.Refusals.{fault_at};
 ghost use Rattle.schedule_text.specs.Left.{word_of, left_of};
 ghost use Rattle.schedule_text.specs.Words.{later};
 ghost use Rattle.schedule_text.specs.Digits.{flaw_of, bytes_of};
@@ -19,7 +20,7 @@ use world_events::Side;
 const LONGEST_LINE: usize = 4096;
 
 pub(crate) fn fault_at(column: u32, why: LineWhy) -> LineFault
-    ensures { result ≡ spec.fault_at column why }
+    ensures { result ≡ fault_at column why }
 {
     LineFault { column, why }
 }

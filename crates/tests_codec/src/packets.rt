@@ -93,6 +93,73 @@ fn refused_packets(rt: HostRuntime) -> Result<(), Fail> {
     Ok(())
 }
 
+// Types that have long numbers alone, with X = 0: the offset is measured by the long form, and that comes first. A Data
+// of the short form is measured by that.
+const WITHOUT_LONG_NUMBERS: [(&str, Malformed); 15] = [
+    ("9c401389040000000000000100000000", Malformed::OffsetSmall),
+    (
+        "9c40138905000000000000010000000000000000",
+        Malformed::ShortNumbers,
+    ),
+    (
+        "9c4013890600000002000001000000000000000000000000",
+        Malformed::OffsetSmall,
+    ),
+    (
+        "9c401389070000000200000100000000000000000000000000000000",
+        Malformed::ShortNumbers,
+    ),
+    (
+        "9c401389050000000a0000010000000000000000",
+        Malformed::OffsetSmall,
+    ),
+    (
+        "9c401389060000000a000001000000000000000000000000",
+        Malformed::ShortNumbers,
+    ),
+    (
+        "9c401389050000000c0000010000000000000000",
+        Malformed::OffsetSmall,
+    ),
+    (
+        "9c401389060000000c000001000000000000000000000000",
+        Malformed::ShortNumbers,
+    ),
+    (
+        "9c401389060000000e000001000000000000000000000000",
+        Malformed::OffsetSmall,
+    ),
+    (
+        "9c401389070000000e00000100000000000000000000000000000000",
+        Malformed::ShortNumbers,
+    ),
+    (
+        "9c40138905000000100000010000000000000000",
+        Malformed::OffsetSmall,
+    ),
+    (
+        "9c4013890600000010000001000000000000000000000000",
+        Malformed::ShortNumbers,
+    ),
+    (
+        "9c40138905000000120000010000000000000000",
+        Malformed::OffsetSmall,
+    ),
+    (
+        "9c4013890600000012000001000000000000000000000000",
+        Malformed::ShortNumbers,
+    ),
+    ("9c4013890200000004000001", Malformed::OffsetSmall),
+];
+
+#[test]
+fn offsets_of_long_types(rt: HostRuntime) -> Result<(), Fail> {
+    for (text, fault) in WITHOUT_LONG_NUMBERS {
+        assert!(rt; is_refused(&bytes_of(rt.alloc(), text)?, fault), "{text}");
+    }
+    Ok(())
+}
+
 // The header of a packet.
 fn header_of(bytes: &[u8]) -> Option<Header> {
     match decode(bytes) {
@@ -148,8 +215,9 @@ fn fields_of_a_request(rt: HostRuntime) -> Result<(), Fail> {
     Ok(())
 }
 
-// A frame, its type, and its acknowledgement number, Service Code and Reset Code as they stand in it.
-const FIELDS: [(&str, PacketType, Option<u64>, Option<u32>, u8); 10] = [
+// A frame, its type, and its acknowledgement number, Service Code and Reset Code as they stand in it. In the last two the
+// three reserved bits before the type are set.
+const FIELDS: [(&str, PacketType, Option<u64>, Option<u32>, u8); 12] = [
     (
         "9c401389050031ec01000000000003e80000002a",
         PacketType::Request,
@@ -217,6 +285,20 @@ const FIELDS: [(&str, PacketType, Option<u64>, Option<u32>, u8); 10] = [
         "13899c400600173e13000000000007d200000000000003ea",
         PacketType::SyncAck,
         Some(1002),
+        None,
+        0,
+    ),
+    (
+        "13899c4004000000e5000000000007d0",
+        PacketType::Data,
+        None,
+        None,
+        0,
+    ),
+    (
+        "9c40138904000000e80003ea000007d1",
+        PacketType::DataAck,
+        Some(2001),
         None,
         0,
     ),

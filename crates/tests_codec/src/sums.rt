@@ -156,6 +156,37 @@ fn coverage_to_the_packets_end(rt: HostRuntime) {
     assert_eq!(rt; covered(&request), Some(20));
 }
 
+// What a packet of so many bytes covers, whose data begin at byte 20.
+fn covered_of(cscov: u8, length: usize) -> Option<usize> {
+    let mut packet = [0; 80];
+    packet[4] = 5;
+    packet[5] = cscov;
+    covered(&packet[..length.clamp(8, 80)])
+}
+
+// All four bits of the field count: 4 (n - 1) bytes of data are covered (RFC 4340, section 9.2). A packet that is a byte
+// shorter has no such coverage.
+const LARGE_COVERAGES: [(u8, usize, Option<usize>); 8] = [
+    (4, 32, Some(32)),
+    (4, 31, None),
+    (8, 48, Some(48)),
+    (8, 47, None),
+    (9, 52, Some(52)),
+    (9, 51, None),
+    (15, 76, Some(76)),
+    (15, 75, None),
+];
+
+#[test]
+fn coverages_of_four_bits(rt: HostRuntime) {
+    for (cscov, length, bytes) in LARGE_COVERAGES {
+        assert!(rt;
+            covered_of(cscov, length) == bytes,
+            "CsCov {cscov}, {length} bytes"
+        );
+    }
+}
+
 #[test]
 fn both_spellings_of_zero(rt: HostRuntime) {
     let mut request = REQUEST;

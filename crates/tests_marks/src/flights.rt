@@ -91,8 +91,9 @@ fn play(alloc: Global, calls: &[Call]) -> Result<(), Fail> {
 }
 
 // 10 to 15 are out. 17 and 16 lie outside the list, and 15 is marked. Two later ones make nothing lost, and three do;
-// what the mark covers is no congestion. A lost one that is reported after all is acknowledged, and in flight stays.
-const SEVERAL_VECTORS: [Call; 9] = [
+// what the mark covers is no congestion. A lost one that is reported after all is acknowledged, and in flight stays. One
+// that is reported as marked is congestion past the mark, once, and not acknowledged.
+const SEVERAL_VECTORS: [Call; 14] = [
     Call::Send(10, 16),
     Call::Tell(17, [0x01, 0x40], Some(9), 0, true),
     Call::Out(5),
@@ -102,6 +103,11 @@ const SEVERAL_VECTORS: [Call; 9] = [
     Call::Out(0),
     Call::Tell(11, [0x00, 0xc0], Some(9), 1, false),
     Call::Out(0),
+    Call::IsReported(12, false),
+    Call::Tell(12, [0x40, 0xc0], Some(9), 0, true),
+    Call::IsReported(12, true),
+    Call::Tell(12, [0x40, 0xc0], Some(9), 0, false),
+    Call::Tell(10, [0x40, 0xc0], Some(15), 0, false),
 ];
 
 #[test]

@@ -347,8 +347,9 @@ fn halves_round_down(rt: HostRuntime) -> Result<(), Fail> {
 }
 
 // A marked number halves down to one packet, and at a window that is the threshold the window grows by one for a
-// window: not by three of four.
-const AVOIDANCE_FROM_THE_THRESHOLD_ON: [Call; 20] = [
+// window: not by three of four. Of more than a window nothing is left over: behind 3 and 4 of four, 2 of five are too few,
+// and 3 more are enough.
+const AVOIDANCE_FROM_THE_THRESHOLD_ON: [Call; 26] = [
     Call::Send(1, 2),
     Call::Tell(1, 0x40),
     Call::Shown(2, 2),
@@ -366,9 +367,15 @@ const AVOIDANCE_FROM_THE_THRESHOLD_ON: [Call; 20] = [
     Call::Send(5001, 5004),
     Call::Tell(5003, 0x02),
     Call::Window(4),
-    Call::Send(5004, 5005),
-    Call::Tell(5004, 0x00),
+    Call::Send(5004, 5008),
+    Call::Tell(5007, 0x03),
     Call::Window(5),
+    Call::Send(5008, 5010),
+    Call::Tell(5009, 0x01),
+    Call::Window(5),
+    Call::Send(5010, 5013),
+    Call::Tell(5012, 0x02),
+    Call::Window(6),
 ];
 
 #[test]
@@ -428,8 +435,38 @@ const MARKED_AFTER_A_START: [Call; 4] = [
     Call::Threshold(2),
 ];
 
+// A second timeout with nothing sent between has the same mark: older numbers that are received open the window to 2,
+// and one that is marked does not halve it.
+const MARKED_BEHIND_A_SECOND_TIMEOUT: [Call; 11] = [
+    Call::Timeout,
+    Call::Shown(1, 2),
+    Call::Send(10, 11),
+    Call::Tell(10, 0x00),
+    Call::Window(1),
+    Call::Send(11, 12),
+    Call::Tell(11, 0x00),
+    Call::Window(2),
+    Call::Send(12, 13),
+    Call::Tell(12, 0x40),
+    Call::Window(2),
+];
+
+// Slow start ends at the first window that is not below the threshold, which may lie above it: 1, 1, 2, 3, 4, 6 and 9
+// packets are all received, of which 9 open 5 more.
+const PAST_THE_THRESHOLD: [Call; 2] = [Call::Fill(47, 73, 65_535), Call::Shown(14, 10)];
+
+#[test]
+fn slow_start_past_the_threshold(rt: HostRuntime) -> Result<(), Fail> {
+    play_behind(rt.alloc(), &TIMED_OUT_AT_47, &PAST_THE_THRESHOLD)
+}
+
 #[test]
 fn the_mark_of_a_timeout(rt: HostRuntime) -> Result<(), Fail> {
+    play_behind(
+        rt.alloc(),
+        &TIMED_OUT_AT_47,
+        &MARKED_BEHIND_A_SECOND_TIMEOUT,
+    )?;
     play_behind(rt.alloc(), &TIMED_OUT_AT_47, &MARKED_47)?;
     play_behind(rt.alloc(), &TIMED_OUT_AT_47, &MARKED_48)?;
     play_behind(rt.alloc(), &TIMED_OUT_AT_47, &MARKED_AFTER_A_START)

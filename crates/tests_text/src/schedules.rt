@@ -32,6 +32,34 @@ fn is_printed(line: &[u8], text: &mut Vec<u8>) -> bool {
     }
 }
 
+// The events of an example, at whose ends the numbers pass the greatest one.
+const EVENTS: [&[u8]; 7] = [
+    b"open",
+    b"deliver c0",
+    b"deliver s0",
+    b"deliver c1",
+    b"deliver s1",
+    b"timer client ack",
+    b"deliver c2",
+];
+
+// Whether each event is printed as its line.
+fn are_printed_alone(text: &mut Vec<u8>) -> bool {
+    for line in EVENTS {
+        text.clear();
+        if !is_printed(line, text) || text.as_slice() != line {
+            return false;
+        }
+    }
+    true
+}
+
+#[test]
+fn events_are_printed_as_their_lines(rt: HostRuntime) {
+    let mut text = Vec::new(rt.alloc());
+    assert!(rt; are_printed_alone(&mut text));
+}
+
 // Whether the timers' results are printed behind the text, in a schedule and in a replay.
 fn are_told(text: &mut Vec<u8>) -> bool {
     print_seen(7, &Event::Open, &Seen::Fired(true), b"", text).is_ok()

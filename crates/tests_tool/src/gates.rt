@@ -1,13 +1,28 @@
 //! A gate that tells whether workers run beside each other.
 use campaign_claims::Claimer;
 use fault_campaign::Gate;
+use std::hint::spin_loop;
 use std::sync::atomic::{AtomicU64, Ordering};
+
+// Each of four seeds has begun once.
+const ONCE_EACH: u64 = 0x0001_0001_0001_0001;
 
 // Holds the first seed that begins until the other three have begun.
 #[derive(Drop)]
 pub(crate) struct HoldFirst {
     begun: AtomicU64,
     met: AtomicU64,
+}
+
+// How often each seed has begun stands in 16 bits of one number. A seed past the four leaves no number that is wanted.
+fn share_of(index: u64) -> u64 {
+    match index {
+        0 => 0x0001,
+        1 => 0x0001_0000,
+        2 => 0x0001_0000_0000,
+        3 => 0x0001_0000_0000_0000,
+        _ => 0x0100,
+    }
 }
 
 impl HoldFirst {
@@ -18,22 +33,24 @@ impl HoldFirst {
         }
     }
 
-    // Whether the other three began while the first was held.
+    // Whether each seed began once, and the other three while the first was held.
     pub(crate) fn has_met(&self) -> bool {
-        self.met.load(Ordering::SeqCst) == 1
+        self.met.load(Ordering::SeqCst) == 1 && self.begun.load(Ordering::SeqCst) == ONCE_EACH
     }
 }
 
 impl Gate for HoldFirst {
-    fn begin(&self, _claimer: &Claimer, _index: u64) {
-        if self.begun.fetch_add(1, Ordering::SeqCst) != 0 {
+    fn begin(&self, _claimer: &Claimer, index: u64) {
+        if self.begun.fetch_add(share_of(index), Ordering::SeqCst) != 0 {
             return;
         }
         for _ in 0..100_000_000u32 {
-            if self.begun.load(Ordering::SeqCst) >= 4 {
+            if self.begun.load(Ordering::SeqCst) == ONCE_EACH {
                 self.met.store(1, Ordering::SeqCst);
                 return;
             }
+            // On a machine with other work the other thread has to come to run, too.
+            spin_loop();
         }
     }
 }

@@ -1,7 +1,7 @@
 //! How a job ended.
 ghost use Rattle.std.specs.Prelude.{◌≡◌, if◌then◌else◌};
 
-/// How a job of the tool ended (own), numbered from 0 as the program's exit status.
+/// How a job of the tool ended (own).
 #[derive(Clone, Copy, Debug, PartialEq, Eq)]
 pub enum Status {
     /// The whole job was done; an input that it has was read to its end.
@@ -16,6 +16,27 @@ pub enum Status {
     Write,
     /// No memory was left.
     Memory,
+}
+
+impl Status {
+    /// The program's exit status, 0 to 5 (own).
+    pub fn number(self) -> u8
+        ensures done { self ≡ Status.Done → result ≡ 0 }
+        ensures input { self ≡ Status.Input → result ≡ 1 }
+        ensures words { self ≡ Status.Words → result ≡ 2 }
+        ensures read { self ≡ Status.Read → result ≡ 3 }
+        ensures write { self ≡ Status.Write → result ≡ 4 }
+        ensures memory { self ≡ Status.Memory → result ≡ 5 }
+    {
+        match self {
+            Status::Done => 0,
+            Status::Input => 1,
+            Status::Words => 2,
+            Status::Read => 3,
+            Status::Write => 4,
+            Status::Memory => 5,
+        }
+    }
 }
 
 /// How a job ended that wrote all that there is to write (own): Input where its input was refused, and Done otherwise.

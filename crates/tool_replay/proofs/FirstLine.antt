@@ -1,16 +1,11 @@
 -- What a reader of lines says of what is left, in the terms of its first line.
-use Rattle.std.proofs.Common.{arith, ◌≡◌, refl, sym, ap, ◌∙◌, subst, ℕ, suc, ◌-◌, ◌≤◌, ◌<◌, min, Bool, true, false, nat_lt, nat_le, if◌then◌else◌, ◌==◌, List, [], ◌∷◌, length, take, Err}
+use Rattle.std.proofs.Common.{arith, ◌≡◌, refl, sym, ap, ◌∙◌, subst, ℕ, suc, ◌-◌, ◌≤◌, ◌<◌, min, Bool, true, false, nat_lt, nat_le, if◌then◌else◌, ◌==◌, List, [], ◌∷◌, length, take}
 use Rattle.std.proofs.lemmas.Bool.Decides.{nat_tests}
 use Rattle.std.proofs.lemmas.List.{length-take, take_all}
 use Rattle.std.specs.Prelude.{slice_index}
 use Rattle.dccp_io.specs.Lines.{newline, text_length, first_line, ends_within, next_in_bytes, Line, Long, Much}
 use Rattle.dccp_io.proofs.NextLine.{text_length-fits}
-use Rattle.schedule_text.specs.Frames.{read_frame, read_clean_frame}
-use Rattle.schedule_text.specs.Reading.{◌>>◌, fault_at, first_other, text_or_other}
-use Rattle.schedule_text.specs.declared.line.LineWhy.TheVariants as why
-use Rattle.tool_replay.specs.Lines.{too_long, whole_line, without_newline}
-use Rattle.tool_replay.specs.Replay.{FrameRefused, by_frame_line, frame_judged}
-use Rattle.tool_replay.specs.declared.replay.Replay.{Replay}
+use Rattle.tool_replay.specs.Lines.{without_newline}
 
 with-line : (within long : Bool) (front first line : List ℕ) → (if within then (if long then Long front else Line first) else Much) ≡ Line line
     → (within ≡ true) × (first ≡ line)
@@ -90,21 +85,3 @@ text-long bytes long = text-long-by bytes (nat_lt (text_length bytes) (length by
 
 pub is-more : (n : ℕ) → 4096 < n → nat_lt 4096 n ≡ true
 is-more n more = grind (arith, nat_tests)
-
--- a text that is too long is read as that, whatever it says
-read-long-frame : (text : List ℕ) → 4096 < length text → read_frame text ≡ Err too_long
-read-long-frame text long =
-    ap (λ (b : Bool). (if b then Err (fault_at 4097 why.LineTooLong) else text_or_other (first_other text)) >> read_clean_frame text) (is-more (length text) long)
-
-pub long-frame-refused : (before : Replay) (bytes : List ℕ) → ends_within before.read (first_line bytes) ≡ true → 4097 ≤ text_length bytes
-    → frame_judged before (first_line bytes) ≡ FrameRefused too_long
-unfolding frame_judged
-long-frame-refused before bytes within long =
-    ap (λ (b : Bool). if b then by_frame_line before (first_line bytes) (read_frame (without_newline (first_line bytes))) else FrameRefused (whole_line why.TooMuchInput)) within
-    ∙ ap (by_frame_line before (first_line bytes)) (read-long-frame (without_newline (first_line bytes)) (text-long bytes long))
-
-pub much-frame-refused : (before : Replay) (bytes : List ℕ) → ends_within before.read (first_line bytes) ≡ false
-    → frame_judged before (first_line bytes) ≡ FrameRefused (whole_line why.TooMuchInput)
-unfolding frame_judged
-much-frame-refused before bytes past =
-    ap (λ (b : Bool). if b then by_frame_line before (first_line bytes) (read_frame (without_newline (first_line bytes))) else FrameRefused (whole_line why.TooMuchInput)) past

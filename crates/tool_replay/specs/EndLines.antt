@@ -1,4 +1,4 @@
--- The lines of frames, ends and refusals (own).
+-- The lines of frames and ends (own).
 use Rattle.std.specs.Prelude.{ℕ, ◌++◌, List, [], ◌∷◌, codes, decimal, flat_map}
 use Rattle.hex.specs.Hex.{encode_lower}
 use Rattle.feature_lists.specs.Features.{feature_number}
@@ -12,8 +12,7 @@ use Rattle.feature_machine.specs.declared.stands.Held.{Held}
 use Rattle.world_events.specs.declared.event.Side.{Side}
 use Rattle.schedule_text.specs.Names.{side_name}
 use Rattle.schedule_text.specs.Printing.{frame_name}
-use Rattle.schedule_text.specs.declared.line.LineFault.{LineFault}
-use Rattle.tool_replay.specs.Text.{phase_name, stand_mark, line_why_name}
+use Rattle.tool_replay.specs.Text.{phase_name, stand_mark}
 
 -- The line of a frame of these bytes that was sent.
 abbrev pub bytes_line : Side → ℕ → List ℕ → List ℕ
@@ -50,8 +49,3 @@ end_rows e = flat_map (row_text e) all_features
 -- the line of an end: its side and phase, the counts of its congestion control, and its features
 abbrev pub end_line : Side → End Both → List ℕ
 end_line side e = end_name side e.state ++ end_counts e.congestion ++ end_rows e.state ++ codes "\n"
-
--- The line of a refusal, under the number of the line that is refused.
-abbrev pub refusal_line : ℕ → LineFault → List ℕ
-refusal_line number fault =
-    codes "line " ++ decimal number ++ codes " column " ++ decimal fault.column ++ codes ": " ++ line_why_name fault.why ++ codes "\n"

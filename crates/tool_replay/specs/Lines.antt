@@ -1,9 +1,8 @@
 -- A line of an input, as it is judged (own).
 use Rattle.std.specs.Prelude.{ℕ, ◌-◌, ◌==◌, if◌then◌else◌, List, length, take, slice_index}
 use Rattle.dccp_io.specs.Lines.{newline}
-use Rattle.schedule_text.specs.declared.line.LineFault.{LineFault}
-use Rattle.schedule_text.specs.declared.line.LineWhy.{LineWhy}
-use Rattle.schedule_text.specs.declared.line.LineWhy.TheVariants as why
+use Rattle.tool_words.specs.declared.faults.LineFault.{LineFault}
+use Rattle.tool_words.specs.declared.faults.LineWhy.TheVariants as why
 
 -- A line without its newline.
 abbrev pub without_newline : List ℕ → List ℕ
@@ -12,7 +11,3 @@ without_newline line = if slice_index line (length line - 1) == newline then tak
 -- The fault of a line with a 4,097th byte, at that byte.
 abbrev pub too_long : LineFault
 too_long = record { column = 4097; why = why.LineTooLong }
-
--- The fault of a whole line, at its first byte.
-abbrev pub whole_line : LineWhy → LineFault
-whole_line cause = record { column = 1; why = cause }

@@ -1,19 +1,17 @@
--- What the steps of `run` and `replay` do over the lines of their input (own).
+-- What the steps of `run` do over the lines of their input (own).
 use Rattle.std.specs.Prelude.{◌≡◌, ℕ, ◌≤◌, ◌<◌, Bool, true, false, List, length, drop, Option, Some, IfSome, Result, Ok, Err}
 use Rattle.dccp_io.specs.Fronts.{GivesAtMost}
-use Rattle.dccp_io.specs.Lines.{LinesState, Finds, rest_of_input, first_line}
+use Rattle.dccp_io.specs.Lines.{LinesState, rest_of_input, first_line}
 use Rattle.dccp_io.specs.declared.lines.Stop.{Stop}
 use Rattle.dccp_io.specs.declared.lines.Stop.TheVariants as stop
-use Rattle.schedule_text.specs.declared.line.LineFault.{LineFault}
-use Rattle.schedule_text.specs.declared.line.LineWhy.TheVariants as why
-use Rattle.seq_circle.specs.declared.memory.NoMemory as no_memory
+use Rattle.tool_words.specs.declared.faults.LineFault.{LineFault}
+use Rattle.tool_words.specs.declared.faults.LineWhy.TheVariants as why
 use Rattle.tool_replay.specs.declared.lines.Turn.{Turn}
 use Rattle.tool_replay.specs.declared.lines.Turn.TheVariants as turn
-use Rattle.tool_replay.specs.declared.replay.Replay.{Replay}
 use Rattle.tool_output.specs.declared.status.Status.{Status}
 use Rattle.tool_output.specs.declared.status.Status.TheVariants as status
-use Rattle.tool_replay.specs.Lines.{too_long, whole_line}
-use Rattle.tool_replay.specs.Replay.{FrameRefused, JudgesFrame, IsPast, frame_judged}
+use Rattle.tool_replay.specs.Lines.{too_long}
+use Rattle.tool_words.specs.Refusals.{whole_line}
 use Rattle.tool_output.specs.Ends.{HasTaken, HasBegun, IsAnswered, IsCutOff, Answers}
 
 -- The turn in which the reader stopped, and the one in which a line was judged.
@@ -33,19 +31,6 @@ pub record RefusesLine {S : Type 0} (left : S → Option (List ℕ)) (faults len
   pub same_lender : lender new.source ≡ lender old.source
   pub past : IfSome (rest_of_input left old) (λ bytes. GivesAtMost 12289 (Some bytes) (left new.source))
   pub refused : IfSome (rest_of_input left old) (λ bytes. (0 < length bytes) × IsRefused (first_line bytes))
-
--- One turn over a replay: the line that stands next was replayed, or refused, or the input is at its end, and nothing else changed.
-abbrev pub Replays : {S : Type 0} → (S → Option (List ℕ)) → (S → ℕ) → (S → ℕ) → LinesState S → LinesState S → Replay → Replay → List ℕ → List ℕ
-    → Result Turn no_memory.NoMemory → Type 0
-Replays left faults lender old new before next text written (Ok turn.Accepted) =
-    Finds left faults lender old new (Ok true) × JudgesFrame (frame_judged before new.line) text written next (Ok tt) × IsPast before new.line next
-Replays left faults lender old new before next text written (Ok turn.Ended) =
-    Finds left faults lender old new (Ok false) × (next ≡ before) × (written ≡ text)
-Replays left faults lender old new before next text written (Ok (turn.Refused fault)) =
-    RefusesLine left faults lender old new (λ line. frame_judged before line ≡ FrameRefused fault) × (written ≡ text)
-Replays left faults lender old new before next text written (Ok turn.Failed) =
-    Finds left faults lender old new (Err stop.Failed) × (written ≡ text)
-Replays left faults lender old new before next text written (Err _) = lender new.source ≡ lender old.source
 
 -- What was left of a text was written: whole with an answer, and otherwise a front of it.
 pub record Leaves (text : List ℕ) (refused : Bool) (result : Status) (before after : Option (List ℕ)) : Type 0 where

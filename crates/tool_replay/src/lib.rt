@@ -9,5 +9,5 @@ mod replay;
 mod replaying;
 
 pub use crate::end_lines::{put_end_line, put_frame_line};
-pub use crate::lines::{Turn, ends_within, leave, refuse, whole_line, without_newline};
+pub use crate::lines::{Turn, ends_within, leave, refuse, without_newline};
 pub use crate::replaying::replay_frames;

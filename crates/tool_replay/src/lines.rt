@@ -1,15 +1,15 @@
 //! A line of an input, and what a turn over the lines comes to.
 ghost use Rattle.std.specs.Prelude.{◌≡◌, ◌≢◌, ◌+◌, ◌^◌, ◌<◌, ◌++◌, length, true};
 ghost use Rattle.dccp_io.specs.Lines.{ends_within};
-ghost use Rattle.tool_replay.specs.Lines.{too_long, whole_line, without_newline};
+ghost use Rattle.tool_replay.specs.Lines.{too_long, without_newline};
 ghost use Rattle.tool_replay.specs.Loops.{Leaves, judged_turn, stopped};
-ghost use Rattle.tool_replay.specs.EndLines.{refusal_line};
+ghost use Rattle.tool_words.specs.Refusals.{refusal_line, whole_line};
 ghost use Rattle.tool_output.specs.Ends.{SinkFailed};
 
 use crate::fault::put_refusal;
 use dccp_io::{Sink, Stop, write_all};
-use schedule_text::{LineFault, LineWhy};
 use tool_output::{Status, answered};
+use tool_words::{LineFault, LineWhy, whole_line};
 
 // The most bytes of an input.
 const MOST_BYTES: u64 = 16_777_216;
@@ -108,11 +108,4 @@ pub fn ends_within(read: u64, line: &[u8]) -> bool
     ensures { result ≡ ends_within read line.now }
 {
     read + line.len().min(ONE_TOO_MANY) as u64 <= MOST_BYTES
-}
-
-/// The fault of a whole line, at its first byte (own).
-pub fn whole_line(why: LineWhy) -> LineFault
-    ensures { result ≡ whole_line why }
-{
-    LineFault { column: 1, why }
 }

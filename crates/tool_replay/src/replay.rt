@@ -1,5 +1,5 @@
 //! A replay while it is played: one end, at which frames arrive.
-ghost use Rattle.std.specs.Prelude.{◌≡◌, ◌++◌, ◌+◌, ◌^◌, ◌<◌, ◌≤◌, length, true, IfOk, OnOk, Some, Ok};
+ghost use Rattle.std.specs.Prelude.{◌≡◌, ℕ, ◌++◌, ◌+◌, ◌^◌, ◌<◌, ◌≤◌, List, length, true, IfOk, OnOk};
 ghost use Rattle.ccid_two.specs.Kinds.{kinds_control};
 ghost use Rattle.dccp_endpoint.specs.Controlled.{with_control};
 ghost use Rattle.dccp_endpoint.specs.Receiving.{receives};
@@ -7,27 +7,25 @@ ghost use Rattle.dccp_endpoint.specs.Usual.{usual};
 ghost use Rattle.dccp_sum.specs.Checksum.{sealed};
 ghost use Rattle.schedule_text.specs.Results.{HasItsData};
 ghost use Rattle.tool_replay.specs.EndLines.{end_line};
-ghost use Rattle.tool_replay.specs.Replay.{role_of, replay_config, first_replay, opened_line, reply_line, count, begun_replay, begun_from, HasRoom, IsPast, past, arriving, by_frame, frame_judged, JudgesFrame};
+ghost use Rattle.tool_lines.specs.Jobs.{Judges};
+ghost use Rattle.tool_replay.specs.Replay.{role_of, replay_config, first_replay, opened_line, reply_line, count, begun_replay, begun_from, arriving, by_frame, replay_job};
 
 use crate::end_lines::{put_end_line, put_frame_line};
-use crate::lines::{ends_within, whole_line, without_newline};
 use ccid_two::Kinds;
 use dccp_endpoint::{Config, Endpoint, OpenFault, Outcome, Role};
 use dccp_packets::{Frame, Outbox};
 use dccp_sum::{Pseudo, seal};
-use schedule_text::{FrameLine, LineFault, LineWhy, print_result, read_frame};
+use schedule_text::{FrameLine, print_result, read_frame};
 use seq_circle::NoMemory;
 use std::alloc::Global;
+use tool_lines::LineJob;
 use tool_text::put;
+use tool_words::LineFault;
 use world_events::{Seen, Side};
 
 /// Where a replay stands.
 #[derive(Drop)]
 pub(crate) struct Replay {
-    /// The number of the next line, from 1.
-    pub(crate) number: u64,
-    /// How many bytes of the input stand before it.
-    pub(crate) read: u64,
     /// How many frames the end has sent.
     pub(crate) sent: u64,
     /// Whose end it is.
@@ -43,13 +41,7 @@ impl Replay {
     {
         let congestion = Kinds::new(alloc)?;
         let end = Endpoint::new(alloc, replay_config(side, plain), congestion)?;
-        Ok(Replay {
-            number: 1,
-            read: 0,
-            sent: 0,
-            side,
-            end,
-        })
+        Ok(Replay { sent: 0, side, end })
     }
 
     /// Where a replay stands before its first line; a client has opened then, and the lines of that were put.
@@ -94,67 +86,53 @@ impl Replay {
         Ok(())
     }
 
-    /// Replays one line, which has its newline, or answers why it is refused. The limit of bytes is judged before the
-    /// line itself.
-    #[tactic(auto, unfolding(crate::specs::Replay::frame_judged))]
-    pub(crate) fn judge(
-        &mut self,
-        line: &[u8],
-        text: &mut Vec<u8>,
-    ) -> Result<Result<(), LineFault>, NoMemory>
-        requires { HasRoom self.old line.now }
-        ensures verdict { IfOk result (λ answer. JudgesFrame (frame_judged self.old line.now) text.old.items text.new.items self.new answer) }
-        ensures onward { IfOk result (λ answer. answer ≡ Ok tt → IsPast self.old line.now self.new) }
-    {
-        if !ends_within(self.read, line) {
-            return Ok(Err(whole_line(LineWhy::TooMuchInput)));
-        }
-        match read_frame(without_newline(line)) {
-            Err(fault) => Ok(Err(fault)),
-            Ok(None) => {
-                self.pass(line);
-                Ok(Ok(()))
-            }
-            Ok(Some(said)) => {
-                let frame = arriving(self.side, said);
-                self.take(line, &frame, text)
-            }
-        }
-    }
-
-    // The frame arrives, and the lines of that are put.
+    // The frame arrives that the line of this number made, and the lines of that are put.
     fn take(
         &mut self,
-        line: &[u8],
+        number: u64,
         frame: &Frame,
         text: &mut Vec<u8>,
     ) -> Result<Result<(), LineFault>, NoMemory>
-        requires { HasRoom self.old line.now }
-        ensures verdict { IfOk result (λ answer. JudgesFrame (by_frame self.old line.now frame.now) text.old.items text.new.items self.new answer) }
-        ensures onward { IfOk result (λ answer. answer ≡ Ok tt → IsPast self.old line.now self.new) }
+        requires sent { self.old.sent ≤ number }
+        requires number { number ≤ 16777217 }
+        ensures verdict { IfOk result (λ answer. Judges replay_job (by_frame self.old number frame.now) text.old.items text.new.items self.new answer) }
+        ensures sent { IfOk result (λ _. self.new.sent ≤ number + 1) }
     {
         let mut out = Outbox::new();
         let bytes = frame.bytes();
         let seen = Seen::Received(arrive(&mut self.end, bytes, &mut out));
-        print_result(self.number, &seen, bytes, text)?;
+        print_result(number, &seen, bytes, text)?;
         self.put_sent(&out, text)?;
-        self.pass(line);
         Ok(Ok(()))
     }
+}
 
-    fn pass(&mut self, line: &[u8])
-        requires number { self.old.number + 1 < 2 ^ 64 }
-        requires read { self.old.read + length line.now < 2 ^ 64 }
-        ensures { self.new ≡ past self.old line.now }
-    {
-        self.number += 1;
-        self.read += line.len() as u64;
+impl LineJob for Replay {
+    ghost Deed = { List ℕ };
+
+    ghost job = { replay_job };
+
+    ghost keeps = { λ replay number. replay.sent ≤ number };
+
+    #[tactic(auto, unfolding(crate::specs::Replay::frame_judged))]
+    fn judge(
+        &mut self,
+        _alloc: Global,
+        number: u64,
+        line: &[u8],
+        text: &mut Vec<u8>,
+    ) -> Result<Result<(), LineFault>, NoMemory> {
+        match read_frame(line) {
+            Err(fault) => Ok(Err(fault)),
+            Ok(None) => Ok(Ok(())),
+            Ok(Some(said)) => {
+                let frame = arriving(self.side, said);
+                self.take(number, &frame, text)
+            }
+        }
     }
 
-    /// Puts the line at a replay's end.
-    pub(crate) fn finish(&self, text: &mut Vec<u8>) -> Result<(), NoMemory>
-        ensures { OnOk result (text.new.items ≡ text.old.items ++ end_line self.now.side self.now.end) }
-    {
+    fn finish(&mut self, _alloc: Global, text: &mut Vec<u8>) -> Result<(), NoMemory> {
         put_end_line(text, self.side, &self.end)
     }
 }

@@ -1,6 +1,4 @@
 pub mod Configuring
 pub mod EventTelling
-pub mod LoopInvariant
-pub mod PlayTurns
-pub mod RefusedLine
-pub mod Turning
+pub mod Room
+pub mod Running

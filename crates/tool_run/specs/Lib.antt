@@ -1,3 +1,3 @@
 pub mod WorldLines
+pub mod Scenes
 pub mod Transcript
-pub mod Plays

@@ -1,5 +1,5 @@
--- What `run` writes of an input: the lines of its accepted lines, then the two end lines or the line of the first refusal (own).
-use Rattle.std.specs.Prelude.{◌≡◌, ℕ, ◌+◌, ◌^◌, ◌<◌, ◌++◌, Bool, true, false, ◌&&◌, nat_lt, if◌then◌else◌, List, [], ◌∷◌, length, take, Option, Some, None, is_some, Result, Ok, Err}
+-- What `run` writes of an input: the lines of each event that takes place, then the two end lines or the line of the first refusal (own).
+use Rattle.std.specs.Prelude.{◌≡◌, ℕ, ◌+◌, ◌≤◌, ◌++◌, Bool, true, false, ◌&&◌, nat_lt, if◌then◌else◌, List, length, All, Option, Some, None, is_some, IfSome, Result, Ok, Err}
 use Rattle.dccp_endpoint.specs.Usual.{usual}
 use Rattle.dccp_endpoint.specs.declared.config.Config.{Config}
 use Rattle.dccp_states.specs.declared.phase.Role.TheVariants as role
@@ -10,9 +10,8 @@ use Rattle.feature_lists.specs.declared.wishes.PreferFault.{PreferFault}
 use Rattle.feature_lists.specs.declared.wishes.Wanted.{Wanted}
 use Rattle.feature_machine.specs.Lists.{with_wish, with_offer}
 use Rattle.ccid_two.specs.Kinds.{Both, at_first, kinds_control}
-use Rattle.two_ends.specs.Controlled.{Controlled, ControlledStep, begins_with, happens_to, plays}
+use Rattle.two_ends.specs.Controlled.{Controlled, ControlledStep, begins_with, happens_to}
 use Rattle.two_ends.specs.World.{half_of}
-use Rattle.world_events.specs.Actors.{actor}
 use Rattle.dccp_endpoint.specs.Drafts.{Fits}
 use Rattle.two_ends.specs.Safe.{Safe}
 use Rattle.world_events.specs.declared.event.Event.{Event}
@@ -21,18 +20,17 @@ use Rattle.world_events.specs.declared.event.Side.TheVariants.{Client, Server}
 use Rattle.world_events.specs.declared.event.WorldFault.{WorldFault}
 use Rattle.world_events.specs.declared.event.WorldFault.TheVariants as fault
 use Rattle.schedule_text.specs.Reading.{read_line}
-use Rattle.schedule_text.specs.Results.{seen_line}
 use Rattle.schedule_text.specs.declared.line.Line.{Line}
 use Rattle.schedule_text.specs.declared.line.Line.TheVariants as line
-use Rattle.schedule_text.specs.declared.line.LineFault.{LineFault}
-use Rattle.schedule_text.specs.declared.line.LineWhy.{LineWhy}
-use Rattle.schedule_text.specs.declared.line.LineWhy.TheVariants as why
+use Rattle.tool_words.specs.Refusals.{whole_line}
+use Rattle.tool_words.specs.declared.faults.LineFault.{LineFault}
+use Rattle.tool_words.specs.declared.faults.LineWhy.{LineWhy}
+use Rattle.tool_words.specs.declared.faults.LineWhy.TheVariants as why
 use Rattle.tool_run.specs.declared.play.Play.{Play}
-use Rattle.dccp_io.specs.Lines.{ends_within, lines_of}
-use Rattle.tool_replay.specs.EndLines.{refusal_line}
-use Rattle.tool_replay.specs.Lines.{without_newline, whole_line}
 use Rattle.tool_replay.specs.Replay.{config_without_offers}
-use Rattle.tool_run.specs.WorldLines.{arrived, sent_line, end_lines}
+use Rattle.tool_lines.specs.Jobs.{Gone, Job, Verdict, Accepted, Refused, gone_through, text_of_job}
+use Rattle.tool_run.specs.Scenes.{Scene, scene_text}
+use Rattle.tool_run.specs.WorldLines.{end_lines}
 
 -- The most events of a schedule.
 abbrev pub most_events : ℕ
@@ -40,7 +38,7 @@ most_events = 16384
 
 -- Where a schedule stands before its first line: the two usual ends are configured.
 abbrev pub first_play : Play
-first_play = record { number = 1; read = 0; events = 0; client = usual role.Client; server = usual role.Server; world = None }
+first_play = record { events = 0; client = usual role.Client; server = usual role.Server; world = None }
 
 -- two ends of these configurations that have sent and received nothing, each with its own congestion control
 abbrev pub starts : Config → Config → Controlled Both
@@ -55,26 +53,13 @@ world_or_start client server (Some w) = w
 abbrev pub world_of : Play → Controlled Both
 world_of play = world_or_start play.client play.server play.world
 
--- The next line begins behind this one.
-abbrev pub behind : Play → List ℕ → Play
-behind play piece = record play { number = play.number + 1; read = play.read + length piece }
-
--- What a line comes to: it is accepted, with its text and event and where the schedule then stands, or refused.
-pub data Verdict : Type 0 where
-  Accepted : (text : List ℕ) (events : List Event) (next : Play) → Verdict
-  Refused : (fault : LineFault) → Verdict
-
 -- A delivery names no frame; its name stands behind `deliver `.
 abbrev pub no_such_frame : LineFault
 no_such_frame = record { column = 9; why = why.NoSuchFrame }
 
--- a line that is accepted without an event and leaves no text
-abbrev pub accepts_nothing : Play → List ℕ → Verdict
-accepts_nothing play piece = Accepted [] [] (behind play piece)
-
 -- A line that stands before all events changes the configurations.
-abbrev pub configures : Play → Play → Verdict
-configures play next = if is_some play.world then Refused (whole_line why.HeaderLate) else Accepted [] [] next
+abbrev pub configures : Play → Play → Verdict Scene Play
+configures play next = if is_some play.world then Refused (whole_line why.HeaderLate) else Accepted None next
 
 -- the configuration of a side, as the lines so far have it
 abbrev pub config_of : Play → Side → Config
@@ -113,40 +98,25 @@ with_set side feature place values play =
 abbrev pub with_offered : Side → Feature → Place → Bool → Play → Play
 with_offered side feature place mandatory play = with_config side (offering (config_of play side) feature place mandatory) play
 
--- The text of an event that took place, and the world after it.
-pub record Shown : Type 0 where
-  pub text : List ℕ
-  pub world : Controlled Both
-
--- An event that took place, with the frame that its actor sent.
-abbrev pub took_place : ℕ → Controlled Both → Event → ControlledStep Both → Shown
-took_place number before event step = record {
-  text =
-      seen_line number event step.seen (arrived step.after.world event)
-      ++ sent_line step.after.world (actor event) (length (half_of before.world (actor event)).frames);
-  world = step.after;
-}
-
--- an event as it is shown, or the fault of its line: it names no frame, or the world has no room for it
-abbrev pub by_step : ℕ → Controlled Both → Event → Result (ControlledStep Both) WorldFault → Result Shown LineFault
-by_step number before event (Ok step) = Ok (took_place number before event step)
+-- An event that takes place, or the fault of its line: it names no frame. (No schedule comes to a world without room for it.)
+abbrev pub by_step : ℕ → Controlled Both → Event → Result (ControlledStep Both) WorldFault → Result Scene LineFault
+by_step number before event (Ok step) = Ok (record { number = number; before = before; event = event; step = step })
 by_step number before event (Err fault.NoSuchFrame) = Err no_such_frame
 by_step number before event (Err _) = Err (whole_line why.TooManyEvents)
 
 -- An event of a world, under the number of its line.
-abbrev pub event_shown : ℕ → Controlled Both → Event → Result Shown LineFault
+abbrev pub event_shown : ℕ → Controlled Both → Event → Result Scene LineFault
 event_shown number before event = by_step number before event (happens_to kinds_control before event)
 
--- an event that took place is counted, and the schedule goes on from the world behind it
-abbrev pub by_shown : Play → List ℕ → Event → Result Shown LineFault → Verdict
-by_shown play piece event (Ok shown) = Accepted shown.text (event ∷ []) (record (behind play piece) { events = play.events + 1; world = Some shown.world })
-by_shown play piece event (Err fault) = Refused fault
+-- an event that took place is counted, and the schedule goes on from the world that it left
+abbrev pub by_scene : Play → Result Scene LineFault → Verdict Scene Play
+by_scene play (Ok scene) = Accepted (Some scene) (record play { events = play.events + 1; world = Some scene.step.after })
+by_scene play (Err fault) = Refused fault
 
 -- the line of an event, which is refused once a schedule has its most events
-abbrev pub says_event : Play → List ℕ → Event → Verdict
-says_event play piece event =
-    if nat_lt play.events most_events then by_shown play piece event (event_shown play.number (world_of play) event)
-    else Refused (whole_line why.TooManyEvents)
+abbrev pub says_event : Play → ℕ → Event → Verdict Scene Play
+says_event play number event =
+    if nat_lt play.events most_events then by_scene play (event_shown number (world_of play) event) else Refused (whole_line why.TooManyEvents)
 
 -- a wish or an offer that an end may not have
 abbrev pub is_of_wish : LineWhy → Bool
@@ -159,34 +129,32 @@ abbrev pub in_place : Play → LineFault → LineFault
 in_place play fault = if is_some play.world && is_of_wish fault.why then whole_line why.HeaderLate else fault
 
 -- what a line says changes a configuration, makes an event happen, or does nothing
-abbrev pub by_line : Play → List ℕ → Result Line LineFault → Verdict
-by_line play piece (Err fault) = Refused (in_place play fault)
-by_line play piece (Ok line.Nothing) = accepts_nothing play piece
-by_line play piece (Ok line.Plain) = configures play (says_plain (behind play piece))
-by_line play piece (Ok (line.Iss side number)) = configures play (with_iss side number (behind play piece))
-by_line play piece (Ok (line.Set side place feature values)) = configures play (with_set side feature place values (behind play piece))
-by_line play piece (Ok (line.Offer side place feature mandatory)) = configures play (with_offered side feature place mandatory (behind play piece))
-by_line play piece (Ok (line.Event event)) = says_event play piece event
+abbrev pub by_line : Play → ℕ → Result Line LineFault → Verdict Scene Play
+by_line play number (Err fault) = Refused (in_place play fault)
+by_line play number (Ok line.Nothing) = Accepted None play
+by_line play number (Ok line.Plain) = configures play (says_plain play)
+by_line play number (Ok (line.Iss side iss)) = configures play (with_iss side iss play)
+by_line play number (Ok (line.Set side place feature values)) = configures play (with_set side feature place values play)
+by_line play number (Ok (line.Offer side place feature mandatory)) = configures play (with_offered side feature place mandatory play)
+by_line play number (Ok (line.Event event)) = says_event play number event
 
--- behind the lines that were read, this one ends within the bytes that an input may have
-abbrev pub line_is_within : Play → List ℕ → Bool
-line_is_within play piece = ends_within play.read piece
+-- A line of this number, without its newline. Its faults are judged in this order: the line by itself up to its words, that it stands
+-- before all events, what an end may wish, the count of events, the frame that it names.
+unfoldable pub judged_line : Play → ℕ → List ℕ → Verdict Scene Play
+judged_line play number line = by_line play number (read_line line)
 
--- A line with its newline. Its faults are judged in this order: the bytes of the input, the line by itself up to its words, that it
--- stands before all events, what an end may wish, the count of events, the frame that it names.
-unfoldable pub judged : Play → List ℕ → Verdict
-judged play piece =
-    if line_is_within play piece then by_line play piece (read_line (without_newline piece)) else Refused (whole_line why.TooMuchInput)
-
--- A line was played so: an accepted one leaves its text at the text's end and leads on, a refused one leaves the text as it was.
-abbrev pub Judges : Verdict → List ℕ → List ℕ → Play → Result (Unit {0}) LineFault → Type 0
-Judges (Accepted text events next) old new play answer = (new ≡ old ++ text) × (play ≡ next) × (answer ≡ Ok tt)
-Judges (Refused fault) old new play answer = (new ≡ old) × (answer ≡ Err fault)
+-- What `run` makes of the lines of an input: the events that take place, and at its end the two end lines.
+abbrev pub run_job : Job Scene Play
+run_job = record { judged = judged_line; told = scene_text; ending = λ play. end_lines (world_of play) }
 
 -- An event was shown so.
-abbrev pub ShowsEvent : Result Shown LineFault → List ℕ → List ℕ → Controlled Both → Result (Unit {0}) LineFault → Type 0
-ShowsEvent (Ok shown) old new after answer = (new ≡ old ++ shown.text) × (after ≡ shown.world) × (answer ≡ Ok tt)
+abbrev pub ShowsEvent : Result Scene LineFault → List ℕ → List ℕ → Controlled Both → Result (Unit {0}) LineFault → Type 0
+ShowsEvent (Ok scene) old new after answer = (new ≡ old ++ scene_text scene) × (after ≡ scene.step.after) × (answer ≡ Ok tt)
 ShowsEvent (Err fault) old new after answer = (new ≡ old) × (answer ≡ Err fault)
+
+-- Neither side has sent more frames than this.
+abbrev pub SentFew : Controlled Both → ℕ → Type 0
+SentFew w most = (side : Side) → length (half_of w.world side).frames ≤ most
 
 -- A client and a server, whose fields fit their widths.
 pub record ArePeers (client server : Config) : Type 0 where
@@ -195,66 +163,36 @@ pub record ArePeers (client server : Config) : Type 0 where
   pub client_fits : Fits client
   pub server_fits : Fits server
 
--- The configurations are those of a client and a server, and the counters have room for one more line.
-pub record IsReady (play : Play) (piece : List ℕ) : Type 0 where
+-- Before each line the configurations are those of a client and a server, and no side has sent more frames than there were events.
+pub record IsPlayable (play : Play) : Type 0 where
   pub peers : ArePeers play.client play.server
-  pub number : play.number + 1 < 2 ^ 64
-  pub read : play.read + length piece < 2 ^ 64
+  pub few : IfSome play.world (λ w. SentFew w play.events)
 
--- One line further, with the configurations of a client and a server.
-pub record IsBehind (before : Play) (piece : List ℕ) (after : Play) : Type 0 where
-  pub peers : ArePeers after.client after.server
-  pub number : after.number ≡ before.number + 1
-  pub read : after.read ≡ before.read + length piece
-
--- What a whole input comes to: its text, the two ends as they are configured, the accepted events, and how many bytes the accepted lines
--- have.
-pub record Performance : Type 0 where
-  pub text : List ℕ
-  pub client : Config
-  pub server : Config
-  pub events : List Event
-  pub is_refused : Bool
-  pub accepted : ℕ
-
--- the text and the events of a line in front of what the rest of an input comes to
-abbrev pub onto : List ℕ → List Event → Performance → Performance
-onto text events rest = record rest { text = text ++ rest.text; events = events ++ rest.events }
-
--- a schedule that is over: its last text, its two configurations, and the bytes of its accepted lines
-abbrev pub ends_at : Play → List ℕ → Bool → Performance
-ends_at play text refused = record { text = text; client = play.client; server = play.server; events = []; is_refused = refused; accepted = play.read }
-
--- the rest of an input counts behind an accepted line; a refused line is the last, under its number
-abbrev pub continues_with : Play → Verdict → (Play → Performance) → Performance
-continues_with play (Accepted text events next) rest = onto text events (rest next)
-continues_with play (Refused fault) rest = ends_at play (refusal_line play.number fault) true
-
--- what these lines come to; where none is refused, the two end lines are the last
-abbrev pub performed_from : Play → List (List ℕ) → Performance
-performed_from play [] = ends_at play (end_lines (world_of play)) false
-performed_from play (piece ∷ pieces) = continues_with play (judged play piece) (λ next. performed_from next pieces)
-
--- what an input comes to, played from the two usual ends
-unfoldable pub performed : List ℕ → Performance
-performed input = performed_from first_play (lines_of input)
+-- What an input comes to, played from the two usual ends.
+abbrev pub performed : List ℕ → Gone Scene Play
+performed input = gone_through run_job first_play input
 
 -- What `run` writes of an input.
 abbrev pub transcript : List ℕ → List ℕ
-transcript input = (performed input).text
+transcript input = text_of_job run_job (performed input)
 
 -- The input is refused at some line.
 abbrev pub is_refused : List ℕ → Bool
-is_refused input = (performed input).is_refused
+is_refused input = is_some (performed input).refusal
 
 -- How many bytes of an input its accepted lines have, those before the first that is refused.
 abbrev pub accepted_bytes : List ℕ → ℕ
 accepted_bytes input = (performed input).accepted
 
--- From the two ends as they are configured, the world is safe after each prefix of the accepted events.
-abbrev pub IsSafeThroughout : Performance → Type 0
-IsSafeThroughout whole = (n : ℕ) → Safe kinds_control (plays kinds_control (starts whole.client whole.server) (take n whole.events))
+-- Each event took place in a safe world and left a safe one, and the schedule ends in a safe one: the worlds of which the lines are made.
+abbrev pub IsSafeThroughout : Gone Scene Play → Type 0
+IsSafeThroughout whole =
+    All (λ scene. Safe kinds_control scene.before × Safe kinds_control scene.step.after) whole.deeds × Safe kinds_control (world_of whole.last)
 
--- the world is safe after each prefix of the accepted events of this input
+-- the same of what this input comes to
 abbrev pub SafeThroughout : List ℕ → Type 0
 SafeThroughout input = IsSafeThroughout (performed input)
+
+-- The two ends as they are configured at last, to which nothing has happened.
+abbrev pub world_at_first : Gone Scene Play → Controlled Both
+world_at_first whole = starts whole.last.client whole.last.server

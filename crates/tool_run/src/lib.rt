@@ -1,8 +1,10 @@
 //! `run`: a schedule's lines, played on the two ends of a world, and the lines of what the ends did (own).
 #![tactic(auto)]
 
+mod laws;
 mod play;
 mod transcript;
 mod world_lines;
 
+pub use crate::laws::{every_schedule_is_a_run, no_schedule_fills_a_world};
 pub use crate::transcript::run_schedule;

@@ -1,9 +1,10 @@
 //! A schedule while it is played.
-ghost use Rattle.std.specs.Prelude.{◌≡◌, ◌++◌, ◌+◌, ◌^◌, ◌<◌, length, ℕ, List, is_some, if◌then◌else◌, IfOk, OnOk, Some, Ok, Err};
+ghost use Rattle.std.specs.Prelude.{◌≡◌, ◌++◌, ℕ, List, is_some, if◌then◌else◌, IfOk, OnOk, Some, Ok, Err};
 ghost use Rattle.tool_run.specs.WorldLines.{end_lines};
-ghost use Rattle.tool_replay.specs.Lines.{whole_line};
+ghost use Rattle.tool_lines.specs.Jobs.{Judges};
+ghost use Rattle.tool_words.specs.Refusals.{whole_line};
 ghost use Rattle.tool_replay.specs.Replay.{config_without_offers};
-ghost use Rattle.tool_run.specs.Transcript.{first_play, starts, world_of, ArePeers, IsReady, IsBehind, ShowsEvent, event_shown, Judges, judged, by_line, behind};
+ghost use Rattle.tool_run.specs.Transcript.{first_play, starts, world_of, ArePeers, IsPlayable, SentFew, ShowsEvent, event_shown, most_events, by_line, run_job};
 ghost use Rattle.tool_run.specs.Transcript.{configures, says_plain, with_iss, with_set, with_offered, wishing, offering, in_place, says_event, no_such_frame};
 ghost use Rattle.dccp_endpoint.specs.Drafts.{Fits};
 ghost use Rattle.feature_lists.specs.Wishes.{wish_of};
@@ -13,10 +14,10 @@ use crate::world_lines::{arrived, put_end_lines, put_sent_line};
 use ccid_two::Kinds;
 use dccp_endpoint::{Config, Role};
 use feature_lists::{Feature, Place};
-use schedule_text::{Line, LineFault, LineWhy, print_seen, read_line_into};
+use schedule_text::{Line, print_seen};
 use seq_circle::{NoMemory, Seq48};
 use std::alloc::Global;
-use tool_replay::{ends_within, whole_line, without_newline};
+use tool_words::{LineFault, LineWhy, whole_line};
 use two_ends::{Event, Side, World, WorldFault};
 
 const MOST_EVENTS: u32 = 16_384;
@@ -24,10 +25,6 @@ const MOST_EVENTS: u32 = 16_384;
 /// Where a schedule stands.
 #[derive(Drop)]
 pub(crate) struct Play {
-    /// The number of the next line, from 1.
-    pub(crate) number: u64,
-    /// How many bytes of the input stand before it.
-    pub(crate) read: u64,
     /// How many events took place.
     pub(crate) events: u32,
     /// What the client is made from.
@@ -44,8 +41,6 @@ impl Play {
         ensures { result ≡ first_play }
     {
         Play {
-            number: 1,
-            read: 0,
             events: 0,
             client: Config::usual(Role::Client),
             server: Config::usual(Role::Server),
@@ -53,67 +48,42 @@ impl Play {
         }
     }
 
-    /// Plays one line, which has its newline, or answers why it is refused. The faults that need more than the line are
-    /// judged here, each at its place among those of the line itself: the limit of bytes before them, and behind them
-    /// that it has to stand before all events (but before what an end may wish), the limit of events, and a frame that
-    /// was not sent. `said` is room for what the line says, and it does not matter what stands there before.
-    #[tactic(auto, unfolding(crate::specs::Transcript::judged))]
-    pub(crate) fn judge(
+    /// Plays the line of this number, by what was read of it, or answers why it is refused. The faults that need more than
+    /// the line are judged here, each at its place among those of the line itself: that it has to stand before all events
+    /// (but before what an end may wish), the limit of events, and a frame that was not sent.
+    pub(crate) fn say(
         &mut self,
         alloc: Global,
-        line: &[u8],
-        said: &mut Line,
-        text: &mut Vec<u8>,
-    ) -> Result<Result<(), LineFault>, NoMemory>
-        requires { IsReady self.old line.now }
-        ensures verdict { IfOk result (λ answer. Judges (judged self.old line.now) text.old.items text.new.items self.new answer) }
-        ensures onward { IfOk result (λ answer. answer ≡ Ok tt → IsBehind self.old line.now self.new) }
-    {
-        if !ends_within(self.read, line) {
-            return Ok(Err(whole_line(LineWhy::TooMuchInput)));
-        }
-        match read_line_into(without_newline(line), said) {
-            Err(fault) => Ok(Err(self.in_place(fault))),
-            Ok(()) => self.say(alloc, line, said, text),
-        }
-    }
-
-    fn say(
-        &mut self,
-        alloc: Global,
-        line: &[u8],
+        number: u64,
         said: &Line,
         text: &mut Vec<u8>,
     ) -> Result<Result<(), LineFault>, NoMemory>
-        requires { IsReady self.old line.now }
-        ensures verdict { IfOk result (λ answer. Judges (by_line self.old line.now (Ok said.now)) text.old.items text.new.items self.new answer) }
-        ensures onward { IfOk result (λ answer. answer ≡ Ok tt → IsBehind self.old line.now self.new) }
+        requires { IsPlayable self.old }
+        ensures verdict { IfOk result (λ answer. Judges run_job (by_line self.old number (Ok said.now)) text.old.items text.new.items self.new answer) }
+        ensures playable { IfOk result (λ answer. answer ≡ Ok tt → IsPlayable self.new) }
     {
         match said {
-            Line::Nothing => {
-                self.pass(line);
-                Ok(Ok(()))
-            }
-            Line::Plain => Ok(self.say_plain(line)),
-            Line::Iss { side, number } => Ok(self.say_iss(line, *side, *number)),
+            Line::Nothing => Ok(Ok(())),
+            Line::Plain => Ok(self.say_plain()),
+            Line::Iss { side, number } => Ok(self.say_iss(*side, *number)),
             Line::Set {
                 side,
                 place,
                 feature,
                 values,
-            } => Ok(self.say_set(line, *side, *feature, *place, values.numbers())),
+            } => Ok(self.say_set(*side, *feature, *place, values.numbers())),
             Line::Offer {
                 side,
                 place,
                 feature,
                 mandatory,
-            } => Ok(self.say_offer(line, *side, *feature, *place, *mandatory)),
-            Line::Event(event) => self.say_event(alloc, line, event, text),
+            } => Ok(self.say_offer(*side, *feature, *place, *mandatory)),
+            Line::Event(event) => self.say_event(alloc, number, event, text),
         }
     }
 
-    // What an end may not wish is judged behind that its line stands before all events.
-    fn in_place(&self, fault: LineFault) -> LineFault
+    /// What an end may not wish is judged behind that its line stands before all events.
+    pub(crate) fn in_place(&self, fault: LineFault) -> LineFault
         ensures { result ≡ in_place self.now fault }
     {
         match fault.why {
@@ -122,14 +92,6 @@ impl Play {
             }
             _ => fault,
         }
-    }
-
-    fn pass(&mut self, line: &[u8])
-        requires { IsReady self.old line.now }
-        ensures { self.new ≡ behind self.old line.now }
-    {
-        self.number += 1;
-        self.read += line.len() as u64;
     }
 
     // A line that stands before all events comes before the first.
@@ -142,25 +104,23 @@ impl Play {
         Ok(())
     }
 
-    fn say_plain(&mut self, line: &[u8]) -> Result<(), LineFault>
-        requires { IsReady self.old line.now }
-        ensures verdict { (text : List ℕ) → Judges (configures self.old (says_plain (behind self.old line.now))) text text self.new result }
-        ensures onward { result ≡ Ok tt → IsBehind self.old line.now self.new }
+    fn say_plain(&mut self) -> Result<(), LineFault>
+        requires { IsPlayable self.old }
+        ensures verdict { (text : List ℕ) → Judges run_job (configures self.old (says_plain self.old)) text text self.new result }
+        ensures playable { IsPlayable self.new }
     {
         self.check_header()?;
-        self.pass(line);
         offer_nothing(&mut self.client);
         offer_nothing(&mut self.server);
         Ok(())
     }
 
-    fn say_iss(&mut self, line: &[u8], side: Side, number: Seq48) -> Result<(), LineFault>
-        requires { IsReady self.old line.now }
-        ensures verdict { (text : List ℕ) → Judges (configures self.old (with_iss side number (behind self.old line.now))) text text self.new result }
-        ensures onward { result ≡ Ok tt → IsBehind self.old line.now self.new }
+    fn say_iss(&mut self, side: Side, number: Seq48) -> Result<(), LineFault>
+        requires { IsPlayable self.old }
+        ensures verdict { (text : List ℕ) → Judges run_job (configures self.old (with_iss side number self.old)) text text self.new result }
+        ensures playable { IsPlayable self.new }
     {
         self.check_header()?;
-        self.pass(line);
         // Contracts learn that a number fits where it is read.
         let _ = number.get();
         match side {
@@ -173,18 +133,16 @@ impl Play {
     #[tactic(auto, unfolding(crate::specs::Transcript::with_set))]
     fn say_set(
         &mut self,
-        line: &[u8],
         side: Side,
         feature: Feature,
         place: Place,
         values: &[u64],
     ) -> Result<(), LineFault>
-        requires { IsReady self.old line.now }
-        ensures verdict { (text : List ℕ) → Judges (configures self.old (with_set side feature place values.now (behind self.old line.now))) text text self.new result }
-        ensures onward { result ≡ Ok tt → IsBehind self.old line.now self.new }
+        requires { IsPlayable self.old }
+        ensures verdict { (text : List ℕ) → Judges run_job (configures self.old (with_set side feature place values.now self.old)) text text self.new result }
+        ensures playable { IsPlayable self.new }
     {
         self.check_header()?;
-        self.pass(line);
         match side {
             Side::Client => wish_for(&mut self.client, feature, place, values),
             Side::Server => wish_for(&mut self.server, feature, place, values),
@@ -194,18 +152,16 @@ impl Play {
 
     fn say_offer(
         &mut self,
-        line: &[u8],
         side: Side,
         feature: Feature,
         place: Place,
         mandatory: bool,
     ) -> Result<(), LineFault>
-        requires { IsReady self.old line.now }
-        ensures verdict { (text : List ℕ) → Judges (configures self.old (with_offered side feature place mandatory (behind self.old line.now))) text text self.new result }
-        ensures onward { result ≡ Ok tt → IsBehind self.old line.now self.new }
+        requires { IsPlayable self.old }
+        ensures verdict { (text : List ℕ) → Judges run_job (configures self.old (with_offered side feature place mandatory self.old)) text text self.new result }
+        ensures playable { IsPlayable self.new }
     {
         self.check_header()?;
-        self.pass(line);
         match side {
             Side::Client => offer(&mut self.client, feature, place, mandatory),
             Side::Server => offer(&mut self.server, feature, place, mandatory),
@@ -216,13 +172,13 @@ impl Play {
     fn say_event(
         &mut self,
         alloc: Global,
-        line: &[u8],
+        number: u64,
         event: &Event,
         text: &mut Vec<u8>,
     ) -> Result<Result<(), LineFault>, NoMemory>
-        requires { IsReady self.old line.now }
-        ensures verdict { IfOk result (λ answer. Judges (says_event self.old line.now event.now) text.old.items text.new.items self.new answer) }
-        ensures onward { IfOk result (λ answer. answer ≡ Ok tt → IsBehind self.old line.now self.new) }
+        requires { IsPlayable self.old }
+        ensures verdict { IfOk result (λ answer. Judges run_job (says_event self.old number event.now) text.old.items text.new.items self.new answer) }
+        ensures playable { IfOk result (λ answer. answer ≡ Ok tt → IsPlayable self.new) }
     {
         if MOST_EVENTS <= self.events {
             return Ok(Err(whole_line(LineWhy::TooManyEvents)));
@@ -231,9 +187,8 @@ impl Play {
         let Some(world) = &mut self.world else {
             unreachable!()
         };
-        let answer = show_event(world, self.number, event, text)?;
+        let answer = show_event(world, number, event, text)?;
         if answer.is_ok() {
-            self.pass(line);
             self.events += 1;
         }
         Ok(answer)
@@ -331,6 +286,7 @@ fn show_event(
     event: &Event,
     text: &mut Vec<u8>,
 ) -> Result<Result<(), LineFault>, NoMemory>
+    requires { SentFew world.old most_events }
     ensures { IfOk result (λ answer. ShowsEvent (event_shown number world.old event.now) text.old.items text.new.items world.new answer) }
 {
     let actor = event.actor();
@@ -343,7 +299,8 @@ fn show_event(
             Ok(Ok(()))
         }
         Err(WorldFault::NoSuchFrame) => Ok(Err(no_such_frame())),
-        Err(WorldFault::Full) => Ok(Err(whole_line(LineWhy::TooManyEvents))),
+        // An event sends one frame at most, and the events are few.
+        Err(WorldFault::Full) => unreachable!(),
         Err(WorldFault::NoMemory) => Err(NoMemory),
     }
 }

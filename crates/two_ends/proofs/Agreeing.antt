@@ -104,7 +104,7 @@ module _ (w : WorldState) (logs : Side → List Logged)
   peer_iss side = (config_of (party_of w logs (other side))).iss
 
   -- what the frames say last is what the view has last
-  list-is : (pair : FeatureAt) (side : Side) (greatest : ℕ) → IsServerPriority pair
+  pub list-is : (pair : FeatureAt) (side : Side) (greatest : ℕ) → IsServerPriority pair
       → last_list_sent w pair side ≡ last_wish (view_at w logs greatest pair side).frames
   list-is pair side greatest priority =
       last-logged (config side) (key_of pair side) list_said refl (spoken side).logged
@@ -116,7 +116,7 @@ module _ (w : WorldState) (logs : Side → List Logged)
       last-value (peer_iss pair.location) (key_of pair pair.location) other (logs pair.location) ((spoken pair.location).well (key_of pair pair.location))
       ∙ ap (option_map only) (sym (last-logged (config pair.location) (key_of pair pair.location) value_said refl (spoken pair.location).logged))
 
-  changed-is : (pair : FeatureAt) (side : Side) (greatest : ℕ) → side_changed w pair side ≡ has_change (view_at w logs greatest pair side).frames
+  pub changed-is : (pair : FeatureAt) (side : Side) (greatest : ℕ) → side_changed w pair side ≡ has_change (view_at w logs greatest pair side).frames
   changed-is pair side greatest =
       any-logged (config side) (key_of pair side) says_change refl (spoken side).logged
       ∙ any-change (peer_iss side) (key_of pair side) (logs side) ((spoken side).well (key_of pair side))

@@ -1,5 +1,5 @@
 -- What an end believes received, by its congestion control, the other side processed.
-use Rattle.std.proofs.Common.{◌≡◌, ap, sym, ◌∙◌, subst, ⊎_elim, ℕ, ◌^◌, ◌<◌, true, List, [], ◌∷◌, ◌++◌, Result, Some, arith}
+use Rattle.std.proofs.Common.{◌≡◌, ap, sym, ◌∙◌, subst, ⊎_elim, ℕ, ◌^◌, ◌<◌, true, List, [], ◌∷◌, ◌++◌, Result, Ok, Err, IfOk, Some, arith}
 use Rattle.std.proofs.lemmas.List.Elements.{Contains-append_left}
 use Rattle.std.specs.List.{Contains, filter, list_any}
 use Rattle.std.specs.Result.{result_ok}
@@ -21,7 +21,9 @@ use Rattle.dccp_endpoint.specs.Inputs.{Input}
 use Rattle.dccp_endpoint.specs.declared.config.Config.{Config}
 use Rattle.dccp_options.specs.Vectors.{report_of}
 use Rattle.dccp_states.specs.declared.phase.Role.TheVariants as role
-use Rattle.two_ends.specs.Controlled.{Controlled, begins_with, congestion_of, controlled_after, controls, plays, said_by}
+use Rattle.two_ends.specs.Asked.{AllIsAsked, KeepsInitialValues}
+use Rattle.two_ends.specs.Controlled.{Controlled, begins_with, congestion_of, controlled_after, controls, happens_to, plays, said_by}
+use Rattle.two_ends.specs.Delivered.{DeliversItsData, IsDeliveredOnce}
 use Rattle.two_ends.specs.Frames.{options_in, packet_of, packet_options}
 use Rattle.two_ends.specs.Numbered.{Facts}
 use Rattle.two_ends.specs.Reached.{ReachedByEvents}
@@ -30,12 +32,14 @@ use Rattle.two_ends.specs.Safe.{Safe}
 use Rattle.two_ends.specs.World.{Said, WorldState, WorldStep, at_start, half_of, half_steps, happens, world_after_all}
 use Rattle.world_events.specs.Actors.{actor, other}
 use Rattle.world_events.specs.declared.event.Event.{Event}
+use Rattle.world_events.specs.declared.event.Seen.{Seen}
 use Rattle.world_events.specs.declared.event.Side.{Side}
 use Rattle.world_events.specs.declared.event.Side.TheVariants.{Client, Server}
 use Rattle.world_events.specs.declared.event.WorldFault.{WorldFault}
 use Rattle.two_ends.proofs.Acting.{IsHeld, Refused, Steps, Takes, event-taken}
 use Rattle.two_ends.proofs.Calling.{IsHeardOf, any-left, sends-so, tells-so}
-use Rattle.two_ends.proofs.Keeping.{HasRoles, SideInvariant, kept-facts, kept-proper, kept-received, kept-safe, run-kept, run-roles, step-kept}
+use Rattle.two_ends.proofs.Delivering.{delivered-once, delivers-so}
+use Rattle.two_ends.proofs.Keeping.{HasRoles, SideInvariant, kept-asked, kept-facts, kept-initial, kept-proper, kept-received, kept-safe, run-kept, run-roles, step-kept}
 use Rattle.two_ends.proofs.Reaching.{occurring, plays-run, world-after}
 use Rattle.two_ends.proofs.ReadBack.{IsFromPeer, IsSentFrame}
 
@@ -156,14 +160,39 @@ module _ {C : Type 0} (control : Control C) (lawful : IsLawful control) where
       last-heard Server n is = last-honest.1.heard n ((numbers_reported-exact (control.flight last.for_server) n).0 is)
 
       pub plays-facts : Facts last.world
-      plays-facts = kept-facts last.world last-held effects
+      plays-facts = kept-facts last.world last-held
+
+      pub plays-delivered : IsDeliveredOnce control start events
+      plays-delivered = delivered-once control effects start events (run-kept effects client server [] client_fits server_fits)
+
+      plays-roles : client.role ≡ role.Client → server.role ≡ role.Server → HasRoles last.world
+      plays-roles is_client is_server =
+          subst HasRoles (sym same)
+          (run-roles effects client server (occurring control start events) is_client is_server client_fits server_fits)
+
+      pub plays-initial : client.role ≡ role.Client → server.role ≡ role.Server → KeepsInitialValues last.world
+      plays-initial is_client is_server = kept-initial last.world last-held (plays-roles is_client is_server)
+
+      pub plays-asked : client.role ≡ role.Client → server.role ≡ role.Server → AllIsAsked last.world
+      plays-asked is_client is_server = kept-asked last.world last-held (plays-roles is_client is_server)
 
       pub plays-safe : client.role ≡ role.Client → server.role ≡ role.Server → Safe control last
       plays-safe is_client is_server =
           kept-safe control last last-held
-          (subst HasRoles (sym same)
-          (run-roles effects client server (occurring control start events) is_client is_server client_fits server_fits))
+          (plays-roles is_client is_server)
           last-heard
+
+    pub reached-held : (w : Controlled C) → ReachedByEvents control w → IsHeld SideInvariant w.world
+    reached-held w r =
+        subst (λ (v : Controlled C). IsHeld SideInvariant v.world) (sym r.same)
+        (last-held r.client r.server r.for_client r.for_server r.events r.client_fits r.server_fits)
+
+    -- what `step` answers of data
+    pub reached-delivers : (w : Controlled C) → ReachedByEvents control w → (event : Event) (new : Controlled C) (result : Result Seen WorldFault)
+        → IfOk result (λ seen. happens_to control w event ≡ Ok (record { after = new; seen = seen }))
+        → IfOk result (λ seen. DeliversItsData w.world event new.world seen)
+    reached-delivers w r event new (Ok seen) took = delivers-so control w (reached-held w r) event new seen took
+    reached-delivers w r event new (Err fault) none = tt
 
     pub reached-facts : (w : Controlled C) → ReachedByEvents control w → Facts w.world
     reached-facts w r =

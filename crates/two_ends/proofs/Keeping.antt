@@ -1,7 +1,9 @@
 -- What every schedule keeps, and what makes the world safe.
 use Rattle.std.proofs.Common.{◌≡◌, ap, sym, ◌∙◌, subst, ℕ, ◌+◌, ◌-◌, ◌^◌, ◌<◌, ◌≤◌, true, List, Result, Some, slice_get, length, arith}
 use Rattle.std.specs.List.{Contains}
+use Rattle.std.proofs.lemmas.List.{length-map}
 use Rattle.seq_circle.specs.Circle.{residue}
+use Rattle.seq_circle.specs.Counts.{number_of}
 use Rattle.dccp_states.specs.declared.phase.Role.TheVariants as role
 use Rattle.congestion_trait.specs.Control.{Control}
 use Rattle.dccp_options.specs.Vectors.{is_received, state_at}
@@ -17,17 +19,19 @@ use Rattle.world_events.specs.declared.event.Side.{Side}
 use Rattle.world_events.specs.declared.event.Side.TheVariants.{Client, Server}
 use Rattle.world_events.specs.declared.event.WorldFault.{WorldFault}
 use Rattle.two_ends.specs.declared.frames.SentFrame.{SentFrame}
+use Rattle.two_ends.specs.Asked.{AllIsAsked, KeepsInitialValues, row_for}
 use Rattle.two_ends.specs.Controlled.{Controlled}
 use Rattle.two_ends.specs.Numbered.{AreNumbered, Facts, Hears, IsNumberOf, IsNumbered}
 use Rattle.two_ends.specs.Pairs.{FeatureAt, place_at}
 use Rattle.two_ends.specs.Negotiated.{Agree, Given}
-use Rattle.two_ends.specs.Reported.{CarriesVector, Heard, Once, Told, Truthful}
+use Rattle.two_ends.specs.Reported.{CarriesVector, Heard, IsOnce, Once, Told, Truthful}
 use Rattle.two_ends.specs.Safe.{Safe}
 use Rattle.two_ends.specs.World.{WorldState, WorldStep, Occurrence, half_of, world_after_all, world_after, at_start}
 use Rattle.world_events.specs.Actors.{other}
 use Rattle.two_ends.proofs.Acknowledging.{KnowsAcknowledged, acknowledging}
 use Rattle.two_ends.proofs.Acting.{IsHeld, Keeps, NoFact, Party, Takes, config_of, end_of, held_by, party_of, run-configs, run-held, taken-held}
 use Rattle.two_ends.proofs.Agreeing.{AreReached, IsSpoken, agree, end_at, given, key_of}
+use Rattle.two_ends.proofs.Asking.{active-sent, none-pending, unasked}
 use Rattle.two_ends.proofs.Hearing.{IsHearingPeer, hearing}
 use Rattle.two_ends.proofs.KeyHearing.{IsWell}
 use Rattle.two_ends.proofs.Logged.{at-place}
@@ -35,9 +39,12 @@ use Rattle.two_ends.proofs.Marking.{IsMarking, marking}
 use Rattle.two_ends.proofs.Negotiating.{IsNegotiated, negotiating}
 use Rattle.two_ends.proofs.Numbering.{IsOrdered, few-logged, more-sent, numbering}
 use Rattle.two_ends.proofs.ReadBack.{logged-numbered}
+use Rattle.two_ends.proofs.Remembering.{marks-processed, newest-processed, records-honest}
 use Rattle.two_ends.proofs.Resets.{resets-move-nothing}
 use Rattle.two_ends.proofs.Reporting.{once, received-processed, told, truthful, unacknowledged}
+use Rattle.two_ends.proofs.Shown.{few-processed}
 use Rattle.two_ends.proofs.Speaking.{IsSaidOnce, frame-once, speaks-once}
+use Rattle.two_ends.proofs.Vectors.{frames-length}
 use Rattle.two_ends.proofs.Viewing.{view_of}
 
 -- A further fact is one file, a field here, and its line at the start and in a step.
@@ -107,15 +114,18 @@ module _ (w : WorldState) (h : IsHeld SideInvariant w) where
   said-once : (side : Side) (index : ℕ) (frame : SentFrame) → slice_get (half_of w side).frames index ≡ Some frame → IsSaidOnce frame.bytes
   said-once side index frame there = frame-once (party_of w h.logs side) _ index frame (holds side).ordered (holds side).negotiated.well there
 
-  pub kept-facts : EveryStepHasOneEffect → Facts w
-  kept-facts effects =
+  pub kept-facts : Facts w
+  kept-facts =
       record {
         numbered = λ side. numbered-half (party_of w h.logs side) (holds side).ordered;
         heard = λ side. subst (λ (n : ℕ). Hears n (length (h.logs (other side))) (half_of w side).end) (sym (holds (other side)).ordered.first) (holds side).hears;
-        unmoved = λ side. resets-move-nothing effects (half_of w side).end (holds side).ordered.proper;
+        unmoved = λ side. resets-move-nothing (half_of w side).end (holds side).ordered.proper;
         acknowledged = λ side. own-acknowledged (party_of w h.logs side) (holds side).ordered (holds side).acknowledged;
         spoken = λ side index frame there. speaks-once side frame.bytes (said-once side index frame there)
             (unacknowledged w h.logs side (holds side).ordered (ordered-there side) (marks-of side) index frame there);
+        processed = λ side. marks-processed (party_of w h.logs side) (party_of w h.logs (other side)) (ordered-there side) (marks-of side);
+        newest = λ side. newest-processed w h.logs side (ordered-there side) (marks-of side);
+        recorded = λ side. records-honest w h.logs side (holds side).ordered (ordered-there side) (marks-of side);
       }
 
   spoken : (side : Side) → IsSpoken (party_of w h.logs side) (config_of (party_of w h.logs (other side))).iss
@@ -154,10 +164,34 @@ module _ (w : WorldState) (h : IsHeld SideInvariant w) where
   pub kept-proper : (side : Side) → IsProper (half_of w side).end
   kept-proper side = (holds side).ordered.proper
 
+  -- An end took no more packets than were sent.
+  pub marked-few : (side : Side) → (half_of w side).end.marked ≤ 2 ^ 47
+  marked-few side =
+      let m = marks-of side in
+      let most = few-processed m.view m.peer.frames m.kept.here.sound m.kept.here.listed in
+      omega (arith, m.here.marked, ap length m.here.processed, length-map m.view.processed (number_of (config_of (party_of w h.logs (other side))).iss), most, frames-length m.there.frames, few-logged (party_of w h.logs (other side)) (ordered-there side))
+
+  pub held-once : (side : Side) → IsOnce w side
+  held-once side = once w h.logs side (holds side).ordered (ordered-there side) (marks-of side)
+
   -- What a side's Ack Vector tells received, it had processed.
   pub kept-received : (side : Side) (index : ℕ) (frame : SentFrame) (ack : ℕ) (bytes : List ℕ) (n : ℕ) → slice_get (half_of w side).frames index ≡ Some frame
       → CarriesVector frame ack bytes → n < 2 ^ 48 → is_received (state_at ack bytes n) ≡ true → Contains (half_of w side).processed n
   kept-received side = received-processed w h.logs side (holds side).ordered (ordered-there side) (marks-of side)
+
+  -- What was not asked for stays, and the last lists sent are the active ones.
+  pub kept-initial : HasRoles w → KeepsInitialValues w
+  kept-initial roles pair side none = unasked w h.logs spoken pair (reached-pair roles pair) side none
+
+  pub kept-asked : HasRoles w → AllIsAsked w
+  kept-asked roles pair side =
+      record {
+        last_is_active = λ priority list last. active-sent w h.logs spoken pair (reached-pair roles pair) side priority list last;
+        nothing_waits =
+            λ stable.
+            none-pending (row_for w pair side).feature (row_for w pair side).place (row_for w pair side).stand (row_for w pair side).pending stable
+            ((kept-proper side).rows.sound.each pair.feature (place_at side pair.location)).sound.pending;
+      }
 
   -- The parts that say nothing of congestion control.
   record AreKept : Type 0 where
@@ -174,7 +208,7 @@ module _ (w : WorldState) (h : IsHeld SideInvariant w) where
         given = given w h.logs spoken (reached-pair roles);
         truthful = λ side. truthful w h.logs side (holds side).ordered (ordered-there side) (marks-of side);
         told = λ side. told w h.logs side (holds side).ordered (ordered-there side) (marks-of side);
-        once = λ side. once w h.logs side (holds side).ordered (ordered-there side) (marks-of side);
+        once = held-once;
       }
 
 -- With what the ends believe received, the world is safe.

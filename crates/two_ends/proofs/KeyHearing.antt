@@ -20,6 +20,7 @@ use Rattle.dccp_endpoint.specs.Faults.{counts}
 use Rattle.dccp_endpoint.specs.Heeding.{Due, event_of, is_change}
 use Rattle.dccp_endpoint.specs.Incoming.{Incoming, incoming}
 use Rattle.dccp_endpoint.specs.Inputs.{Input, Arrives}
+use Rattle.dccp_endpoint.proofs.FirstFaults.{changes-few}
 use Rattle.dccp_endpoint.proofs.OneConfirm.{rows_hear_the_packet}
 use Rattle.dccp_endpoint.specs.Saying.{confirm_for, event_in, said_to, speaks_to, times_said_to}
 use Rattle.dccp_endpoint.specs.Turns.{Key}
@@ -252,9 +253,8 @@ key-hears act greatest later so well rows k _ _ (Heeds a h was heeded) = by act.
       → KeyHears act greatest later k (said_to (counts_in e a) a.ack k a.options) (reply_due row (said_to (counts_in e a) a.ack k a.options))
       → KeyHears act greatest later k (events_of k.0 k.1 (turns_in e a)) (confirm_for k h.confirms)
   told from is =
-      let law =
-      rows_hear_the_packet (counts_in e a) a.ack e.rows a.options h k rows
-      (few-options (config_of act.side).iss (config_of act.peer).iss act.peer.log well a from) heeded in
+      let few = few-options (config_of act.side).iss (config_of act.peer).iss act.peer.log well a from in
+      let law = rows_hear_the_packet (counts_in e a) a.ack e.rows a.options h k rows (omega (arith, changes-few a.options, few)) heeded in
       subst (λ (events : List RowEvent). KeyHears act greatest later k events (confirm_for k h.confirms)) (sym law.0)
       (subst (λ (reply : Option (List ℕ)). KeyHears act greatest later k (said_to (counts_in e a) a.ack k a.options) reply) (sym law.1) is)
 

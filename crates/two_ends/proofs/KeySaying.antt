@@ -7,6 +7,7 @@ use Rattle.dccp_options.specs.Written.{Item, entries_at}
 use Rattle.dccp_packets.specs.Grammar.{packet_type}
 use Rattle.dccp_packets.specs.Kinds.{ack_of}
 use Rattle.dccp_packets.specs.declared.header.Kind.{Kind}
+use Rattle.dccp_endpoint.proofs.FirstFaults.{changes-few}
 use Rattle.dccp_endpoint.proofs.Keys.{apart-so, due-few}
 use Rattle.dccp_endpoint.proofs.OneConfirm.{confirms_are_single}
 use Rattle.dccp_endpoint.proofs.OwnPackets.{own_packets_say, own_packets_speak}
@@ -328,7 +329,7 @@ module _ (s : KnownStep) where
   keys-few : (offered preferred : List Turn) (ks : List Key) → Occasion e act.given heard due offered preferred ks → length ks ≤ 18
   keys-few _ _ _ Plain = omega arith
   keys-few _ _ _ Offering = asking-few _ due (offered-rows e act.given rows heard due rows-heard)
-  keys-few _ _ _ (Repeating deaf quiet) = due-few e.rows rows
+  keys-few _ _ _ (Repeating in_flight fired deaf quiet) = due-few e.rows rows
   keys-few _ _ _ (OccasionNow other values wish called is asks deaf quiet) = omega arith
   keys-few _ _ _ (OccasionLater other values wish called is waits deaf quiet) = omega arith
 
@@ -343,7 +344,7 @@ module _ (s : KnownStep) where
           few = omega (arith, adds, few-changes iss peer_iss act.peer.log s.well a from);
           single =
               λ k. confirms_are_single (counts_in e a) a.ack e.rows a.options h k rows
-              (few-options iss peer_iss act.peer.log s.well a from) heeded;
+              (omega (arith, changes-few a.options, few-options iss peer_iss act.peer.log s.well a from)) heeded;
         }
 
     by : (hearing : Hearing) → HeardSo act greatest later hearing → hearing ≡ Heard was.first a.number Taken → AreFew h.confirms

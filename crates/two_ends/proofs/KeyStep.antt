@@ -154,7 +154,7 @@ module _ (e : EndState) (input : Input) (rows : IsNegotiation e.rows) (heard : L
       does-as (row-heard k) (row-heard k) _ (Offers false ∷ []) _ _ refl
       (ap (λ (xs : List RowEvent). xs ++ []) (events-offerings (is_confirmed confirms) k) ∙ ap (λ (c : Bool). Offers c ∷ []) (none-confirmed confirms k none))
       refl (offers-do k none)
-  key-does k _ _ _ (Repeating deaf quiet) none = by (is_due (row k)) refl where
+  key-does k _ _ _ (Repeating in_flight fired deaf quiet) none = by (is_due (row k)) refl where
     by : (due : Bool) → is_due (row k) ≡ due → Does (row-heard k) [] (has_key k (due_keys e.rows))
     by true is = does-as (row-heard k) (row k) [] [] _ true (unheard-row k deaf) refl (has-due e.rows k rows ∙ is) (Asks (due-busy (row k) is))
     by false is = does-as (row-heard k) (row k) [] [] _ false (unheard-row k deaf) refl (has-due e.rows k rows ∙ is) Rests
@@ -181,7 +181,7 @@ module _ (e : EndState) (input : Input) (rows : IsNegotiation e.rows) (heard : L
   key-confirmed k body _ _ _ Plain some = inl refl
   key-confirmed k body _ _ _ Offering some =
       inr (ap (λ (xs : List RowEvent). xs ++ []) (events-offerings (is_confirmed confirms) k) ∙ ap (λ (c : Bool). Offers c ∷ []) (confirmed-some confirms k body some))
-  key-confirmed k body _ _ _ (Repeating deaf quiet) some = inl refl
+  key-confirmed k body _ _ _ (Repeating in_flight fired deaf quiet) some = inl refl
   key-confirmed k body _ _ _ (OccasionNow other values wish called is asks deaf quiet) some =
       let none : confirm_for k confirms ≡ None = ap (confirm_for k) quiet in
       cc (none, some)
@@ -192,7 +192,7 @@ module _ (e : EndState) (input : Input) (rows : IsNegotiation e.rows) (heard : L
   pub keys-distinct : (offered preferred : List Turn) (keys : List Key) → Occasion e input heard confirms offered preferred keys → AreDistinct keys
   keys-distinct _ _ _ Plain = none-distinct
   keys-distinct _ _ _ Offering = asking-distinct rows-offered confirms offered-rows
-  keys-distinct _ _ _ (Repeating deaf quiet) = due-distinct e.rows rows
+  keys-distinct _ _ _ (Repeating in_flight fired deaf quiet) = due-distinct e.rows rows
   keys-distinct _ _ _ (OccasionNow other values wish called is asks deaf quiet) = one-distinct other
   keys-distinct _ _ _ (OccasionLater other values wish called is waits deaf quiet) = none-distinct
 

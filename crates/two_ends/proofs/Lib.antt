@@ -9,6 +9,7 @@ pub mod Viewing
 pub mod Carrying
 pub mod Telling
 pub mod Agreeing
+pub mod Asking
 pub mod Moving
 pub mod HeardTo
 pub mod Turning
@@ -27,8 +28,11 @@ pub mod Marking
 pub mod SentAt
 pub mod Processed
 pub mod Reporting
+pub mod Remembering
 pub mod Resets
 pub mod Keeping
 pub mod Reaching
+pub mod Delivering
 pub mod Calling
 pub mod Believing
+pub mod Consequences

@@ -25,10 +25,10 @@ equal-so : (m n : ℕ) → m ≡ n → (m == n) ≡ true
 equal-so m n same = grind arith
 
 -- where a list has a number
-has-at : (ns : List ℕ) (i n : ℕ) → i < length ns → slice_index_or ns i 0 ≡ n → has ns n ≡ true
+pub has-at : (ns : List ℕ) (i n : ℕ) → i < length ns → slice_index_or ns i 0 ≡ n → has ns n ≡ true
 has-at ns i n below is = list_any_at (λ m. m == n) ns i 0 below (equal-so (slice_index_or ns i 0) n is)
 
-at-has : (ns : List ℕ) (n : ℕ) → has ns n ≡ true → (i : ℕ) × (i < length ns) × (slice_index_or ns i 0 ≡ n)
+pub at-has : (ns : List ℕ) (n : ℕ) → has ns n ≡ true → (i : ℕ) × (i < length ns) × (slice_index_or ns i 0 ≡ n)
 at-has [] n is = cc is
 at-has (m ∷ ms) n is = by (m == n) refl is (λ later. at-has ms n later) where
   by : (same : Bool) → (m == n) ≡ same → (same || has ms n) ≡ true
@@ -54,7 +54,7 @@ states-none one other floor ack below = rw below refl
 le-so : (a b : ℕ) → nat_le a b ≡ true → a ≤ b
 le-so a b is = grind arith
 
-not-after : (iss ack count : ℕ) → iss < 2 ^ 48 → 1 ≤ count → count ≤ ack → ack ≤ 2 ^ 47 → IsBefore (number_of iss ack) (number_of iss count) → ⊥
+pub not-after : (iss ack count : ℕ) → iss < 2 ^ 48 → 1 ≤ count → count ≤ ack → ack ≤ 2 ^ 47 → IsBefore (number_of iss ack) (number_of iss count) → ⊥
 not-after iss ack count fits some below early before = omega (arith, before)
 
 module _ (x y : Party) (others : IsOrdered y) (m : IsMarking x y) where
@@ -74,7 +74,7 @@ module _ (x y : Party) (others : IsOrdered y) (m : IsMarking x y) where
   same-length = ap length m.here.processed ∙ length-map view.processed (number_of iss)
 
   -- the count at an index
-  abbrev count-at : ℕ → ℕ
+  abbrev pub count-at : ℕ → ℕ
   count-at i = slice_index_or view.processed i 0
 
   pub number-at : (i : ℕ) → i < length x.half.processed → slice_index_or x.half.processed i 0 ≡ number_of iss (count-at i)
@@ -85,12 +85,12 @@ module _ (x y : Party) (others : IsOrdered y) (m : IsMarking x y) where
   pub its-place : (i : ℕ) → i < length x.half.processed → view.place (count-at i) ≡ suc i
   its-place i below = place-at view m.peer.frames m.kept.here.sound m.kept.here.listed i (omega (arith, below, same-length))
 
-  record IsCount (count : ℕ) : Type 0 where
-    some : 1 ≤ count
-    taken : count ≤ view.greatest
-    early : count < 2 ^ 47
+  pub record IsCount (count : ℕ) : Type 0 where
+    pub some : 1 ≤ count
+    pub taken : count ≤ view.greatest
+    pub early : count < 2 ^ 47
 
-  its-count : (count : ℕ) → 0 < view.place count → IsCount count
+  pub its-count : (count : ℕ) → 0 < view.place count → IsCount count
   its-count count placed =
       let taken = m.kept.here.sound.processed_taken count placed in
       record {

@@ -50,7 +50,7 @@ connection-kept r kind.Data = refl
 connection-kept r _ = refl
 
 -- A Reset without a connection is a Reset.
-without-reset : (r : Role) (k : Kind) → is_without_connection r k ≡ true → packet_type k ≡ types.Reset
+pub without-reset : (r : Role) (k : Kind) → is_without_connection r k ≡ true → packet_type k ≡ types.Reset
 without-reset r (kind.Reset ack code detail) is = refl
 without-reset r _ is = cc is
 
@@ -82,7 +82,7 @@ module _ (config : Config) where
         has_number = ap packet_number packet ∙ ap Some (again n number same);
       }
 
-  reset-frame : (frame : SentFrame) → IsUnlogged config frame → IsResetWithoutConnection config.role frame.bytes
+  pub reset-frame : (frame : SentFrame) → IsUnlogged config frame → IsResetWithoutConnection config.role frame.bytes
   reset-frame frame is =
       let read = is-drafted config is.number (alone is.kind) is.sendable in
       record {

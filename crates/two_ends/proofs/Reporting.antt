@@ -41,7 +41,7 @@ bytes_in None = []
 bytes_in (Some r) = r.bytes
 
 -- a log has a packet at each place
-some-at : (log : List Logged) (place : ℕ) → place < length log → (l : Logged) × (slice_get log place ≡ Some l)
+pub some-at : (log : List Logged) (place : ℕ) → place < length log → (l : Logged) × (slice_get log place ≡ Some l)
 some-at [] place below = absurd (omega (arith, below))
 some-at (l ∷ log) zero below = (l, refl)
 some-at (l ∷ log) (suc place) below = some-at log place (omega (arith, below))
@@ -114,7 +114,7 @@ module _ (w : WorldState) (logs : Side → List Logged) (side : Side) (own : IsO
         ∙ ap (joined_report ack) its.vectors
         ∙ ap (λ (has_vector : Bool). joined_report ack (one_vector has_vector its.set its-ack)) vector
 
-    acknowledges : (packet : Parts) → packet_of frame.bytes ≡ Some packet → g.has_vector ≡ true → ack_of packet.header.kind ≡ Some its-ack
+    pub acknowledges : (packet : Parts) → packet_of frame.bytes ≡ Some packet → g.has_vector ≡ true → ack_of packet.header.kind ≡ Some its-ack
     acknowledges packet is_packet vector =
         let read = read-in (config_of x) number frame l is in
         let same : packet ≡ read.packet = same_Some packet read.packet (sym is_packet ∙ read.is_packet) in
@@ -129,7 +129,7 @@ module _ (w : WorldState) (logs : Side → List Logged) (side : Side) (own : IsO
       its-floor : its.set.floor ≡ number_of iss g.floor
       its-floor = floor-is x y others m place l its vector
 
-      frame-floor : frame.floor ≡ number_of iss g.floor
+      pub frame-floor : frame.floor ≡ number_of iss g.floor
       frame-floor = ap (λ (f : SentFrame). f.floor) is.same ∙ sym (its.floor vector) ∙ its-floor
 
       -- What holds of the set's vector holds of the vector of what was processed.
@@ -145,7 +145,7 @@ module _ (w : WorldState) (logs : Side → List Logged) (side : Side) (own : IsO
       vector-is : vector_of (has its.set.numbers) its.set.floor its-ack ≡ vector_of (has (processed_by x.half frame)) frame.floor its-ack
       vector-is = of-processed vector_of (same-vector x y others m place l its vector).0
 
-      whole-is : is_whole (has its.set.numbers) its.set.floor its-ack ≡ is_whole (has (processed_by x.half frame)) frame.floor its-ack
+      pub whole-is : is_whole (has its.set.numbers) its.set.floor its-ack ≡ is_whole (has (processed_by x.half frame)) frame.floor its-ack
       whole-is = of-processed is_whole (same-vector x y others m place l its vector).1
 
     tells : (ack : ℕ) (bytes : List ℕ) → CarriesVector frame ack bytes → (b : Bool) → g.has_vector ≡ b → TellsTruth x.half frame ack bytes

@@ -6,5 +6,9 @@ pub mod Pairs
 pub mod Negotiated
 pub mod Reported
 pub mod Safe
+pub mod Delivered
+pub mod Asked
+pub mod Counted
 pub mod Reached
+pub mod Remembered
 pub mod Numbered

@@ -5,17 +5,16 @@ use Rattle.dccp_options.specs.Vectors.{ack_vectors}
 use Rattle.dccp_packets.specs.Grammar.{Parts}
 use Rattle.dccp_states.specs.declared.phase.Role.{Role}
 use Rattle.dccp_endpoint.specs.Causes.{is_without_connection}
-use Rattle.dccp_endpoint.specs.End.{EndState, held_of, is_live}
+use Rattle.dccp_endpoint.specs.End.{EndState, is_live}
 use Rattle.dccp_packets.specs.Kinds.{ack_of}
 use Rattle.dccp_endpoint.specs.Receiving.{receives}
-use Rattle.feature_lists.specs.declared.features.Feature.{Feature}
-use Rattle.feature_lists.specs.declared.features.Place.{Place}
 use Rattle.two_ends.specs.declared.frames.SentFrame.{SentFrame}
 use Rattle.world_events.specs.declared.event.Side.{Side}
 use Rattle.two_ends.specs.World.{Half, WorldState, half_of}
 use Rattle.world_events.specs.Actors.{other}
 use Rattle.two_ends.specs.Frames.{packet_of, options_in, is_reset, number_of_frame}
 use Rattle.two_ends.specs.Pairs.{FeatureAt, times_said}
+use Rattle.two_ends.specs.Remembered.{AreRecordsHonest, MarksWhatItProcessed, NewestIsProcessed}
 
 -- bytes that are no packet are no Reset without a connection either
 abbrev pub is_packet_without_connection : Role → Option Parts → Bool
@@ -74,13 +73,16 @@ pub record AreSentNumbers (iss count isr gsr : ℕ) : Type 0 where
 abbrev pub Hears : ℕ → ℕ → EndState → Type 0
 Hears iss count e = IsUnset e ⊎ AreSentNumbers iss count e.marks.isr e.marks.gsr
 
--- An end keeps the numbers that it received, what it knows acknowledged and its features.
+-- An end keeps the numbers that it received, what it knows acknowledged, its rows, and its set with the floor, the records and the
+-- count of what was marked.
 pub record KeepsReceived (before after : EndState) : Type 0 where
   pub first : after.marks.isr ≡ before.marks.isr
   pub greatest : after.marks.gsr ≡ before.marks.gsr
   pub opening : after.marks.osr ≡ before.marks.osr
   pub acknowledged : after.marks.gar ≡ before.marks.gar
-  pub features : (feature : Feature) (place : Place) → held_of after feature place ≡ held_of before feature place
+  pub rows : after.rows ≡ before.rows
+  pub set : after.received ≡ before.received
+  pub marked : after.marked ≡ before.marked
 
 -- So it does where the bytes are a Reset.
 abbrev pub ResetsMoveNothing : EndState → Type 0
@@ -102,3 +104,6 @@ pub record Facts (w : WorldState) : Type 0 where
   pub acknowledged : (side : Side) → 1 ≤ (numbered side).count
       → IsNumberOf (half_of w side).end.marks.iss (numbered side).count (half_of w side).end.marks.gar
   pub spoken : (side : Side) (index : ℕ) (frame : SentFrame) → slice_get (half_of w side).frames index ≡ Some frame → SpeaksOnce side frame.bytes
+  pub processed : (side : Side) → MarksWhatItProcessed (half_of w side)
+  pub newest : (side : Side) → NewestIsProcessed w side
+  pub recorded : (side : Side) → AreRecordsHonest w side

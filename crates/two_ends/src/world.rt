@@ -2,6 +2,7 @@
 ghost use Rattle.std.specs.Prelude.{◌≡◌, ◌<◌, ◌^◌, List};
 ghost use Rattle.dccp_endpoint.specs.Drafts.{Fits};
 ghost use Rattle.two_ends.specs.Controlled.{begins_with, plays};
+ghost use Rattle.two_ends.specs.Delivered.{IsDeliveredOnce};
 ghost use Rattle.two_ends.specs.Numbered.{Facts};
 ghost use Rattle.two_ends.specs.Safe.{Safe};
 ghost use Rattle.world_events.specs.declared.event.Event.{Event};
@@ -31,9 +32,13 @@ use std::marker::Model;
 /// connection, whose code is 3 or a server's 8, carries no option. Once an end has received a first number (in CLOSED
 /// and TIMEWAIT numbers that are 0 may mean none), that and its greatest number received are numbers of such frames of
 /// the other side, and the first is not the later one. Once it has sent such a frame, GAR, the greatest acknowledgement
-/// number that it received or its first number, is the number of one of its own. A Reset that arrives moves nothing
-/// received, nothing acknowledged and no feature. No frame says two things of one feature and side, and none has an Ack
-/// Vector without an acknowledgement number.
+/// number that it received or its first number, is the number of one of its own. No number that a side processed is
+/// after its greatest number received. From its floor up to that, its set has just the numbers that it processed; the
+/// floor is not after the next. Where that number's frame is an Ack or a DataAck, the side processed it, unless its
+/// phase is CLOSED. Each record of an Ack Vector is one of the end's own frames, with that frame's numbers, and tells
+/// whether its vector was whole. A Reset that arrives moves nothing received, nothing acknowledged, no row and nothing
+/// that was marked. No frame says two things of one feature and side, and none has an Ack Vector without an
+/// acknowledgement number.
 #[derive(Drop)]
 pub struct World<C: Congestion> {
     sides: Sides<C>,
@@ -60,7 +65,8 @@ impl<C: Congestion + Drop> World<C> {
     /// Two ends of these configurations, with what they wish and offer of features and with a congestion control for
     /// the data of each, that have sent and received nothing. Both congestion controls are started with CCID 2, the
     /// first value of the feature, which they have to know. The world is safe and its facts hold: no frame has a number
-    /// yet, nothing was heard, every feature has its initial value, and a Reset would move nothing received.
+    /// yet, nothing was heard, processed or recorded, every feature has its initial value, and a Reset would move
+    /// nothing.
     pub fn new(
         alloc: Global,
         client: Config,
@@ -87,6 +93,7 @@ impl<C: Congestion> World<C> {
     ghost use Rattle.std.specs.Prelude.{◌≡◌, ◌↔◌, IfOk, OnErr, Ok, Err};
     ghost use Rattle.two_ends.specs.World.{half_of, LacksFrame, ActorIsFull};
     ghost use Rattle.two_ends.specs.Controlled.{end_of_side, happens_to};
+    ghost use Rattle.two_ends.specs.Delivered.{DeliversItsData};
     ghost use Rattle.two_ends.specs.Safe.{Safe};
     ghost use Rattle.two_ends.specs.Numbered.{Facts};
 
@@ -95,10 +102,11 @@ impl<C: Congestion> World<C> {
     /// side that would act has sent 2^47 - 1 frames, `NoMemory`. Each leaves the world unchanged: all memory that the
     /// step may need is taken before it.
     ///
-    /// After it, refused or not, the world is safe and its facts hold: the frames of a side but Resets without a
-    /// connection carry its first number, the next, and so on; once an end has received a first number, what it heard
-    /// are numbers of the other side's frames; once it has sent a numbered frame, GAR is the number of one; a Reset
-    /// moves nothing received; and no frame says two things of one feature and side.
+    /// Data that it delivers are those of the frame that arrives: `place`, as the outcome has it, is where the payload
+    /// of the frame's bytes lies, and the receiving side has processed the frame's number by that step
+    /// ([`data_are_delivered_once`]).
+    ///
+    /// After it, refused or not, the world is safe, and the facts hold that stand over [`World`].
     pub fn step(&mut self, event: &Event) -> Result<Seen, WorldFault>
         ensures ok { IfOk result (λ seen. happens_to C.control self.old event.now ≡ Ok (record { after = self.new; seen = seen })) }
         ensures no_such_frame { (result ≡ Err WorldFault.NoSuchFrame) ↔ (happens_to C.control self.old event.now ≡ Err WorldFault.NoSuchFrame) }
@@ -106,6 +114,7 @@ impl<C: Congestion> World<C> {
         ensures lacks { (result ≡ Err WorldFault.NoSuchFrame) ↔ LacksFrame self.old.world event.now }
         ensures filled { (result ≡ Err WorldFault.Full) ↔ ((LacksFrame self.old.world event.now → ⊥) × ActorIsFull self.old.world event.now) }
         ensures err { OnErr result (self.new ≡ self.old) }
+        ensures delivers { IfOk result (λ seen. DeliversItsData self.old.world event.now self.new.world seen) }
         ensures safe { Safe C.control self.new }
         ensures facts { Facts self.new.world }
     {
@@ -163,17 +172,21 @@ pub fn every_run_is_safe<C: Congestion>()
     every_step_has_one_effect();
 }
 
-/// The world's facts after every list of events, with any congestion control, from any two configurations, whatever
-/// their roles, whose fields fit their widths. A side's frames, but for Resets without a connection, carry its first
-/// number, the next, and so on up to its greatest number sent, in this order (RFC 4340, section 7.1); there are fewer
-/// than 2^47. A Reset without a connection, whose code is 3 or a server's 8, carries no option. Once an end has
-/// received a first number, that and its greatest number received are numbers of numbered frames of the other side, and
-/// the first is not the later one; once it has sent a numbered frame, GAR is the number of one of its own. A Reset that
-/// arrives moves neither the received numbers, nor GAR, nor a feature. No frame says two things of one feature and
-/// side, and none has an Ack Vector without an acknowledgement number.
+/// The world's facts, as they stand over [`World`], after every list of events, with any congestion control, from any
+/// two configurations, whatever their roles, whose fields fit their widths.
 pub fn every_run_numbers_its_frames<C: Congestion>()
     ensures { (client server : Config) (for_client for_server : C) (events : List Event) → Fits client → Fits server
         → Facts (plays C.control (begins_with C.control client server for_client for_server) events).world }
+{
+    every_step_has_one_effect();
+}
+
+/// No frame's data are delivered twice, whatever arrives how often: after every list of events, with any congestion
+/// control, from any two configurations whose fields fit their widths, the frames whose data were delivered are all
+/// different ones (RFC 4340, section 8.5, step 16).
+pub fn data_are_delivered_once<C: Congestion>()
+    ensures { (client server : Config) (for_client for_server : C) (events : List Event) → Fits client → Fits server
+        → IsDeliveredOnce C.control (begins_with C.control client server for_client for_server) events }
 {
     every_step_has_one_effect();
 }

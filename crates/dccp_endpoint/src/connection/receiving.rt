@@ -78,7 +78,7 @@ impl Connection {
     ghost use Rattle.dccp_states.specs.Phases.{after};
     ghost use Rattle.dccp_states.specs.declared.phase.Phase.TheVariants as phase;
     ghost use Rattle.validity_windows.specs.Verdict.{verdict};
-    ghost use Rattle.dccp_endpoint.specs.Controlled.{with_control};
+    ghost use Rattle.dccp_endpoint.specs.Controlled.{end_with, with_control};
     ghost use Rattle.dccp_endpoint.specs.End.{IsProper, is_phase_of};
     ghost use Rattle.dccp_endpoint.specs.Faults.{counts};
     ghost use Rattle.dccp_endpoint.specs.Heeding.{due_of, heeding_or, unheeded};
@@ -88,8 +88,7 @@ impl Connection {
     ghost use Rattle.dccp_endpoint.specs.Receiving.{acknowledges_in_window, answers, takes_answer, raises, checks_numbers, ends_by_reset, is_unexpected, is_other_service, checks_type, heeded, reads_options, moved_to, processes};
     ghost use Rattle.dccp_endpoint.specs.Reporting.{counts_data, delivered_if, delivers, looked_up, looks_up, marks};
     ghost use Rattle.run_list.specs.MarkedSet.{answer_to};
-    ghost use Rattle.dccp_endpoint.specs.Inputs.{Arrives};
-    ghost use Rattle.dccp_endpoint.specs.Outcomes.{HasCause, HasEffectOf, HasNoOtherCause};
+    ghost use Rattle.dccp_endpoint.specs.Outcomes.{HasCause, HasEffectOf, HasNoOtherCause, OnDropped};
 
     /// Takes bytes that arrived, and hands to the congestion control what is due to it.
     pub(crate) fn receive<C: Congestion>(
@@ -102,7 +101,8 @@ impl Connection {
         ensures step { record { after = record { state = self.new; congestion = congestion.new }; frame = out.new; answer = result } ≡ with_control C.control congestion.old (receives self.old bytes.now) }
         ensures cause { HasCause self.old bytes.now result }
         ensures no_other_cause { HasNoOtherCause self.old bytes.now result }
-        ensures effect { HasEffectOf self.old (Arrives bytes.now) result self.new out.new (receives self.old bytes.now).calls }
+        ensures dropped { OnDropped result ((end_with self.new congestion.new ≡ end_with self.old congestion.old) × (out.new ≡ None)) }
+        ensures effect { HasEffectOf self.old bytes.now result self.new out.new (receives self.old bytes.now).calls }
     {
         self.shows_proper();
         out.clear();

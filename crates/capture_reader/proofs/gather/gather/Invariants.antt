@@ -10,6 +10,7 @@ invariant-loop-held g l = record {
   fits : length l.ahead.pending ≤ l.ahead.size;
   never_falls : g.S.Source.faults l.initial.source ≤ g.S.Source.faults l.source;
   same_lender : g.S.Source.lender l.source ≡ g.S.Source.lender l.initial.source;
+  still : l.asked ≤ length l.initial.ahead.pending → (l.source ≡ l.initial.source) × (l.ahead ≡ l.initial.ahead);
 }
 
 abbrev pub decreases-loop-held : goal.decreases-loop-held

@@ -1,6 +1,6 @@
-use Rattle.std.proofs.Common.{◌≡◌, ◌-◌, ◌≤◌, length}
+use Rattle.std.proofs.Common.{◌≡◌, ◌-◌, ◌≤◌, true, length}
 use Rattle.dccp_io.specs.Ahead.{ahead_of}
-use Rattle.dccp_io.specs.Lines.{text_length}
+use Rattle.dccp_io.specs.Lines.{is_line_settled, text_length}
 use Rattle.dccp_io.proofs.lines.seek.Given as goal
 
 abbrev pub invariant-loop-seen : goal.invariant-loop-seen
@@ -11,6 +11,7 @@ invariant-loop-seen g l = record {
   fits : length l.ahead.pending ≤ l.ahead.size;
   never_falls : g.S.Source.faults l.initial.source ≤ g.S.Source.faults l.source;
   same_lender : g.S.Source.lender l.source ≡ g.S.Source.lender l.initial.source;
+  still : is_line_settled l.asked l.initial.ahead.pending ≡ true → (l.source ≡ l.initial.source) × (l.ahead ≡ l.initial.ahead);
 }
 
 abbrev pub decreases-loop-seen : goal.decreases-loop-seen

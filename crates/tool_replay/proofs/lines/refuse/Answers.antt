@@ -1,7 +1,7 @@
 -- The line of the refusal stands behind the text, and then all of it is written.
 use Rattle.std.proofs.Common.{◌≡◌, sym, ◌∙◌, subst, true, List, ℕ, ◌++◌}
 use Rattle.tool_replay.specs.Loops.{Leaves}
-use Rattle.tool_replay.specs.EndLines.{refusal_line}
+use Rattle.tool_words.specs.Refusals.{refusal_line}
 use Rattle.tool_output.proofs.Ending.{on-ok}
 use Rattle.tool_replay.proofs.Streaming.{leaves-unwritten}
 use Rattle.tool_replay.proofs.lines.refuse.Goals as goal

@@ -1,11 +1,17 @@
--- The ends were safe after each event of the input that was lent to the reader of lines.
-use Rattle.std.proofs.Common.{ℕ, List, Option, IfSome, subst}
-use Rattle.tool_output.specs.Ends.{IsAnswered}
-use Rattle.tool_run.specs.Transcript.{SafeThroughout}
-use Rattle.tool_replay.proofs.Streaming.{rest-at-first}
+-- The lines were gone through from where a schedule begins, and each world of its events was safe.
+use Rattle.std.proofs.Common.{ℕ, List, Some, subst}
+use Rattle.tool_run.specs.Transcript.{run_job}
+use Rattle.tool_run.specs.declared.play.Play.{Play}
+use Rattle.tool_lines.specs.Jobs.{gone_through}
+use Rattle.tool_output.specs.Ends.{StopsWithin}
+use Rattle.tool_run.proofs.Running.{safe-run}
 use Rattle.tool_run.proofs.transcript.run_schedule.Goals as goal
 
 pub returns-clause-safe : goal.returns-clause-safe
-returns-clause-safe g c = λ bytes told.
-    subst (λ (known : Option (List ℕ)). IfSome known (λ all. IsAnswered c.play_lines-status.result → SafeThroughout all))
-    (rest-at-first (λ s. g.S.Source.left s.now) _ c.in-Ok.lines bytes c.in-Ok.ensures told) c.play_lines-status.ensures.safe
+returns-clause-safe g c = λ bytes told answered.
+    safe-run c.every_run_is_safe.ensures c.new-schedule.result c.new-schedule.ensures.value bytes ((c.run_lines.ensures.through bytes told).kept answered)
+
+pub returns-clause-past : goal.returns-clause-past
+returns-clause-past g c = λ bytes told.
+    subst (λ (first : Play). StopsWithin 16384 (gone_through run_job first bytes).accepted bytes c.run_lines.result (g.S.Source.left c.run_lines.new.input))
+    c.new-schedule.ensures.value (c.run_lines.ensures.through bytes told).past

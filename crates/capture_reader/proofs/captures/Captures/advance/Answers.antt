@@ -27,7 +27,7 @@ returns-in-Err g c =
     (λ (old : CapturesState g.row.S.Denot). Advances g.S.Source.left g.S.Source.faults g.S.Source.lender old (state after got.pending 0 inside.format inside.given inside.number (Some c.in-Err.fault)) (Err c.in-Err.fault))
     c.self.view_is
     (advanced-wrong g.S.Source.left g.S.Source.faults g.S.Source.lender inside.source after inside.ahead c.pass.new.self got inside.lent inside.format inside.given inside.number inside.fault
-    c.in-Err.fault c.pass.ensures c.in_default.is c.self.invariant.3 block c.in-Err.ensures.keeps c.in-Err.ensures.read)
+    c.in-Err.fault c.in-Err.ensures.unread c.pass.ensures c.in_default.is c.self.invariant.3 block c.in-Err.ensures.keeps c.in-Err.ensures.read)
 
 pub returns-in-Ok-None : goal.returns-in-Ok-None
 returns-in-Ok-None g c =
@@ -43,7 +43,7 @@ returns-in-Ok-None g c =
     (λ (old : CapturesState g.row.S.Denot). Advances g.S.Source.left g.S.Source.faults g.S.Source.lender old (state after got.pending 0 inside.format inside.given inside.number inside.fault) (Ok None))
     c.self.view_is
     (advanced-end g.S.Source.left g.S.Source.faults g.S.Source.lender inside.source after inside.ahead c.pass.new.self got inside.lent inside.format inside.given inside.number inside.fault
-    c.pass.ensures c.in_default.is c.self.invariant.3 block c.in-Ok-None.ensures.keeps read)
+    c.in-Ok-None.ensures.unread c.pass.ensures c.in_default.is c.self.invariant.3 block c.in-Ok-None.ensures.keeps read)
 
 pub returns-in-Ok-Some : goal.returns-in-Ok-Some
 returns-in-Ok-Some g c =
@@ -67,4 +67,4 @@ returns-in-Ok-Some g c =
     (state after got.pending header.captured inside.format (inside.given + (16 + header.captured)) (inside.number + 1) inside.fault) answer)
     c.self.view_is
     (advanced-found g.S.Source.left g.S.Source.faults g.S.Source.lender inside.source after inside.ahead c.pass.new.self got inside.lent inside.format inside.given inside.number inside.fault
-    header c.pass.ensures c.in_default.is c.self.invariant.3 block c.in-Ok-Some.ensures.keeps read))
+    header c.in-Ok-Some.ensures.unread c.pass.ensures c.in_default.is c.self.invariant.3 block c.in-Ok-Some.ensures.keeps read))

@@ -9,16 +9,16 @@ use Rattle.dccp_io.specs.declared.lines.Stop.TheVariants as stop
 use Rattle.dccp_io.proofs.Finding.{state, found-before, found-failed, found-long, found-much, found-end, found-line}
 use Rattle.dccp_io.proofs.lines.Lines.find.Goals as goal
 
-pub returns-in-Some : goal.returns-in-Some
-returns-in-Some g c =
+pub returns-in-Some-clause-finds : goal.returns-in-Some-clause-finds
+returns-in-Some-clause-finds g c =
     let inside = c.self.inside in
     let block : length (drop inside.used inside.ahead.pending) ≤ 8192 = rw (length-drop inside.used inside.ahead.pending) (omega (arith, c.self.invariant.1)) in
     subst (λ (old : LinesState g.row.S.Denot). Finds g.S.Source.left g.S.Source.faults g.S.Source.lender old old (Err c.in-Some.stop)) c.self.view_is
     (found-before g.S.Source.left g.S.Source.faults g.S.Source.lender
     (state inside.source inside.ahead.pending inside.used inside.given inside.stop) c.in-Some.stop c.in-Some.is c.self.invariant.3 block)
 
-pub returns-in-Err : goal.returns-in-Err
-returns-in-Err g c =
+pub returns-in-Err-clause-finds : goal.returns-in-Err-clause-finds
+returns-in-Err-clause-finds g c =
     let inside = c.self.inside in
     let after = c.stands_next.new.source in
     let got = c.stands_next.new.ahead in
@@ -29,8 +29,8 @@ returns-in-Err g c =
     (found-failed g.S.Source.left g.S.Source.faults g.S.Source.lender inside.source after inside.ahead c.pass.new.self got inside.used inside.given inside.stop
     c.pass.ensures c.in_default.is c.self.invariant.3 block c.in-Err.ensures.seeks c.in-Err.ensures.cause)
 
-pub returns-in-Ok-TooLong : goal.returns-in-Ok-TooLong
-returns-in-Ok-TooLong g c =
+pub returns-in-Ok-TooLong-clause-finds : goal.returns-in-Ok-TooLong-clause-finds
+returns-in-Ok-TooLong-clause-finds g c =
     let inside = c.self.inside in
     let after = c.stands_next.new.source in
     let got = c.stands_next.new.ahead in
@@ -43,8 +43,8 @@ returns-in-Ok-TooLong g c =
     (found-long g.S.Source.left g.S.Source.faults g.S.Source.lender inside.source after inside.ahead c.pass.new.self got inside.used inside.given inside.stop
     c.pass.ensures c.in_default.is c.self.invariant.3 block c.in-Ok-TooLong.ensures.seeks next)
 
-pub returns-in-Ok-TooMuch : goal.returns-in-Ok-TooMuch
-returns-in-Ok-TooMuch g c =
+pub returns-in-Ok-TooMuch-clause-finds : goal.returns-in-Ok-TooMuch-clause-finds
+returns-in-Ok-TooMuch-clause-finds g c =
     let inside = c.self.inside in
     let after = c.stands_next.new.source in
     let got = c.stands_next.new.ahead in
@@ -57,8 +57,8 @@ returns-in-Ok-TooMuch g c =
     (found-much g.S.Source.left g.S.Source.faults g.S.Source.lender inside.source after inside.ahead c.pass.new.self got inside.used inside.given inside.stop
     c.pass.ensures c.in_default.is c.self.invariant.3 block c.in-Ok-TooMuch.ensures.seeks next)
 
-pub returns-in-Ok-End : goal.returns-in-Ok-End
-returns-in-Ok-End g c =
+pub returns-in-Ok-End-clause-finds : goal.returns-in-Ok-End-clause-finds
+returns-in-Ok-End-clause-finds g c =
     let inside = c.self.inside in
     let after = c.stands_next.new.source in
     let got = c.stands_next.new.ahead in
@@ -71,8 +71,8 @@ returns-in-Ok-End g c =
     (found-end g.S.Source.left g.S.Source.faults g.S.Source.lender inside.source after inside.ahead c.pass.new.self got inside.used inside.given inside.stop
     c.pass.ensures c.in_default.is c.self.invariant.3 block c.in-Ok-End.ensures.seeks next)
 
-pub returns-in-Ok-Line : goal.returns-in-Ok-Line
-returns-in-Ok-Line g c =
+pub returns-in-Ok-Line-clause-finds : goal.returns-in-Ok-Line-clause-finds
+returns-in-Ok-Line-clause-finds g c =
     let inside = c.self.inside in
     let after = c.stands_next.new.source in
     let got = c.stands_next.new.ahead in

@@ -1,5 +1,5 @@
 -- What came stands behind what was pending.
-use Rattle.std.proofs.Common.{rules, arith, ◌≡◌, ◌≤◌, ◌+◌, ◌++◌, take, drop, length, ap, ◌∙◌, List, ℕ}
+use Rattle.std.proofs.Common.{rules, ◌≡◌, ◌≤◌, ◌+◌, ◌++◌, take, drop, length, ap, ◌∙◌, List, ℕ}
 use Rattle.std.specs.Io.KnownBytes.{prepend_known}
 use Rattle.std.specs.Vec.{with_items}
 use Rattle.std.proofs.lemmas.List.{take_at}

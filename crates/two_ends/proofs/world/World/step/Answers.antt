@@ -1,5 +1,5 @@
 -- One more event, or none.
-use Rattle.two_ends.proofs.Believing.{reached-facts, reached-safe}
+use Rattle.two_ends.proofs.Believing.{reached-delivers, reached-facts, reached-safe}
 use Rattle.two_ends.proofs.Reaching.{step-reached, leaves}
 use Rattle.two_ends.proofs.world.World.step.Goals as goal
 
@@ -15,3 +15,9 @@ returns-clause-safe g c =
 pub returns-clause-facts : goal.returns-clause-facts
 returns-clause-facts g c =
     reached-facts g.C.Congestion.control g.met.C.Congestion.lawful c.every_step_has_one_effect.ensures _ (invariant_of-self g c)
+
+pub returns-clause-delivers : goal.returns-clause-delivers
+returns-clause-delivers g c =
+    rw (← c.self.view_is)
+    (reached-delivers g.C.Congestion.control g.met.C.Congestion.lawful c.every_step_has_one_effect.ensures _ c.self.invariant c.args.event.now _
+    c.step.result c.step.ensures.ok)

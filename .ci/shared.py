@@ -1,0 +1,52 @@
+"""What the checks share: where things are, what the program answers, how a difference is told, and what specs/ define."""
+import contextlib
+import difflib
+import re
+import subprocess
+import sys
+import tempfile
+from pathlib import Path
+
+TOP = Path(__file__).resolve().parent.parent
+LAUNCHER = TOP / "dccp"
+PROGRAM = TOP / "crates" / "dccp" / "out" / "dccp"
+EXAMPLES = TOP / "examples"
+sys.path.insert(0, str(TOP / "tools"))
+
+
+def answer(words, *pieces, program=LAUNCHER):
+    """What the program writes for these words and the pieces of an input; last a line with its status, where that is not 0."""
+    with tempfile.TemporaryFile() as output:
+        run = subprocess.Popen([program, *words], stdin=subprocess.PIPE, stdout=output, stderr=subprocess.DEVNULL)
+        # A program that refuses its input leaves the rest of it unread.
+        with contextlib.suppress(BrokenPipeError):
+            for piece in pieces:
+                run.stdin.write(piece)
+        with contextlib.suppress(BrokenPipeError):
+            run.stdin.close()
+        status = run.wait()
+        output.seek(0)
+        said = output.read()
+    return said + b"status %d\n" % status if status else said
+
+
+def compare(wanted, found):
+    """Prints where two texts differ."""
+    texts = [it.decode(errors="backslashreplace").splitlines() for it in (wanted, found)]
+    for line in difflib.unified_diff(*texts, "wanted", "found", lineterm="", n=0):
+        print(line)
+
+
+def last_lines(text, count):
+    """The last lines of a text."""
+    return b"".join(text.splitlines(keepends=True)[-count:])
+
+
+def definitions(crate):
+    """Each definition of the crate's specs/ as its name and its text, comments left out."""
+    for path in sorted((TOP / "crates" / crate / "specs").glob("*.antt")):
+        text = re.sub(r"^ *--.*\n|^(?:pub )?(?:mod|use) .*\n", "", path.read_text(encoding="utf-8"), flags=re.M)
+        for part in re.split(r"^(?=pub |abbrev |unfoldable )", text, flags=re.M):
+            name = re.match(r"(?:(?:abbrev|unfoldable|pub|record|data) )+(\w+) ?[:({]", part)
+            if name:
+                yield name[1], " ".join(part.split())

@@ -1,0 +1,40 @@
+-- A packet that is dropped leaves the end and its congestion control as they were, and nothing goes out.
+use Rattle.std.proofs.Common.{◌≡◌, refl, ap, sym, ◌∙◌, subst, List, [], None, ℕ}
+use Rattle.congestion_trait.specs.Calls.{Call}
+use Rattle.congestion_trait.specs.Control.{Control}
+use Rattle.dccp_endpoint.specs.Controlled.{EndStep, after_calls, with_control}
+use Rattle.dccp_endpoint.specs.Effects.{Effect, Silent, effect_of_sending, end_after, frame_by}
+use Rattle.dccp_endpoint.specs.End.{EndState, IsProper}
+use Rattle.dccp_endpoint.specs.Outcomes.{HasEffectOf, OnDropped}
+use Rattle.dccp_endpoint.specs.Receiving.{receives}
+use Rattle.dccp_endpoint.specs.Steps.{Step}
+use Rattle.dccp_endpoint.proofs.Deriving.{widened}
+use Rattle.dccp_endpoint.proofs.Walking.{receives-told}
+use Rattle.end_answers.specs.declared.outcome.Outcome.{Outcome}
+use Rattle.end_answers.specs.declared.outcome.Outcome.TheVariants.{Dropped, SentReset, Synced, Took, WasReset}
+
+unchanged : (e : EndState) → IsProper e → end_after e (effect_of_sending e Silent) ≡ e
+unchanged e proper = subst (λ (x : EndState). end_after x (effect_of_sending x Silent) ≡ x) (sym (widened e proper)) refl
+
+module _ {C : Type 0} (control : Control C) (old : C) (e : EndState) (bytes : List ℕ) (proper : IsProper e) where
+  dropped-step : (step : Step Outcome) (outcome : Outcome) → step.answer ≡ outcome → HasEffectOf e bytes outcome step.after step.frame step.calls
+      → OnDropped outcome
+      (((with_control control old step).after ≡ record { state = e; congestion = old }) × ((with_control control old step).frame ≡ None))
+  dropped-step step (Dropped why) same has =
+      let state : step.after ≡ e = has.after_is ∙ ap (end_after e) has.form ∙ unchanged e proper in
+      let calls : step.calls ≡ [] = has.calls_are ∙ ap (λ (f : Effect). f.calls) has.form in (
+        ap (λ (x : EndState). record { state = x; congestion = after_calls control old step.calls }) state
+            ∙ ap (λ (cs : List Call). record { state = e; congestion = after_calls control old cs }) calls,
+        has.frame_is ∙ ap (λ (f : Effect). frame_by e f.sending) has.form,
+      )
+  dropped-step step (Synced number) same has = tt
+  dropped-step step (WasReset code) same has = tt
+  dropped-step step (SentReset code detail) same has = tt
+  dropped-step step (Took delivered) same has = tt
+
+  -- as the contract of `receive` says it
+  pub dropped-rests : (made : EndStep C Outcome) → made ≡ with_control control old (receives e bytes)
+      → OnDropped made.answer ((made.after ≡ record { state = e; congestion = old }) × (made.frame ≡ None))
+  dropped-rests made same =
+      subst (λ (m : EndStep C Outcome). OnDropped m.answer ((m.after ≡ record { state = e; congestion = old }) × (m.frame ≡ None))) (sym same)
+      (dropped-step (receives e bytes) (receives e bytes).answer refl (receives-told e bytes proper).effect)

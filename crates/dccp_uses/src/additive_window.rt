@@ -1,0 +1,94 @@
+//! An own kind of congestion control with a window that moves: it begins with a packet, grows by one for each report of
+//! something received, and is halved by each report of a loss or of a marked packet (own; CCIDs from 248 are for
+//! experiments, RFC 4340, section 10).
+ghost use Rattle.std.specs.Prelude.{IfOk, [], ◌≡◌};
+
+use congestion_trait::Flight;
+use dccp_endpoint::{Congestion, NoMemory, Seq48};
+use dccp_options::AckReport;
+use std::alloc::Global;
+use std::marker::Model;
+
+const CCID: u8 = 249;
+
+const LARGEST: u32 = 1024;
+
+/// A window that grows by a packet and is halved.
+#[derive(Drop)]
+pub struct AdditiveWindow {
+    flight: Flight,
+    window: u32,
+}
+
+impl Model for AdditiveWindow {
+    ghost use Rattle.std.specs.Prelude.{ℕ, ◌≤◌};
+    ghost use Rattle.congestion_trait.specs.Kind.{Flying};
+
+    ghost Value = { Flying ℕ };
+
+    ghost view = { λ w. record { flight = w.flight; rest = w.window } };
+
+    ghost invariant = { λ w. (1 ≤ w.window) × (w.window ≤ 1024) };
+}
+
+impl AdditiveWindow {
+    /// A window of one packet with nothing in flight. NoMemory where no block for the flight list is to be had.
+    pub fn new(alloc: Global) -> Result<AdditiveWindow, NoMemory>
+        ensures { IfOk result (λ made. made ≡ record { flight = []; rest = 1 }) }
+    {
+        let flight = Flight::new(alloc)?;
+        Ok(AdditiveWindow { flight, window: 1 })
+    }
+}
+
+impl Congestion for AdditiveWindow {
+    ghost use Rattle.congestion_trait.specs.Kind.{control_by_rules, kind_is_lawful};
+    ghost use Rattle.dccp_uses.specs.Additive.{additive};
+
+    ghost control = { control_by_rules additive };
+
+    ghost lawful = { kind_is_lawful additive };
+
+    fn knows(&self, ccid: u8) -> bool {
+        ccid == CCID
+    }
+
+    fn start(&mut self, _ccid: u8) {
+        self.flight.clear();
+        self.window = 1;
+    }
+
+    fn window(&self) -> u32 {
+        self.window
+    }
+
+    fn in_flight(&self) -> u32 {
+        self.flight.out()
+    }
+
+    fn is_reported(&self, number: Seq48) -> bool {
+        self.flight.is_reported(number)
+    }
+
+    fn may_send(&self) -> bool {
+        self.flight.out() < self.window
+    }
+
+    fn on_sent(&mut self, number: Seq48) {
+        self.flight.sent(number);
+    }
+
+    fn on_report(&mut self, report: &AckReport<'_>, _ratio: u16) {
+        let news = self.flight.report(report, None);
+        if news.congested {
+            self.window = (self.window / 2).max(1);
+        } else if news.acked > 0 && self.window < LARGEST {
+            self.window += 1;
+        }
+    }
+
+    fn on_timeout(&mut self) {
+        self.flight.clear();
+        self.window = 1;
+    }
+}

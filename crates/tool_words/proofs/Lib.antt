@@ -1,0 +1,9 @@
+pub mod Bytes
+pub mod Decoding
+pub mod DigitLaws
+pub mod KindLaws
+pub mod LineLaws
+pub mod Numerals
+pub mod Pieces
+pub mod Placed
+pub mod RowLaws

@@ -1,0 +1,19 @@
+use Rattle.std.proofs.Common.{◌≡◌, ◌<◌, length, arith}
+use Rattle.std.specs.Prelude.{slice_set}
+use Rattle.std.proofs.lemmas.Grind.{common_steps}
+use Rattle.tool_words.proofs.Decoding.{one_decoded}
+use Rattle.tool_words.proofs.digits.decode.Goals as goal
+
+pub loop-place-preserved : goal.loop-place-preserved
+loop-place-preserved c =
+    let room = c.loop-place.room in
+    let place = c.loop-place.place in
+    let within : place < length room = c.loop-place-test.true in
+    let same : length (slice_set room place c.byte_of.result) ≡ length room = grind (arith, common_steps) in
+    let sized = c.loop-place.invariant.sized in
+    let pairs = c.requires.sized in
+    record {
+      within = omega arith;
+      sized = omega arith;
+      done = one_decoded c.args.text.now room place c.byte_of.result c.requires.pairs (omega arith) within c.loop-place.invariant.done c.byte_of.ensures;
+    }

@@ -1,0 +1,7 @@
+use Rattle.two_ends.proofs.Believing.{plays-initial}
+use Rattle.two_ends.proofs.laws.what_none_asked_for_stays.Goals as goal
+
+pub returns : goal.returns
+returns g c = λ client server for_client for_server events is_client is_server client_fits server_fits.
+    plays-initial g.C.Congestion.control g.met.C.Congestion.lawful c.every_step_has_one_effect.ensures client server for_client for_server events client_fits
+    server_fits is_client is_server

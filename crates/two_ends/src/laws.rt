@@ -1,0 +1,140 @@
+//! What safe worlds come to, in other words, and what else holds of what the ends ask for.
+//!
+//! Each part of `Safe` has a function whose clauses follow from it and from no weaker one. They are what a reader may
+//! hold against the definitions, by plain counts where numbers are in them.
+ghost use Rattle.std.specs.Prelude.{◌≡◌, ℕ, ◌+◌, ◌^◌, ◌<◌, ◌≤◌, List, [], ◌∷◌, Some, None, IsTrue, IsSome, Contains, take, drop, slice_get};
+ghost use Rattle.ack_vectors.specs.Vector.{is_whole};
+ghost use Rattle.congestion_trait.specs.Flight.{Has};
+ghost use Rattle.congestion_trait.specs.declared.flight.Standing.TheVariants as standing;
+ghost use Rattle.dccp_endpoint.specs.Drafts.{Fits};
+ghost use Rattle.dccp_endpoint.specs.End.{floor_of, held_of};
+ghost use Rattle.dccp_endpoint.specs.declared.config.Config.{Config};
+ghost use Rattle.dccp_options.specs.Vectors.{is_received, state_at};
+ghost use Rattle.dccp_states.specs.declared.phase.Role.TheVariants as role;
+ghost use Rattle.feature_lists.specs.Features.{initial_of};
+ghost use Rattle.feature_lists.specs.Lists.{SharesNothing, has_entry};
+ghost use Rattle.feature_lists.specs.declared.features.Feature.{Feature};
+ghost use Rattle.feature_lists.specs.declared.features.Place.TheVariants as place;
+ghost use Rattle.feature_machine.specs.declared.stands.Stand.TheVariants.{Stable};
+ghost use Rattle.run_list.specs.MarkedSet.{has};
+ghost use Rattle.seq_circle.specs.Circle.{IsBefore, IsFrom, IsWithin, distance};
+ghost use Rattle.seq_circle.specs.Counts.{number_of};
+ghost use Rattle.world_events.specs.Actors.{other};
+ghost use Rattle.world_events.specs.declared.event.Event.{Event};
+ghost use Rattle.world_events.specs.declared.event.Side.{Side};
+ghost use Rattle.world_events.specs.declared.event.Side.TheVariants.{Client, Server};
+ghost use Rattle.two_ends.specs.declared.frames.SentFrame.{SentFrame};
+ghost use Rattle.two_ends.specs.Asked.{AllIsAsked, KeepsInitialValues};
+ghost use Rattle.two_ends.specs.Controlled.{Controlled, begins_with, congestion_of, plays};
+ghost use Rattle.two_ends.specs.Counted.{AreAmongFirst, AreResets};
+ghost use Rattle.two_ends.specs.Frames.{number_of_frame};
+ghost use Rattle.two_ends.specs.Negotiated.{HasSent, IsNotNegotiable, IsServerPriority, IsSettled, last_list_sent, last_value, list_said, pair_was_negotiated, value_said};
+ghost use Rattle.two_ends.specs.Pairs.{FeatureAt, held_at, said_by};
+ghost use Rattle.two_ends.specs.Reported.{CarriesVector};
+ghost use Rattle.two_ends.specs.Safe.{Safe};
+ghost use Rattle.two_ends.specs.World.{half_of};
+
+use congestion_trait::Congestion;
+use dccp_endpoint::every_step_has_one_effect;
+
+/// What *agree* comes to. A feature that both ends call settled has one value: what the client holds of its own is what
+/// the server holds of the client's, and the other way round. Where it was negotiated by lists both have sent one, and
+/// the server's first entry is the value if the client's last list has it (RFC 4340, section 6.3.1). The value of a
+/// feature that is not negotiable is, at the other end too, the last one that its location told.
+pub fn settled_features_are_alike<C: Congestion>()
+    ensures clients { (w : Controlled C) → Safe C.control w → (feature : Feature)
+        → (held_of w.world.client.end feature place.Here).stand ≡ Stable → (held_of w.world.server.end feature place.There).stand ≡ Stable
+        → (held_of w.world.client.end feature place.Here).value ≡ (held_of w.world.server.end feature place.There).value }
+    ensures servers { (w : Controlled C) → Safe C.control w → (feature : Feature)
+        → (held_of w.world.client.end feature place.There).stand ≡ Stable → (held_of w.world.server.end feature place.Here).stand ≡ Stable
+        → (held_of w.world.client.end feature place.There).value ≡ (held_of w.world.server.end feature place.Here).value }
+    ensures listed { (w : Controlled C) → Safe C.control w → (pair : FeatureAt) (side : Side) → IsSettled w.world pair → IsServerPriority pair
+        → IsTrue (pair_was_negotiated w.world pair) → IsSome (last_list_sent w.world pair side) }
+    ensures first { (w : Controlled C) → Safe C.control w → (pair : FeatureAt) (side : Side) (value : ℕ) (later clients : List ℕ)
+        → IsSettled w.world pair → IsServerPriority pair → last_list_sent w.world pair Server ≡ Some (value ∷ later)
+        → last_list_sent w.world pair Client ≡ Some clients → IsTrue (has_entry clients value) → (held_at w.world pair side).value ≡ value }
+    ensures told { (w : Controlled C) → Safe C.control w → (pair : FeatureAt) (side : Side) (value : ℕ) → IsSettled w.world pair → IsNotNegotiable pair
+        → IsTrue (pair_was_negotiated w.world pair) → last_value w.world pair ≡ Some value → (held_at w.world pair side).value ≡ value }
+{}
+
+/// What *given* comes to, whatever the stands. An end holds the initial value of a feature as long as one of the two
+/// sides has sent no list for it; or no list of the server's shares an entry with one of the client's; or, if it is not
+/// negotiable, its location has told no value.
+pub fn values_come_from_both_sides<C: Congestion>()
+    ensures silent { (w : Controlled C) → Safe C.control w → (pair : FeatureAt) (quiet side : Side) → IsServerPriority pair
+        → ((index : ℕ) (frame : SentFrame) → slice_get (half_of w.world quiet).frames index ≡ Some frame → list_said (said_by pair quiet frame.bytes) ≡ None)
+        → (held_at w.world pair side).value ≡ initial_of pair.feature }
+    ensures apart { (w : Controlled C) → Safe C.control w → (pair : FeatureAt) (side : Side) → IsServerPriority pair
+        → ((servers clients : List ℕ) → HasSent w.world pair Server servers → HasSent w.world pair Client clients → SharesNothing servers clients)
+        → (held_at w.world pair side).value ≡ initial_of pair.feature }
+    ensures untold { (w : Controlled C) → Safe C.control w → (pair : FeatureAt) (side : Side) → IsNotNegotiable pair
+        → ((index : ℕ) (frame : SentFrame) → slice_get (half_of w.world pair.location).frames index ≡ Some frame
+        → value_said (said_by pair pair.location frame.bytes) ≡ None) → (held_at w.world pair side).value ≡ initial_of pair.feature }
+{}
+
+/// What *truthful* comes to. A number that a vector tells received is one that its sender had processed when it sent
+/// it; a whole vector tells received each of those from the frame's floor up to the number that it acknowledges; and
+/// none of them is after that.
+pub fn vectors_tell_what_was_processed<C: Congestion>()
+    ensures received { (w : Controlled C) → Safe C.control w → (side : Side) (index : ℕ) (frame : SentFrame) (ack n : ℕ) (bytes : List ℕ)
+        → slice_get (half_of w.world side).frames index ≡ Some frame → CarriesVector frame ack bytes → ack < 2 ^ 48 → n < 2 ^ 48
+        → IsTrue (is_received (state_at ack bytes n)) → Contains (take frame.processed (half_of w.world side).processed) n }
+    ensures all { (w : Controlled C) → Safe C.control w → (side : Side) (index : ℕ) (frame : SentFrame) (ack n : ℕ) (bytes : List ℕ)
+        → slice_get (half_of w.world side).frames index ≡ Some frame → CarriesVector frame ack bytes
+        → IsTrue (is_whole (has (take frame.processed (half_of w.world side).processed)) frame.floor ack) → frame.floor < 2 ^ 48 → ack < 2 ^ 48 → n < 2 ^ 48
+        → IsFrom frame.floor ack → IsWithin n frame.floor ack → Contains (take frame.processed (half_of w.world side).processed) n
+        → IsTrue (is_received (state_at ack bytes n)) }
+    ensures none_after { (w : Controlled C) → Safe C.control w → (side : Side) (index : ℕ) (frame : SentFrame) (ack n : ℕ) (bytes : List ℕ)
+        → slice_get (half_of w.world side).frames index ≡ Some frame → CarriesVector frame ack bytes
+        → Contains (take frame.processed (half_of w.world side).processed) n → IsBefore ack n → ⊥ }
+{}
+
+/// What *told* comes to, by plain counts. If no whole vector that the other side processed has told of a number below
+/// an end's floor, then not all numbers that the end processed are among those of the first packets, up to 2,047 after
+/// that number's: it has processed one that is 2,048 after it or more.
+pub fn what_none_told_is_far_behind<C: Congestion>()
+    ensures { (w : Controlled C) → Safe C.control w → (side : Side) (iss count n : ℕ) → iss < 2 ^ 48 → 1 ≤ count → count + 2047 ≤ 2 ^ 47
+        → n ≡ number_of iss count
+        → distance (half_of w.world side).end.marks.isr n < distance (half_of w.world side).end.marks.isr (floor_of (half_of w.world side).end)
+        → ((index : ℕ) (frame : SentFrame) (ack number : ℕ) (bytes : List ℕ) → slice_get (half_of w.world side).frames index ≡ Some frame
+        → CarriesVector frame ack bytes → IsTrue (is_whole (has (take frame.processed (half_of w.world side).processed)) frame.floor ack)
+        → IsWithin n frame.floor ack → number_of_frame frame.bytes ≡ Some number → Contains (half_of w.world (other side)).processed number → ⊥)
+        → AreAmongFirst iss (count + 2047) (half_of w.world side).processed → ⊥ }
+{}
+
+/// What *once* comes to. A number that a side processed early it does not process later. A number that the other side
+/// has sent in no packet but Resets, or not at all, it has not processed.
+pub fn no_number_is_processed_again<C: Congestion>()
+    ensures apart { (w : Controlled C) → Safe C.control w → (side : Side) (early n : ℕ) → Contains (take early (half_of w.world side).processed) n
+        → Contains (drop early (half_of w.world side).processed) n → ⊥ }
+    ensures sent { (w : Controlled C) → Safe C.control w → (side : Side) (n : ℕ) → AreResets (half_of w.world (other side)).frames n
+        → Contains (half_of w.world side).processed n → ⊥ }
+{}
+
+/// What *heard* comes to. A number that the flight list of a congestion control has as Reported was processed by the
+/// other side. So it is none that its own side has sent in no packet but Resets, or not at all.
+pub fn what_is_reported_arrived<C: Congestion>()
+    ensures processed { (w : Controlled C) → Safe C.control w → (side : Side) (n : ℕ)
+        → Has (C.control.flight (congestion_of w side)) n standing.Reported → Contains (half_of w.world (other side)).processed n }
+    ensures sent { (w : Controlled C) → Safe C.control w → (side : Side) (n : ℕ) → AreResets (half_of w.world side).frames n
+        → Has (C.control.flight (congestion_of w side)) n standing.Reported → ⊥ }
+{}
+
+/// A feature for which no frame of either side carries a Change has its initial value at both ends, whatever their
+/// stands, after every list of events (RFC 4340, section 6).
+pub fn what_none_asked_for_stays<C: Congestion>()
+    ensures { (client server : Config) (for_client for_server : C) (events : List Event) → client.role ≡ role.Client → server.role ≡ role.Server
+        → Fits client → Fits server → KeepsInitialValues (plays C.control (begins_with C.control client server for_client for_server) events).world }
+{
+    every_step_has_one_effect();
+}
+
+/// The last list that an end sent for a feature is the active one of its row, and where the row is STABLE nothing waits
+/// that was asked for later, after every list of events. So where a row is STABLE and its end has sent a list, that is
+/// what its owner last asked for and was not refused, or else what was configured.
+pub fn last_lists_are_active<C: Congestion>()
+    ensures { (client server : Config) (for_client for_server : C) (events : List Event) → client.role ≡ role.Client → server.role ≡ role.Server
+        → Fits client → Fits server → AllIsAsked (plays C.control (begins_with C.control client server for_client for_server) events).world }
+{
+    every_step_has_one_effect();
+}
