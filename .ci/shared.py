@@ -47,6 +47,6 @@ def definitions(crate):
     for path in sorted((TOP / "crates" / crate / "specs").glob("*.antt")):
         text = re.sub(r"^ *--.*\n|^(?:pub )?(?:mod|use) .*\n", "", path.read_text(encoding="utf-8"), flags=re.M)
         for part in re.split(r"^(?=pub |abbrev |unfoldable )", text, flags=re.M):
-            name = re.match(r"(?:(?:abbrev|unfoldable|pub|record|data) )+(\w+)", part)
+            name = re.match(r"(?:(?:abbrev|unfoldable|pub|record|data) )+(\w+) ?[:({]", part)
             if name:
                 yield name[1], " ".join(part.split())

@@ -24,9 +24,10 @@ use tool_show::show_capture;
 /// writes to `output` a line for each event and for each frame that it sent, and at last the state of both ends.
 /// `replay` hands the frames of `input` to one end, and writes the same of it. `show` reads a capture, and writes a
 /// line for each DCCP packet in it, and at last how many records it has or why it ends early. Each form answers while
-/// it reads, a line or a record at a time, and writes in blocks. `campaign` reads nothing: it runs seeds on as many
-/// threads as it is told, each of which calls `gate` before each seed that it runs, and writes what was counted of all
-/// of them, the same for every number of threads and for every gate.
+/// it reads, a line or a record at a time: the answer goes out in blocks, and before more of the input is asked for.
+/// `campaign` reads nothing: it runs seeds on as many threads as it is told, each of which calls `gate` before each
+/// seed that it runs, and writes what was counted of all of them, the same for every number of threads and for every
+/// gate.
 ///
 /// Words are judged first; after that the first refusal met in the order of reading decides. With status 0 or 1 the
 /// output is the text of the whole input, and each event of a schedule took place in a safe world and left a safe one.

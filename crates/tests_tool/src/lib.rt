@@ -16,3 +16,5 @@ mod replays;
 mod schedules;
 #[cfg(test)]
 mod seeds;
+#[cfg(test)]
+mod worked;

@@ -1,5 +1,3 @@
 pub mod Text
-pub mod Lines
 pub mod EndLines
 pub mod Replay
-pub mod Loops

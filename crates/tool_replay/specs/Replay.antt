@@ -117,17 +117,17 @@ abbrev pub replay_job : Job (List ℕ) Replay
 replay_job = record { judged = frame_judged; told = λ text. text; ending = λ replay. end_line replay.side replay.end }
 
 -- what an input comes to, whose frames arrive at a new end of this side
-abbrev pub replayed : Side → Bool → List ℕ → Gone (List ℕ) Replay
-replayed side plain input = gone_through replay_job (begun_replay side plain).replay input
+abbrev pub replay_of_input : Side → Bool → List ℕ → Gone (List ℕ) Replay
+replay_of_input side plain input = gone_through replay_job (begun_replay side plain).replay input
 
 -- What `replay` writes of an input: the text before the first line, and that of the lines.
 abbrev pub replay_text : Side → Bool → List ℕ → List ℕ
-replay_text side plain input = (begun_replay side plain).text ++ text_of_job replay_job (replayed side plain input)
+replay_text side plain input = (begun_replay side plain).text ++ text_of_job replay_job (replay_of_input side plain input)
 
 -- The input is refused at some line.
 abbrev pub replay_refused : Side → Bool → List ℕ → Bool
-replay_refused side plain input = is_some (replayed side plain input).refusal
+replay_refused side plain input = is_some (replay_of_input side plain input).refusal
 
 -- How many bytes of an input its accepted lines have, those before the first that is refused.
 abbrev pub replay_accepted : Side → Bool → List ℕ → ℕ
-replay_accepted side plain input = (replayed side plain input).accepted
+replay_accepted side plain input = (replay_of_input side plain input).accepted
