@@ -164,7 +164,7 @@ pub(crate) fn marks(rt: &HostRuntime, rounds: u32) -> io::Result<()> {
 
 // Prints the nanoseconds of so many reports of this vector, each by a list of which nothing was reported before: so each
 // changes all that it speaks of.
-fn news(rt: &HostRuntime, runs: u32, vector: &[u8], rounds: u32) -> io::Result<()> {
+fn news(rt: &HostRuntime, runs: u32, vector: &VectorBytes, rounds: u32) -> io::Result<()> {
     let mut writer = OptWriter::new();
     let _ = writer.put(false, 38, vector);
     let Some(report) = AckReport::of(newest(runs), options(writer.bytes(), false)) else {

@@ -1,5 +1,5 @@
 -- The loop of a run: one event after another, of which each counts twice at most.
-use Rattle.std.proofs.Common.{◌≡◌, sym, ap, subst, ◌∙◌, ℕ, suc, ◌+◌, ◌*◌, ◌-◌, ◌^◌, ◌≤◌, ◌<◌, Result, Ok, Err, arith}
+use Rattle.std.proofs.Common.{◌≡◌, refl, sym, ap, subst, ◌∙◌, ℕ, suc, ◌+◌, ◌*◌, ◌-◌, ◌^◌, ◌≤◌, ◌<◌, Result, Ok, Err, arith}
 use Rattle.rand_pcg.specs.Lcg.{Lcg}
 use Rattle.ccid_two.specs.Kinds.{Both, kinds_control}
 use Rattle.two_ends.specs.Controlled.{Controlled, ControlledStep, happens_to}
@@ -7,6 +7,7 @@ use Rattle.world_events.specs.declared.event.Event.{Event}
 use Rattle.world_events.specs.declared.event.Event.TheVariants.{Open}
 use Rattle.world_events.specs.declared.event.Seen.{Seen}
 use Rattle.world_events.specs.declared.event.WorldFault.{WorldFault}
+use Rattle.world_events.specs.declared.event.WorldFault.TheVariants as fault
 use Rattle.fault_campaign.specs.Draws.{behind_two}
 use Rattle.fault_campaign.specs.Reports.{size, with_seen}
 use Rattle.fault_campaign.specs.Seeded.{Running, after_event, begun_run, goes_on, goes_on_for, next_event, opened_run, played, run_report, seeded_report}
@@ -22,6 +23,21 @@ pub plays : (words : Lcg) (world after : Controlled Both) (report counted : Repo
 unfolding played
 plays words world after report counted event seen happens counts =
     ap (made words after) counts ∙ sym (ap (after_event (made words world report)) happens)
+
+abbrev failed : WorldFault → Result Seen WorldFault
+failed why = Err why
+
+-- an event that cannot happen changes nothing
+pub refuses : (words : Lcg) (world after : Controlled Both) (report : Report) (event : Event) (why : WorldFault) → (why ≡ fault.NoMemory → ⊥)
+    → (failed why ≡ failed fault.NoSuchFrame → happens_to kinds_control world event ≡ Err fault.NoSuchFrame)
+    → (failed why ≡ failed fault.Full → happens_to kinds_control world event ≡ Err fault.Full)
+    → after ≡ world → made words after report ≡ played (made words world report) event
+unfolding played
+refuses words world after report event fault.NoSuchFrame some lacks full same =
+    ap (λ (w : Controlled Both). made words w report) same ∙ sym (ap (after_event (made words world report)) (lacks refl))
+refuses words world after report event fault.Full some lacks full same =
+    ap (λ (w : Controlled Both). made words w report) same ∙ sym (ap (after_event (made words world report)) (full refl))
+refuses words world after report event fault.NoMemory some lacks full same = absurd (some refl)
 
 -- after so many of all further events
 pub record IsUnderWay (all done : ℕ) (first run : Running) : Type 0 where

@@ -1,10 +1,15 @@
 //! What holds of the run of every seed.
-ghost use Rattle.std.specs.Prelude.{◌≡◌, ℕ, ◌+◌, ◌-◌, ◌*◌, ◌^◌, ◌<◌, ◌≤◌, length, IsOk};
+ghost use Rattle.std.specs.Prelude.{◌≡◌, ℕ, ◌+◌, ◌-◌, ◌*◌, ◌^◌, ◌<◌, ◌≤◌, ◌∷◌, [], length, IsOk};
 ghost use Rattle.ccid_two.specs.Kinds.{kinds_control};
 ghost use Rattle.two_ends.specs.Controlled.{happens_to, plays};
 ghost use Rattle.two_ends.specs.Safe.{Safe};
-ghost use Rattle.world_events.specs.declared.event.Event.TheVariants.{Open};
-ghost use Rattle.fault_campaign.specs.Draws.{generator};
+ghost use Rattle.feature_lists.specs.declared.features.Feature.TheVariants.{MinCsCov};
+ghost use Rattle.feature_lists.specs.declared.features.Place.TheVariants.{Here, There};
+ghost use Rattle.two_ends.specs.World.{half_of};
+ghost use Rattle.world_events.specs.declared.event.Event.TheVariants.{Open, Prefer, Send};
+ghost use Rattle.world_events.specs.declared.event.Side.TheVariants.{Client, Server};
+ghost use Rattle.fault_campaign.specs.Draws.{behind_two, behind_word, drawn, generator, word};
+ghost use Rattle.rand_pcg.specs.Lcg.{Lcg};
 ghost use Rattle.fault_campaign.specs.Reports.{size};
 ghost use Rattle.fault_campaign.specs.Seeded.{begun_run, next_event, seeded, seeded_events, seeded_report};
 
@@ -35,3 +40,20 @@ pub fn seeded_runs_are_safe()
 {
     every_run_is_safe::<Kinds>();
 }
+
+/// The draws on which no count of a report depends (own), by values that were worked out apart. The first words of seed 1
+/// are 33a70be6, 7dbcf3ee, cadf4751 and 11ac71c0. Of the first the last 16 bits stand before the 32 of the second, and that
+/// is the initial number of the client; the third and the fourth give the server's. Data are the four bytes of a word, the
+/// highest first, and lists of feature 8 are wished for in this order.
+#[tactic(auto, unfolding(crate::specs::Draws::drawn, crate::specs::Seeded::begun_run))]
+pub fn draws_that_no_count_shows()
+    ensures client { (g : Lcg) → word g ≡ 866585574 → word (behind_word g) ≡ 2109535214
+        → (half_of (begun_run g).world.world Client).end.marks.iss ≡ 13084579918830 }
+    ensures server { (g : Lcg) → word (behind_two g) ≡ 3403630417 → word (behind_word (behind_two g)) ≡ 296513984
+        → (half_of (begun_run g).world.world Server).end.marks.iss ≡ 78413514437056 }
+    ensures data { (clients servers : ℕ) → drawn 24 441867712 clients servers ≡ Send Client (26 ∷ 86 ∷ 93 ∷ 192 ∷ []) }
+    ensures data_of_the_server { (clients servers : ℕ) → drawn 25 1 clients servers ≡ Send Server (0 ∷ 0 ∷ 0 ∷ 1 ∷ []) }
+    ensures three { (clients servers : ℕ) → drawn 26 3 clients servers ≡ Prefer Client MinCsCov Here (1 ∷ 2 ∷ 3 ∷ []) }
+    ensures two { (clients servers : ℕ) → drawn 59 12 clients servers ≡ Prefer Server MinCsCov There (3 ∷ 1 ∷ []) }
+    ensures one { (clients servers : ℕ) → drawn 26 21 clients servers ≡ Prefer Client MinCsCov There (2 ∷ []) }
+{}

@@ -15,7 +15,9 @@ mod run;
 mod workers;
 
 pub use crate::gate::{Gate, OpenGate};
-pub use crate::laws::{drawn_events_happen, reports_count_little, seeded_runs_are_safe};
+pub use crate::laws::{
+    drawn_events_happen, draws_that_no_count_shows, reports_count_little, seeded_runs_are_safe,
+};
 pub use crate::report::Report;
 pub use crate::run::run_seed;
 pub use crate::workers::campaign;

@@ -3,7 +3,8 @@
 /// Where the negotiation of a feature stands at an end (RFC 4340, section 6.6.2).
 #[derive(Clone, Copy, Debug, PartialEq, Eq)]
 pub enum Stand {
-    /// Nothing is asked: the value holds.
+    /// Nothing is asked here: the value holds. It says nothing of the other end, which may wait for a Confirm and hold
+    /// another value. Where both are Stable, they hold one.
     Stable,
     /// The row has opened: its Change was sent, or is due in this step, and its Confirm has not come. The end still
     /// answers the peer's Changes.

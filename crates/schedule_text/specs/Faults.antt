@@ -14,15 +14,12 @@ use Rattle.schedule_text.specs.declared.names.Form.TheVariants as form
 use Rattle.schedule_text.specs.Names.{form_named, side_named, place_named, timer_of}
 use Rattle.schedule_text.specs.Numbers.{values_of, feature_of}
 use Rattle.tool_text.specs.Numbers.{number_below}
-use Rattle.schedule_text.specs.Digits.{flaw_of}
-use Rattle.schedule_text.specs.Words.{WordAt, WordsLeft, first_word, later, word_at, words_of}
-use Rattle.schedule_text.specs.Reading.{wish_fault, first_other, says_nothing}
+use Rattle.tool_words.specs.Digits.{digits_flaw}
+use Rattle.tool_words.specs.Words.{WordAt, WordsLeft, first_word, later, word_at, words_of}
+use Rattle.tool_words.specs.Rows.{first_or, nothing_more}
+use Rattle.tool_words.specs.Lines.{first_other, says_nothing, no_text}
+use Rattle.schedule_text.specs.Reading.{wish_fault}
 use Rattle.tool_words.specs.Refusals.{fault_at}
-
--- of two faults the first, if there is one
-abbrev pub first_or : Option LineFault → Option LineFault → Option LineFault
-first_or None next = next
-first_or (Some fault) next = Some fault
 
 -- no fault where that fits, and this one where it does not
 abbrev pub unless : Bool → LineFault → Option LineFault
@@ -85,7 +82,7 @@ bad_digit word (Some place) = Some (fault_at (word.column + place) why.BadHex)
 -- the fault of a word that should be digits of bytes: there is none, or the digits have a flaw
 abbrev pub digits_fault : WordAt → Option LineFault
 digits_fault word =
-    if length word.text == 0 then Some (fault_at word.column why.Missing) else bad_digit word (flaw_of word.text)
+    if length word.text == 0 then Some (fault_at word.column why.Missing) else bad_digit word (digits_flaw word.text)
 
 -- the bytes of data that are sent: digits, or a dash for none
 abbrev pub some_bytes : Judge
@@ -113,11 +110,6 @@ judges_of form.Prefer = a_side ∷ a_place ∷ a_feature ∷ some_values ∷ []
 judges_of form.Timer = a_side ∷ a_timer ∷ []
 judges_of form.Close = a_side ∷ []
 judges_of form.Abort = a_side ∷ []
-
--- a word where the line should be over
-abbrev pub nothing_more : List WordAt → Option LineFault
-nothing_more [] = None
-nothing_more (word ∷ words) = Some (fault_at word.column why.Trailing)
 
 -- word by word from the left, and then the first word too many
 abbrev pub words_fault : List Judge → WordsLeft → Option LineFault
@@ -168,11 +160,6 @@ abbrev pub spoken_fault : WordsLeft → Option LineFault
 spoken_fault left =
     first_or (word_fault why.UnknownWord (is_some (form_named (first_word left).text)) (first_word left))
     (form_fault (form_named (first_word left).text) (later left))
-
--- a byte that is no text
-abbrev pub no_text : Option ℕ → Option LineFault
-no_text None = None
-no_text (Some place) = Some (fault_at (place + 1) why.NotText)
 
 -- the first fault of a line
 abbrev pub line_fault : List ℕ → Option LineFault

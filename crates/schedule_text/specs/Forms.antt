@@ -1,35 +1,22 @@
 -- The lines that are accepted, by their words (own).
-use Rattle.std.specs.Prelude.{◌≡◌, ℕ, ◌/◌, ◌%◌, ◌≤◌, Bool, true, if◌then◌else◌, List, [], ◌∷◌, length, codes, Option, Some, None}
+use Rattle.std.specs.Prelude.{◌≡◌, ℕ, ◌≤◌, Bool, true, if◌then◌else◌, List, [], ◌∷◌, length, codes, Option, Some, None}
 use Rattle.std.specs.List.{list_all}
-use Rattle.hex.specs.Hex.{hex_digit_value}
 use Rattle.world_events.specs.declared.event.Event.TheVariants as event
 use Rattle.schedule_text.specs.declared.line.FrameLine.{FrameLine}
 use Rattle.schedule_text.specs.declared.line.Line.{Line}
 use Rattle.schedule_text.specs.declared.line.Line.TheVariants as line
 use Rattle.schedule_text.specs.declared.names.Form.TheVariants as form
 use Rattle.schedule_text.specs.Names.{form_name, side_name}
-use Rattle.schedule_text.specs.Printing.{joined, line_words}
+use Rattle.tool_words.specs.Words.{joined}
+use Rattle.tool_words.specs.Digits.{AreDigitsOf, AreDigitsOrDash}
+use Rattle.schedule_text.specs.Printing.{line_words}
 use Rattle.schedule_text.specs.Range.{IsSayable}
-use Rattle.schedule_text.specs.Reading.{is_text, says_nothing}
-
--- two digits for each byte, of either case, the high one first
-abbrev pub AreDigitsOf : List ℕ → List ℕ → Type 0
-AreDigitsOf [] [] = Unit {0}
-AreDigitsOf [] (byte ∷ bytes) = ⊥
-AreDigitsOf (digit ∷ []) bytes = ⊥
-AreDigitsOf (high ∷ (low ∷ digits)) [] = ⊥
-AreDigitsOf (high ∷ (low ∷ digits)) (byte ∷ bytes) =
-    (hex_digit_value high ≡ Some (byte / 16)) × (hex_digit_value low ≡ Some (byte % 16)) × AreDigitsOf digits bytes
-
--- a dash spells no bytes, and digits spell some
-abbrev pub SpellsBytes : List ℕ → List ℕ → Type 0
-SpellsBytes digits [] = digits ≡ codes "-"
-SpellsBytes digits (byte ∷ bytes) = AreDigitsOf digits (byte ∷ bytes)
+use Rattle.tool_words.specs.Lines.{is_text, says_nothing}
 
 -- the digits of the data that are sent, in the text of their line
 pub record IsSendLine (text : List ℕ) (side : List ℕ) (payload : List ℕ) : Type 0 where
   pub digits : List ℕ
-  pub spells : SpellsBytes digits payload
+  pub spells : AreDigitsOrDash digits payload
   pub words : text ≡ joined (form_name form.Send ∷ (side ∷ (digits ∷ [])))
   pub few : length payload ≤ 2042
 

@@ -1,44 +1,48 @@
 -- What a line of a replay says, or the first of its faults (own).
-use Rattle.std.specs.Prelude.{ℕ, Bool, true, false, ◌&&◌, nat_lt, if◌then◌else◌, List, length, codes, Option, Some, None, Result, Ok, Err}
+use Rattle.std.specs.Prelude.{ℕ, Bool, true, false, ◌&&◌, nat_lt, if◌then◌else◌, List, length, codes, Option, Some, None, Result}
 use Rattle.std.specs.Str.{bytes_eq}
 use Rattle.schedule_text.specs.declared.line.FrameLine.{FrameLine}
 use Rattle.tool_words.specs.declared.faults.LineFault.{LineFault}
+use Rattle.tool_words.specs.declared.faults.LineWhy.{LineWhy}
 use Rattle.tool_words.specs.declared.faults.LineWhy.TheVariants as why
-use Rattle.schedule_text.specs.Words.{WordsLeft, first_word, later, words_of}
-use Rattle.schedule_text.specs.Digits.{bytes_of}
-use Rattle.schedule_text.specs.Reading.{◌>>=◌, ◌>>◌, digits_word, ended, clean, says_nothing, first_other}
 use Rattle.tool_words.specs.Refusals.{fault_at}
-use Rattle.schedule_text.specs.Faults.{first_or, digits_fault, nothing_more, no_text}
+use Rattle.tool_words.specs.Words.{WordsLeft, first_word, later, words_of}
+use Rattle.tool_words.specs.Digits.{bytes_of_digits}
+use Rattle.tool_words.specs.Kinds.{hex_kind}
+use Rattle.tool_words.specs.Rows.{◌>>◌, Row, ◌▷◌, end_row, row_as, judged_row, after_word, first_or, nothing_more}
+use Rattle.tool_words.specs.Lines.{clean, says_nothing, text_read, first_other, no_text}
+use Rattle.schedule_text.specs.Faults.{digits_fault}
 
 -- a frame, whose checksum is to be set or stands in it
 abbrev pub frame_line : Bool → List ℕ → FrameLine
 frame_line seal bytes = record { seal = seal; bytes = bytes }
 
 -- a frame has at most 2,044 bytes, and one whose checksum is to be set at least 8
-abbrev pub sized : Bool → ℕ → List ℕ → Result (Option FrameLine) LineFault
-sized seal column bytes =
-    if nat_lt 2044 (length bytes) then Err (fault_at column why.FrameTooLong)
-    else if seal && nat_lt (length bytes) 8 then Err (fault_at column why.SealShort)
-    else Ok (Some (frame_line seal bytes))
+abbrev pub size_cause : Bool → ℕ → Option LineWhy
+size_cause seal size =
+    if nat_lt 2044 size then Some why.FrameTooLong
+    else if seal && nat_lt size 8 then Some why.SealShort
+    else None
+
+-- the frame of what the digits say
+abbrev pub digits_frame : Bool → List ℕ × Unit {0} → FrameLine
+digits_frame seal s = frame_line seal s.0
+
+-- the size of what the digits say
+abbrev pub size_judged : Bool → List ℕ × Unit {0} → Option LineWhy
+size_judged seal s = size_cause seal (length s.0)
 
 -- its digits, and nothing behind them
-abbrev pub frame_read : Bool → WordsLeft → Result (Option FrameLine) LineFault
-frame_read seal left = do
-  bytes ← digits_word (first_word left)
-  ended (later left)
-  sized seal (first_word left).column bytes
-
--- the word `seal` may stand before the digits
-abbrev pub seals : WordsLeft → Bool
-seals left = bytes_eq (first_word left).text (codes "seal")
+abbrev pub frame_row : Bool → Row FrameLine
+frame_row seal = row_as (digits_frame seal) (judged_row 0 (size_judged seal) (hex_kind ▷ end_row))
 
 -- the words of a line with a frame: `seal` where the checksum is to be set, then the digits
-abbrev pub read_digits : WordsLeft → Result (Option FrameLine) LineFault
-read_digits left = if seals left then frame_read true (later left) else frame_read false left
+abbrev pub replay_row : Row FrameLine
+replay_row = after_word (codes "seal") (frame_row true) (frame_row false)
 
 -- the frame of a line whose bytes are text; an empty line or a comment has none
 abbrev pub read_clean_frame : List ℕ → Result (Option FrameLine) LineFault
-read_clean_frame text = if says_nothing text then Ok None else read_digits (words_of text)
+read_clean_frame text = text_read replay_row.said text
 
 -- a replay's line without its newline: its frame, if it has one, or the first of its faults
 abbrev pub read_frame : List ℕ → Result (Option FrameLine) LineFault
@@ -47,6 +51,10 @@ read_frame text = do
   read_clean_frame text
 
 -- The first fault of such a line, as a table.
+
+-- the word `seal` may stand before the digits
+abbrev pub seals : WordsLeft → Bool
+seals left = bytes_eq (first_word left).text (codes "seal")
 
 -- more than 2,044 bytes, or fewer than 8 where the checksum is to be set
 abbrev pub size_fault : Bool → ℕ → List ℕ → Option LineFault
@@ -59,7 +67,7 @@ size_fault seal column bytes =
 abbrev pub digits_line_fault : Bool → WordsLeft → Option LineFault
 digits_line_fault seal left =
     first_or (digits_fault (first_word left))
-    (first_or (nothing_more (later left).words) (size_fault seal (first_word left).column (bytes_of (first_word left).text)))
+    (first_or (nothing_more (later left).words) (size_fault seal (first_word left).column (bytes_of_digits (first_word left).text)))
 
 -- the digits are the second word where `seal` is the first
 abbrev pub replayed_fault : WordsLeft → Option LineFault

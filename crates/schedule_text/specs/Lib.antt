@@ -1,14 +1,10 @@
-pub mod Columns
-pub mod Digits
 pub mod Faults
 pub mod Forms
 pub mod Frames
-pub mod Left
+pub mod Kinds
 pub mod Names
 pub mod Numbers
 pub mod Printing
 pub mod Range
 pub mod Reading
-pub mod Rest
 pub mod Results
-pub mod Words

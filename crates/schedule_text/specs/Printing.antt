@@ -2,6 +2,7 @@
 use Rattle.std.specs.Prelude.{ℕ, ◌++◌, Bool, List, [], ◌∷◌, map, codes, decimal, if◌then◌else◌}
 use Rattle.std.specs.List.{join_with_byte}
 use Rattle.tool_text.specs.Text.{hex_or_dash}
+use Rattle.tool_words.specs.Words.{joined}
 use Rattle.feature_lists.specs.Features.{feature_number}
 use Rattle.world_events.specs.declared.event.Side.{Side}
 use Rattle.world_events.specs.declared.event.Side.TheVariants.{Client, Server}
@@ -11,10 +12,6 @@ use Rattle.schedule_text.specs.declared.line.Line.{Line}
 use Rattle.schedule_text.specs.declared.line.Line.TheVariants as line
 use Rattle.schedule_text.specs.declared.names.Form.TheVariants as form
 use Rattle.schedule_text.specs.Names.{form_name, side_name, place_name, timer_name}
-
--- words, parted by one space
-abbrev pub joined : List (List ℕ) → List ℕ
-joined words = join_with_byte 32 words
 
 -- numbers, parted by commas
 abbrev pub values_text : List ℕ → List ℕ

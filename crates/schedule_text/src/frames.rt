@@ -1,54 +1,82 @@
 //! Lines of replays, read.
 ghost use Rattle.std.specs.Prelude.{◌≡◌, ◌≤◌, length, true, IfOk, IfSome};
-ghost use Rattle.schedule_text.specs.Left.{left_of};
+ghost use Rattle.tool_words.specs.Left.{left_of};
 ghost use Rattle.schedule_text.specs.Frames as spec;
 
-use crate::digits::{MOST_BYTES, decode};
-use crate::reading::{clean, end, fault_at, says_nothing};
-use crate::words::Words;
 use crate::{FrameLine, LineFault, LineWhy};
 use dccp_packets::Frame;
+use tool_words::{Digits, Hex, Row, Words, read_line};
+
+// A line has at most 4,096 bytes, two for each byte that it tells.
+const MOST_BYTES: usize = 2048;
+
+// A packet that is too long for this has no frame.
+const MOST_OF_FRAME: usize = 2044;
 
 // The checksum is the last of a packet's first eight bytes.
 const SEALED: usize = 8;
 
-// The frame of these bytes, if it has neither too many nor too few.
-fn sized(seal: bool, column: u32, bytes: &[u8]) -> Result<Option<FrameLine>, LineFault>
-    ensures value { result ≡ spec.sized seal column bytes.now }
-    ensures seals { IfOk result (λ said. IfSome said (λ frame. frame.seal ≡ true → 8 ≤ length frame.bytes)) }
+// Why these bytes are no frame of a replay, if they are none.
+fn size_cause(seal: bool, length: usize) -> Option<LineWhy>
+    ensures { result ≡ spec.size_cause seal length }
 {
-    let Some(frame) = Frame::of(bytes) else {
-        return Err(fault_at(column, LineWhy::FrameTooLong));
-    };
-    if seal && bytes.len() < SEALED {
-        return Err(fault_at(column, LineWhy::SealShort));
-    }
-    Ok(Some(FrameLine { seal, bytes: frame }))
-}
-
-fn frame(seal: bool, words: &mut Words<'_>) -> Result<Option<FrameLine>, LineFault>
-    ensures value { result ≡ spec.frame_read seal (left_of words.old) }
-    ensures seals { IfOk result (λ said. IfSome said (λ frame. frame.seal ≡ true → 8 ≤ length frame.bytes)) }
-{
-    let word = words.next_word();
-    word.are_digits()?;
-    end(words)?;
-    let mut bytes = [0; MOST_BYTES];
-    let room = &mut bytes[..word.text.len() / 2];
-    decode(word.text, room);
-    sized(seal, word.column, room)
-}
-
-fn read_digits(words: &mut Words<'_>) -> Result<Option<FrameLine>, LineFault>
-    ensures value { result ≡ spec.read_digits (left_of words.old) }
-    ensures seals { IfOk result (λ said. IfSome said (λ frame. frame.seal ≡ true → 8 ≤ length frame.bytes)) }
-{
-    let mut all = *words;
-    let first = words.next_word();
-    if first.text == b"seal".as_slice() {
-        frame(true, words)
+    if MOST_OF_FRAME < length {
+        Some(LineWhy::FrameTooLong)
+    } else if seal && length < SEALED {
+        Some(LineWhy::SealShort)
     } else {
-        frame(false, &mut all)
+        None
+    }
+}
+
+// The frame of these bytes, which are not too many.
+fn frame_of(digits: &Digits<'_>) -> Frame
+    requires { length digits.now ≤ 2044 }
+    ensures { result ≡ digits.now }
+{
+    let mut bytes = [0; MOST_BYTES];
+    let room = &mut bytes[..digits.len()];
+    digits.put(room);
+    match Frame::of(room) {
+        Some(frame) => frame,
+        None => unreachable!(),
+    }
+}
+
+// The digits of a frame, and nothing behind them.
+fn frame(seal: bool, words: &mut Words<'_>) -> Result<FrameLine, LineFault>
+    ensures { result ≡ (spec.frame_row seal).said (left_of words.old) }
+{
+    let all = *words;
+    let (digits, ()) = <(Hex, ())>::read(words)?;
+    if let Some(why) = size_cause(seal, digits.len()) {
+        return Err(LineFault {
+            column: all.column_of(0),
+            why,
+        });
+    }
+    Ok(FrameLine {
+        seal,
+        bytes: frame_of(&digits),
+    })
+}
+
+// The words of a replay's line: `seal` where the checksum is to be set, then the digits.
+struct AFrame;
+
+impl<'a> Row<'a> for AFrame {
+    type Said = FrameLine;
+
+    ghost said = { spec.replay_row.said };
+
+    fn read(words: &mut Words<'a>) -> Result<FrameLine, LineFault> {
+        let mut all = *words;
+        let first = words.next_word();
+        if first.text == b"seal".as_slice() {
+            frame(true, words)
+        } else {
+            frame(false, &mut all)
+        }
     }
 }
 
@@ -60,9 +88,5 @@ pub fn read_frame(line: &[u8]) -> Result<Option<FrameLine>, LineFault>
     ensures value { result ≡ spec.read_frame line.now }
     ensures seals { IfOk result (λ said. IfSome said (λ frame. frame.seal ≡ true → 8 ≤ length frame.bytes)) }
 {
-    clean(line)?;
-    if says_nothing(line) {
-        return Ok(None);
-    }
-    read_digits(&mut Words::of(line))
+    read_line::<AFrame>(line)
 }

@@ -5,20 +5,12 @@ ghost use Rattle.schedule_text.specs.declared.line.FrameLine.{FrameLine};
 ghost use Rattle.schedule_text.specs.declared.line.Line.{Line};
 ghost use Rattle.schedule_text.specs.declared.line.Line.TheVariants as line;
 ghost use Rattle.tool_words.specs.declared.faults.LineFault.{LineFault};
-ghost use Rattle.schedule_text.specs.Columns.{AreWordsOf};
 ghost use Rattle.schedule_text.specs.Faults.{line_fault};
 ghost use Rattle.schedule_text.specs.Forms.{IsFrameLine, IsLine};
 ghost use Rattle.schedule_text.specs.Frames.{read_frame, frame_fault};
 ghost use Rattle.schedule_text.specs.Printing.{event_text};
 ghost use Rattle.schedule_text.specs.Range.{IsPrintable};
 ghost use Rattle.schedule_text.specs.Reading.{read_line};
-ghost use Rattle.schedule_text.specs.Words.{words_of};
-
-/// A line's words, parted by one space, are the line; each stands in it at its column, in bytes from 1; and one that is
-/// absent would stand behind the line and a space, at the line's length plus 2 (own).
-pub fn words_stand_at_their_columns()
-    ensures { (line : List ℕ) → AreWordsOf line (words_of line) }
-{}
 
 /// What is printed of an event is read as that event, as long as one line has room for it: an index below 2^47, one to
 /// nine values below 2^48, at most 2,042 bytes of data (own).

@@ -4,10 +4,10 @@ ghost use Rattle.schedule_text.specs.Numbers.{sequence_numbers, indices, values_
 ghost use Rattle.tool_text.specs.Numbers.{number_below};
 
 use crate::Values;
-use crate::words::first_piece;
 use feature_lists::Feature;
 use seq_circle::Seq48;
 use tool_text::number_up_to;
+use tool_words::first_piece;
 
 /// Sequence numbers and values are below this (RFC 4340, section 3.1).
 const SEQUENCE_NUMBERS: u64 = 1 << 48;

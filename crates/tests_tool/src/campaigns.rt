@@ -23,8 +23,8 @@ const FOUR_SEEDS: &str =
     "seeds 4\nevents 480\nclient_frames 74\nserver_frames 82\ntook 347\ndelivered 22\ndropped 0\n\
 synced 2\nwas_reset 0\nsent_reset 0\nrefused 7\nsettled 62\n";
 
-// The ways to write a figure, and some orders; the last seed that there is; and some numbers of workers.
-const WORDS: [(&str, &str); 7] = [
+// The ways to write a figure, and some orders; the first and the last seed that there is; and some numbers of workers.
+const WORDS: [(&str, &str); 8] = [
     (
         "campaign,--first,1,--seeds,3,--events,1,--workers,2",
         OPENINGS,
@@ -39,6 +39,10 @@ const WORDS: [(&str, &str); 7] = [
     ),
     (
         "campaign,--events=1,--workers=1,--first,18446744073709551613,--seeds=3",
+        OPENINGS,
+    ),
+    (
+        "campaign,--first,0,--seeds,3,--events,1,--workers,2",
         OPENINGS,
     ),
     (
@@ -83,6 +87,27 @@ const CUT: Case = Case {
 #[test]
 fn failing_sink_of_a_campaign(rt: HostRuntime) -> Result<(), Fail> {
     assert!(rt; comes(&rt, rt.alloc(), &FAILING_SINK, &CUT)?);
+    Ok(())
+}
+
+// The sink fails behind the two counts that the words give.
+const MOST_EVENTS: Case = Case {
+    words: "campaign,--first=0,--seeds=1,--events=4096,--workers=1",
+    input: "",
+    status: Status::Write,
+    text: "seeds 1\nevents 4096\n",
+};
+
+const FAILS_BEHIND_TWO_LINES: Streams = Streams {
+    failing_reads: &[1],
+    failing_writes: &[2],
+    given: 7,
+    taken: 20,
+};
+
+#[test]
+fn most_events_of_a_campaign(rt: HostRuntime) -> Result<(), Fail> {
+    assert!(rt; comes(&rt, rt.alloc(), &FAILS_BEHIND_TWO_LINES, &MOST_EVENTS)?);
     Ok(())
 }
 

@@ -11,7 +11,7 @@ use Rattle.tool_forms.specs.declared.settings.Setting.{Setting}
 use Rattle.tool_forms.specs.declared.settings.Setting.TheVariants.{First, Seeds, Events, Workers, Side, Plain}
 use Rattle.tool_forms.specs.declared.settings.Value.{Value}
 use Rattle.tool_forms.specs.declared.settings.Assignment.{Assignment}
-use Rattle.tool_forms.specs.Settings.{IsWithin, all_given, given_of, is_equals, is_joined, is_mark, is_same, joined_given, mark_given, once, preceded, unless_again}
+use Rattle.tool_forms.specs.Settings.{FitsSetting, all_given, given_of, is_equals, is_joined, is_mark, is_same, joined_given, mark_given, once, preceded, unless_again}
 
 is-joined : (word : List ℕ) → position_or_len is_equals word < length word → is_joined word ≡ true
 is-joined word parts = grind (arith, nat_tests)
@@ -121,7 +121,7 @@ first-as None setting given all rest whole none same is known =
 first-as (Some v) setting given all rest whole none same is known = cc none
 
 -- a value within the bounds of a setting is within those of the same
-pub same-bounds : (one other : Setting) (v : Value) → is_same one other ≡ true → IsWithin one v → IsWithin other v
+pub same-bounds : (one other : Setting) (v : Value) → is_same one other ≡ true → FitsSetting one v → FitsSetting other v
 same-bounds First First v same within = within
 same-bounds First Seeds v same within = cc same
 same-bounds First Events v same within = cc same

@@ -7,16 +7,16 @@ use Rattle.tool_forms.specs.declared.settings.Setting.{Setting}
 use Rattle.tool_forms.specs.declared.settings.Setting.TheVariants.{First, Seeds, Events, Workers}
 use Rattle.tool_forms.specs.declared.settings.Value.{Value}
 use Rattle.tool_forms.specs.declared.settings.Value.TheVariants as value
-use Rattle.tool_forms.specs.Settings.{given}
+use Rattle.tool_forms.specs.Settings.{words_give}
 
 -- the number that a setting is given, where it is given one
-abbrev pub number_given : Option (Option Value) → Option ℕ
-number_given (Some (Some (value.Number n))) = Some n
-number_given _ = None
+abbrev pub number_among : Option (Option Value) → Option ℕ
+number_among (Some (Some (value.Number n))) = Some n
+number_among _ = None
 
 -- the number that the words behind `campaign` give to this setting, once and only once
 abbrev pub given_once : Setting → List (String Global) → Option ℕ
-given_once setting words = number_given (given table.Campaign setting words)
+given_once setting words = number_among (words_give table.Campaign setting words)
 
 -- a campaign of seeds below 2^64
 abbrev pub campaign_from : ℕ → ℕ → ℕ → ℕ → Option Campaign

@@ -68,18 +68,18 @@ setting_value Plain text = None
 setting_value setting text = option_and_then (λ n. Some (value.Number n)) (number_for setting text)
 
 -- a number is within the setting's bounds
-abbrev pub IsWithin : Setting → Value → Type 0
-IsWithin setting (value.Number n) = (least setting ≤ n) × (n ≤ most setting)
-IsWithin setting _ = Unit {0}
+abbrev pub FitsSetting : Setting → Value → Type 0
+FitsSetting setting (value.Number n) = (least setting ≤ n) × (n ≤ most setting)
+FitsSetting setting _ = Unit {0}
 
 -- A setting and the value that is given to it.
-abbrev pub given_by : Option Setting → List ℕ → Option Assignment
-given_by None text = None
-given_by (Some setting) text = option_and_then (λ v. Some (record { setting = setting; value = v })) (setting_value setting text)
+abbrev pub value_given_to : Option Setting → List ℕ → Option Assignment
+value_given_to None text = None
+value_given_to (Some setting) text = option_and_then (λ v. Some (record { setting = setting; value = v })) (setting_value setting text)
 
 -- the same by the setting's name
 abbrev pub given_of : Table → List ℕ → List ℕ → Option Assignment
-given_of table name text = given_by (setting_named table name) text
+given_of table name text = value_given_to (setting_named table name) text
 
 -- `--plain`, given
 abbrev pub mark_given : Assignment
@@ -136,5 +136,5 @@ once setting [] = Some None
 once setting (given ∷ all) = if is_same given.setting setting then unless_again setting given.value all else once setting all
 
 -- What the words give to a setting, where all of them are settings of the form.
-abbrev pub given : Table → Setting → List (String Global) → Option (Option Value)
-given table setting words = option_and_then (once setting) (all_given table (map string_bytes words))
+abbrev pub words_give : Table → Setting → List (String Global) → Option (Option Value)
+words_give table setting words = option_and_then (once setting) (all_given table (map string_bytes words))

@@ -7,7 +7,7 @@ use Rattle.tool_forms.specs.declared.settings.Table.TheVariants as table
 use Rattle.tool_forms.specs.declared.settings.Setting.TheVariants as setting
 use Rattle.tool_forms.specs.declared.settings.Value.{Value}
 use Rattle.tool_forms.specs.declared.settings.Value.TheVariants as value
-use Rattle.tool_forms.specs.Settings.{given}
+use Rattle.tool_forms.specs.Settings.{words_give}
 use Rattle.tool_forms.specs.CampaignWords.{campaign_of}
 use Rattle.tool_forms.specs.declared.words.Form.{Form}
 use Rattle.tool_forms.specs.declared.words.Form.TheVariants as form
@@ -28,7 +28,7 @@ replays _ _ = None
 
 -- The words behind `replay`: the side once, and `--plain` at most once.
 abbrev pub replay_of : List (String Global) → Option Form
-replay_of words = replays (given table.Replay setting.Plain words) (side_given (given table.Replay setting.Side words))
+replay_of words = replays (words_give table.Replay setting.Plain words) (side_given (words_give table.Replay setting.Side words))
 
 -- The words behind `campaign`.
 abbrev pub campaigns : List (String Global) → Option Form

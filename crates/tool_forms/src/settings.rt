@@ -1,7 +1,7 @@
 //! The settings that words give to a form.
 ghost use Rattle.std.specs.Prelude.{◌≡◌, ◌≤◌, ◌∷◌, IfSome, IfNone, None, Some, length, map, string_bytes};
 ghost use Rattle.std.specs.Str.{bytes_eq};
-ghost use Rattle.tool_forms.specs.Settings.{IsWithin, all_given, given, given_of, is_mark, is_same, least, mark_given, most, number_for, preceded, setting_named, setting_value, side_in};
+ghost use Rattle.tool_forms.specs.Settings.{FitsSetting, all_given, words_give, given_of, is_mark, is_same, least, mark_given, most, number_for, preceded, setting_named, setting_value, side_in};
 
 use tool_text::number_up_to;
 use world_events::Side;
@@ -135,7 +135,7 @@ impl Setting {
     // The value that this text is, if the setting may have it.
     fn value(self, text: &[u8]) -> Option<Value>
         ensures value { result ≡ setting_value self text.now }
-        ensures within { IfSome result (IsWithin self) }
+        ensures within { IfSome result (FitsSetting self) }
     {
         match self {
             Setting::Side => {
@@ -161,7 +161,7 @@ struct Assignment {
 impl Assignment {
     fn of(table: Table, name: &[u8], text: &[u8]) -> Option<Assignment>
         ensures value { result ≡ given_of table name.now text.now }
-        ensures within { IfSome result (λ given. IsWithin given.setting given.value) }
+        ensures within { IfSome result (λ given. FitsSetting given.setting given.value) }
     {
         let setting = table.named(name)?;
         let value = setting.value(text)?;
@@ -186,7 +186,7 @@ fn first_given<'a>(
 ) -> Option<(Assignment, &'a [String])>
     ensures none { IfNone result (all_given table (map string_bytes (word.now ∷ after.now)) ≡ None) }
     ensures some { IfSome result (λ found. all_given table (map string_bytes (word.now ∷ after.now)) ≡ preceded (Some found.0) (all_given table (map string_bytes found.1.now))) }
-    ensures within { IfSome result (λ found. IsWithin found.0.setting found.0.value) }
+    ensures within { IfSome result (λ found. FitsSetting found.0.setting found.0.value) }
     ensures shorter { IfSome result (λ found. length found.1.now ≤ length after.now) }
 {
     if let Some((name, text)) = word.split_once('=') {
@@ -207,8 +207,8 @@ fn first_given<'a>(
 
 /// What the words give to this setting, at most once; None where not all of them are settings of the form, or it is given again.
 pub(crate) fn given(table: Table, setting: Setting, words: &[String]) -> Option<Option<Value>>
-    ensures value { result ≡ given table setting words.now }
-    ensures within { IfSome result (λ found. IfSome found (IsWithin setting)) }
+    ensures value { result ≡ words_give table setting words.now }
+    ensures within { IfSome result (λ found. IfSome found (FitsSetting setting)) }
 {
     let mut found = None;
     let mut rest = words;

@@ -1,7 +1,7 @@
 //! What the words after the program's name ask for.
 ghost use Rattle.std.specs.Prelude.{◌≡◌, Some};
 ghost use Rattle.tool_forms.specs.CampaignWords.{IsWithinBounds};
-ghost use Rattle.tool_forms.specs.Settings.{given};
+ghost use Rattle.tool_forms.specs.Settings.{words_give};
 ghost use Rattle.tool_forms.specs.Words.{is_word, side_given, replay_of, takes_no_word, campaigns, form_of};
 
 use crate::campaign_words::{Campaign, campaign_of};
@@ -33,7 +33,7 @@ fn is_word(word: &String, text: &[u8]) -> bool
 
 // The side that the words behind `replay` give, once and only once.
 fn side_of(words: &[String]) -> Option<Side>
-    ensures { result ≡ side_given (given Table.Replay Setting.Side words.now) }
+    ensures { result ≡ side_given (words_give Table.Replay Setting.Side words.now) }
 {
     match given(Table::Replay, Setting::Side, words)? {
         Some(Value::End(side)) => Some(side),

@@ -1,6 +1,5 @@
 //! The lines of frames that were sent, and of ends.
 ghost use Rattle.std.specs.Prelude.{◌≡◌, ◌++◌, codes, OnOk};
-ghost use Rattle.schedule_text.specs.Names.{side_name};
 ghost use Rattle.schedule_text.specs.Printing.{side_letter};
 ghost use Rattle.tool_replay.specs.Text.{phase_name, stand_mark};
 ghost use Rattle.tool_replay.specs.EndLines.{bytes_line, held_text, row_text, end_name, end_counts, end_rows, end_line};
@@ -8,18 +7,10 @@ ghost use Rattle.tool_replay.specs.EndLines.{bytes_line, held_text, row_text, en
 use ccid_two::Kinds;
 use dccp_endpoint::{Endpoint, Held, Phase, Stand};
 use feature_lists::{Feature, Place};
+use schedule_text::side_name;
 use seq_circle::NoMemory;
-use tool_text::{put, put_hex, put_number};
+use tool_text::{put, put_counted, put_hex, put_named, put_number};
 use world_events::Side;
-
-fn side_name(side: Side) -> &'static [u8]
-    ensures { result.now ≡ side_name side }
-{
-    match side {
-        Side::Client => b"client",
-        Side::Server => b"server",
-    }
-}
 
 // How the line of a frame that this side sent begins, up to the frame's index.
 fn sent_by(side: Side) -> &'static [u8]
@@ -67,8 +58,7 @@ pub fn put_frame_line(
 ) -> Result<(), NoMemory>
     ensures { OnOk result (text.new.items ≡ text.old.items ++ bytes_line side index bytes.now) }
 {
-    put(text, sent_by(side))?;
-    put_number(text, index)?;
+    put_counted(text, sent_by(side), index)?;
     put(text, b" ")?;
     put_hex(text, bytes)?;
     put(text, b"\n")
@@ -85,8 +75,7 @@ fn put_held(text: &mut Vec<u8>, held: Held) -> Result<(), NoMemory>
 fn put_row(text: &mut Vec<u8>, end: &Endpoint<Kinds>, feature: Feature) -> Result<(), NoMemory>
     ensures { OnOk result (text.new.items ≡ text.old.items ++ row_text end.now.state feature) }
 {
-    put(text, b" ")?;
-    put_number(text, u64::from(feature.number()))?;
+    put_counted(text, b" ", u64::from(feature.number()))?;
     put(text, b"=")?;
     put_held(text, end.held(feature, Place::Here))?;
     put(text, b"/")?;
@@ -106,19 +95,15 @@ fn put_rows(text: &mut Vec<u8>, end: &Endpoint<Kinds>) -> Result<(), NoMemory>
 fn put_end_name(text: &mut Vec<u8>, side: Side, end: &Endpoint<Kinds>) -> Result<(), NoMemory>
     ensures { OnOk result (text.new.items ≡ text.old.items ++ end_name side end.now.state) }
 {
-    put(text, b"end ")?;
-    put(text, side_name(side))?;
-    put(text, b" ")?;
-    put(text, phase_name(end.phase()))
+    put_named(text, b"end ", side_name(side))?;
+    put_named(text, b" ", phase_name(end.phase()))
 }
 
 fn put_end_counts(text: &mut Vec<u8>, end: &Endpoint<Kinds>) -> Result<(), NoMemory>
     ensures { OnOk result (text.new.items ≡ text.old.items ++ end_counts end.now.congestion) }
 {
-    put(text, b" window ")?;
-    put_number(text, u64::from(end.window()))?;
-    put(text, b" flight ")?;
-    put_number(text, u64::from(end.in_flight()))
+    put_counted(text, b" window ", u64::from(end.window()))?;
+    put_counted(text, b" flight ", u64::from(end.in_flight()))
 }
 
 /// Puts the line of an end when the input is over (own): its phase, the counts of its congestion control, and the values of

@@ -8,7 +8,7 @@ use Rattle.tool_words.specs.declared.faults.LineFault.{LineFault}
 use Rattle.tool_words.specs.declared.faults.LineWhy.TheVariants as why
 use Rattle.tool_words.specs.Refusals.{fault_at}
 use Rattle.tool_words.specs.Words.{WordsLeft, placed, words_of, parted_by, texts_of, joined}
-use Rattle.tool_words.specs.Rows.{Row, IsExactRow, ◌>>=◌, ◌>>◌, first_or, fault_in}
+use Rattle.tool_words.specs.Rows.{Row, IsExactRow, ◌>>=◌, first_or, fault_in}
 use Rattle.tool_words.specs.Lines.{is_text, first_other, text_or_other, clean, says_nothing, words_read, text_read, line_read, no_text, first_fault, IsIdle, IsSpokenLine}
 use Rattle.tool_words.proofs.Bytes.{both-true, if-false, if-true, words-parted, joined-text}
 use Rattle.tool_words.proofs.RowLaws.{bind-ok, bind-read, then-fault, then-ok, then-read, last-fault}

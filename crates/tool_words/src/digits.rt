@@ -1,5 +1,6 @@
 //! Bytes as digits in hexadecimal.
-ghost use Rattle.std.specs.Prelude.{◌≡◌, ◌+◌, ◌*◌, ◌/◌, ◌%◌, ◌≤◌, ◌<◌, ◌==◌, None, [], length, IfSome};
+ghost use Rattle.std.specs.Prelude.{take, true, ◌≡◌, ◌+◌, ◌*◌, ◌/◌, ◌%◌, ◌≤◌, ◌<◌, ◌==◌, None, [], length, IfSome};
+ghost use Rattle.std.specs.List.{list_all};
 ghost use Rattle.hex.specs.Hex.{is_hex_digit};
 ghost use Rattle.tool_words.specs.Digits.{first_no_digit, digits_flaw, digit_value, bytes_of_digits, ArePairs};
 
@@ -11,11 +12,49 @@ fn is_hex_digit(byte: u8) -> bool
     matches!(byte, b'0'..=b'9' | b'a'..=b'f' | b'A'..=b'F')
 }
 
+// How many bytes are judged at a time, so that they can be judged side by side.
+const BLOCK: usize = 32;
+
+// Whether a block has digits alone; no byte of it ends the search.
+fn are_digits(block: &[u8]) -> bool
+    ensures { result ≡ list_all is_hex_digit block.now }
+{
+    let mut all = true;
+    for byte in block {
+        all = all & is_hex_digit(*byte);
+    }
+    all
+}
+
+// How many bytes of whole blocks of digits a word begins with.
+fn digits_in_front(word: &[u8]) -> usize
+    ensures digits { list_all is_hex_digit (take result word.now) ≡ true }
+    ensures within { result ≤ length word.now }
+{
+    let mut done = 0;
+    while BLOCK <= word.len() - done && are_digits(&word[done..done + BLOCK]) {
+        done += BLOCK;
+    }
+    done
+}
+
+fn first_in(rest: &[u8]) -> Option<usize>
+    ensures value { result ≡ first_no_digit rest.now }
+    ensures within { IfSome result (λ place. place ≤ length rest.now) }
+{
+    rest.iter().position(|byte| !is_hex_digit(*byte))
+}
+
+#[tactic(auto, using(crate::proofs::Blocks::none_passed, crate::proofs::Blocks::some_passed))]
 fn first_no_digit(word: &[u8]) -> Option<usize>
     ensures value { result ≡ first_no_digit word.now }
     ensures within { IfSome result (λ place. place ≤ length word.now) }
 {
-    word.iter().position(|byte| !is_hex_digit(*byte))
+    let front = digits_in_front(word);
+    match first_in(&word[front..]) {
+        Some(place) => Some(front + place),
+        None => None,
+    }
 }
 
 /// The place of the first byte that is no digit, or that behind an odd number of digits (own).

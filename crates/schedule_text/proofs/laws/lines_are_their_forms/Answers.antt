@@ -1,4 +1,4 @@
-use Rattle.schedule_text.proofs.LinesSpelled.{line-spelled, spelled-line}
+use Rattle.schedule_text.proofs.LineForms.{line-spelled, spelled-line}
 use Rattle.schedule_text.proofs.laws.lines_are_their_forms.Goals as goal
 
 pub returns : goal.returns

@@ -1,4 +1,4 @@
-use Rattle.schedule_text.proofs.FirstFaults.{first-fault}
+use Rattle.schedule_text.proofs.FaultsSame.{first-fault}
 use Rattle.schedule_text.proofs.laws.the_first_fault_is_answered.Goals as goal
 
 pub returns : goal.returns

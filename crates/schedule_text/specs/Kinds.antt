@@ -1,0 +1,90 @@
+-- The kinds of words that lines of schedules have (own).
+use Rattle.std.specs.Prelude.{◌≡◌, ℕ, ◌<◌, ◌^◌, ◌==◌, ◌||◌, if◌then◌else◌, is_some, List, [], ◌∷◌, decimal, Option, Some, Result, Ok, Err}
+use Rattle.feature_lists.specs.Features.{feature_number}
+use Rattle.feature_lists.specs.declared.features.Feature.{Feature}
+use Rattle.feature_lists.specs.declared.features.Place.{Place}
+use Rattle.feature_lists.specs.declared.features.Place.TheVariants as place
+use Rattle.world_events.specs.declared.event.Side.{Side}
+use Rattle.world_events.specs.declared.event.Side.TheVariants.{Client, Server}
+use Rattle.end_answers.specs.declared.calls.Timer.{Timer}
+use Rattle.end_answers.specs.declared.calls.Timer.TheVariants as timer
+use Rattle.tool_text.specs.Numbers.{number_below}
+use Rattle.tool_words.specs.declared.faults.LineWhy.TheVariants as why
+use Rattle.tool_words.specs.declared.kinds.Flaw.{Flaw}
+use Rattle.tool_words.specs.Kinds.{Kind, flaw_behind, found_or, flaw_unless, found_kind, number_kind, name_kind}
+use Rattle.schedule_text.specs.declared.names.Form.{Form}
+use Rattle.schedule_text.specs.declared.names.Form.TheVariants as form
+use Rattle.schedule_text.specs.Names.{form_name, side_name, place_name, timer_name}
+use Rattle.schedule_text.specs.Numbers.{sequence_numbers, indices, values_of, feature_of}
+use Rattle.schedule_text.specs.Printing.{frame_name, values_text}
+use Rattle.schedule_text.specs.Range.{AreValues}
+
+-- the first words of lines
+abbrev pub all_forms : List Form
+all_forms =
+    form.Plain ∷ form.Iss ∷ form.Set ∷ form.Offer ∷ form.Open ∷ form.Deliver ∷ form.Send ∷ form.Prefer ∷ form.Timer ∷ form.Close
+    ∷ form.Abort ∷ []
+
+-- a first word, which tells what the line is
+abbrev pub form_kind : Kind Form
+form_kind = name_kind form_name all_forms
+
+-- a word for a side
+abbrev pub side_kind : Kind Side
+side_kind = name_kind side_name (Client ∷ Server ∷ [])
+
+-- a word for where a feature is located
+abbrev pub place_kind : Kind Place
+place_kind = name_kind place_name (place.Here ∷ place.There ∷ [])
+
+-- all timers of an end
+abbrev pub all_timers : List Timer
+all_timers = timer.Request ∷ timer.Ack ∷ timer.Negotiate ∷ timer.Rto ∷ timer.Close ∷ timer.TimeWait ∷ []
+
+-- a word for a timer
+abbrev pub timer_kind : Kind Timer
+timer_kind = name_kind timer_name all_timers
+
+-- an initial sequence number, in decimal digits
+abbrev pub sequence_kind : Kind ℕ
+sequence_kind = number_kind sequence_numbers
+
+-- a feature by its number, for names are not taken
+abbrev pub feature_kind : Kind Feature
+feature_kind = found_kind why.BadNumber feature_of (λ feature text. text ≡ decimal (feature_number feature))
+
+-- the list of values for a feature, all in one word
+abbrev pub values_kind : Kind (List ℕ)
+values_kind = found_kind why.BadNumber values_of (λ values text. (text ≡ values_text values) × AreValues values)
+
+-- a sender and an index, where one was found
+abbrev pub from_sender : Side → Result ℕ Flaw → Result (Side × ℕ) Flaw
+from_sender from (Ok index) = Ok (from, index)
+from_sender from (Err flaw) = Err flaw
+
+-- the frame of this sender whose index stands here
+abbrev pub frame_sent_by : Side → List ℕ → Result (Side × ℕ) Flaw
+frame_sent_by from index = from_sender from (found_or why.BadNumber (number_below indices index))
+
+-- the letter of a sender and an index; another letter begins no name
+abbrev pub frame_named : List ℕ → Result (Side × ℕ) Flaw
+frame_named [] = Err (flaw_behind 0 why.UnknownWord)
+frame_named (letter ∷ index) =
+    if letter == 99 then frame_sent_by Client index
+    else if letter == 115 then frame_sent_by Server index
+    else Err (flaw_behind 0 why.UnknownWord)
+
+-- a name without a known letter is unknown, and one without an index has a bad number
+abbrev pub name_flaw : List ℕ → Option Flaw
+name_flaw [] = Some (flaw_behind 0 why.UnknownWord)
+name_flaw (letter ∷ index) =
+    if letter == 99 || letter == 115 then flaw_unless (is_some (number_below indices index)) (flaw_behind 0 why.BadNumber)
+    else Some (flaw_behind 0 why.UnknownWord)
+
+-- a frame's name: the letter of its sender and its index
+abbrev pub frame_kind : Kind (Side × ℕ)
+frame_kind = record {
+  reads = frame_named;
+  flaw = name_flaw;
+  Spells = λ frame text. (text ≡ frame_name frame.0 frame.1) × (frame.1 < 2 ^ 47);
+}

@@ -1,0 +1,144 @@
+//! The kinds of words that lines of schedules have.
+ghost use Rattle.std.specs.Prelude.{◌≡◌, ◌≤◌, length, IfErr};
+ghost use Rattle.schedule_text.specs.Kinds as spec;
+
+use crate::names::{Form, form_named, place_named, side_named, timer_of};
+use crate::numbers::{feature_of, frame_index, sequence_number_of, values_of};
+use crate::{LineWhy, Timer, Values};
+use feature_lists::{Feature, Place};
+use seq_circle::Seq48;
+use tool_words::{Flag, Flaw, WordKind, found_or};
+use world_events::Side;
+
+/// The first word of a line.
+pub(crate) struct AForm;
+
+impl<'a> WordKind<'a> for AForm {
+    type Read = Form;
+
+    ghost reads = { spec.form_kind.reads };
+
+    fn read(word: &'a [u8]) -> Result<Form, Flaw> {
+        found_or(LineWhy::UnknownWord, form_named(word))
+    }
+}
+
+/// The word for a side.
+pub(crate) struct ASide;
+
+impl<'a> WordKind<'a> for ASide {
+    type Read = Side;
+
+    ghost reads = { spec.side_kind.reads };
+
+    fn read(word: &'a [u8]) -> Result<Side, Flaw> {
+        found_or(LineWhy::UnknownWord, side_named(word))
+    }
+}
+
+/// The word for where a feature is located.
+pub(crate) struct APlace;
+
+impl<'a> WordKind<'a> for APlace {
+    type Read = Place;
+
+    ghost reads = { spec.place_kind.reads };
+
+    fn read(word: &'a [u8]) -> Result<Place, Flaw> {
+        found_or(LineWhy::UnknownWord, place_named(word))
+    }
+}
+
+/// The word for a timer.
+pub(crate) struct ATimer;
+
+impl<'a> WordKind<'a> for ATimer {
+    type Read = Timer;
+
+    ghost reads = { spec.timer_kind.reads };
+
+    fn read(word: &'a [u8]) -> Result<Timer, Flaw> {
+        found_or(LineWhy::UnknownWord, timer_of(word))
+    }
+}
+
+/// A sequence number.
+pub(crate) struct ANumber;
+
+impl<'a> WordKind<'a> for ANumber {
+    type Read = Seq48;
+
+    ghost reads = { spec.sequence_kind.reads };
+
+    fn read(word: &'a [u8]) -> Result<Seq48, Flaw> {
+        found_or(LineWhy::BadNumber, sequence_number_of(word))
+    }
+}
+
+/// A feature by its number.
+pub(crate) struct AFeature;
+
+impl<'a> WordKind<'a> for AFeature {
+    type Read = Feature;
+
+    ghost reads = { spec.feature_kind.reads };
+
+    fn read(word: &'a [u8]) -> Result<Feature, Flaw> {
+        found_or(LineWhy::BadNumber, feature_of(word))
+    }
+}
+
+/// One to nine values.
+pub(crate) struct SomeValues;
+
+impl<'a> WordKind<'a> for SomeValues {
+    type Read = Values;
+
+    ghost reads = { spec.values_kind.reads };
+
+    fn read(word: &'a [u8]) -> Result<Values, Flaw> {
+        found_or(LineWhy::BadNumber, values_of(word))
+    }
+}
+
+// The frame of this sender with this index.
+fn sent_by(from: Side, index: &[u8]) -> Result<(Side, u64), Flaw>
+    ensures value { result ≡ spec.frame_sent_by from index.now }
+    ensures within { IfErr result (λ flaw. flaw.place ≡ 0) }
+{
+    let index = found_or(LineWhy::BadNumber, frame_index(index))?;
+    Ok((from, index))
+}
+
+/// A frame's name: its sender and its index.
+pub(crate) struct AName;
+
+impl<'a> WordKind<'a> for AName {
+    type Read = (Side, u64);
+
+    ghost reads = { spec.frame_kind.reads };
+
+    fn read(word: &'a [u8]) -> Result<(Side, u64), Flaw> {
+        match word {
+            [b'c', index @ ..] => sent_by(Side::Client, index),
+            [b's', index @ ..] => sent_by(Side::Server, index),
+            _ => Err(Flaw {
+                place: 0,
+                why: LineWhy::UnknownWord,
+            }),
+        }
+    }
+}
+
+/// The word `mandatory`.
+pub(crate) struct Mandatory;
+
+impl Flag for Mandatory {
+    ghost use Rattle.std.specs.Prelude.{codes};
+
+    ghost name = { codes "mandatory" };
+
+    fn is_name(word: &[u8]) -> bool {
+        word == b"mandatory".as_slice()
+    }
+}
