@@ -30,7 +30,8 @@ const FIRST_CCID: u8 = 2;
 /// - `close` to end the connection in order, in PARTOPEN and OPEN, and `abort` to end it at once
 /// - the readers `phase`, `marks`, `held`, `window`, `in_flight`, `is_reported`, `floor` and `marked`, at any time
 ///
-/// A feature's value, as `held` shows it, is settled where its stand is Stable. The connection has ended once the phase
+/// A feature's value, as `held` shows it, is settled for this end where its stand is Stable; that tells nothing of the
+/// other end, which may hold another one until it is Stable too. The connection has ended once the phase
 /// is CLOSED again. An end in TIMEWAIT is kept until its timer has run out.
 ///
 /// # What an outcome of `receive` asks of the owner
