@@ -318,6 +318,14 @@ fn is_held(alloc: Global, bytes: &[u8], most: usize, held: &[bool]) -> Result<bo
     Ok(holds_in_turn(&mut lines, held))
 }
 
+// A line of one letter, and so many letters behind it.
+fn line_and_letters(alloc: Global, count: usize) -> Result<Vec<u8>, Fail> {
+    let mut bytes = b"a\n".to_vec(alloc)?;
+    let behind = letters(alloc, count, b"")?;
+    bytes.extend_from_slice(behind.as_slice())?;
+    Ok(bytes)
+}
+
 // A line is held once its newline or its 4,097th byte was read, and no read follows where the reader stopped.
 #[test]
 fn a_reader_tells_when_it_holds_a_line(rt: HostRuntime) -> Result<(), Fail> {
@@ -330,14 +338,14 @@ fn a_reader_tells_when_it_holds_a_line(rt: HostRuntime) -> Result<(), Fail> {
         is_held(alloc, b"ab\ncd\ne", 1, &[false, false, false, false])?,
         "a byte a call"
     );
-    let mut long = b"a\n".to_vec(alloc)?;
-    long.extend_from_slice(letters(alloc, 4097, b"")?.as_slice())?;
+    let long = line_and_letters(alloc, 4097)?;
     assert!(rt;
-        is_held(alloc, long.as_slice(), 20_000, &[false, true, true])?,
+        is_held(alloc, &long, 20_000, &[false, true, true])?,
         "a long line"
     );
+    let longest = line_and_letters(alloc, 4096)?;
     assert!(rt;
-        is_held(alloc, &long[..4098], 20_000, &[false, false, false])?,
+        is_held(alloc, &longest, 20_000, &[false, false, false])?,
         "one byte less"
     );
     Ok(())
