@@ -8,7 +8,8 @@ TABLES = TOP / "crates" / "tests_tool" / "src" / "worked.rt"
 EXAMPLES = TOP / "examples"
 
 # Played over streams of 1, 7 and 4,096 bytes a call, and of 4,096 alone.
-IN_PIECES = """usual_connection_with_data mandatory_before_nothing option_faults options_passed_over""".split()
+IN_PIECES = """usual_connection_with_data mandatory_before_nothing options_passed_over""".split()
+FAULTS_IN_PIECES = ["option_faults"]
 WHOLE = """empty comments_alone no_such_frame handshake open_both_ways number_wrap server_number_wrap older_request_last
     data_in_request server_order_wins mandatory_unshared crossing_changes late_changes late_confirm nothing_shared invalid_value
     vector_of_received full_run_of_64 floor_rises_by_record coverage_too_large window_of_ccid_two refused_calls_and_closing
@@ -25,6 +26,22 @@ use std::test::Fail;
 FOOT = '''#[test]
 fn worked_cases_in_pieces(rt: HostRuntime) -> Result<(), Fail> {
     for case in &IN_PIECES {
+        expect_in_pieces(&rt, rt.alloc(), case)?;
+    }
+    Ok(())
+}
+
+#[test]
+fn option_faults_in_pieces(rt: HostRuntime) -> Result<(), Fail> {
+    for case in &FAULTS {
+        expect_in_pieces(&rt, rt.alloc(), case)?;
+    }
+    Ok(())
+}
+
+#[test]
+fn more_option_faults_in_pieces(rt: HostRuntime) -> Result<(), Fail> {
+    for case in &MORE_FAULTS {
         expect_in_pieces(&rt, rt.alloc(), case)?;
     }
     Ok(())
@@ -79,14 +96,23 @@ def cases(stem):
         yield words, given, own
 
 
+def table(name, rows):
+    return f"const {name}: [Case; {len(rows)}] = [\n" + "".join(f"{it},\n" for it in rows) + "];\n\n"
+
+
 def tables():
     """The text of worked.rt."""
     pieces = [case_of(*it, " " * 4) for stem in IN_PIECES for it in cases(stem)]
+    faults = [case_of(*it, " " * 4) for stem in FAULTS_IN_PIECES for it in cases(stem)]
+    half = (len(faults) + 1) // 2
     whole = [f'    (\n        "{stem}",\n{case_of(*it, " " * 8)},\n    ),' for stem in WHOLE for it in cases(stem)]
     return "".join((
         HEAD,
         "// Data of which one packet is overtaken, and options in a Request, in pieces of any length.\n",
-        f"const IN_PIECES: [Case; {len(pieces)}] = [\n", "".join(f"{it},\n" for it in pieces), "];\n\n",
+        table("IN_PIECES", pieces),
+        "// Options that end the connection, as two tables: the proof of a longer one comes to no end.\n",
+        table("FAULTS", faults[:half]),
+        table("MORE_FAULTS", faults[half:]),
         "// All others, by their names.\n",
         f"const WHOLE: [(&str, Case); {len(whole)}] = [\n", "".join(f"{it}\n" for it in whole), "];\n\n",
         FOOT,

@@ -5,7 +5,7 @@ use dccp_command::Status;
 use std::test::Fail;
 
 // Data of which one packet is overtaken, and options in a Request, in pieces of any length.
-const IN_PIECES: [Case; 43] = [
+const IN_PIECES: [Case; 13] = [
     Case {
         words: "run",
         input: "# The usual ends, and data of the client. The frame c4 overtakes c3, which then comes below the floor of the Ack Vectors:\n\
@@ -87,6 +87,273 @@ seal 9c4013890600000001000000000003e80000002a20010000\n",
 sent s0 13899c400700261403000000000007d000000000000003e80000002a\n\
 end server RESPOND window 4 flight 0 1=2/2 2=0/0 3=100/100 4=0/0 5=2/2 6=0/0 7=0/0 8=0/0 9=0/0\n",
     },
+    Case {
+        words: "replay,--side,server,--plain",
+        input: "# replay --side server --plain\n\
+# Options that change nothing: without Mandatory those that are not understood, and those that are understood but have no effect here.\n\
+\n\
+# Each Request is answered by a Response without options.\n\
+\n\
+# Request 1000, Change L of no feature: without Mandatory\n\
+9c401389060010e601000000000003e80000002a20020000\n\
+# Request 1001, Confirm R of no feature\n\
+9c40138906000de501000000000003e90000002a23020000\n\
+# Request 1002, Elapsed Time of 1 byte\n\
+9c4013890600fee201000000000003ea0000002a2b030700\n\
+# Request 1003, NDP Count of 7 bytes\n\
+9c4013890800f9c701000000000003eb0000002a250901020304050607000000\n\
+# Request 1004, Init Cookie of 2 bytes\n\
+9c401389060002d501000000000003ec0000002a24040a0b\n\
+# Request 1005, option 128 of 0 bytes\n\
+9c4013890600b0e001000000000003ed0000002a80020000\n\
+# Request 1006, option 3\n\
+9c40138906002de201000000000003ee0000002a03000000\n\
+# Request 1007, Mandatory before Padding\n\
+9c40138906002fe101000000000003ef0000002a01000000\n\
+# Request 1008, option 32 of length 1: it ends the list\n\
+9c401389060010df01000000000003f00000002a20010000\n\
+# Request 1009, Mandatory Elapsed Time of 2 bytes: understood\n\
+9c401389070023b001000000000003f10000002a012b040007000000\n\
+# Request 1010, Confirm L 1 of 2: nothing was asked\n\
+9c40138906000ed801000000000003f20000002a21040102\n\
+# Request 1011, Confirm R 1 of 2\n\
+9c40138906000cd701000000000003f30000002a23040102\n\
+\n\
+# An Ack with an Ack Vector opens the server as one without.\n\
+\n\
+# Ack 1012 of 2011, vector 00\n\
+9c4013890700fc2307000000000003f400000000000007db26030000\n\
+\n\
+# Each of these is understood, and so Mandatory is no fault. No Ack is answered.\n\
+\n\
+# Ack 1013 of 2012, Mandatory Slow Receiver\n\
+9c4013890700212307000000000003f500000000000007dc01020000\n\
+# Ack 1014 of 2012, vector 00\n\
+9c4013890700fc2007000000000003f600000000000007dc26030000\n\
+# Ack 1015 of 2012, vector 00 of nonce 1\n\
+9c4013890700fb1f07000000000003f700000000000007dc27030000\n\
+# Ack 1016 of 2012, Mandatory vector 00\n\
+9c40138907001dfc07000000000003f800000000000007dc01260300\n\
+# Ack 1017 of 2012, Mandatory vector of no bytes of nonce 1\n\
+9c40138907001efa07000000000003f900000000000007dc01270200\n\
+# Ack 1018 of 2012, Mandatory Data Dropped of 0 bytes\n\
+9c40138907001ef807000000000003fa00000000000007dc01280200\n\
+# Ack 1019 of 2012, Mandatory Data Dropped of 1 byte\n\
+9c40138907001df007000000000003fb00000000000007dc01280307\n\
+# Ack 1020 of 2012, Mandatory Timestamp of 4 bytes\n\
+9c401389080007e107000000000003fc00000000000007dc0129060708090a00\n\
+# Ack 1021 of 2012, Mandatory Timestamp Echo of 4 bytes\n\
+9c401389080007df07000000000003fd00000000000007dc012a060708090a00\n\
+# Ack 1022 of 2012, Mandatory Timestamp Echo of 6 bytes\n\
+9c4013890900f8ce07000000000003fe00000000000007dc012a080708090a0b0c000000\n\
+# Ack 1023 of 2012, Mandatory Timestamp Echo of 8 bytes\n\
+9c4013890900e8c007000000000003ff00000000000007dc012a0a0708090a0b0c0d0e00\n\
+# Ack 1024 of 2012, Mandatory NDP Count of 1 byte\n\
+9c40138907001dee070000000000040000000000000007dc01250307\n\
+# Ack 1025 of 2012, Mandatory NDP Count of 6 bytes\n\
+9c4013890900f8d0070000000000040100000000000007dc0125080708090a0b0c000000\n\
+# Ack 1026 of 2012, Mandatory Elapsed Time of 2 bytes\n\
+9c401389080013e2070000000000040200000000000007dc012b040708000000\n\
+# Ack 1027 of 2012, Mandatory Elapsed Time of 4 bytes\n\
+9c401389080007d8070000000000040300000000000007dc012b060708090a00\n\
+# Ack 1028 of 2012, Mandatory Data Checksum of 4 bytes\n\
+9c401389080007d6070000000000040400000000000007dc012c060708090a00\n\
+\n\
+# Mandatory before Padding is Padding: the option behind it is not marked, and the empty Confirm goes out.\n\
+\n\
+# Ack 1029 of 2012, Mandatory before Padding, Change L 10 of 1\n\
+9c4013890800f60b070000000000040500000000000007dc010020040a010000\n\
+\n\
+# What is answered before its options are read, or is out of place, has no options that count.\n\
+\n\
+# Request 1030, Change L 1 of 2\n\
+9c40138906000fc401000000000004060000002a20040102\n\
+# Reset 1031 of 2014, code 2, Change L 1 of 2\n\
+9c4013890800f6060f0000000000040700000000000007de0200000020040102\n\
+\n",
+        status: Status::Done,
+        text: "7: took\n\
+sent s0 13899c400700261403000000000007d000000000000003e80000002a\n\
+9: took\n\
+sent s1 13899c400700261203000000000007d100000000000003e90000002a\n\
+11: took\n\
+sent s2 13899c400700261003000000000007d200000000000003ea0000002a\n\
+13: took\n\
+sent s3 13899c400700260e03000000000007d300000000000003eb0000002a\n\
+15: took\n\
+sent s4 13899c400700260c03000000000007d400000000000003ec0000002a\n\
+17: took\n\
+sent s5 13899c400700260a03000000000007d500000000000003ed0000002a\n\
+19: took\n\
+sent s6 13899c400700260803000000000007d600000000000003ee0000002a\n\
+21: took\n\
+sent s7 13899c400700260603000000000007d700000000000003ef0000002a\n\
+23: took\n\
+sent s8 13899c400700260403000000000007d800000000000003f00000002a\n\
+25: took\n\
+sent s9 13899c400700260203000000000007d900000000000003f10000002a\n\
+27: took\n\
+sent s10 13899c400700260003000000000007da00000000000003f20000002a\n\
+29: took\n\
+sent s11 13899c40070025fe03000000000007db00000000000003f30000002a\n\
+34: took\n\
+sent s12 13899c400600232a07000000000007dc00000000000003f4\n\
+39: took\n\
+41: took\n\
+43: took\n\
+45: took\n\
+47: took\n\
+49: took\n\
+51: took\n\
+53: took\n\
+55: took\n\
+57: took\n\
+59: took\n\
+61: took\n\
+63: took\n\
+65: took\n\
+67: took\n\
+69: took\n\
+74: took\n\
+sent s13 13899c400700f51007000000000007dd000000000000040523030a00\n\
+79: synced 1030\n\
+sent s14 13899c400600191611000000000007de0000000000000406\n\
+81: was reset 2\n\
+end server TIMEWAIT window 4 flight 0 1=2/2 2=0/0 3=100/100 4=0/0 5=2/2 6=0/0 7=0/0 8=0/0 9=0/0\n",
+    },
+    Case {
+        words: "replay,--side,server,--plain",
+        input: "\n\n\n\n\n\n\n\n\n\n\n\n\n\n\n\n\n\n\n\n\n\n\n\n\n\n\n\n\n\n\n\n\n\n\n\n\n\n\n\n\
+\n\n\n\n\n\n\n\n\n\n\n\n\n\n\n\n\n\n\n\n\n\n\n\n\n\n\n\n\n\n\n\n\n\n\n\n\n\n\n\n\
+\n\n\
+# replay --side server --plain\n\
+# Request 1000\n\
+9c401389050031ec01000000000003e80000002a\n\
+# Ack 1001 of 2000: opens alike\n\
+9c4013890600234107000000000003e900000000000007d0\n\
+\n",
+        status: Status::Done,
+        text: "85: took\n\
+sent s0 13899c400700261403000000000007d000000000000003e80000002a\n\
+87: took\n\
+sent s1 13899c400600234007000000000007d100000000000003e9\n\
+end server OPEN window 4 flight 0 1=2/2 2=0/0 3=100/100 4=0/0 5=2/2 6=0/0 7=0/0 8=0/0 9=0/0\n",
+    },
+    Case {
+        words: "replay,--side,server,--plain",
+        input: "\n\n\n\n\n\n\n\n\n\n\n\n\n\n\n\n\n\n\n\n\n\n\n\n\n\n\n\n\n\n\n\n\n\n\n\n\n\n\n\n\
+\n\n\n\n\n\n\n\n\n\n\n\n\n\n\n\n\n\n\n\n\n\n\n\n\n\n\n\n\n\n\n\n\n\n\n\n\n\n\n\n\
+\n\n\n\n\n\n\n\n\
+# replay --side server --plain\n\
+# Request 1000\n\
+9c401389050031ec01000000000003e80000002a\n\
+# Ack 1001 of 2000, vector 00 of nonce 1: opens alike\n\
+9c4013890700fb3907000000000003e900000000000007d027030000\n\
+\n",
+        status: Status::Done,
+        text: "91: took\n\
+sent s0 13899c400700261403000000000007d000000000000003e80000002a\n\
+93: took\n\
+sent s1 13899c400600234007000000000007d100000000000003e9\n\
+end server OPEN window 4 flight 0 1=2/2 2=0/0 3=100/100 4=0/0 5=2/2 6=0/0 7=0/0 8=0/0 9=0/0\n",
+    },
+    Case {
+        words: "replay,--side,server,--plain",
+        input: "\n\n\n\n\n\n\n\n\n\n\n\n\n\n\n\n\n\n\n\n\n\n\n\n\n\n\n\n\n\n\n\n\n\n\n\n\n\n\n\n\
+\n\n\n\n\n\n\n\n\n\n\n\n\n\n\n\n\n\n\n\n\n\n\n\n\n\n\n\n\n\n\n\n\n\n\n\n\n\n\n\n\
+\n\n\n\n\n\n\n\n\n\n\n\n\n\n\
+# replay --side server --plain\n\
+# Request 1000\n\
+9c401389050031ec01000000000003e80000002a\n\
+# Ack 1001 of 2000, Mandatory vector 00: opens alike\n\
+9c40138907001e1707000000000003e900000000000007d001260300\n\
+\n",
+        status: Status::Done,
+        text: "97: took\n\
+sent s0 13899c400700261403000000000007d000000000000003e80000002a\n\
+99: took\n\
+sent s1 13899c400600234007000000000007d100000000000003e9\n\
+end server OPEN window 4 flight 0 1=2/2 2=0/0 3=100/100 4=0/0 5=2/2 6=0/0 7=0/0 8=0/0 9=0/0\n",
+    },
+    Case {
+        words: "replay,--side,server,--plain",
+        input: "\n\n\n\n\n\n\n\n\n\n\n\n\n\n\n\n\n\n\n\n\n\n\n\n\n\n\n\n\n\n\n\n\n\n\n\n\n\n\n\n\
+\n\n\n\n\n\n\n\n\n\n\n\n\n\n\n\n\n\n\n\n\n\n\n\n\n\n\n\n\n\n\n\n\n\n\n\n\n\n\n\n\
+\n\n\n\n\n\n\n\n\n\n\n\n\n\n\n\n\n\n\n\n\
+# replay --side server --plain\n\
+# Change L and Confirm L, Change R and Confirm R for the CCID on the Request that opens: the Changes are answered.\n\
+\n\
+# Request 1000, Change L 1 of 2\n\
+9c40138906000fe201000000000003e80000002a20040102\n\
+\n",
+        status: Status::Done,
+        text: "105: took\n\
+sent s0 13899c400900fd0b03000000000007d000000000000003e80000002a2306010202f80000\n\
+end server RESPOND window 4 flight 0 1=2/2 2=0/0 3=100/100 4=0/0 5=2/2 6=0/0 7=0/0 8=0/0 9=0/0\n",
+    },
+    Case {
+        words: "replay,--side,server,--plain",
+        input: "\n\n\n\n\n\n\n\n\n\n\n\n\n\n\n\n\n\n\n\n\n\n\n\n\n\n\n\n\n\n\n\n\n\n\n\n\n\n\n\n\
+\n\n\n\n\n\n\n\n\n\n\n\n\n\n\n\n\n\n\n\n\n\n\n\n\n\n\n\n\n\n\n\n\n\n\n\n\n\n\n\n\
+\n\n\n\n\n\n\n\n\n\n\n\n\n\n\n\n\n\n\n\n\n\n\n\n\n\n\
+# replay --side server --plain\n\
+# Request 1000, Confirm L 1 of 2\n\
+9c40138906000ee201000000000003e80000002a21040102\n\
+\n",
+        status: Status::Done,
+        text: "109: took\n\
+sent s0 13899c400700261403000000000007d000000000000003e80000002a\n\
+end server RESPOND window 4 flight 0 1=2/2 2=0/0 3=100/100 4=0/0 5=2/2 6=0/0 7=0/0 8=0/0 9=0/0\n",
+    },
+    Case {
+        words: "replay,--side,server,--plain",
+        input: "\n\n\n\n\n\n\n\n\n\n\n\n\n\n\n\n\n\n\n\n\n\n\n\n\n\n\n\n\n\n\n\n\n\n\n\n\n\n\n\n\
+\n\n\n\n\n\n\n\n\n\n\n\n\n\n\n\n\n\n\n\n\n\n\n\n\n\n\n\n\n\n\n\n\n\n\n\n\n\n\n\n\
+\n\n\n\n\n\n\n\n\n\n\n\n\n\n\n\n\n\n\n\n\n\n\n\n\n\n\n\n\n\n\
+# replay --side server --plain\n\
+# Request 1000, Change R 1 of 2\n\
+9c40138906000de201000000000003e80000002a22040102\n\
+\n",
+        status: Status::Done,
+        text: "113: took\n\
+sent s0 13899c400900ff0b03000000000007d000000000000003e80000002a2106010202f80000\n\
+end server RESPOND window 4 flight 0 1=2/2 2=0/0 3=100/100 4=0/0 5=2/2 6=0/0 7=0/0 8=0/0 9=0/0\n",
+    },
+    Case {
+        words: "replay,--side,server,--plain",
+        input: "\n\n\n\n\n\n\n\n\n\n\n\n\n\n\n\n\n\n\n\n\n\n\n\n\n\n\n\n\n\n\n\n\n\n\n\n\n\n\n\n\
+\n\n\n\n\n\n\n\n\n\n\n\n\n\n\n\n\n\n\n\n\n\n\n\n\n\n\n\n\n\n\n\n\n\n\n\n\n\n\n\n\
+\n\n\n\n\n\n\n\n\n\n\n\n\n\n\n\n\n\n\n\n\n\n\n\n\n\n\n\n\n\n\n\n\n\n\
+# replay --side server --plain\n\
+# Request 1000, Confirm R 1 of 2\n\
+9c40138906000ce201000000000003e80000002a23040102\n\
+\n",
+        status: Status::Done,
+        text: "117: took\n\
+sent s0 13899c400700261403000000000007d000000000000003e80000002a\n\
+end server RESPOND window 4 flight 0 1=2/2 2=0/0 3=100/100 4=0/0 5=2/2 6=0/0 7=0/0 8=0/0 9=0/0\n",
+    },
+    Case {
+        words: "replay,--side,client,--plain",
+        input: "\n\n\n\n\n\n\n\n\n\n\n\n\n\n\n\n\n\n\n\n\n\n\n\n\n\n\n\n\n\n\n\n\n\n\n\n\n\n\n\n\
+\n\n\n\n\n\n\n\n\n\n\n\n\n\n\n\n\n\n\n\n\n\n\n\n\n\n\n\n\n\n\n\n\n\n\n\n\n\n\n\n\
+\n\n\n\n\n\n\n\n\n\n\n\n\n\n\n\n\n\n\n\n\n\n\n\n\n\n\n\n\n\n\n\n\n\n\n\n\n\n\
+# replay --side client --plain\n\
+# Change L on the Response: the Ack confirms.\n\
+\n\
+# Response 2000 of 1000, Change L 1 of 2\n\
+13899c400800040a03000000000007d000000000000003e80000002a20040102\n",
+        status: Status::Done,
+        text: "open: ok\n\
+sent c0 9c401389050031ec01000000000003e80000002a\n\
+123: took\n\
+sent c1 9c4013890800fa3807000000000003e900000000000007d02306010202f80000\n\
+end client PARTOPEN window 4 flight 0 1=2/2 2=0/0 3=100/100 4=0/0 5=2/2 6=0/0 7=0/0 8=0/0 9=0/0\n",
+    },
+];
+
+// Options that end the connection, as two tables: the proof of a longer one comes to no end.
+const FAULTS: [Case; 15] = [
     Case {
         words: "replay,--side,server,--plain",
         input: "# replay --side server --plain\n\
@@ -292,6 +559,9 @@ sent s0 13899c400700261403000000000007d000000000000003e80000002a\n\
 sent s1 13899c4007000d0f0f000000000007d100000000000003e906250708\n\
 end server CLOSED window 4 flight 0 1=2/2 2=0/0 3=100/100 4=0/0 5=2/2 6=0/0 7=0/0 8=0/0 9=0/0\n",
     },
+];
+
+const MORE_FAULTS: [Case; 15] = [
     Case {
         words: "replay,--side,server,--plain",
         input: "\n\n\n\n\n\n\n\n\n\n\n\n\n\n\n\n\n\n\n\n\n\n\n\n\n\n\n\n\n\n\n\n\n\n\n\n\n\n\n\n\
@@ -588,269 +858,6 @@ sent c0 9c401389050031ec01000000000003e80000002a\n\
 sent c1 9c4013890600234107000000000003e900000000000007d0\n\
 176: took data 686921\n\
 end client OPEN window 4 flight 0 1=2/2 2=0/0 3=100/100 4=0/0 5=2/2 6=0/0 7=0/0 8=0/0 9=0/0\n",
-    },
-    Case {
-        words: "replay,--side,server,--plain",
-        input: "# replay --side server --plain\n\
-# Options that change nothing: without Mandatory those that are not understood, and those that are understood but have no effect here.\n\
-\n\
-# Each Request is answered by a Response without options.\n\
-\n\
-# Request 1000, Change L of no feature: without Mandatory\n\
-9c401389060010e601000000000003e80000002a20020000\n\
-# Request 1001, Confirm R of no feature\n\
-9c40138906000de501000000000003e90000002a23020000\n\
-# Request 1002, Elapsed Time of 1 byte\n\
-9c4013890600fee201000000000003ea0000002a2b030700\n\
-# Request 1003, NDP Count of 7 bytes\n\
-9c4013890800f9c701000000000003eb0000002a250901020304050607000000\n\
-# Request 1004, Init Cookie of 2 bytes\n\
-9c401389060002d501000000000003ec0000002a24040a0b\n\
-# Request 1005, option 128 of 0 bytes\n\
-9c4013890600b0e001000000000003ed0000002a80020000\n\
-# Request 1006, option 3\n\
-9c40138906002de201000000000003ee0000002a03000000\n\
-# Request 1007, Mandatory before Padding\n\
-9c40138906002fe101000000000003ef0000002a01000000\n\
-# Request 1008, option 32 of length 1: it ends the list\n\
-9c401389060010df01000000000003f00000002a20010000\n\
-# Request 1009, Mandatory Elapsed Time of 2 bytes: understood\n\
-9c401389070023b001000000000003f10000002a012b040007000000\n\
-# Request 1010, Confirm L 1 of 2: nothing was asked\n\
-9c40138906000ed801000000000003f20000002a21040102\n\
-# Request 1011, Confirm R 1 of 2\n\
-9c40138906000cd701000000000003f30000002a23040102\n\
-\n\
-# An Ack with an Ack Vector opens the server as one without.\n\
-\n\
-# Ack 1012 of 2011, vector 00\n\
-9c4013890700fc2307000000000003f400000000000007db26030000\n\
-\n\
-# Each of these is understood, and so Mandatory is no fault. No Ack is answered.\n\
-\n\
-# Ack 1013 of 2012, Mandatory Slow Receiver\n\
-9c4013890700212307000000000003f500000000000007dc01020000\n\
-# Ack 1014 of 2012, vector 00\n\
-9c4013890700fc2007000000000003f600000000000007dc26030000\n\
-# Ack 1015 of 2012, vector 00 of nonce 1\n\
-9c4013890700fb1f07000000000003f700000000000007dc27030000\n\
-# Ack 1016 of 2012, Mandatory vector 00\n\
-9c40138907001dfc07000000000003f800000000000007dc01260300\n\
-# Ack 1017 of 2012, Mandatory vector of no bytes of nonce 1\n\
-9c40138907001efa07000000000003f900000000000007dc01270200\n\
-# Ack 1018 of 2012, Mandatory Data Dropped of 0 bytes\n\
-9c40138907001ef807000000000003fa00000000000007dc01280200\n\
-# Ack 1019 of 2012, Mandatory Data Dropped of 1 byte\n\
-9c40138907001df007000000000003fb00000000000007dc01280307\n\
-# Ack 1020 of 2012, Mandatory Timestamp of 4 bytes\n\
-9c401389080007e107000000000003fc00000000000007dc0129060708090a00\n\
-# Ack 1021 of 2012, Mandatory Timestamp Echo of 4 bytes\n\
-9c401389080007df07000000000003fd00000000000007dc012a060708090a00\n\
-# Ack 1022 of 2012, Mandatory Timestamp Echo of 6 bytes\n\
-9c4013890900f8ce07000000000003fe00000000000007dc012a080708090a0b0c000000\n\
-# Ack 1023 of 2012, Mandatory Timestamp Echo of 8 bytes\n\
-9c4013890900e8c007000000000003ff00000000000007dc012a0a0708090a0b0c0d0e00\n\
-# Ack 1024 of 2012, Mandatory NDP Count of 1 byte\n\
-9c40138907001dee070000000000040000000000000007dc01250307\n\
-# Ack 1025 of 2012, Mandatory NDP Count of 6 bytes\n\
-9c4013890900f8d0070000000000040100000000000007dc0125080708090a0b0c000000\n\
-# Ack 1026 of 2012, Mandatory Elapsed Time of 2 bytes\n\
-9c401389080013e2070000000000040200000000000007dc012b040708000000\n\
-# Ack 1027 of 2012, Mandatory Elapsed Time of 4 bytes\n\
-9c401389080007d8070000000000040300000000000007dc012b060708090a00\n\
-# Ack 1028 of 2012, Mandatory Data Checksum of 4 bytes\n\
-9c401389080007d6070000000000040400000000000007dc012c060708090a00\n\
-\n\
-# Mandatory before Padding is Padding: the option behind it is not marked, and the empty Confirm goes out.\n\
-\n\
-# Ack 1029 of 2012, Mandatory before Padding, Change L 10 of 1\n\
-9c4013890800f60b070000000000040500000000000007dc010020040a010000\n\
-\n\
-# What is answered before its options are read, or is out of place, has no options that count.\n\
-\n\
-# Request 1030, Change L 1 of 2\n\
-9c40138906000fc401000000000004060000002a20040102\n\
-# Reset 1031 of 2014, code 2, Change L 1 of 2\n\
-9c4013890800f6060f0000000000040700000000000007de0200000020040102\n\
-\n",
-        status: Status::Done,
-        text: "7: took\n\
-sent s0 13899c400700261403000000000007d000000000000003e80000002a\n\
-9: took\n\
-sent s1 13899c400700261203000000000007d100000000000003e90000002a\n\
-11: took\n\
-sent s2 13899c400700261003000000000007d200000000000003ea0000002a\n\
-13: took\n\
-sent s3 13899c400700260e03000000000007d300000000000003eb0000002a\n\
-15: took\n\
-sent s4 13899c400700260c03000000000007d400000000000003ec0000002a\n\
-17: took\n\
-sent s5 13899c400700260a03000000000007d500000000000003ed0000002a\n\
-19: took\n\
-sent s6 13899c400700260803000000000007d600000000000003ee0000002a\n\
-21: took\n\
-sent s7 13899c400700260603000000000007d700000000000003ef0000002a\n\
-23: took\n\
-sent s8 13899c400700260403000000000007d800000000000003f00000002a\n\
-25: took\n\
-sent s9 13899c400700260203000000000007d900000000000003f10000002a\n\
-27: took\n\
-sent s10 13899c400700260003000000000007da00000000000003f20000002a\n\
-29: took\n\
-sent s11 13899c40070025fe03000000000007db00000000000003f30000002a\n\
-34: took\n\
-sent s12 13899c400600232a07000000000007dc00000000000003f4\n\
-39: took\n\
-41: took\n\
-43: took\n\
-45: took\n\
-47: took\n\
-49: took\n\
-51: took\n\
-53: took\n\
-55: took\n\
-57: took\n\
-59: took\n\
-61: took\n\
-63: took\n\
-65: took\n\
-67: took\n\
-69: took\n\
-74: took\n\
-sent s13 13899c400700f51007000000000007dd000000000000040523030a00\n\
-79: synced 1030\n\
-sent s14 13899c400600191611000000000007de0000000000000406\n\
-81: was reset 2\n\
-end server TIMEWAIT window 4 flight 0 1=2/2 2=0/0 3=100/100 4=0/0 5=2/2 6=0/0 7=0/0 8=0/0 9=0/0\n",
-    },
-    Case {
-        words: "replay,--side,server,--plain",
-        input: "\n\n\n\n\n\n\n\n\n\n\n\n\n\n\n\n\n\n\n\n\n\n\n\n\n\n\n\n\n\n\n\n\n\n\n\n\n\n\n\n\
-\n\n\n\n\n\n\n\n\n\n\n\n\n\n\n\n\n\n\n\n\n\n\n\n\n\n\n\n\n\n\n\n\n\n\n\n\n\n\n\n\
-\n\n\
-# replay --side server --plain\n\
-# Request 1000\n\
-9c401389050031ec01000000000003e80000002a\n\
-# Ack 1001 of 2000: opens alike\n\
-9c4013890600234107000000000003e900000000000007d0\n\
-\n",
-        status: Status::Done,
-        text: "85: took\n\
-sent s0 13899c400700261403000000000007d000000000000003e80000002a\n\
-87: took\n\
-sent s1 13899c400600234007000000000007d100000000000003e9\n\
-end server OPEN window 4 flight 0 1=2/2 2=0/0 3=100/100 4=0/0 5=2/2 6=0/0 7=0/0 8=0/0 9=0/0\n",
-    },
-    Case {
-        words: "replay,--side,server,--plain",
-        input: "\n\n\n\n\n\n\n\n\n\n\n\n\n\n\n\n\n\n\n\n\n\n\n\n\n\n\n\n\n\n\n\n\n\n\n\n\n\n\n\n\
-\n\n\n\n\n\n\n\n\n\n\n\n\n\n\n\n\n\n\n\n\n\n\n\n\n\n\n\n\n\n\n\n\n\n\n\n\n\n\n\n\
-\n\n\n\n\n\n\n\n\
-# replay --side server --plain\n\
-# Request 1000\n\
-9c401389050031ec01000000000003e80000002a\n\
-# Ack 1001 of 2000, vector 00 of nonce 1: opens alike\n\
-9c4013890700fb3907000000000003e900000000000007d027030000\n\
-\n",
-        status: Status::Done,
-        text: "91: took\n\
-sent s0 13899c400700261403000000000007d000000000000003e80000002a\n\
-93: took\n\
-sent s1 13899c400600234007000000000007d100000000000003e9\n\
-end server OPEN window 4 flight 0 1=2/2 2=0/0 3=100/100 4=0/0 5=2/2 6=0/0 7=0/0 8=0/0 9=0/0\n",
-    },
-    Case {
-        words: "replay,--side,server,--plain",
-        input: "\n\n\n\n\n\n\n\n\n\n\n\n\n\n\n\n\n\n\n\n\n\n\n\n\n\n\n\n\n\n\n\n\n\n\n\n\n\n\n\n\
-\n\n\n\n\n\n\n\n\n\n\n\n\n\n\n\n\n\n\n\n\n\n\n\n\n\n\n\n\n\n\n\n\n\n\n\n\n\n\n\n\
-\n\n\n\n\n\n\n\n\n\n\n\n\n\n\
-# replay --side server --plain\n\
-# Request 1000\n\
-9c401389050031ec01000000000003e80000002a\n\
-# Ack 1001 of 2000, Mandatory vector 00: opens alike\n\
-9c40138907001e1707000000000003e900000000000007d001260300\n\
-\n",
-        status: Status::Done,
-        text: "97: took\n\
-sent s0 13899c400700261403000000000007d000000000000003e80000002a\n\
-99: took\n\
-sent s1 13899c400600234007000000000007d100000000000003e9\n\
-end server OPEN window 4 flight 0 1=2/2 2=0/0 3=100/100 4=0/0 5=2/2 6=0/0 7=0/0 8=0/0 9=0/0\n",
-    },
-    Case {
-        words: "replay,--side,server,--plain",
-        input: "\n\n\n\n\n\n\n\n\n\n\n\n\n\n\n\n\n\n\n\n\n\n\n\n\n\n\n\n\n\n\n\n\n\n\n\n\n\n\n\n\
-\n\n\n\n\n\n\n\n\n\n\n\n\n\n\n\n\n\n\n\n\n\n\n\n\n\n\n\n\n\n\n\n\n\n\n\n\n\n\n\n\
-\n\n\n\n\n\n\n\n\n\n\n\n\n\n\n\n\n\n\n\n\
-# replay --side server --plain\n\
-# Change L and Confirm L, Change R and Confirm R for the CCID on the Request that opens: the Changes are answered.\n\
-\n\
-# Request 1000, Change L 1 of 2\n\
-9c40138906000fe201000000000003e80000002a20040102\n\
-\n",
-        status: Status::Done,
-        text: "105: took\n\
-sent s0 13899c400900fd0b03000000000007d000000000000003e80000002a2306010202f80000\n\
-end server RESPOND window 4 flight 0 1=2/2 2=0/0 3=100/100 4=0/0 5=2/2 6=0/0 7=0/0 8=0/0 9=0/0\n",
-    },
-    Case {
-        words: "replay,--side,server,--plain",
-        input: "\n\n\n\n\n\n\n\n\n\n\n\n\n\n\n\n\n\n\n\n\n\n\n\n\n\n\n\n\n\n\n\n\n\n\n\n\n\n\n\n\
-\n\n\n\n\n\n\n\n\n\n\n\n\n\n\n\n\n\n\n\n\n\n\n\n\n\n\n\n\n\n\n\n\n\n\n\n\n\n\n\n\
-\n\n\n\n\n\n\n\n\n\n\n\n\n\n\n\n\n\n\n\n\n\n\n\n\n\n\
-# replay --side server --plain\n\
-# Request 1000, Confirm L 1 of 2\n\
-9c40138906000ee201000000000003e80000002a21040102\n\
-\n",
-        status: Status::Done,
-        text: "109: took\n\
-sent s0 13899c400700261403000000000007d000000000000003e80000002a\n\
-end server RESPOND window 4 flight 0 1=2/2 2=0/0 3=100/100 4=0/0 5=2/2 6=0/0 7=0/0 8=0/0 9=0/0\n",
-    },
-    Case {
-        words: "replay,--side,server,--plain",
-        input: "\n\n\n\n\n\n\n\n\n\n\n\n\n\n\n\n\n\n\n\n\n\n\n\n\n\n\n\n\n\n\n\n\n\n\n\n\n\n\n\n\
-\n\n\n\n\n\n\n\n\n\n\n\n\n\n\n\n\n\n\n\n\n\n\n\n\n\n\n\n\n\n\n\n\n\n\n\n\n\n\n\n\
-\n\n\n\n\n\n\n\n\n\n\n\n\n\n\n\n\n\n\n\n\n\n\n\n\n\n\n\n\n\n\
-# replay --side server --plain\n\
-# Request 1000, Change R 1 of 2\n\
-9c40138906000de201000000000003e80000002a22040102\n\
-\n",
-        status: Status::Done,
-        text: "113: took\n\
-sent s0 13899c400900ff0b03000000000007d000000000000003e80000002a2106010202f80000\n\
-end server RESPOND window 4 flight 0 1=2/2 2=0/0 3=100/100 4=0/0 5=2/2 6=0/0 7=0/0 8=0/0 9=0/0\n",
-    },
-    Case {
-        words: "replay,--side,server,--plain",
-        input: "\n\n\n\n\n\n\n\n\n\n\n\n\n\n\n\n\n\n\n\n\n\n\n\n\n\n\n\n\n\n\n\n\n\n\n\n\n\n\n\n\
-\n\n\n\n\n\n\n\n\n\n\n\n\n\n\n\n\n\n\n\n\n\n\n\n\n\n\n\n\n\n\n\n\n\n\n\n\n\n\n\n\
-\n\n\n\n\n\n\n\n\n\n\n\n\n\n\n\n\n\n\n\n\n\n\n\n\n\n\n\n\n\n\n\n\n\n\
-# replay --side server --plain\n\
-# Request 1000, Confirm R 1 of 2\n\
-9c40138906000ce201000000000003e80000002a23040102\n\
-\n",
-        status: Status::Done,
-        text: "117: took\n\
-sent s0 13899c400700261403000000000007d000000000000003e80000002a\n\
-end server RESPOND window 4 flight 0 1=2/2 2=0/0 3=100/100 4=0/0 5=2/2 6=0/0 7=0/0 8=0/0 9=0/0\n",
-    },
-    Case {
-        words: "replay,--side,client,--plain",
-        input: "\n\n\n\n\n\n\n\n\n\n\n\n\n\n\n\n\n\n\n\n\n\n\n\n\n\n\n\n\n\n\n\n\n\n\n\n\n\n\n\n\
-\n\n\n\n\n\n\n\n\n\n\n\n\n\n\n\n\n\n\n\n\n\n\n\n\n\n\n\n\n\n\n\n\n\n\n\n\n\n\n\n\
-\n\n\n\n\n\n\n\n\n\n\n\n\n\n\n\n\n\n\n\n\n\n\n\n\n\n\n\n\n\n\n\n\n\n\n\n\n\n\
-# replay --side client --plain\n\
-# Change L on the Response: the Ack confirms.\n\
-\n\
-# Response 2000 of 1000, Change L 1 of 2\n\
-13899c400800040a03000000000007d000000000000003e80000002a20040102\n",
-        status: Status::Done,
-        text: "open: ok\n\
-sent c0 9c401389050031ec01000000000003e80000002a\n\
-123: took\n\
-sent c1 9c4013890800fa3807000000000003e900000000000007d02306010202f80000\n\
-end client PARTOPEN window 4 flight 0 1=2/2 2=0/0 3=100/100 4=0/0 5=2/2 6=0/0 7=0/0 8=0/0 9=0/0\n",
     },
 ];
 
@@ -2170,6 +2177,22 @@ settled 58\n",
 #[test]
 fn worked_cases_in_pieces(rt: HostRuntime) -> Result<(), Fail> {
     for case in &IN_PIECES {
+        expect_in_pieces(&rt, rt.alloc(), case)?;
+    }
+    Ok(())
+}
+
+#[test]
+fn option_faults_in_pieces(rt: HostRuntime) -> Result<(), Fail> {
+    for case in &FAULTS {
+        expect_in_pieces(&rt, rt.alloc(), case)?;
+    }
+    Ok(())
+}
+
+#[test]
+fn more_option_faults_in_pieces(rt: HostRuntime) -> Result<(), Fail> {
+    for case in &MORE_FAULTS {
         expect_in_pieces(&rt, rt.alloc(), case)?;
     }
     Ok(())
