@@ -1,6 +1,7 @@
 """What the checks share: where things are, what the program answers, how a difference is told, and what specs/ define."""
 import contextlib
 import difflib
+import functools
 import re
 import subprocess
 import sys
@@ -28,6 +29,13 @@ def answer(words, *pieces, program=LAUNCHER):
         output.seek(0)
         said = output.read()
     return said + b"status %d\n" % status if status else said
+
+
+@functools.cache
+def program():
+    """The program itself, for a check that the launcher would stand in the way of. It is built first where it has to be."""
+    subprocess.run([LAUNCHER], stdin=subprocess.DEVNULL, stdout=subprocess.DEVNULL, check=False)
+    return PROGRAM
 
 
 def compare(wanted, found):

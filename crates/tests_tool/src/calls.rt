@@ -13,11 +13,12 @@ use std::thread::Threads;
 // More than any text here has.
 const ROOM: usize = 131_072;
 
-/// The calls of the source and of the sink that fail, and how many bytes each gives or takes in one that does not.
+/// The call of the source and that of the sink that fail, counted from 1, and how many bytes each gives or takes in one
+/// that does not.
 #[derive(Clone, Copy)]
 pub(crate) struct Streams {
-    pub(crate) failing_reads: &'static [u64],
-    pub(crate) failing_writes: &'static [u64],
+    pub(crate) failing_read: Option<u64>,
+    pub(crate) failing_write: Option<u64>,
     pub(crate) given: usize,
     pub(crate) taken: usize,
 }
@@ -26,8 +27,8 @@ impl Streams {
     /// None of their calls fails.
     pub(crate) fn of(most: usize) -> Streams {
         Streams {
-            failing_reads: &[],
-            failing_writes: &[],
+            failing_read: None,
+            failing_write: None,
             given: most,
             taken: most,
         }
@@ -79,14 +80,22 @@ fn words_in(alloc: Global, line: &str) -> Result<Vec<String>, Fail> {
     Ok(words)
 }
 
+fn none_or_one(alloc: Global, number: Option<u64>) -> Result<Vec<u64>, Fail> {
+    let mut numbers = Vec::new(alloc);
+    if let Some(number) = number {
+        numbers.push(number)?;
+    }
+    Ok(numbers)
+}
+
 fn source(alloc: Global, streams: &Streams, bytes: &[u8]) -> Result<MemorySource, Fail> {
     let bytes = bytes.to_vec(alloc)?;
-    let failing = streams.failing_reads.to_vec(alloc)?;
+    let failing = none_or_one(alloc, streams.failing_read)?;
     Ok(MemorySource::new(bytes, failing, streams.given.max(1)))
 }
 
 fn sink(alloc: Global, streams: &Streams) -> Result<MemorySink, Fail> {
-    let failing = streams.failing_writes.to_vec(alloc)?;
+    let failing = none_or_one(alloc, streams.failing_write)?;
     let sink = MemorySink::new(alloc, failing, streams.taken, ROOM);
     Ok(sink.ok().ok_or("no memory")?)
 }

@@ -7,8 +7,8 @@ use std::test::Fail;
 
 // The first call of the source would fail.
 const UNREAD: Streams = Streams {
-    failing_reads: &[1],
-    failing_writes: &[],
+    failing_read: Some(1),
+    failing_write: None,
     given: 7,
     taken: 7,
 };
@@ -71,8 +71,8 @@ fn campaign_totals(rt: HostRuntime) -> Result<(), Fail> {
 }
 
 const FAILING_SINK: Streams = Streams {
-    failing_reads: &[1],
-    failing_writes: &[3],
+    failing_read: Some(1),
+    failing_write: Some(3),
     given: 7,
     taken: 7,
 };
@@ -99,8 +99,8 @@ const MOST_EVENTS: Case = Case {
 };
 
 const FAILS_BEHIND_TWO_LINES: Streams = Streams {
-    failing_reads: &[1],
-    failing_writes: &[2],
+    failing_read: Some(1),
+    failing_write: Some(2),
     given: 7,
     taken: 20,
 };

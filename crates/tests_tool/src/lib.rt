@@ -9,6 +9,8 @@ mod campaigns;
 #[cfg(test)]
 mod claims;
 #[cfg(test)]
+mod failures;
+#[cfg(test)]
 mod gates;
 #[cfg(test)]
 mod replays;

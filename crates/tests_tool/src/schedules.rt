@@ -199,8 +199,8 @@ const FAILING: [(&str, Streams, Status, &str); 4] = [
     (
         "the first read",
         Streams {
-            failing_reads: &[1],
-            failing_writes: &[],
+            failing_read: Some(1),
+            failing_write: None,
             given: 7,
             taken: 4096,
         },
@@ -211,8 +211,8 @@ const FAILING: [(&str, Streams, Status, &str); 4] = [
     (
         "the third read",
         Streams {
-            failing_reads: &[3],
-            failing_writes: &[],
+            failing_read: Some(3),
+            failing_write: None,
             given: 7,
             taken: 4096,
         },
@@ -222,8 +222,8 @@ const FAILING: [(&str, Streams, Status, &str); 4] = [
     (
         "the third write",
         Streams {
-            failing_reads: &[],
-            failing_writes: &[3],
+            failing_read: None,
+            failing_write: Some(3),
             given: 7,
             taken: 1,
         },
@@ -233,8 +233,8 @@ const FAILING: [(&str, Streams, Status, &str); 4] = [
     (
         "a sink that takes nothing",
         Streams {
-            failing_reads: &[],
-            failing_writes: &[],
+            failing_read: None,
+            failing_write: None,
             given: 7,
             taken: 0,
         },
@@ -270,16 +270,16 @@ fn failing_streams(rt: HostRuntime) -> Result<(), Fail> {
 
 // The second write fails, of an input of which a call gives as many bytes as there is room for.
 const SECOND_BLOCK: Streams = Streams {
-    failing_reads: &[],
-    failing_writes: &[2],
+    failing_read: None,
+    failing_write: Some(2),
     given: 1_000_000,
     taken: 131_072,
 };
 
 // The same of an input of which a call gives seven bytes.
 const SECOND_PIECE: Streams = Streams {
-    failing_reads: &[],
-    failing_writes: &[2],
+    failing_read: None,
+    failing_write: Some(2),
     given: 7,
     taken: 131_072,
 };
@@ -365,8 +365,8 @@ fn capture_of_one_packet(rt: HostRuntime) -> Result<(), Fail> {
 #[test]
 fn failing_source_of_a_capture(rt: HostRuntime) -> Result<(), Fail> {
     let streams = Streams {
-        failing_reads: &[13],
-        failing_writes: &[],
+        failing_read: Some(13),
+        failing_write: None,
         given: 7,
         taken: 4096,
     };
