@@ -4,3 +4,4 @@ pub mod OneSpelling
 pub mod Pieces
 pub mod ReadBack
 pub mod TableLemmas
+pub mod Shortened

@@ -1,8 +1,12 @@
 //! What holds of the grammar itself.
-ghost use Rattle.std.specs.Prelude.{◌≡◌, ℕ, ◌+◌, ◌<◌, ◌≤◌, ◌↔◌, false, List, length, IsTrue};
+ghost use Rattle.std.specs.Prelude.{◌≡◌, ℕ, ◌+◌, ◌^◌, ◌<◌, ◌≤◌, ◌↔◌, Bool, true, false, not, List, length, IsTrue};
+ghost use Rattle.seq_circle.specs.Circle.{is_far, is_ack_far};
 ghost use Rattle.dccp_packets.specs.declared.header.Header.{Header};
+ghost use Rattle.dccp_packets.specs.declared.header.Kind.{Kind};
 ghost use Rattle.dccp_packets.specs.declared.header.PacketType.{PacketType};
-ghost use Rattle.dccp_packets.specs.Grammar.{type_code, type_of, data_offset_bytes, fixed_length, has_long_numbers, has_form, decoded, spelling, padded, header_length, is_valid, HeaderFits};
+ghost use Rattle.dccp_packets.specs.Forms.{may_be_short, near, ack_near, number_in_form, in_form};
+ghost use Rattle.dccp_packets.specs.Grammar.{type_code, type_of, data_offset_bytes, fixed_length, has_long_numbers, has_form, decoded, spelling, padded, header_length, is_valid, has_forms, packet_type, is_long, HeaderFits, KindFits};
+ghost use Rattle.dccp_packets.specs.Kinds.{ack_of};
 ghost use Rattle.dccp_packets.specs.Table.{IsPacket, AreBytes, HasZeros};
 ghost use Rattle.dccp_packets.specs.Widths.{in_widths, HasDetail};
 
@@ -53,4 +57,16 @@ pub fn the_first_fault_is_answered()
 pub fn one_spelling_has_no_reserved_bit()
     ensures { (h : Header) (options payload bytes : List ℕ) → IsPacket h options payload bytes → AreBytes bytes → HasZeros h bytes
         → bytes ≡ spelling h options payload }
+{}
+
+/// A number that is put into a form is read again in full: as it stands in the long form, and in the short one by a
+/// reference that it is not far from (`number`). So is the acknowledgement number of a packet whose type may have the
+/// form (`ack`); its numbers are then both in this form (`form`; RFC 4340, sections 5.1 and 7.6).
+pub fn numbers_in_a_form_are_read_in_full()
+    ensures number { (short : Bool) (n reference : ℕ) → n < 2 ^ 48 → reference < 2 ^ 48 → (short ≡ true → is_far n reference ≡ false)
+        → near reference (number_in_form short n) ≡ n }
+    ensures ack { (short : Bool) (k : Kind) (reference : ℕ) → KindFits k → has_forms true k ≡ true → reference < 2 ^ 48
+        → (short ≡ true → is_ack_far (ack_of k) reference ≡ false) → ack_near reference (in_form short k) ≡ ack_of k }
+    ensures form { (short : Bool) (k : Kind) (n : ℕ) → has_forms true k ≡ true → (short ≡ true → may_be_short (packet_type k) ≡ true)
+        → (is_long (number_in_form short n) ≡ not short) × (has_forms (not short) (in_form short k) ≡ true) }
 {}

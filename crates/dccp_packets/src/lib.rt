@@ -4,6 +4,7 @@
 #![tactic(auto)]
 
 mod fields;
+mod forms;
 mod frame;
 mod header;
 mod kinds;
@@ -15,8 +16,9 @@ mod writing;
 pub use crate::frame::{Frame, MOST_FRAME_BYTES, Outbox};
 pub use crate::header::{Header, Kind, Number, PacketType};
 pub use crate::laws::{
-    one_spelling_has_no_reserved_bit, the_first_fault_is_answered, what_is_read_is_the_table,
-    what_is_spelled_is_read, what_is_spelled_is_read_in_widths,
+    numbers_in_a_form_are_read_in_full, one_spelling_has_no_reserved_bit,
+    the_first_fault_is_answered, what_is_read_is_the_table, what_is_spelled_is_read,
+    what_is_spelled_is_read_in_widths,
 };
 pub use crate::reading::{Malformed, Packet, decode};
 pub use crate::reset_code::ResetCode;

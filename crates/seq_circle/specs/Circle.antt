@@ -1,5 +1,5 @@
 -- Circular numbers: 48-bit sequence numbers and their 24-bit short forms (RFC 4340, sections 3.1, 7.1 and 7.6).
-use Rattle.std.specs.Prelude.{ℕ, ◌+◌, ◌-◌, ◌*◌, ◌/◌, ◌%◌, ◌^◌, ◌<◌, ◌≤◌, Bool, ◌&&◌, nat_lt, nat_le, if◌then◌else◌}
+use Rattle.std.specs.Prelude.{ℕ, ◌+◌, ◌-◌, ◌*◌, ◌/◌, ◌%◌, ◌^◌, ◌<◌, ◌≤◌, Bool, false, ◌&&◌, nat_lt, nat_le, if◌then◌else◌, Option, Some, None}
 
 -- the sequence number that a whole number stands for
 abbrev pub residue : ℕ → ℕ
@@ -61,3 +61,13 @@ extended short reference =
     if is_short_before low short && nat_lt short low then (high + 1) % 2 ^ 24 * 2 ^ 24 + short
     else if is_short_before short low && nat_lt low short then (high + (2 ^ 24 - 1)) % 2 ^ 24 * 2 ^ 24 + short
     else high * 2 ^ 24 + short
+
+-- A number that its short form need not tell: it lies 2^23 or more from the reference, up and down the circle (own; the bound is that
+-- of RFC 4340, section 7.6).
+abbrev pub is_far : ℕ → ℕ → Bool
+is_far number reference = nat_le (2 ^ 23) (distance number reference) && nat_le (2 ^ 23) (distance reference number)
+
+-- the same for the acknowledgement number of a packet that may have none
+abbrev pub is_ack_far : Option ℕ → ℕ → Bool
+is_ack_far None reference = false
+is_ack_far (Some ack) reference = is_far ack reference

@@ -1,12 +1,19 @@
 //! 48-bit sequence numbers.
 ghost use Rattle.std.specs.Prelude.{◌≡◌, ℕ, ◌+◌, ◌-◌, ◌*◌, ◌%◌, ◌^◌, ◌<◌, ◌≤◌, IsSome, IfSome, IsTrue, ◌↔◌};
-ghost use Rattle.seq_circle.specs.Circle.{residue, distance, down, IsBefore, is_before, later_of, IsFrom, is_from, open_end, IsWithin, is_within};
+ghost use Rattle.seq_circle.specs.Circle.{residue, distance, down, IsBefore, is_before, later_of, IsFrom, is_from, open_end, IsWithin, is_within, is_far};
 
+use crate::Seq24;
 use std::marker::Model;
 
 const SIZE: u64 = 1 << 48;
 
 const HALF: u64 = 1 << 47;
+
+// The numbers that 24 bits tell apart.
+const SHORT_SIZE: u64 = 1 << 24;
+
+// Half of them lie up the circle from a number, and half down.
+const NEAR: u64 = 1 << 23;
 
 /// A 48-bit sequence number, from 0 to 2^48 - 1. Arithmetic goes round the circle, and the order is the circular one
 /// (RFC 4340, section 3.1). Contracts see the number itself.
@@ -121,5 +128,25 @@ impl Seq48 {
         ensures meaning { IsTrue result ↔ IsWithin self lo hi }
     {
         lo.distance(self) <= lo.distance(hi)
+    }
+
+    /// The low 24 bits, as short forms of packets carry them (RFC 4340, section 7.6). `extend` finds this number again
+    /// by a reference that it is not far from (`is_far`).
+    pub fn low(self) -> Seq24
+        ensures { result ≡ self % 2 ^ 24 }
+    {
+        match Seq24::new((self.number % SHORT_SIZE) as u32) {
+            Some(low) => low,
+            None => unreachable!(),
+        }
+    }
+
+    /// Tells whether this number lies 2^23 or more from `reference`, up and down the circle, so that `extend` need not
+    /// find it from its low 24 bits (own; the bound is that of RFC 4340, section 7.6).
+    pub fn is_far(self, reference: Seq48) -> bool
+        ensures value { result ≡ is_far self reference }
+        ensures meaning { IsTrue result ↔ ((2 ^ 23 ≤ distance self reference) × (2 ^ 23 ≤ distance reference self)) }
+    {
+        NEAR <= self.distance(reference) && NEAR <= reference.distance(self)
     }
 }

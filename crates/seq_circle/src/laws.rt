@@ -1,6 +1,6 @@
 //! What ties the circle to plain counts.
-ghost use Rattle.std.specs.Prelude.{◌≡◌, ℕ, ◌+◌, ◌-◌, ◌%◌, ◌^◌, ◌<◌, ◌≤◌, ◌↔◌, ◌⊎◌, IsTrue};
-ghost use Rattle.seq_circle.specs.Circle.{residue, distance, down, IsBefore, is_before, IsFrom, open_end, IsWithin, extended};
+ghost use Rattle.std.specs.Prelude.{◌≡◌, ℕ, ◌+◌, ◌-◌, ◌%◌, ◌^◌, ◌<◌, ◌≤◌, ◌↔◌, ◌⊎◌, IsTrue, false};
+ghost use Rattle.seq_circle.specs.Circle.{residue, distance, down, IsBefore, is_before, IsFrom, open_end, IsWithin, extended, is_far};
 ghost use Rattle.seq_circle.specs.Counts.{number_of, count_of, IsNumber};
 
 /// Within half a circle of whole numbers from some base on, `before` is the order of plain counts, and `distance` their
@@ -38,9 +38,13 @@ pub fn numbers_count_packets()
         → IsFrom low number ↔ (count_of iss low ≤ count_of iss number) }
 {}
 
-/// A number fewer than 2^23 from the reference, in either direction, is found from its short form (RFC 4340, section
-/// 7.6). Both are counted from some base, so that the circle's end is no border.
+/// A number fewer than 2^23 from the reference, up or down the circle, is found from its short form (`distance`, and by
+/// the test `near`; RFC 4340, section 7.6). In `counts` both are counted from some base, so that the circle's end is no
+/// border.
 pub fn extension_finds_the_number()
-    ensures { (n reference : ℕ) → n < reference + 2 ^ 23 → reference < n + 2 ^ 23
+    ensures counts { (n reference : ℕ) → n < reference + 2 ^ 23 → reference < n + 2 ^ 23
         → extended (residue n % 2 ^ 24) (residue reference) ≡ residue n }
+    ensures distance { (n reference : ℕ) → n < 2 ^ 48 → reference < 2 ^ 48
+        → (distance n reference < 2 ^ 23) ⊎ (distance reference n < 2 ^ 23) → extended (n % 2 ^ 24) reference ≡ n }
+    ensures near { (n reference : ℕ) → n < 2 ^ 48 → reference < 2 ^ 48 → is_far n reference ≡ false → extended (n % 2 ^ 24) reference ≡ n }
 {}

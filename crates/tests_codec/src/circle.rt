@@ -79,3 +79,38 @@ fn intervals_with_no_upper_end(rt: HostRuntime) -> Result<(), Fail> {
     assert!(rt; first.open_end().is_from(first));
     Ok(())
 }
+
+// Whether the number lies far from the reference, and whether it is found from its low 24 bits.
+fn far_and_found(number: u64, reference: u64) -> Option<(bool, bool)> {
+    let number = Seq48::new(number)?;
+    let reference = Seq48::new(reference)?;
+    Some((
+        number.is_far(reference),
+        extend(number.low(), reference) == number,
+    ))
+}
+
+#[test]
+fn far_from_a_reference(rt: HostRuntime) -> Result<(), Fail> {
+    let cases = [
+        (1002, 1001, (false, true)),
+        // A step less than half the short circle away, on either side, and over the circle's end.
+        (9_388_607, 1_000_000, (false, true)),
+        (1_000_000, 9_388_607, (false, true)),
+        (8_388_606, 281_474_976_710_655, (false, true)),
+        // Just half of it: far, and found only where the turn is the same.
+        (8_388_608, 0, (true, true)),
+        (0, 8_388_608, (true, true)),
+        (25_165_824, 16_777_215, (true, false)),
+        (16_777_216, 0, (true, false)),
+        (140_737_488_355_328, 0, (true, false)),
+    ];
+    for (number, reference, wanted) in cases {
+        assert_eq!(rt;
+            far_and_found(number, reference),
+            Some(wanted),
+            "{number} at {reference}"
+        );
+    }
+    Ok(())
+}

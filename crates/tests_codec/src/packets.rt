@@ -4,7 +4,7 @@ use dccp_packets::{
     Frame, Header, Kind, MOST_FRAME_BYTES, Malformed, Number, OptionsTooLong, Outbox, Packet,
     PacketType, ResetCode, decode, encode,
 };
-use seq_circle::Seq48;
+use seq_circle::{Seq24, Seq48};
 use std::alloc::Global;
 use std::test::Fail;
 
@@ -541,5 +541,34 @@ fn one_frame_in_an_outbox(rt: HostRuntime) -> Result<(), Fail> {
     out.put(changed_frame().ok_or("three bytes")?);
     assert!(rt; holds_until_emptied(&mut out), "what was put");
     assert!(rt; holds_begun(&mut out), "what was begun");
+    Ok(())
+}
+
+#[test]
+fn numbers_in_a_form(rt: HostRuntime) -> Result<(), Fail> {
+    let number = Seq48::new(0x0102_0384_0506).ok_or("below 2^48")?;
+    let short = Number::Short(Seq24::new(0x84_0506).ok_or("below 2^24")?);
+    let long = Number::Long(number);
+    assert_eq!(rt; Number::in_form(number, true), short);
+    assert_eq!(rt; Number::in_form(number, false), long);
+    assert_eq!(rt; short.near(number.add(8_388_607)), number);
+    assert_eq!(rt; short.near(number.sub(8_388_607)), number);
+    assert_eq!(rt; long.near(number.add(1 << 40)), number);
+    let ack = Kind::Ack { ack: long };
+    assert_eq!(rt; ack.in_form(true), Kind::Ack { ack: short });
+    assert_eq!(rt; ack.in_form(false), ack);
+    assert_eq!(rt; ack.in_form(true).ack_near(number.next()), Some(number));
+    let data_ack = Kind::DataAck { ack: long };
+    assert_eq!(rt; data_ack.in_form(true), Kind::DataAck { ack: short });
+    let sync = Kind::Sync { ack: number };
+    assert_eq!(rt; sync.in_form(true), sync, "a Sync has the long form alone");
+    assert_eq!(rt; sync.ack_near(number.add(1 << 40)), Some(number));
+    assert_eq!(rt; Kind::Data.ack_near(number), None);
+    assert!(rt; PacketType::Data.may_be_short());
+    assert!(rt; PacketType::Ack.may_be_short());
+    assert!(rt; PacketType::DataAck.may_be_short());
+    assert!(rt; !PacketType::Request.may_be_short());
+    assert!(rt; !PacketType::Reset.may_be_short());
+    assert!(rt; !PacketType::Sync.may_be_short());
     Ok(())
 }
