@@ -40,6 +40,13 @@ impl CallCount {
         }
     }
 
+    // How many calls failed.
+    pub(crate) fn faults(&self) -> u64
+        ensures { result ≡ self.now.faults }
+    {
+        self.faults
+    }
+
     // Counts a call, and tells whether it is one that fails.
     pub(crate) fn count(&mut self) -> bool
         ensures answer { result ≡ next_fails self.old }

@@ -48,6 +48,13 @@ impl MemorySource {
             calls: CallCount::new(failing_calls),
         }
     }
+
+    /// How many of its calls failed.
+    pub fn faults(&self) -> u64
+        ensures { result ≡ self.now.calls.faults }
+    {
+        self.calls.faults()
+    }
 }
 
 impl Source for MemorySource {
@@ -137,6 +144,13 @@ impl MemorySink {
         ensures { result.now ≡ self.now.taken }
     {
         self.kept.as_slice()
+    }
+
+    /// How many of its calls failed. A call that took nothing of a piece with bytes is not one of them.
+    pub fn faults(&self) -> u64
+        ensures { result ≡ self.now.calls.faults }
+    {
+        self.calls.faults()
     }
 }
 
