@@ -1,12 +1,12 @@
 //! The tool's one call: a form of its words over a source and a sink.
-ghost use Rattle.std.specs.Prelude.{◌≡◌, ◌↔◌, drop, Some, None};
+ghost use Rattle.std.specs.Prelude.{◌≡◌, ◌⊎◌, drop, Some, None, true};
 ghost use Rattle.dccp_io.specs.Counts.{Rose};
 ghost use Rattle.capture_reader.specs.State.{Passed};
 ghost use Rattle.tool_run.specs.Transcript.{transcript, is_refused, accepted_bytes, SafeThroughout};
 ghost use Rattle.tool_replay.specs.Replay.{replay_text, replay_refused, replay_accepted};
 ghost use Rattle.dccp_command.specs.CampaignText.{AnswersUnread, campaign_text};
 ghost use Rattle.tool_show.specs.CaptureText.{capture_text, is_faulty, records_end};
-ghost use Rattle.tool_forms.specs.Words.{OnRun, OnReplay, OnShow, form_of, usage};
+ghost use Rattle.tool_forms.specs.Words.{OnRun, OnReplay, OnShow, form_of, has_settings, usage};
 ghost use Rattle.tool_output.specs.Ends.{SinkFails, IsWritten, IsAnswered, Answers, StopsWithin, EndsForCause};
 
 use crate::campaigning::run_campaign;
@@ -41,10 +41,13 @@ pub fn dccp<R: Threads + Sync, G: Gate + Sync, S: Source, K: Sink>(
     input: &mut S,
     output: &mut K,
 ) -> Status
-    // Words that are none of the forms come to the usage line, as far as the sink takes it.
-    ensures words { (result ≡ Status.Words) ↔ (form_of words.now ≡ None) }
+    // Words that are none of the forms come to the usage line, as far as the sink takes it. Where no memory was left to read settings, nothing
+    // is written.
+    ensures words { result ≡ Status.Words → form_of words.now ≡ None }
+    ensures others { form_of words.now ≡ None → (result ≡ Status.Words) ⊎ ((result ≡ Status.Memory) × (has_settings words.now ≡ true)) }
     ensures unread { form_of words.now ≡ None → input.new ≡ input.old }
-    ensures usage { form_of words.now ≡ None → IsWritten usage (K.taken output.old) (K.taken output.new) (SinkFails K.faults K.empty_takes output.old output.new) }
+    ensures usage { result ≡ Status.Words → IsWritten usage (K.taken output.old) (K.taken output.new) (SinkFails K.faults K.empty_takes output.old output.new) }
+    ensures silent { form_of words.now ≡ None → result ≡ Status.Memory → output.new ≡ output.old }
 
     // What the other forms write, how they end, how far a refused input was read, and what held of both ends of `run`.
     ensures transcript { OnRun words.now (S.left input.old) (λ bytes.
@@ -66,7 +69,10 @@ pub fn dccp<R: Threads + Sync, G: Gate + Sync, S: Source, K: Sink>(
     ensures cause { (form : Form) → form_of words.now ≡ Some form
         → EndsForCause result (Rose (S.faults input.old) (S.faults input.new)) (SinkFails K.faults K.empty_takes output.old output.new) }
 {
-    match form_of(words) {
+    let Ok(form) = form_of(alloc, words) else {
+        return Status::Memory;
+    };
+    match form {
         Some(Form::Run) => run_schedule(alloc, input, output),
         Some(Form::Replay { side, plain }) => replay_frames(alloc, side, plain, input, output),
         Some(Form::Campaign(campaign)) => run_campaign(rt, alloc, gate, campaign, output),

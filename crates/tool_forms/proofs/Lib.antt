@@ -1,1 +1,9 @@
-pub mod Giving
+pub mod Turns
+pub mod Walks
+pub mod Pairs
+pub mod Named
+pub mod Onto
+pub mod Reading
+pub mod Ends
+pub mod Taken
+pub mod Asking

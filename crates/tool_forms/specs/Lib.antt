@@ -1,3 +1,6 @@
+pub mod Tables
+pub mod Given
+pub mod Settings
 pub mod Words
 pub mod CampaignWords
-pub mod Settings
+pub mod Commands

@@ -7,13 +7,13 @@ use Rattle.std.specs.declared.alloc.Global.{Global}
 use Rattle.tool_text.specs.Numbers.{number_below}
 use Rattle.world_events.specs.declared.event.Side.{Side as EndSide}
 use Rattle.world_events.specs.declared.event.Side.TheVariants.{Client, Server}
-use Rattle.tool_forms.specs.declared.settings.Table.{Table}
-use Rattle.tool_forms.specs.declared.settings.Table.TheVariants as table
+use Rattle.tool_forms.specs.Tables.{Table}
+use Rattle.tool_forms.specs.Tables as table
 use Rattle.tool_forms.specs.declared.settings.Setting.{Setting}
 use Rattle.tool_forms.specs.declared.settings.Setting.TheVariants.{First, Seeds, Events, Workers, Side, Plain}
-use Rattle.tool_forms.specs.declared.settings.Value.{Value}
-use Rattle.tool_forms.specs.declared.settings.Value.TheVariants as value
-use Rattle.tool_forms.specs.declared.settings.Assignment.{Assignment}
+use Rattle.tool_forms.specs.Given.{Value}
+use Rattle.tool_forms.specs.Given as value
+use Rattle.tool_forms.specs.Given.{Assignment}
 
 -- the setting of a form by its name
 abbrev pub setting_named : Table → List ℕ → Option Setting

@@ -1,12 +1,12 @@
 -- What the words after the program's name ask for (own).
-use Rattle.std.specs.Prelude.{◌≡◌, ℕ, Bool, List, [], ◌∷◌, codes, Option, Some, None, is_some, option_and_then, if◌then◌else◌, String, string_bytes}
+use Rattle.std.specs.Prelude.{◌≡◌, ◌||◌, ℕ, Bool, false, List, [], ◌∷◌, codes, Option, Some, None, is_some, option_and_then, if◌then◌else◌, String, string_bytes}
 use Rattle.std.specs.Str.{bytes_eq}
 use Rattle.std.specs.declared.alloc.Global.{Global}
 use Rattle.world_events.specs.declared.event.Side.{Side}
-use Rattle.tool_forms.specs.declared.settings.Table.TheVariants as table
+use Rattle.tool_forms.specs.Tables as table
 use Rattle.tool_forms.specs.declared.settings.Setting.TheVariants as setting
-use Rattle.tool_forms.specs.declared.settings.Value.{Value}
-use Rattle.tool_forms.specs.declared.settings.Value.TheVariants as value
+use Rattle.tool_forms.specs.Given.{Value}
+use Rattle.tool_forms.specs.Given as value
 use Rattle.tool_forms.specs.Settings.{words_give}
 use Rattle.tool_forms.specs.CampaignWords.{campaign_of}
 use Rattle.tool_forms.specs.declared.words.Form.{Form}
@@ -48,6 +48,11 @@ form_of (first ∷ words) =
     else if is_word first (codes "campaign") then campaigns words
     else if is_word first (codes "show") then takes_no_word form.Show words
     else None
+
+-- Only the words behind `replay` and `campaign` are settings.
+abbrev pub has_settings : List (String Global) → Bool
+has_settings [] = false
+has_settings (first ∷ words) = is_word first (codes "replay") || is_word first (codes "campaign")
 
 -- The line that answers all other words.
 abbrev pub usage : List ℕ

@@ -1,9 +1,14 @@
 //! What the words behind `campaign` ask for.
-ghost use Rattle.std.specs.Prelude.{◌≡◌, ◌≤◌, IfSome};
-ghost use Rattle.tool_forms.specs.CampaignWords.{IsWithinBounds, campaign_of, given_once};
-ghost use Rattle.tool_forms.specs.Settings.{least, most};
+ghost use Rattle.std.specs.Prelude.{◌≡◌, IfOk, IfSome};
+ghost use Rattle.clap.specs.Words.{found_of, rows_of};
+ghost use Rattle.tool_forms.specs.CampaignWords.{IsWithinBounds, campaign_of};
+ghost use Rattle.tool_forms.specs.Commands.{campaign_in};
 
-use crate::settings::{Setting, Table, Value, given};
+use crate::commands::{campaign_command, figure_in, read};
+use crate::settings::Setting;
+use clap::ArgMatches;
+use seq_circle::NoMemory;
+use std::alloc::Global;
 
 /// The job of the form `campaign` (own): which seeds are run, with how many events each, and by how many workers.
 #[derive(Clone, Copy, Debug, PartialEq, Eq)]
@@ -18,26 +23,15 @@ pub struct Campaign {
     pub workers: u8,
 }
 
-// The number that the words give to this setting, once and only once.
-fn given_once(setting: Setting, words: &[String]) -> Option<u64>
-    ensures value { result ≡ given_once setting words.now }
-    ensures within { IfSome result (λ n. least setting ≤ n × n ≤ most setting) }
-{
-    match given(Table::Campaign, setting, words)? {
-        Some(Value::Number(number)) => Some(number),
-        _ => None,
-    }
-}
-
-/// The campaign that the words behind `campaign` ask for.
-pub(crate) fn campaign_of(words: &[String]) -> Option<Campaign>
-    ensures value { result ≡ campaign_of words.now }
+// The campaign that the matches ask for.
+fn campaign_in(matches: &ArgMatches) -> Option<Campaign>
+    ensures value { result ≡ campaign_in (rows_of (found_of matches.now)) }
     ensures within { IfSome result IsWithinBounds }
 {
-    let first = given_once(Setting::First, words)?;
-    let seeds = given_once(Setting::Seeds, words)?;
-    let events = given_once(Setting::Events, words)?;
-    let workers = given_once(Setting::Workers, words)?;
+    let first = figure_in(matches, Setting::First)?;
+    let seeds = figure_in(matches, Setting::Seeds)?;
+    let events = figure_in(matches, Setting::Events)?;
+    let workers = figure_in(matches, Setting::Workers)?;
     let _last = first.checked_add(seeds - 1)?;
     Some(Campaign {
         first,
@@ -45,4 +39,16 @@ pub(crate) fn campaign_of(words: &[String]) -> Option<Campaign>
         events: events as u32,
         workers: workers as u8,
     })
+}
+
+/// The campaign that the words behind `campaign` ask for, or None where they ask for none.
+pub(crate) fn campaign_of(alloc: Global, words: &[String]) -> Result<Option<Campaign>, NoMemory>
+    ensures value { IfOk result (λ campaign. campaign ≡ campaign_of words.now) }
+    ensures within { IfOk result (λ campaign. IfSome campaign IsWithinBounds) }
+{
+    let command = campaign_command(alloc)?;
+    match read(command, words)? {
+        Some(matches) => Ok(campaign_in(&matches)),
+        None => Ok(None),
+    }
 }

@@ -2,6 +2,7 @@
 #![tactic(auto)]
 
 mod campaign_words;
+mod commands;
 mod settings;
 mod words;
 

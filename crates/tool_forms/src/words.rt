@@ -1,11 +1,16 @@
 //! What the words after the program's name ask for.
-ghost use Rattle.std.specs.Prelude.{◌≡◌, Some};
+ghost use Rattle.std.specs.Prelude.{◌≡◌, IfOk, IsOk, Ok, Some, false};
+ghost use Rattle.clap.specs.Words.{found_of, rows_of};
 ghost use Rattle.tool_forms.specs.CampaignWords.{IsWithinBounds};
-ghost use Rattle.tool_forms.specs.Settings.{words_give};
-ghost use Rattle.tool_forms.specs.Words.{is_word, side_given, replay_of, takes_no_word, campaigns, form_of};
+ghost use Rattle.tool_forms.specs.Commands.{replay_in};
+ghost use Rattle.tool_forms.specs.Words.{campaigns, form_of, has_settings, is_word, replay_of, takes_no_word};
 
 use crate::campaign_words::{Campaign, campaign_of};
-use crate::settings::{Setting, Table, Value, given};
+use crate::commands::{is_given, read, replay_command, text_in};
+use crate::settings::{Setting, side_in};
+use clap::ArgMatches;
+use seq_circle::NoMemory;
+use std::alloc::Global;
 use world_events::Side;
 
 /// A job of the tool (own).
@@ -31,23 +36,25 @@ fn is_word(word: &String, text: &[u8]) -> bool
     word.as_bytes() == text
 }
 
-// The side that the words behind `replay` give, once and only once.
-fn side_of(words: &[String]) -> Option<Side>
-    ensures { result ≡ side_given (words_give Table.Replay Setting.Side words.now) }
+// The replay that the matches ask for.
+fn replay_in(matches: &ArgMatches) -> Option<Form>
+    ensures { result ≡ replay_in (rows_of (found_of matches.now)) }
 {
-    match given(Table::Replay, Setting::Side, words)? {
-        Some(Value::End(side)) => Some(side),
-        _ => None,
-    }
+    let text = text_in(matches, Setting::Side)?;
+    let side = side_in(text.as_bytes())?;
+    let plain = is_given(matches, Setting::Plain);
+    Some(Form::Replay { side, plain })
 }
 
 // The job that the words behind `replay` ask for.
-fn replay_of(words: &[String]) -> Option<Form>
-    ensures { result ≡ replay_of words.now }
+fn replay_of(alloc: Global, words: &[String]) -> Result<Option<Form>, NoMemory>
+    ensures { IfOk result (λ form. form ≡ replay_of words.now) }
 {
-    let plain = given(Table::Replay, Setting::Plain, words)?.is_some();
-    let side = side_of(words)?;
-    Some(Form::Replay { side, plain })
+    let command = replay_command(alloc)?;
+    match read(command, words)? {
+        Some(matches) => Ok(replay_in(&matches)),
+        None => Ok(None),
+    }
 }
 
 // No word may follow.
@@ -58,25 +65,30 @@ fn takes_no_word(form: Form, words: &[String]) -> Option<Form>
 }
 
 // The job that the words behind `campaign` ask for.
-fn campaigns(words: &[String]) -> Option<Form>
-    ensures value { result ≡ campaigns words.now }
-    ensures within { (campaign : Campaign) → result ≡ Some (Form.Campaign campaign) → IsWithinBounds campaign }
+fn campaigns(alloc: Global, words: &[String]) -> Result<Option<Form>, NoMemory>
+    ensures value { IfOk result (λ form. form ≡ campaigns words.now) }
+    ensures within { (campaign : Campaign) → result ≡ Ok (Some (Form.Campaign campaign)) → IsWithinBounds campaign }
 {
-    let campaign = campaign_of(words)?;
-    Some(Form::Campaign(campaign))
+    match campaign_of(alloc, words)? {
+        Some(campaign) => Ok(Some(Form::Campaign(campaign))),
+        None => Ok(None),
+    }
 }
 
 /// The job that these words ask for, those after the program's name, or None where they are none of the forms (own).
+/// NoMemory comes only for words behind `replay` and `campaign`, whose settings are read by a command of `clap`, and
+/// then says nothing of them.
 #[tactic(auto, unfolding(crate::specs::Words::form_of))]
-pub fn form_of(words: &[String]) -> Option<Form>
-    ensures value { result ≡ form_of words.now }
-    ensures within { (campaign : Campaign) → result ≡ Some (Form.Campaign campaign) → IsWithinBounds campaign }
+pub fn form_of(alloc: Global, words: &[String]) -> Result<Option<Form>, NoMemory>
+    ensures value { IfOk result (λ form. form ≡ form_of words.now) }
+    ensures within { (campaign : Campaign) → result ≡ Ok (Some (Form.Campaign campaign)) → IsWithinBounds campaign }
+    ensures memory { has_settings words.now ≡ false → IsOk result }
 {
     match words {
-        [first, words @ ..] if is_word(first, b"run") => takes_no_word(Form::Run, words),
-        [first, words @ ..] if is_word(first, b"replay") => replay_of(words),
-        [first, words @ ..] if is_word(first, b"campaign") => campaigns(words),
-        [first, words @ ..] if is_word(first, b"show") => takes_no_word(Form::Show, words),
-        _ => None,
+        [first, words @ ..] if is_word(first, b"run") => Ok(takes_no_word(Form::Run, words)),
+        [first, words @ ..] if is_word(first, b"replay") => replay_of(alloc, words),
+        [first, words @ ..] if is_word(first, b"campaign") => campaigns(alloc, words),
+        [first, words @ ..] if is_word(first, b"show") => Ok(takes_no_word(Form::Show, words)),
+        _ => Ok(None),
     }
 }

@@ -1,0 +1,20 @@
+-- A replay is what the command's matches are.
+use Rattle.std.proofs.Common.{◌∙◌, subst, Option}
+use Rattle.clap.specs.Words.{app_of}
+use Rattle.clap.specs.declared.parser.matches.ArgMatches.{ArgMatches}
+use Rattle.tool_forms.specs.Commands.{IsReadBy}
+use Rattle.tool_forms.proofs.Taken.{replay-judged, replay-refused, replay-simple}
+use Rattle.tool_forms.proofs.words.replay_of.Goals as goal
+
+pub read-requires : goal.read-requires
+read-requires c = record { simple = replay-simple _ c.in_ok-command.ensures }
+
+pub returns-in-Some : goal.returns-in-Some
+returns-in-Some c =
+    let read = subst (λ (found : Option ArgMatches). IsReadBy (app_of c.in_ok-command.command) c.args.words.now found) c.in-Some.is c.in_ok-matches.ensures in
+    c.replay_in.ensures ∙ replay-judged _ c.args.words.now c.in-Some.matches c.in_ok-command.ensures read
+
+pub returns-in-None : goal.returns-in-None
+returns-in-None c =
+    let read = subst (λ (found : Option ArgMatches). IsReadBy (app_of c.in_ok-command.command) c.args.words.now found) c.in-None.is c.in_ok-matches.ensures in
+    replay-refused _ c.args.words.now c.in_ok-command.ensures read

@@ -1,0 +1,4 @@
+-- Whose settings words are (own).
+pub data Table : Type 0 where
+  Replay : Table
+  Campaign : Table

@@ -1,0 +1,138 @@
+//! The words of a form, read by a command of `clap`.
+ghost use Rattle.std.specs.Prelude.{◌≡◌, ◌≤◌, ◌↔◌, IfOk, IfSome, IsTrue, codes, false, true, map, option_map, string_bytes};
+ghost use Rattle.clap.specs.Words.{app_of, first_of, found_of, is_simple_and_free, kind_of, rows_of, rule_of, with_rule};
+ghost use Rattle.tool_forms.specs.Commands.{IsReadBy, bare_command, bare_name, campaign_command, flag_rule, has_dashes, is_yes, figure_in, option_rule, replay_command};
+ghost use Rattle.tool_forms.specs.Settings.{least, most};
+
+use crate::settings::{Setting, is_text};
+use clap::error::ErrorKind;
+use clap::{Arg, ArgAction, ArgMatches, Command, Error};
+use seq_circle::NoMemory;
+use std::alloc::{AllocError, Global};
+
+// An option that has one value and has to be given.
+fn option<'a>(alloc: Global, name: &'a str) -> Arg<'a>
+    ensures rule { rule_of result ≡ option_rule name.entry.now }
+    ensures local { result.global ≡ false }
+{
+    Arg::new(alloc, name)
+        .long(name)
+        .required(true)
+        .action(ArgAction::Set)
+}
+
+fn flag<'a>(alloc: Global, name: &'a str) -> Arg<'a>
+    ensures rule { rule_of result ≡ flag_rule name.entry.now }
+    ensures local { result.global ≡ false }
+{
+    Arg::new(alloc, name).long(name).action(ArgAction::SetTrue)
+}
+
+fn with_option<'a>(
+    alloc: Global,
+    command: Command<'a>,
+    name: &'a str,
+) -> Result<Command<'a>, AllocError>
+    ensures { IfOk result (λ c. app_of c ≡ with_rule (app_of command.entry) (option_rule name.entry.now)) }
+{
+    command.arg(option(alloc, name))
+}
+
+fn with_flag<'a>(
+    alloc: Global,
+    command: Command<'a>,
+    name: &'a str,
+) -> Result<Command<'a>, AllocError>
+    ensures { IfOk result (λ c. app_of c ≡ with_rule (app_of command.entry) (flag_rule name.entry.now)) }
+{
+    command.arg(flag(alloc, name))
+}
+
+// A command that reads all its words as arguments.
+fn bare_command<'a>(alloc: Global) -> Command<'a>
+    ensures { app_of result ≡ bare_command }
+{
+    Command::new(alloc, "dccp")
+        .no_binary_name(true)
+        .disable_help_flag(true)
+}
+
+/// The command that reads the words behind `campaign`.
+pub(crate) fn campaign_command<'a>(alloc: Global) -> Result<Command<'a>, AllocError>
+    ensures { IfOk result (λ c. app_of c ≡ campaign_command) }
+{
+    let command = with_option(alloc, bare_command(alloc), "first")?;
+    let command = with_option(alloc, command, "seeds")?;
+    let command = with_option(alloc, command, "events")?;
+    with_option(alloc, command, "workers")
+}
+
+/// The command that reads the words behind `replay`.
+pub(crate) fn replay_command<'a>(alloc: Global) -> Result<Command<'a>, AllocError>
+    ensures { IfOk result (λ c. app_of c ≡ replay_command) }
+{
+    let command = with_option(alloc, bare_command(alloc), "side")?;
+    with_flag(alloc, command, "plain")
+}
+
+// One of the words is `--`, which `clap` would take as the last word.
+fn has_dashes(words: &[String]) -> bool
+    ensures { result ≡ has_dashes words.now }
+{
+    words.iter().any(|word| is_text(word.as_bytes(), b"--"))
+}
+
+// The words may be fine, but no memory was left.
+fn is_for_memory(error: &Error) -> bool
+    ensures { IsTrue result ↔ (kind_of error.now ≡ ErrorKind.OutOfMemory) }
+{
+    matches!(error.kind(), ErrorKind::OutOfMemory)
+}
+
+/// What a command reads of these words, or None where they are not its own.
+pub(crate) fn read<'a>(
+    command: Command<'a>,
+    words: &'a [String],
+) -> Result<Option<ArgMatches<'a>>, NoMemory>
+    requires simple { is_simple_and_free (app_of command) ≡ true }
+    ensures { IfOk result (IsReadBy (app_of command.entry) words.entry.now) }
+{
+    if has_dashes(words) {
+        return Ok(None);
+    }
+    let error = match command.try_get_matches_from(words) {
+        Ok(matches) => return Ok(Some(matches)),
+        Err(error) => error,
+    };
+    if is_for_memory(&error) {
+        Err(NoMemory)
+    } else {
+        Ok(None)
+    }
+}
+
+/// The text that the matches have for this setting.
+pub(crate) fn text_in<'a>(matches: &ArgMatches<'a>, setting: Setting) -> Option<&'a str>
+    ensures { option_map (λ s. s.now) result ≡ first_of (bare_name setting) (rows_of (found_of matches.now)) }
+{
+    matches.get_str(setting.name())
+}
+
+/// The number that the matches have for this setting, within its bounds.
+pub(crate) fn figure_in(matches: &ArgMatches, setting: Setting) -> Option<u64>
+    ensures value { result ≡ figure_in setting (rows_of (found_of matches.now)) }
+    ensures within { IfSome result (λ n. least setting ≤ n × n ≤ most setting) }
+{
+    let text = text_in(matches, setting)?;
+    setting.number(text.as_bytes())
+}
+
+/// A flag is given, which then has the text `true`.
+pub(crate) fn is_given(matches: &ArgMatches, flag: Setting) -> bool
+    ensures { result ≡ is_yes (first_of (bare_name flag) (rows_of (found_of matches.now))) }
+{
+    match text_in(matches, flag) {
+        Some(text) => is_text(text.as_bytes(), b"true"),
+        None => false,
+    }
+}
