@@ -1,9 +1,9 @@
 -- What each part of what is safe comes to.
-use Rattle.std.proofs.Common.{◌≡◌, refl, ap, sym, ◌∙◌, subst, ℕ, ◌+◌, ◌^◌, ◌<◌, ◌≤◌, min, Bool, true, false, List, [], ◌∷◌, Option, Some, None, slice_get, length, length-take, length-drop, arith}
+use Rattle.std.proofs.Common.{◌≡◌, refl, ap, sym, ◌∙◌, subst, ℕ, ◌+◌, ◌^◌, ◌<◌, ◌≤◌, min, Bool, true, false, List, ◌∷◌, Some, None, slice_get, length, length-take, length-drop, arith}
 use Rattle.std.proofs.lemmas.List.{get_or-drop, get_or-take}
 use Rattle.std.proofs.lemmas.Option.{same_Some}
 use Rattle.std.specs.List.{Contains}
-use Rattle.std.specs.Prelude.{IsSome, IsTrue, drop, slice_index, slice_index_or, take}
+use Rattle.std.specs.Prelude.{IsSome, IsTrue, drop, slice_index, take}
 use Rattle.ack_vectors.proofs.ReadBack.{plain-set}
 use Rattle.ack_vectors.proofs.Telling.{heard-member, whole-tells}
 use Rattle.ack_vectors.specs.Vector.{is_whole, set_states, state_told}
@@ -29,7 +29,7 @@ use Rattle.two_ends.specs.declared.frames.SentFrame.{SentFrame}
 use Rattle.two_ends.specs.Controlled.{Controlled, congestion_of}
 use Rattle.two_ends.specs.Counted.{AreAmongFirst, AreResets}
 use Rattle.two_ends.specs.Frames.{is_reset}
-use Rattle.two_ends.specs.Negotiated.{Agree, AgreeOn, Given, HasSent, HasTold, Initial, IsNotNegotiable, IsServerPriority, IsSettled, Origin, Reconciled, Told as ToldValue, last_list_sent, last_value, list_said, pair_was_negotiated, value_said}
+use Rattle.two_ends.specs.Negotiated.{Agree, HasSent, Initial, IsNotNegotiable, IsServerPriority, IsSettled, Origin, Reconciled, Told as ToldValue, last_list_sent, last_value, list_said, pair_was_negotiated, value_said}
 use Rattle.two_ends.specs.Pairs.{FeatureAt, held_at, said_by}
 use Rattle.two_ends.specs.Reported.{CarriesVector, Far, Heard, NeedsNoReport, Once, Told, Truthful, WasTold, processed_by}
 use Rattle.two_ends.specs.World.{WorldState, half_of}

@@ -1,16 +1,14 @@
 -- What a side marked is what it processed, and its records say what its frames do.
-use Rattle.std.proofs.Common.{◌≡◌, ◌↔◌, refl, ap, sym, ◌∙◌, subst, ℕ, zero, suc, ◌+◌, ◌%◌, ◌^◌, ◌<◌, ◌≤◌, Bool, true, false, List, Some, slice_get, length, arith}
+use Rattle.std.proofs.Common.{◌≡◌, ◌↔◌, refl, ap, sym, ◌∙◌, subst, ℕ, zero, suc, ◌+◌, ◌%◌, ◌^◌, ◌<◌, ◌≤◌, Bool, true, false, List, Some, length, arith}
 use Rattle.std.proofs.lemmas.List.{length-map}
 use Rattle.std.proofs.lemmas.Option.{same_Some, slice_get_within}
 use Rattle.std.specs.List.{Contains}
 use Rattle.ack_vectors.specs.Vector.{is_whole}
-use Rattle.ack_vectors.specs.declared.received.Record.{Record}
 use Rattle.dccp_endpoint.proofs.OwnFrames.{type-kept}
 use Rattle.dccp_endpoint.specs.End.{floor_of, is_live}
 use Rattle.dccp_endpoint.specs.Reporting.{is_acking}
 use Rattle.dccp_packets.specs.Grammar.{Parts, packet_type}
-use Rattle.dccp_packets.specs.declared.header.PacketType.{PacketType}
-use Rattle.mark_agreement.specs.View.{Frame, MarkSide, frame_at}
+use Rattle.mark_agreement.specs.View.{MarkSide, frame_at}
 use Rattle.run_list.specs.MarkedSet.{has}
 use Rattle.seq_circle.specs.Circle.{IsBefore, IsFrom, IsWithin, distance, residue}
 use Rattle.seq_circle.specs.Counts.{number_of}
@@ -18,7 +16,7 @@ use Rattle.world_events.specs.Actors.{other}
 use Rattle.world_events.specs.declared.event.Side.{Side}
 use Rattle.two_ends.specs.declared.frames.SentFrame.{SentFrame}
 use Rattle.two_ends.specs.Frames.{packet_of}
-use Rattle.two_ends.specs.Remembered.{AreRecordsHonest, IsRecordOf, MarksWhatItProcessed, NewestIsProcessed}
+use Rattle.two_ends.specs.Remembered.{AreRecordsHonest, MarksWhatItProcessed, NewestIsProcessed}
 use Rattle.two_ends.specs.Reported.{processed_by}
 use Rattle.two_ends.specs.World.{WorldState, half_of}
 use Rattle.two_ends.proofs.Acting.{Party, config_of, end_of, party_of}

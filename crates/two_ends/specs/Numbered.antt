@@ -1,5 +1,5 @@
 -- The numbers of the frames that were sent (RFC 4340, section 7.1).
-use Rattle.std.specs.Prelude.{◌≡◌, ◌⊎◌, ℕ, ◌+◌, ◌-◌, ◌^◌, ◌<◌, ◌≤◌, Bool, true, false, List, [], ◌∷◌, length, Option, Some, None, slice_get}
+use Rattle.std.specs.Prelude.{◌≡◌, ◌⊎◌, ℕ, ◌+◌, ◌-◌, ◌^◌, ◌<◌, ◌≤◌, true, false, List, [], ◌∷◌, length, Some, None, slice_get}
 use Rattle.seq_circle.specs.Circle.{residue}
 use Rattle.dccp_options.specs.Vectors.{ack_vectors}
 use Rattle.dccp_packets.specs.Grammar.{Parts}
