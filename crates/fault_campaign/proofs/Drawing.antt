@@ -52,7 +52,7 @@ arrives-happens w from index room below = by (slice_get_cases (half_of w from).f
   by (inr past) = absurd (omega (arith, past.0))
 
 takes-place : (w : WorldState) (happening : Happening) → IsRoomy w → HasFrame w happening → Happens (takes_place w happening)
-takes-place w (Calls side given) room has = unless_full-happens w side (half_steps (half_of w side) given) room
+takes-place w (Calls side given) room has = unless_full-happens w side (half_steps (half_of w side) None given) room
 takes-place w (Delivers from index) room has = arrives-happens w from index room has
 
 controls-happens : (w : Controlled Both) (acting : Side) (result : Result WorldStep WorldFault) → IsOk result → IsOk (controls kinds_control w acting result)

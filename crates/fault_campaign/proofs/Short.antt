@@ -8,6 +8,7 @@ use Rattle.dccp_endpoint.specs.Inputs as input
 use Rattle.dccp_endpoint.specs.End.{floor_of}
 use Rattle.end_answers.specs.declared.outcome.Outcome.{Outcome}
 use Rattle.end_answers.specs.declared.outcome.Outcome.TheVariants.{Took, Dropped, Synced, WasReset, SentReset}
+use Rattle.two_ends.proofs.Numbering.{sent-few}
 use Rattle.two_ends.specs.Controlled.{congestion_of, controls, said_by}
 use Rattle.two_ends.specs.World.{Half, HalfStep, WorldState, WorldStep, Happening, Calls, Delivers, delivers_frame, as_sent, half_of, half_steps, happens, happening_of, is_full, takes_place, unless_full, with_half, world_after}
 use Rattle.world_events.specs.Actors.{actor, other}
@@ -47,14 +48,11 @@ seen-size r (Called (Err refusal)) = omega arith
 seen-size r (Fired applies) = omega arith
 seen-size r (Received outcome) = outcome-size r outcome
 
-as_sent-length : (processed floor : ℕ) (frame : Option (List ℕ)) → length (as_sent processed floor frame) ≤ 1
-as_sent-length processed floor None = omega arith
-as_sent-length processed floor (Some bytes) = omega arith
-
-one-frame : (half : Half) (given : Input) → length (half_steps half given).half.frames ≤ length half.frames + 1
-one-frame half given =
-    let sent = as_sent (length (half_steps half given).half.processed) (floor_of (end_stepped half.end given).after) (end_stepped half.end given).frame in
-    let few : length sent ≤ 1 = as_sent-length _ _ (end_stepped half.end given).frame in
+one-frame : (half : Half) (number : Option ℕ) (given : Input) → length (half_steps half number given).half.frames ≤ length half.frames + 1
+one-frame half number given =
+    let step = end_stepped half.end given in
+    let sent = as_sent step.after.marks (length (half_steps half number given).half.processed) (floor_of step.after) step.frame in
+    let few : length sent ≤ 1 = sent-few _ _ _ step.frame in
     let both : length (half.frames ++ sent) ≡ length half.frames + length sent = length-append half.frames sent in
     omega arith
 
@@ -78,10 +76,11 @@ unless_full-grows w acting step few = by (is_full (half_of w acting)) where
 arrives-grows : (w : WorldState) (from : Side) (frame : Option SentFrame) → Grows w (delivers_frame w from frame)
 arrives-grows w from None side = omega arith
 arrives-grows w from (Some frame) side =
-    unless_full-grows w (other from) (half_steps (half_of w (other from)) (input.Arrives frame.bytes)) (one-frame (half_of w (other from)) (input.Arrives frame.bytes)) side
+    unless_full-grows w (other from) (half_steps (half_of w (other from)) (Some frame.number) (input.Arrives frame.bytes))
+    (one-frame (half_of w (other from)) (Some frame.number) (input.Arrives frame.bytes)) side
 
 happening-grows : (w : WorldState) (happening : Happening) → Grows w (takes_place w happening)
-happening-grows w (Calls side given) = unless_full-grows w side (half_steps (half_of w side) given) (one-frame (half_of w side) given)
+happening-grows w (Calls side given) = unless_full-grows w side (half_steps (half_of w side) None given) (one-frame (half_of w side) None given)
 happening-grows w (Delivers from index) = arrives-grows w from (slice_get (half_of w from).frames index)
 
 after-event : (n : ℕ) (run : Running) (acting : Side) (result : Result WorldStep WorldFault) → Grows run.world.world result → IsShort n run

@@ -63,26 +63,26 @@ delivery-told : (w : WorldState) (from : Side) (index : ℕ) (frame : Option Sen
 delivery-told w from index None step found is = cc is
 delivery-told w from index (Some frame) step found is =
     let half = half_of w (other from) in
-    frame-told w from index frame (half_steps half (input.Arrives frame.bytes)) (is_full half) step found is (data-in-frame half.end frame.bytes)
+    frame-told w from index frame (half_steps half (Some frame.number) (input.Arrives frame.bytes)) (is_full half) step found is (data-in-frame half.end frame.bytes)
 
 event-told : (w : WorldState) (given : Event) (said : Said) (step : WorldStep) → happens w given said ≡ Ok step → IsSeenOf (arrived step.world given) step.seen
 event-told w event.Open said step is =
-    called-told w Client (half_steps w.client input.Opens) (is_full w.client) step (arrived step.world event.Open) is
+    called-told w Client (half_steps w.client None input.Opens) (is_full w.client) step (arrived step.world event.Open) is
     (call-told (arrived step.world event.Open) (λ fault. refusal.NotFresh) (opens w.client.end).answer)
 event-told w (event.Deliver from index) said step is = delivery-told w from index (slice_get (half_of w from).frames index) step refl is
 event-told w (event.Send side payload) said step is =
-    called-told w side (half_steps (half_of w side) (input.Sends payload said.may_send)) (is_full (half_of w side)) step (arrived step.world (event.Send side payload)) is
+    called-told w side (half_steps (half_of w side) None (input.Sends payload said.may_send)) (is_full (half_of w side)) step (arrived step.world (event.Send side payload)) is
     (call-told (arrived step.world (event.Send side payload)) send_refusal_of (sends_payload (half_of w side).end payload said.may_send).answer)
 event-told w (event.Prefer side feature place values) said step is =
-    called-told w side (half_steps (half_of w side) (input.Prefers (feature, place) values)) (is_full (half_of w side)) step (arrived step.world (event.Prefer side feature place values)) is
+    called-told w side (half_steps (half_of w side) None (input.Prefers (feature, place) values)) (is_full (half_of w side)) step (arrived step.world (event.Prefer side feature place values)) is
     (call-told (arrived step.world (event.Prefer side feature place values)) refusal_of (prefers (half_of w side).end (feature, place) values).answer)
 event-told w (event.Timer side timer) said step is =
-    called-told w side (half_steps (half_of w side) (input.Fires timer said.in_flight)) (is_full (half_of w side)) step (arrived step.world (event.Timer side timer)) is tt
+    called-told w side (half_steps (half_of w side) None (input.Fires timer said.in_flight)) (is_full (half_of w side)) step (arrived step.world (event.Timer side timer)) is tt
 event-told w (event.Close side) said step is =
-    called-told w side (half_steps (half_of w side) input.Closes) (is_full (half_of w side)) step (arrived step.world (event.Close side)) is
+    called-told w side (half_steps (half_of w side) None input.Closes) (is_full (half_of w side)) step (arrived step.world (event.Close side)) is
     (call-told (arrived step.world (event.Close side)) (λ fault. refusal.NotOpen) (closes (half_of w side).end).answer)
 event-told w (event.Abort side) said step is =
-    called-told w side (half_steps (half_of w side) input.Aborts) (is_full (half_of w side)) step (arrived step.world (event.Abort side)) is
+    called-told w side (half_steps (half_of w side) None input.Aborts) (is_full (half_of w side)) step (arrived step.world (event.Abort side)) is
     (call-told (arrived step.world (event.Abort side)) (λ fault. refusal.NotLive) (aborts (half_of w side).end).answer)
 
 abbrev controlled-seen-or : Seen → Result (ControlledStep Both) WorldFault → Seen

@@ -14,6 +14,7 @@ use Rattle.tool_run.proofs.Running.{Turns, next-turns}
 use Rattle.tool_run.specs.Scenes.{Scene}
 use Rattle.tool_run.specs.Transcript.{IsPlayable, SentFew, ShowsEvent, by_step, event_shown, first_play, performed, run_job, world_of, world_or_start}
 use Rattle.tool_run.specs.declared.play.Play.{Play}
+use Rattle.two_ends.proofs.Numbering.{sent-few}
 use Rattle.two_ends.specs.Controlled.{Controlled, ControlledStep, congestion_of, controlled, controls, happens_to, said_by}
 use Rattle.two_ends.specs.World.{Half, HalfStep, Happening, WorldState, WorldStep, Calls, Delivers, as_sent, delivers_frame, half_of, half_steps, happening_of, is_full, takes_place, unless_full, with_half}
 use Rattle.two_ends.specs.declared.frames.SentFrame.{SentFrame}
@@ -33,15 +34,12 @@ abbrev Grows : WorldState → ℕ → Result WorldStep WorldFault → Type 0
 Grows w n (Ok step) = Few step.world (n + 1)
 Grows w n (Err reason) = n < 2 ^ 47 - 1 → reason ≢ fault.Full
 
-one-at-most : (processed floor : ℕ) (frame : Option (List ℕ)) → length (as_sent processed floor frame) ≤ 1
-one-at-most processed floor None = omega arith
-one-at-most processed floor (Some bytes) = omega arith
-
-half-grows : (half : Half) (given : Input) (n : ℕ) → length half.frames ≤ n → length (half_steps half given).half.frames ≤ n + 1
-half-grows half given n few =
+half-grows : (half : Half) (number : Option ℕ) (given : Input) (n : ℕ) → length half.frames ≤ n
+    → length (half_steps half number given).half.frames ≤ n + 1
+half-grows half number given n few =
     let step = end_stepped half.end given in
-    let sent = as_sent (length (half_steps half given).half.processed) (floor_of step.after) step.frame in
-    let one : length sent ≤ 1 = one-at-most _ _ step.frame in
+    let sent = as_sent step.after.marks (length (half_steps half number given).half.processed) (floor_of step.after) step.frame in
+    let one : length sent ≤ 1 = sent-few _ _ _ step.frame in
     let all : length (half.frames ++ sent) ≡ length half.frames + length sent = length-append half.frames sent in
     omega arith
 
@@ -51,19 +49,24 @@ with-grown w Client half n few more Server = omega (arith, few Server)
 with-grown w Server half n few more Client = omega (arith, few Client)
 with-grown w Server half n few more Server = more
 
-step-grows : (w : WorldState) (side : Side) (given : Input) (n : ℕ) → Few w n → Grows w n (unless_full w side (half_steps (half_of w side) given))
-step-grows w side given n few = by (is_full (half_of w side)) refl where
+step-grows : (w : WorldState) (side : Side) (number : Option ℕ) (given : Input) (n : ℕ) → Few w n
+    → Grows w n (unless_full w side (half_steps (half_of w side) number given))
+step-grows w side number given n few = by (is_full (half_of w side)) refl where
   by : (full : Bool) → is_full (half_of w side) ≡ full
-      → Grows w n (if full then Err fault.Full else Ok (record { world = with_half w side (half_steps (half_of w side) given).half; calls = (half_steps (half_of w side) given).calls; seen = (half_steps (half_of w side) given).seen }))
+      → Grows w n (if full then Err fault.Full else Ok (record {
+        world = with_half w side (half_steps (half_of w side) number given).half;
+        calls = (half_steps (half_of w side) number given).calls;
+        seen = (half_steps (half_of w side) number given).seen;
+      }))
   by true is = λ room _. let filled : 2 ^ 47 - 1 ≤ length (half_of w side).frames = leb-true (2 ^ 47 - 1) (length (half_of w side).frames) is in absurd (omega (arith, few side))
-  by false is = with-grown w side (half_steps (half_of w side) given).half n few (half-grows (half_of w side) given n (few side))
+  by false is = with-grown w side (half_steps (half_of w side) number given).half n few (half-grows (half_of w side) number given n (few side))
 
 arrival-grows : (w : WorldState) (from : Side) (frame : Option SentFrame) (n : ℕ) → Few w n → Grows w n (delivers_frame w from frame)
 arrival-grows w from None n few = λ _ is. cc is
-arrival-grows w from (Some frame) n few = step-grows w (other from) (input.Arrives frame.bytes) n few
+arrival-grows w from (Some frame) n few = step-grows w (other from) (Some frame.number) (input.Arrives frame.bytes) n few
 
 happening-grows : (w : WorldState) (happening : Happening) (n : ℕ) → Few w n → Grows w n (takes_place w happening)
-happening-grows w (Calls side given) n few = step-grows w side given n few
+happening-grows w (Calls side given) n few = step-grows w side None given n few
 happening-grows w (Delivers from index) n few = arrival-grows w from (slice_get (half_of w from).frames index) n few
 
 -- the same of the two ends with their congestion controls

@@ -108,8 +108,8 @@ module _ (act : Act) (own : IsOrdered act.side) (peer : IsOrdered act.peer) (k :
 
   acting : KnowsAcknowledged (acted act)
   acting =
-      let more = length-append act.side.log (drafted_by act.side.half act.given act.effect) in
-      let sent = begun-by act.effect.sending (length (processed_by act.side.half act.given act.effect)) (floor_of (end_after (end_of act.side) act.effect)) in
+      let more = length-append act.side.log (drafted_by act.side.half act.arrived act.effect) in
+      let sent = begun-by act.effect.sending (length (processed_by act.side.half act.arrived act.effect)) (floor_of (end_after (end_of act.side) act.effect)) in
       record {
         gar = more-sent (config_of act.side).iss _ _ _ (omega (arith, longer act)) (raised-by act.effect.acknowledged act.because.acks);
         begun = λ begun. elim (act.because.moves.begun begun) [ inl before ↦ omega (arith, more, k.begun before) | inr next ↦ omega (arith, more, sent next) ];

@@ -40,37 +40,39 @@ logged_by processed floor (Next draft) = record { draft = draft; processed = pro
 logged_by processed floor (WithoutConnection number kind) = []
 
 -- all that a side has processed after a step
-abbrev pub processed_by : Half → Input → Effect → List ℕ
-processed_by half given f = half.processed ++ newly_processed half.end given (end_after half.end f)
+abbrev pub processed_by : Half → Option ℕ → Effect → List ℕ
+processed_by half arrived f = half.processed ++ newly_processed half.end arrived (end_after half.end f)
 
 -- what a step keeps of its frame, and what it adds to the log
-abbrev pub sent_by : Half → Input → Effect → List SentFrame
-sent_by half given f = as_sent (length (processed_by half given f)) (floor_of (end_after half.end f)) (frame_by half.end f.sending)
+abbrev pub sent_by : Half → Option ℕ → Effect → List SentFrame
+sent_by half arrived f =
+    as_sent (end_after half.end f).marks (length (processed_by half arrived f)) (floor_of (end_after half.end f)) (frame_by half.end f.sending)
 
-abbrev pub drafted_by : Half → Input → Effect → List Logged
-drafted_by half given f = logged_by (length (processed_by half given f)) (floor_of (end_after half.end f)) f.sending
+abbrev pub drafted_by : Half → Option ℕ → Effect → List Logged
+drafted_by half arrived f = logged_by (length (processed_by half arrived f)) (floor_of (end_after half.end f)) f.sending
 
-abbrev pub half_after : Half → Input → Effect → Half
-half_after half given f = half_with half.frames (end_after half.end f) (processed_by half given f) (frame_by half.end f.sending)
+abbrev pub half_after : Half → Option ℕ → Effect → Half
+half_after half arrived f = half_with half.frames (end_after half.end f) (processed_by half arrived f) (frame_by half.end f.sending)
 
 abbrev pub at_beginning : Config → Party
 at_beginning config = record { half = half_at_start config; log = [] }
 
--- A step of a side, with its effect. What arrives, if anything, is a frame of its peer.
+-- A step of a side, with its effect. What arrives, if anything, is a frame of its peer, with its number.
 pub record Act : Type 0 where
   pub side : Party
   pub peer : Party
+  pub arrived : Option ℕ
   pub given : Input
   pub effect : Effect
   pub room : length side.half.frames < 2 ^ 47 - 1
-  pub from_peer : IsFromPeer peer.half.frames given
+  pub from_peer : IsFromPeer peer.half.frames arrived given
   pub because : IsCaused side.half.end given effect
 
 abbrev pub acted : Act → Party
-acted act = record { half = half_after act.side.half act.given act.effect; log = act.side.log ++ drafted_by act.side.half act.given act.effect }
+acted act = record { half = half_after act.side.half act.arrived act.effect; log = act.side.log ++ drafted_by act.side.half act.arrived act.effect }
 
 pub longer : (act : Act) → length act.side.log ≤ length (acted act).log
-longer act = omega (arith, length-append act.side.log (drafted_by act.side.half act.given act.effect))
+longer act = omega (arith, length-append act.side.log (drafted_by act.side.half act.arrived act.effect))
 
 -- a fact of a side and its peer, and of the peer and the side
 abbrev pub Both : (Party → Party → Type 0) → Party → Party → Type 0
@@ -111,11 +113,11 @@ held-with : (This : Party → Party → Type 0) (w : WorldState) (logs : Side �
 held-with This w logs Client x both = record { logs = with_log logs Client x.log; holds = both }
 held-with This w logs Server x both = record { logs = with_log logs Server x.log; holds = (both.1, both.0) }
 
-moved-after : {Answer : Type 0} (half : Half) (given : Input) (step : Step Answer) (f : Effect) → step.after ≡ end_after half.end f
-    → step.frame ≡ frame_by half.end f.sending → moved half given step ≡ half_after half given f
-moved-after half given step f after frame =
-    ap (λ (e : EndState). half_with half.frames e (half.processed ++ newly_processed half.end given e) step.frame) after
-    ∙ ap (half_with half.frames (end_after half.end f) (processed_by half given f)) frame
+moved-after : {Answer : Type 0} (half : Half) (arrived : Option ℕ) (step : Step Answer) (f : Effect) → step.after ≡ end_after half.end f
+    → step.frame ≡ frame_by half.end f.sending → moved half arrived step ≡ half_after half arrived f
+moved-after half arrived step f after frame =
+    ap (λ (e : EndState). half_with half.frames e (half.processed ++ newly_processed half.end arrived e) step.frame) after
+    ∙ ap (half_with half.frames (end_after half.end f) (processed_by half arrived f)) frame
 
 not-full : (half : Half) → is_full half ≡ false → length half.frames < 2 ^ 47 - 1
 not-full half room = grind arith
@@ -129,45 +131,46 @@ is-call : (e : Event) (said : Said) → IsCall (happening_of e said)
 is-call (event.Deliver from index) said = tt
 is-call _ said = tt
 
-call-given : (side : Side) (given : Input) (frames : List SentFrame) → IsCall (Calls side given) → IsFromPeer frames given
+call-given : (side : Side) (given : Input) (frames : List SentFrame) → IsCall (Calls side given) → IsFromPeer frames None given
 call-given side (Arrives bytes) frames is = absurd is
 call-given side _ frames is = tt
 
 frame-given : (w : WorldState) (from : Side) (index : ℕ) (frame : SentFrame) → slice_get (half_of w from).frames index ≡ Some frame
-    → IsFromPeer (half_of w (other (other from))).frames (Arrives frame.bytes)
-frame-given w Client index frame there = record { index = index; frame = frame; is_there = there; same = refl }
-frame-given w Server index frame there = record { index = index; frame = frame; is_there = there; same = refl }
+    → IsFromPeer (half_of w (other (other from))).frames (Some frame.number) (Arrives frame.bytes)
+frame-given w Client index frame there = record { index = index; frame = frame; is_there = there; same = refl; numbered = refl }
+frame-given w Server index frame there = record { index = index; frame = frame; is_there = there; same = refl; numbered = refl }
 
 -- What an event comes to: nothing, or a step of the side that acts, at which nothing arrives but a frame of the other side.
 pub data Takes (w : WorldState) (side : Side) : Result WorldStep WorldFault → Type 0 where
   Refused : (why : WorldFault) → Takes w side (Err why)
-  Steps : (given : Input) → is_full (half_of w side) ≡ false → IsFromPeer (half_of w (other side)).frames given
+  Steps : (arrived : Option ℕ) (given : Input) → is_full (half_of w side) ≡ false → IsFromPeer (half_of w (other side)).frames arrived given
       → Takes w side (Ok (record {
-        world = with_half w side (half_steps (half_of w side) given).half;
-        calls = (half_steps (half_of w side) given).calls;
-        seen = (half_steps (half_of w side) given).seen;
+        world = with_half w side (half_steps (half_of w side) arrived given).half;
+        calls = (half_steps (half_of w side) arrived given).calls;
+        seen = (half_steps (half_of w side) arrived given).seen;
       }))
 
-full-taken : (w : WorldState) (side : Side) (given : Input) → IsFromPeer (half_of w (other side)).frames given
-    → Takes w side (unless_full w side (half_steps (half_of w side) given))
-full-taken w side given from = by (is_full (half_of w side)) refl where
+full-taken : (w : WorldState) (side : Side) (arrived : Option ℕ) (given : Input) → IsFromPeer (half_of w (other side)).frames arrived given
+    → Takes w side (unless_full w side (half_steps (half_of w side) arrived given))
+full-taken w side arrived given from = by (is_full (half_of w side)) refl where
   by : (full : Bool) → is_full (half_of w side) ≡ full
       → Takes w side (if full then Err fault.Full
       else Ok (record {
-        world = with_half w side (half_steps (half_of w side) given).half;
-        calls = (half_steps (half_of w side) given).calls;
-        seen = (half_steps (half_of w side) given).seen;
+        world = with_half w side (half_steps (half_of w side) arrived given).half;
+        calls = (half_steps (half_of w side) arrived given).calls;
+        seen = (half_steps (half_of w side) arrived given).seen;
       }))
   by true room = Refused fault.Full
-  by false room = Steps given room from
+  by false room = Steps arrived given room from
 
 arrives-taken : (w : WorldState) (from : Side) (index : ℕ) (frame : Option SentFrame) → slice_get (half_of w from).frames index ≡ frame
     → Takes w (other from) (delivers_frame w from frame)
 arrives-taken w from index None there = Refused fault.NoSuchFrame
-arrives-taken w from index (Some frame) there = full-taken w (other from) (Arrives frame.bytes) (frame-given w from index frame there)
+arrives-taken w from index (Some frame) there =
+    full-taken w (other from) (Some frame.number) (Arrives frame.bytes) (frame-given w from index frame there)
 
 taken : (w : WorldState) (what : Happening) → IsCall what → Takes w (acting_side what) (takes_place w what)
-taken w (Calls side given) is = full-taken w side given (call-given side given (half_of w (other side)).frames is)
+taken w (Calls side given) is = full-taken w side None given (call-given side given (half_of w (other side)).frames is)
 taken w (Delivers from index) is = arrives-taken w from index (slice_get (half_of w from).frames index) refl
 
 acting-actor : (e : Event) (said : Said) → acting_side (happening_of e said) ≡ actor e
@@ -192,27 +195,27 @@ pub record IsKept (This : Party → Party → Type 0) (old new : WorldState) : T
   pub configs : (side : Side) → (half_of new side).end.config ≡ (half_of old side).end.config
 
 module _ (This : Party → Party → Type 0) (keeps : Keeps NoFact This) (proper : (x y : Party) → This x y → IsProper x.half.end) (effects : EveryStepHasOneEffect) where
-  side-held : (w : WorldState) (side : Side) (given : Input) → is_full (half_of w side) ≡ false → IsFromPeer (half_of w (other side)).frames given
-      → IsHeld This w
-      → IsKept This w (with_half w side (half_steps (half_of w side) given).half)
-  side-held w side given room from h =
+  side-held : (w : WorldState) (side : Side) (arrived : Option ℕ) (given : Input) → is_full (half_of w side) ≡ false
+      → IsFromPeer (half_of w (other side)).frames arrived given → IsHeld This w
+      → IsKept This w (with_half w side (half_steps (half_of w side) arrived given).half)
+  side-held w side arrived given room from h =
       let x : Party = party_of w h.logs side in
       let y : Party = party_of w h.logs (other side) in
       let now : Both This x y = held_by This w h side in
       let has = effects x.half.end given (proper x y now.0) in
       let act : Act =
-      record { side = x; peer = y; given = given; effect = has.effect; room = not-full x.half room; from_peer = from; because = has.because } in
+      record { side = x; peer = y; arrived = arrived; given = given; effect = has.effect; room = not-full x.half room; from_peer = from; because = has.because } in
       record {
         held =
-            subst (λ (half : Half). IsHeld This (with_half w side half)) (sym (moved-after x.half given (end_stepped x.half.end given) has.effect has.after_is has.frame_is))
+            subst (λ (half : Half). IsHeld This (with_half w side half)) (sym (moved-after x.half arrived (end_stepped x.half.end given) has.effect has.after_is has.frame_is))
             (held-with This w h.logs side (acted act) (keeps.acts act (tt, tt) now));
-        configs = config-with w side (half_steps (half_of w side) given).half (ap (λ (e : EndState). e.config) has.after_is);
+        configs = config-with w side (half_steps (half_of w side) arrived given).half (ap (λ (e : EndState). e.config) has.after_is);
       }
 
   pub taken-held : (w : WorldState) (side : Side) (r : Result WorldStep WorldFault) → Takes w side r → IsHeld This w
       → IsKept This w (world_after w r)
   taken-held w side _ (Refused why) h = record { held = h; configs = λ each. refl }
-  taken-held w side _ (Steps given room from) h = side-held w side given room from h
+  taken-held w side _ (Steps arrived given room from) h = side-held w side arrived given room from h
 
   held-from : (w : WorldState) (events : List Occurrence) → IsHeld This w → IsKept This w (world_after_all w events)
   held-from w [] h = record { held = h; configs = λ each. refl }

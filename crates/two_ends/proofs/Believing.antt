@@ -1,5 +1,5 @@
 -- What an end believes received, by its congestion control, the other side processed.
-use Rattle.std.proofs.Common.{◌≡◌, ap, sym, ◌∙◌, subst, ⊎_elim, ℕ, ◌^◌, ◌<◌, true, List, [], ◌∷◌, ◌++◌, Result, Ok, Err, IfOk, Some, arith}
+use Rattle.std.proofs.Common.{◌≡◌, ap, sym, ◌∙◌, subst, ⊎_elim, ℕ, ◌^◌, ◌<◌, true, List, [], ◌∷◌, ◌++◌, Result, Ok, Err, IfOk, Option, Some, arith}
 use Rattle.std.proofs.lemmas.List.Elements.{Contains-append_left}
 use Rattle.std.specs.List.{Contains, filter, list_any}
 use Rattle.std.specs.Result.{result_ok}
@@ -39,7 +39,7 @@ use Rattle.world_events.specs.declared.event.WorldFault.{WorldFault}
 use Rattle.two_ends.proofs.Acting.{IsHeld, Refused, Steps, Takes, event-taken}
 use Rattle.two_ends.proofs.Calling.{IsHeardOf, any-left, sends-so, tells-so}
 use Rattle.two_ends.proofs.Delivering.{delivered-once, delivers-so}
-use Rattle.two_ends.proofs.Keeping.{HasRoles, SideInvariant, kept-asked, kept-facts, kept-initial, kept-proper, kept-received, kept-safe, run-kept, run-roles, step-kept}
+use Rattle.two_ends.proofs.Keeping.{HasRoles, SideInvariant, kept-asked, kept-facts, kept-initial, kept-proper, kept-received, kept-safe, kept-told, run-kept, run-roles, step-kept}
 use Rattle.two_ends.proofs.Reaching.{occurring, plays-run, world-after}
 use Rattle.two_ends.proofs.ReadBack.{IsFromPeer, IsSentFrame}
 
@@ -47,20 +47,19 @@ none-listed : (n : ℕ) (standing : Standing) → Has [] n standing → ⊥
 none-listed n standing has_it = omega (arith, has_it.1)
 
 -- What a packet that arrives tells received, the side had processed that sent it.
-arrived-processed : (w : WorldState) (h : IsHeld SideInvariant w) (side : Side) (given : Input) (f : Effect) (n : ℕ)
-    → IsFromPeer (half_of w (other side)).frames given → IsHeardOf (half_of w side).end given f.hearing f.sending n → n < 2 ^ 48
+arrived-processed : (w : WorldState) (h : IsHeld SideInvariant w) (side : Side) (arrived : Option ℕ) (given : Input) (f : Effect) (n : ℕ)
+    → IsFromPeer (half_of w (other side)).frames arrived given → IsHeardOf (half_of w side).end given f.hearing f.sending n → n < 2 ^ 48
     → Contains (half_of w (other side)).processed n
-arrived-processed w h side given f n from heard small =
+arrived-processed w h side arrived given f n from heard small =
     let a : Incoming = heard.packet in
     let came = heard.taken.came in
-    let sent : IsSentFrame (half_of w (other side)).frames came.bytes = subst (IsFromPeer (half_of w (other side)).frames) came.is_given from in
+    let sent : IsSentFrame (half_of w (other side)).frames arrived came.bytes =
+    subst (IsFromPeer (half_of w (other side)).frames arrived) came.is_given from in
     let is_packet : packet_of sent.frame.bytes ≡ Some came.packet = ap packet_of (sym sent.same) ∙ ap result_ok came.is_packet in
     let options : options_in sent.frame.bytes ≡ a.options = ap packet_options is_packet ∙ sym (ap (λ (x : Incoming). x.options) came.same) in
     let carries : CarriesVector sent.frame heard.told.number heard.told.bytes =
     record {
-      packet = came.packet;
-      is_packet = is_packet;
-      acknowledges = sym (ap (λ (x : Incoming). x.ack) came.same) ∙ heard.told.acknowledges;
+      acknowledges = (kept-told w h side given a came arrived sent).ack ∙ heard.told.acknowledges;
       carries = ap (report_of heard.told.number) options ∙ heard.told.reports;
     } in
     kept-received w h (other side) sent.index sent.frame heard.told.number heard.told.bytes n sent.is_there carries small heard.told.received
@@ -99,16 +98,17 @@ module _ {C : Type 0} (control : Control C) (lawful : IsLawful control) where
 
   module _ (effects : EveryStepHasOneEffect) where
     -- a step of the side whose congestion control it is
-    acting-honest : (w : WorldState) → IsHeld SideInvariant w → (side : Side) (given : Input) → IsFromPeer (half_of w (other side)).frames given
+    acting-honest : (w : WorldState) → IsHeld SideInvariant w → (side : Side) (arrived : Option ℕ) (given : Input)
+        → IsFromPeer (half_of w (other side)).frames arrived given
         → (congestion : C) → IsHonest congestion (half_of w (other side)).processed
-        → IsHonest (after_calls control congestion (half_steps (half_of w side) given).calls) (half_of w (other side)).processed
-    acting-honest w held side given from congestion h =
+        → IsHonest (after_calls control congestion (half_steps (half_of w side) arrived given).calls) (half_of w (other side)).processed
+    acting-honest w held side arrived given from congestion h =
         let e : EndState = (half_of w side).end in
         let has = effects e given (kept-proper w held side) in
         let f : Effect = has.effect in
         subst (λ (calls : List Call). IsHonest (after_calls control congestion calls) (half_of w (other side)).processed) (sym has.calls_are)
         (called congestion (half_of w (other side)).processed f.calls h
-        (λ n is small. arrived-processed w held side given f n from (tells-so e given f.hearing f.sending f.calls has.because.calls n is) small)
+        (λ n is small. arrived-processed w held side arrived given f n from (tells-so e given f.hearing f.sending f.calls has.because.calls n is) small)
         (sends-so e given f.hearing f.sending f.calls has.because.calls))
 
     -- of both sides
@@ -118,13 +118,13 @@ module _ {C : Type 0} (control : Control C) (lawful : IsLawful control) where
     honest-after : (w : Controlled C) → IsHeld SideInvariant w.world → AreHonest w → (side : Side) (r : Result WorldStep WorldFault) → Takes w.world side r
         → AreHonest (controlled_after w (controls control w side r))
     honest-after w held h side _ (Refused why) = h
-    honest-after w held h Client _ (Steps given room from) = (
-      acting-honest w.world held Client given from w.for_client h.0,
+    honest-after w held h Client _ (Steps arrived given room from) = (
+      acting-honest w.world held Client arrived given from w.for_client h.0,
       processed-more w.for_server w.world.client.processed _ h.1,
     )
-    honest-after w held h Server _ (Steps given room from) = (
+    honest-after w held h Server _ (Steps arrived given room from) = (
       processed-more w.for_client w.world.server.processed _ h.0,
-      acting-honest w.world held Server given from w.for_server h.1,
+      acting-honest w.world held Server arrived given from w.for_server h.1,
     )
 
     honest-from : (w : Controlled C) (events : List Event) → IsHeld SideInvariant w.world → AreHonest w → AreHonest (plays control w events)

@@ -1,9 +1,9 @@
 -- What each part of what is safe comes to.
-use Rattle.std.proofs.Common.{◌≡◌, refl, ap, sym, ◌∙◌, subst, ℕ, ◌+◌, ◌^◌, ◌<◌, ◌≤◌, min, Bool, true, false, List, [], ◌∷◌, Option, Some, None, slice_get, length, length-take, length-drop, arith}
+use Rattle.std.proofs.Common.{◌≡◌, refl, ap, sym, ◌∙◌, subst, ℕ, ◌+◌, ◌^◌, ◌<◌, ◌≤◌, min, Bool, true, false, List, ◌∷◌, Some, None, slice_get, length, length-take, length-drop, arith}
 use Rattle.std.proofs.lemmas.List.{get_or-drop, get_or-take}
 use Rattle.std.proofs.lemmas.Option.{same_Some}
 use Rattle.std.specs.List.{Contains}
-use Rattle.std.specs.Prelude.{IsSome, IsTrue, drop, slice_index, slice_index_or, take}
+use Rattle.std.specs.Prelude.{IsSome, IsTrue, drop, slice_index, take}
 use Rattle.ack_vectors.proofs.ReadBack.{plain-set}
 use Rattle.ack_vectors.proofs.Telling.{heard-member, whole-tells}
 use Rattle.ack_vectors.specs.Vector.{is_whole, set_states, state_told}
@@ -13,7 +13,6 @@ use Rattle.congestion_trait.specs.Flight.{Has}
 use Rattle.congestion_trait.specs.declared.flight.Standing.TheVariants.{Reported}
 use Rattle.dccp_options.specs.Vectors.{is_received, state_at}
 use Rattle.dccp_packets.specs.Grammar.{packet_type}
-use Rattle.dccp_packets.specs.Kinds.{value_of}
 use Rattle.dccp_packets.specs.declared.header.Kind.{Kind}
 use Rattle.dccp_packets.specs.declared.header.Kind.TheVariants as kind
 use Rattle.dccp_packets.specs.declared.header.PacketType.TheVariants as types
@@ -29,8 +28,8 @@ use Rattle.world_events.specs.declared.event.Side.TheVariants.{Client, Server}
 use Rattle.two_ends.specs.declared.frames.SentFrame.{SentFrame}
 use Rattle.two_ends.specs.Controlled.{Controlled, congestion_of}
 use Rattle.two_ends.specs.Counted.{AreAmongFirst, AreResets}
-use Rattle.two_ends.specs.Frames.{is_reset, number_of_frame, packet_number}
-use Rattle.two_ends.specs.Negotiated.{Agree, AgreeOn, Given, HasSent, HasTold, Initial, IsNotNegotiable, IsServerPriority, IsSettled, Origin, Reconciled, Told as ToldValue, last_list_sent, last_value, list_said, pair_was_negotiated, value_said}
+use Rattle.two_ends.specs.Frames.{is_reset}
+use Rattle.two_ends.specs.Negotiated.{Agree, HasSent, Initial, IsNotNegotiable, IsServerPriority, IsSettled, Origin, Reconciled, Told as ToldValue, last_list_sent, last_value, list_said, pair_was_negotiated, value_said}
 use Rattle.two_ends.specs.Pairs.{FeatureAt, held_at, said_by}
 use Rattle.two_ends.specs.Reported.{CarriesVector, Far, Heard, NeedsNoReport, Once, Told, Truthful, WasTold, processed_by}
 use Rattle.two_ends.specs.World.{WorldState, half_of}
@@ -146,9 +145,9 @@ module _ (w : WorldState) where
 
   pub far-behind : Told w → (side : Side) (iss count n : ℕ) → iss < 2 ^ 48 → 1 ≤ count → count + 2047 ≤ 2 ^ 47 → n ≡ number_of iss count
       → distance (half_of w side).end.marks.isr n < distance (half_of w side).end.marks.isr (half_of w side).end.received.set.floor
-      → ((index : ℕ) (frame : SentFrame) (ack number : ℕ) (bytes : List ℕ) → slice_get (half_of w side).frames index ≡ Some frame → CarriesVector frame ack bytes
+      → ((index : ℕ) (frame : SentFrame) (ack : ℕ) (bytes : List ℕ) → slice_get (half_of w side).frames index ≡ Some frame → CarriesVector frame ack bytes
       → is_whole (has (take frame.processed (half_of w side).processed)) frame.floor ack ≡ true → IsWithin n frame.floor ack
-      → number_of_frame frame.bytes ≡ Some number → Contains (half_of w (other side)).processed number → ⊥)
+      → Contains (half_of w (other side)).processed frame.number → ⊥)
       → AreAmongFirst iss (count + 2047) (half_of w side).processed → ⊥
   far-behind told side iss count n fits some early is below none among = by (told side n (number-small iss count n is) below) where
     by : NeedsNoReport w side n → ⊥
@@ -156,8 +155,7 @@ module _ (w : WorldState) where
         let q_is = among q has_it in
         far-not iss count q_is.count n q fits some early q_is.some q_is.early is q_is.same before
     by (WasTold was) =
-        none was.index was.frame was.ack (value_of was.vector_is.packet.header.number) was.bytes was.is_there was.vector_is was.whole was.reaches
-        (ap packet_number was.vector_is.is_packet) was.heard
+        none was.index was.frame was.ack was.bytes was.is_there was.vector_is was.whole was.reaches was.heard
 
   module _ (once : Once w) (side : Side) where
     pub apart-so : (early n : ℕ) → Contains (take early (half_of w side).processed) n → Contains (drop early (half_of w side).processed) n → ⊥

@@ -1,11 +1,11 @@
 -- What a step delivers are the data of the frame that arrives, which it processes by that; so none is delivered twice.
-use Rattle.std.proofs.Common.{◌≡◌, ◌≢◌, ◌⊎◌, refl, ap, sym, ◌∙◌, subst, ℕ, zero, suc, ◌+◌, ◌-◌, ◌^◌, ◌<◌, ◌≤◌, nat_lt, not, Bool, true, false, List, [], ◌∷◌, ◌++◌, Option, Some, None, Result, Ok, Err, slice_get, length, length-append, drop, if◌then◌else◌, arith, inl, inr}
+use Rattle.std.proofs.Common.{◌≡◌, ◌⊎◌, refl, ap, sym, ◌∙◌, subst, ℕ, zero, suc, ◌+◌, ◌-◌, ◌^◌, ◌<◌, ◌≤◌, nat_lt, not, Bool, true, false, List, [], ◌∷◌, ◌++◌, Option, Some, None, Result, Ok, Err, slice_get, length, length-append, drop, if◌then◌else◌, arith, inl, inr}
 use Rattle.std.proofs.lemmas.Bool.{and_parts}
 use Rattle.std.proofs.lemmas.List.{append_assoc, drop_at, get_or_append_left, get_or_push}
 use Rattle.std.proofs.lemmas.List.Elements.{Contains-append_left, Contains-push}
-use Rattle.std.proofs.lemmas.Option.{same_Some, slice_get_within}
+use Rattle.std.proofs.lemmas.Option.{same_Some}
 use Rattle.std.specs.List.{Contains}
-use Rattle.std.specs.Prelude.{slice_index, slice_index_or}
+use Rattle.std.specs.Prelude.{slice_index}
 use Rattle.std.specs.Result.{result_ok}
 use Rattle.ack_vectors.specs.Kept.{Kept as KeptNumbers}
 use Rattle.congestion_trait.specs.Control.{Control}
@@ -25,7 +25,6 @@ use Rattle.dccp_endpoint.specs.Reporting.{carries_data, delivered_if, is_new, on
 use Rattle.dccp_endpoint.specs.Steps.{Step}
 use Rattle.dccp_packets.proofs.TableLemmas.{read_table}
 use Rattle.dccp_packets.specs.Grammar.{Parts, decoded, packet_type}
-use Rattle.dccp_packets.specs.Kinds.{value_of}
 use Rattle.dccp_packets.specs.declared.header.PacketType.{PacketType}
 use Rattle.dccp_packets.specs.declared.header.PacketType.TheVariants as types
 use Rattle.end_answers.specs.declared.outcome.Outcome.{Outcome}
@@ -44,7 +43,7 @@ use Rattle.two_ends.specs.declared.frames.SentFrame.{SentFrame}
 use Rattle.two_ends.specs.Controlled.{Controlled, ControlledStep, congestion_of, controlled, controlled_after, controls, happens_to, said_by}
 use Rattle.two_ends.specs.Delivered.{DeliversFrame, DeliversIn, DeliversItsData, IsDeliveredOnce, delivered_by, frame_delivered, frames_delivered, named_if, place_delivered}
 use Rattle.two_ends.specs.Reported.{IsOnce}
-use Rattle.two_ends.specs.Frames.{number_of_frame, packet_number, packet_of}
+use Rattle.two_ends.specs.Frames.{packet_of}
 use Rattle.two_ends.specs.World.{Half, HalfStep, Said, WorldState, WorldStep, delivers_frame, half_of, half_steps, happens, is_full, newly_processed, number_if, seen_of, seen_of_call, unless_full, with_half, world_after}
 use Rattle.two_ends.proofs.Acting.{IsHeld, Refused, Steps, Takes, event-taken}
 use Rattle.two_ends.proofs.Keeping.{SideInvariant, held-once, kept-proper, marked-few, step-kept}
@@ -109,7 +108,7 @@ record IsDelivering (half : Half) (bytes : List ℕ) (place : ℕ × ℕ) : Type
   begins : place.0 ≤ place.1
   ends : place.1 ≡ length bytes
   are_its_data : drop place.0 bytes ≡ packet.payload
-  newly : newly_processed half.end (Arrives bytes) (receives half.end bytes).after ≡ value_of packet.header.number ∷ []
+  newly : (number : ℕ) → newly_processed half.end (Some number) (receives half.end bytes).after ≡ number ∷ []
 
 module _ (w : WorldState) (h : IsHeld SideInvariant w) (side : Side) (bytes : List ℕ) (place : ℕ × ℕ)
     (took : (receives (half_of w side).end bytes).answer ≡ Took (Some place)) where
@@ -149,9 +148,6 @@ module _ (w : WorldState) (h : IsHeld SideInvariant w) (side : Side) (bytes : Li
   kind-is : a.kind ≡ packet_type p.header.kind
   kind-is = ap (λ (x : Incoming). x.kind) came.same
 
-  number-is : a.number ≡ value_of p.header.number
-  number-is = ap (λ (x : Incoming). x.number) came.same ∙ sym (ap value_of came.is_long)
-
   whole : (carries_data a.kind ≡ true) × ((is_new (answer_to taken.entered.received.set a.number) ≡ true) × (place ≡ a.data_place))
   whole =
       let so = delivered-so _ a.data_place place (was.is_place ∙ taken.delivery) in
@@ -176,11 +172,10 @@ module _ (w : WorldState) (h : IsHeld SideInvariant w) (side : Side) (bytes : Li
       ∙ ap (λ (k : KeptNumbers). one_more_taken e.marked (is_new (answer_to k.set a.number))) (sym window.0)
       ∙ ap (one_more_taken e.marked) whole.1.0
 
-  newly-is : newly_processed e (Arrives bytes) step.after ≡ value_of p.header.number ∷ []
-  newly-is =
-      ap (λ (n : ℕ). number_if (nat_lt e.marked n) (number_of_frame bytes)) marked-is
-      ∙ ap (λ (b : Bool). number_if b (number_of_frame bytes)) (rose e.marked (marked-few w h side))
-      ∙ ap (λ (r : Result Parts _). number_if true (packet_number (result_ok r))) is-decoded
+  newly-is : (number : ℕ) → newly_processed e (Some number) step.after ≡ number ∷ []
+  newly-is number =
+      ap (λ (n : ℕ). number_if (nat_lt e.marked n) (Some number)) marked-is
+      ∙ ap (λ (b : Bool). number_if b (Some number)) (rose e.marked (marked-few w h side))
 
   delivering : IsDelivering (half_of w side) bytes place
   delivering =
@@ -226,9 +221,9 @@ unless-by w side step false after same =
     (sym (ap (λ (s : WorldStep). s.world) is), sym (ap (λ (s : WorldStep). s.seen) is))
 
 no-delivery : (w : WorldState) (side : Side) (given : Input) → IsAsked given → (after : WorldStep)
-    → unless_full w side (half_steps (half_of w side) given) ≡ Ok after → (place : ℕ × ℕ) → place_delivered after.seen ≡ Some place → ⊥
+    → unless_full w side (half_steps (half_of w side) None given) ≡ Ok after → (place : ℕ × ℕ) → place_delivered after.seen ≡ Some place → ⊥
 no-delivery w side given is after same place some =
-    let so = unless-by w side (half_steps (half_of w side) given) (is_full (half_of w side)) after same in
+    let so = unless-by w side (half_steps (half_of w side) None given) (is_full (half_of w side)) after same in
     let none : place_delivered after.seen ≡ None = ap place_delivered so.1 ∙ silent-call (half_of w side).end given is in
     cc (none, some)
 
@@ -243,7 +238,7 @@ arrived : (w : WorldState) → IsHeld SideInvariant w → (from : Side) (index :
 arrived w h from index None there after same place is = cc same
 arrived w h from index (Some frame) there after same place is =
     let half : Half = half_of w (other from) in
-    let so = unless-by w (other from) (half_steps half (Arrives frame.bytes)) (is_full half) after same in
+    let so = unless-by w (other from) (half_steps half (Some frame.number) (Arrives frame.bytes)) (is_full half) after same in
     let took : (receives half.end frame.bytes).answer ≡ Took (Some place) = answer-took _ place (sym (ap place_delivered so.1) ∙ is) in
     let d = delivering w h (other from) frame.bytes place took in
     record {
@@ -257,8 +252,8 @@ arrived w h from index (Some frame) there after same place is =
       are_its_data = d.are_its_data;
       is_processed =
           ap (λ (v : WorldState). (half_of v (other from)).processed) so.0
-          ∙ ap (λ (x : Half). x.processed) (half-with w (other from) (half_steps half (Arrives frame.bytes)).half)
-          ∙ ap (λ (ns : List ℕ). half.processed ++ ns) d.newly;
+          ∙ ap (λ (x : Half). x.processed) (half-with w (other from) (half_steps half (Some frame.number) (Arrives frame.bytes)).half)
+          ∙ ap (λ (ns : List ℕ). half.processed ++ ns) (d.newly frame.number);
     }
 
 step-delivers : (w : WorldState) → IsHeld SideInvariant w → (e : Event) (said : Said) (after : WorldStep) → happens w e said ≡ Ok after
@@ -275,10 +270,8 @@ step-delivers w h (event.Abort side) said after same place is = no-delivery w si
 -- a frame whose data were delivered: its number is among those that were processed
 record IsPast (w : WorldState) (named : Side × ℕ) : Type 0 where
   frame : SentFrame
-  number : ℕ
   is_there : slice_get (half_of w named.0).frames named.1 ≡ Some frame
-  is_number : number_of_frame frame.bytes ≡ Some number
-  is_processed : Contains (half_of w (other named.0)).processed number
+  is_processed : Contains (half_of w (other named.0)).processed frame.number
 
 get-more : {A : Type 0} (xs more : List A) (i : ℕ) (x : A) → slice_get xs i ≡ Some x → slice_get (xs ++ more) i ≡ Some x
 get-more [] more i x there = cc there
@@ -289,28 +282,26 @@ get-more (y ∷ ys) more (suc i) x there = get-more ys more i x there
 frame-after : (w : WorldState) (side : Side) (r : Result WorldStep WorldFault) → Takes w side r → (from : Side) (index : ℕ) (frame : SentFrame)
     → slice_get (half_of w from).frames index ≡ Some frame → slice_get (half_of (world_after w r) from).frames index ≡ Some frame
 frame-after w side _ (Refused why) from index frame there = there
-frame-after w Client _ (Steps given room of) Client index frame there = get-more w.client.frames _ index frame there
-frame-after w Client _ (Steps given room of) Server index frame there = there
-frame-after w Server _ (Steps given room of) Client index frame there = there
-frame-after w Server _ (Steps given room of) Server index frame there = get-more w.server.frames _ index frame there
+frame-after w Client _ (Steps arrived given room of) Client index frame there = get-more w.client.frames _ index frame there
+frame-after w Client _ (Steps arrived given room of) Server index frame there = there
+frame-after w Server _ (Steps arrived given room of) Client index frame there = there
+frame-after w Server _ (Steps arrived given room of) Server index frame there = get-more w.server.frames _ index frame there
 
 processed-after : (w : WorldState) (side : Side) (r : Result WorldStep WorldFault) → Takes w side r → (at : Side) (n : ℕ)
     → Contains (half_of w at).processed n → Contains (half_of (world_after w r) at).processed n
 processed-after w side _ (Refused why) at n has_it = has_it
-processed-after w Client _ (Steps given room of) Client n has_it = Contains-append_left w.client.processed _ n has_it
-processed-after w Client _ (Steps given room of) Server n has_it = has_it
-processed-after w Server _ (Steps given room of) Client n has_it = has_it
-processed-after w Server _ (Steps given room of) Server n has_it = Contains-append_left w.server.processed _ n has_it
+processed-after w Client _ (Steps arrived given room of) Client n has_it = Contains-append_left w.client.processed _ n has_it
+processed-after w Client _ (Steps arrived given room of) Server n has_it = has_it
+processed-after w Server _ (Steps arrived given room of) Client n has_it = has_it
+processed-after w Server _ (Steps arrived given room of) Server n has_it = Contains-append_left w.server.processed _ n has_it
 
 past-after : (w : WorldState) (side : Side) (r : Result WorldStep WorldFault) → Takes w side r → (named : Side × ℕ) → IsPast w named
     → IsPast (world_after w r) named
 past-after w side r takes named p =
     record {
       frame = p.frame;
-      number = p.number;
       is_there = frame-after w side r takes named.0 named.1 p.frame p.is_there;
-      is_number = p.is_number;
-      is_processed = processed-after w side r takes (other named.0) p.number p.is_processed;
+      is_processed = processed-after w side r takes (other named.0) p.frame.number p.is_processed;
     }
 
 -- a number that is processed again stands twice
@@ -325,28 +316,21 @@ twice ns n has_it distinct =
     omega (arith, same, has_it.1)
 
 module _ (w new : WorldState) (from : Side) (index : ℕ) (place : ℕ × ℕ) (d : DeliversFrame w new from index place) where
-  frame-number : number_of_frame d.frame.bytes ≡ Some (value_of d.packet.header.number)
-  frame-number = ap packet_number d.is_packet
-
   not-again : IsOnce new (other from) → IsPast w (from, index) → ⊥
   not-again once p =
       let frame : p.frame ≡ d.frame = same_Some p.frame d.frame (sym p.is_there ∙ d.is_there) in
-      let number : p.number ≡ value_of d.packet.header.number =
-      same_Some p.number _ (sym p.is_number ∙ ap (λ (f : SentFrame). number_of_frame f.bytes) frame ∙ frame-number) in
-      twice (half_of w (other from)).processed (value_of d.packet.header.number)
-      (subst (Contains (half_of w (other from)).processed) number p.is_processed)
+      twice (half_of w (other from)).processed d.frame.number
+      (subst (λ (f : SentFrame). Contains (half_of w (other from)).processed f.number) frame p.is_processed)
       (subst (λ (ns : List ℕ). (i j : ℕ) → i < length ns → j < length ns → slice_index ns i ≡ slice_index ns j → i ≡ j) d.is_processed once.distinct)
 
   now-past : slice_get (half_of new from).frames index ≡ Some d.frame → IsPast new (from, index)
   now-past there =
       record {
         frame = d.frame;
-        number = value_of d.packet.header.number;
         is_there = there;
-        is_number = frame-number;
         is_processed =
-            subst (λ (ns : List ℕ). Contains ns (value_of d.packet.header.number)) (sym d.is_processed)
-            (Contains-push (half_of w (other from)).processed (value_of d.packet.header.number));
+            subst (λ (ns : List ℕ). Contains ns d.frame.number) (sym d.is_processed)
+            (Contains-push (half_of w (other from)).processed d.frame.number);
       }
 
 -- where a member of two lists in a row stands

@@ -1,5 +1,5 @@
 -- What every schedule keeps, and what makes the world safe.
-use Rattle.std.proofs.Common.{◌≡◌, ap, sym, ◌∙◌, subst, ℕ, ◌+◌, ◌-◌, ◌^◌, ◌<◌, ◌≤◌, true, List, Result, Some, slice_get, length, arith}
+use Rattle.std.proofs.Common.{◌≡◌, ap, sym, ◌∙◌, subst, ℕ, ◌+◌, ◌-◌, ◌^◌, ◌<◌, ◌≤◌, true, List, Option, Result, Some, slice_get, length, arith}
 use Rattle.std.specs.List.{Contains}
 use Rattle.std.proofs.lemmas.List.{length-map}
 use Rattle.seq_circle.specs.Circle.{residue}
@@ -7,9 +7,11 @@ use Rattle.seq_circle.specs.Counts.{number_of}
 use Rattle.dccp_states.specs.declared.phase.Role.TheVariants as role
 use Rattle.congestion_trait.specs.Control.{Control}
 use Rattle.dccp_options.specs.Vectors.{is_received, state_at}
-use Rattle.dccp_endpoint.specs.Causes.{EveryStepHasOneEffect}
+use Rattle.dccp_endpoint.specs.Causes.{Came, EveryStepHasOneEffect}
 use Rattle.dccp_endpoint.specs.Drafts.{Fits}
 use Rattle.dccp_endpoint.specs.End.{IsProper}
+use Rattle.dccp_endpoint.specs.Incoming.{Incoming}
+use Rattle.dccp_endpoint.specs.Inputs.{Input}
 use Rattle.dccp_endpoint.specs.declared.config.Config.{Config}
 use Rattle.feature_agreement.specs.Moves as moves
 use Rattle.feature_agreement.specs.Rows.{location_of, pair_of}
@@ -38,7 +40,7 @@ use Rattle.two_ends.proofs.Logged.{at-place}
 use Rattle.two_ends.proofs.Marking.{IsMarking, marking}
 use Rattle.two_ends.proofs.Negotiating.{IsNegotiated, negotiating}
 use Rattle.two_ends.proofs.Numbering.{IsOrdered, few-logged, more-sent, numbering}
-use Rattle.two_ends.proofs.ReadBack.{logged-numbered}
+use Rattle.two_ends.proofs.ReadBack.{IsSentFrame, IsToldBy, logged-numbered, told-by-sender}
 use Rattle.two_ends.proofs.Remembering.{marks-processed, newest-processed, records-honest}
 use Rattle.two_ends.proofs.Resets.{resets-move-nothing}
 use Rattle.two_ends.proofs.Reporting.{once, received-processed, told, truthful, unacknowledged}
@@ -173,6 +175,13 @@ module _ (w : WorldState) (h : IsHeld SideInvariant w) where
 
   pub held-once : (side : Side) → IsOnce w side
   held-once side = once w h.logs side (holds side).ordered (ordered-there side) (marks-of side)
+
+  -- What arrives has the numbers that are kept of its frame.
+  pub kept-told : (side : Side) (given : Input) (a : Incoming) (came : Came (half_of w side).end given a) (arrived : Option ℕ)
+      → (sent : IsSentFrame (half_of w (other side)).frames arrived came.bytes) → IsToldBy sent.frame a
+  kept-told side given a came arrived sent =
+      told-by-sender (half_of w side).end given a came (half_of w (other side)).end.config (half_of w (other side)).frames (h.logs (other side)) arrived sent
+      (ordered-there side).logged
 
   -- What a side's Ack Vector tells received, it had processed.
   pub kept-received : (side : Side) (index : ℕ) (frame : SentFrame) (ack : ℕ) (bytes : List ℕ) (n : ℕ) → slice_get (half_of w side).frames index ≡ Some frame

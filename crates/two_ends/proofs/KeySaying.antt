@@ -387,5 +387,5 @@ module _ (s : KnownStep) where
   -- So the log stays well.
   pub stays-well : All (IsWell peer_iss) act.side.log → All (IsWell peer_iss) (acted act).log
   stays-well before =
-      All-append (IsWell peer_iss) act.side.log (drafted_by act.side.half act.given f) before
-      (sent-well f.sending (length (processed_by act.side.half act.given act.effect)) (floor_of (end_after e f)) act.because.says act.because.framed)
+      All-append (IsWell peer_iss) act.side.log (drafted_by act.side.half act.arrived f) before
+      (sent-well f.sending (length (processed_by act.side.half act.arrived act.effect)) (floor_of (end_after e f)) act.because.says act.because.framed)

@@ -36,3 +36,4 @@ pub mod Delivering
 pub mod Calling
 pub mod Believing
 pub mod Consequences
+pub mod Spelling

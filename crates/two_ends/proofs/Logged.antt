@@ -1,9 +1,11 @@
 -- What the numbered frames of a side carry is one list: the n-th of them, from 0, stands at place n.
-use Rattle.std.proofs.Common.{◌≡◌, refl, subst, ℕ, ◌+◌, zero, suc, ◌≤◌, List, [], ◌∷◌, ◌++◌, Some, slice_get, length, true, false, arith}
+use Rattle.std.proofs.Common.{◌≡◌, refl, subst, ℕ, ◌+◌, zero, suc, ◌≤◌, ◌%◌, ◌^◌, List, [], ◌∷◌, ◌++◌, Some, slice_get, length, true, false, arith}
 use Rattle.std.proofs.lemmas.List.Elements.{All-get_or}
 use Rattle.std.proofs.lemmas.Option.{get_or_from_slice_get, same_Some, slice_get_within}
 use Rattle.std.specs.List.{All}
 use Rattle.seq_circle.specs.Circle.{residue}
+use Rattle.dccp_packets.specs.Kinds.{ack_of}
+use Rattle.dccp_packets.specs.Widths.{kind_in_widths}
 use Rattle.dccp_packets.specs.declared.header.Kind.{Kind}
 use Rattle.dccp_endpoint.specs.Causes.{is_without_connection}
 use Rattle.dccp_endpoint.specs.Drafts.{Draft, IsSendable, alone, frame_of}
@@ -20,7 +22,14 @@ pub record Logged : Type 0 where
 pub record IsLogged (config : Config) (number : ℕ) (frame : SentFrame) (l : Logged) : Type 0 where
   pub sendable : IsSendable l.draft
   pub of_connection : is_without_connection config.role l.draft.kind ≡ false
-  pub same : frame ≡ record { bytes = frame_of config number l.draft; processed = l.processed; floor = l.floor }
+  pub same : frame
+      ≡ record {
+        bytes = frame_of config number l.draft;
+        number = number % 2 ^ 48;
+        ack = ack_of (kind_in_widths l.draft.kind);
+        processed = l.processed;
+        floor = l.floor;
+      }
 
 -- The frame is a Reset without a connection.
 pub record IsUnlogged (config : Config) (frame : SentFrame) : Type 0 where
@@ -29,6 +38,8 @@ pub record IsUnlogged (config : Config) (frame : SentFrame) : Type 0 where
   pub sendable : IsSendable (alone kind)
   pub without_connection : is_without_connection config.role kind ≡ true
   pub same : frame.bytes ≡ frame_of config number (alone kind)
+  pub numbered : frame.number ≡ number % 2 ^ 48
+  pub acks : frame.ack ≡ ack_of (kind_in_widths kind)
 
 -- the frames from a number on, and what the numbered ones among them carry
 pub data AreLogged (config : Config) : ℕ → List SentFrame → List Logged → Type 0 where

@@ -1,10 +1,9 @@
 -- What a packet that is heard does to the marks is moves of its side.
-use Rattle.std.proofs.Common.{◌≡◌, ◌≢◌, ◌⊎◌, inl, inr, refl, ap, sym, ◌∙◌, subst, ℕ, suc, ◌+◌, ◌-◌, ◌^◌, ◌<◌, ◌≤◌, max, min, nat_lt, Bool, true, false, List, [], ◌∷◌, ◌++◌, Some, length, map, arith}
+use Rattle.std.proofs.Common.{◌≡◌, ◌≢◌, ◌⊎◌, inl, inr, refl, ap, sym, ◌∙◌, subst, ℕ, suc, ◌+◌, ◌-◌, ◌^◌, ◌<◌, ◌≤◌, max, min, nat_lt, Bool, true, false, List, [], ◌∷◌, ◌++◌, length, map, arith}
 use Rattle.std.proofs.lemmas.List.{append-nil, length-map, map-append}
 use Rattle.std.proofs.lemmas.List.Elements.{All-cons, All-nil}
 use Rattle.std.proofs.lemmas.Option.{slice_get_within}
 use Rattle.std.specs.List.{All, Contains}
-use Rattle.std.specs.Result.{result_ok}
 use Rattle.ack_vectors.specs.Kept.{Kept as KeptNumbers}
 use Rattle.ack_vectors.specs.declared.received.Record.{Record}
 use Rattle.dccp_endpoint.specs.Causes.{Came, IsHearing, Keeps as KeepsHeard, Starts, Raises, entrance_of, is_waiting}
@@ -13,7 +12,6 @@ use Rattle.dccp_endpoint.specs.End.{EndState, is_live}
 use Rattle.dccp_endpoint.specs.Incoming.{Incoming}
 use Rattle.dccp_endpoint.specs.Reporting.{is_acking, is_new, one_more_taken}
 use Rattle.dccp_endpoint.proofs.Phases.{accept-so, answer-so, check-live}
-use Rattle.dccp_packets.specs.Kinds.{value_of}
 use Rattle.dccp_packets.specs.declared.header.PacketType.TheVariants as types
 use Rattle.dccp_states.specs.declared.entrance.Entrance.TheVariants as entrance
 use Rattle.dccp_states.specs.declared.phase.Phase.{Phase}
@@ -30,11 +28,10 @@ use Rattle.run_list.specs.MarkedSet.{MarkedSet, answer_to, empty_from, marked}
 use Rattle.run_list.specs.declared.answers.Marked.{Marked}
 use Rattle.run_list.specs.declared.answers.Marked.TheVariants.{New, Again, BelowFloor}
 use Rattle.seq_circle.specs.Counts.{number_of}
-use Rattle.two_ends.specs.Frames.{packet_number}
-use Rattle.two_ends.specs.World.{newly_processed, number_given, number_if}
+use Rattle.two_ends.specs.World.{newly_processed, number_if}
 use Rattle.two_ends.proofs.Acting.{Act, config_of, end_of}
 use Rattle.two_ends.proofs.HeardTo.{IsHeardTo, heard-on, opened-none, unheard-on}
-use Rattle.two_ends.proofs.Numbering.{IsOrdered, came-logged, few-logged}
+use Rattle.two_ends.proofs.Numbering.{IsOrdered, came-arrived, came-logged, few-logged}
 use Rattle.two_ends.proofs.Shown.{IsPacketOf, IsShown, few-processed, later-greatest, next-number, some-first}
 use Rattle.two_ends.proofs.Vectors.{frame-of, frames-length}
 
@@ -50,19 +47,11 @@ pub record IsTaking (act : Act) (view peer : MarkSide) (received : KeptNumbers) 
   pub closed : after.closed ≡ true → (1 ≤ after.greatest) × ((is_live act.effect.phase ≡ false) × (is_waiting act.effect.phase ≡ false))
   pub numbers : List ℕ
   pub processed : act.side.half.processed ++ numbers ≡ map (number_of (config_of act.peer).iss) after.processed
-  pub newly : newly_processed (end_of act.side) act.given (end_after (end_of act.side) act.effect) ≡ numbers
+  pub newly : newly_processed (end_of act.side) act.arrived (end_after (end_of act.side) act.effect) ≡ numbers
   pub marked : count_by (end_of act.side).marked (end_of act.side).received act.effect.hearing ≡ (end_of act.side).marked + length numbers
   pub packets : All (IsPacketOf (config_of act.peer).iss act.peer.log) numbers
   pub records : (r : Record) → Contains received.records r → Contains (end_of act.side).received.records r
   pub some : (is_first : Bool) (number : ℕ) (how : Passing) → act.effect.hearing ≡ Heard is_first number how → 1 ≤ after.first
-
--- the number of a packet that came is given
-number-came : (e : EndState) (a : Incoming) (act : Act) → Came e act.given a → number_given act.given ≡ Some a.number
-number-came e a act came =
-    ap number_given came.is_given
-    ∙ ap packet_number (ap result_ok came.is_packet)
-    ∙ ap (λ n. Some (value_of n)) came.is_long
-    ∙ ap Some (sym (ap (λ (x : Incoming). x.number) came.same))
 
 closed-not : (b : Bool) → (b ≡ true → ⊥) → b ≡ false
 closed-not true none = absurd (none refl)
@@ -151,17 +140,17 @@ module _ (act : Act) (peer_ordered : IsOrdered act.peer) (view peer : MarkSide) 
     by shut (inl live) = (let dead = shut.0 in cc (dead, live))
     by shut (inr waits) = (let none = shut.1 in cc (none, waits))
 
-  newly-none : count_by e.marked e.received f.hearing ≡ e.marked → newly_processed e act.given (end_after e f) ≡ []
+  newly-none : count_by e.marked e.received f.hearing ≡ e.marked → newly_processed e act.arrived (end_after e f) ≡ []
   newly-none same =
-      ap (λ (n : ℕ). number_if (nat_lt e.marked n) (number_given act.given)) same
-      ∙ ap (λ (b : Bool). number_if b (number_given act.given)) (count-same e.marked)
+      ap (λ (n : ℕ). number_if (nat_lt e.marked n) act.arrived) same
+      ∙ ap (λ (b : Bool). number_if b act.arrived) (count-same e.marked)
 
   newly-one : (a : Incoming) → Came e act.given a → count_by e.marked e.received f.hearing ≡ e.marked + 1
-      → newly_processed e act.given (end_after e f) ≡ a.number ∷ []
+      → newly_processed e act.arrived (end_after e f) ≡ a.number ∷ []
   newly-one a came same =
-      ap (λ (n : ℕ). number_if (nat_lt e.marked n) (number_given act.given)) same
-      ∙ ap (λ (b : Bool). number_if b (number_given act.given)) (count-above e.marked)
-      ∙ ap (number_if true) (number-came e a act came)
+      ap (λ (n : ℕ). number_if (nat_lt e.marked n) act.arrived) same
+      ∙ ap (λ (b : Bool). number_if b act.arrived) (count-above e.marked)
+      ∙ ap (number_if true) (came-arrived act peer_ordered a came)
 
   one-more : (a : Incoming) (count : ℕ) → a.number ≡ number_of iss count
       → act.side.half.processed ++ a.number ∷ [] ≡ map (number_of iss) (view.processed ++ count ∷ [])

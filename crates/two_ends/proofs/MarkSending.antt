@@ -188,7 +188,7 @@ module _ (act : Act) (own : IsOrdered act.side) (peer_ordered : IsOrdered act.pe
     abbrev keys : List Key
     keys = act.because.turns.keys
 
-    processed-length : length (processed_by act.side.half act.given f) ≡ length t.after.processed
+    processed-length : length (processed_by act.side.half act.arrived f) ≡ length t.after.processed
     processed-length =
         ap (λ (ns : List ℕ). length (act.side.half.processed ++ ns)) t.newly ∙ ap length t.processed ∙ length-map t.after.processed (number_of iss)
 
@@ -200,7 +200,7 @@ module _ (act : Act) (own : IsOrdered act.side) (peer_ordered : IsOrdered act.pe
     pub record IsSent (s : Sending) : Type 0 where
       pub frames : List Frame
       pub moves : MarkMoves peer.frames t.after (record t.after { frames = frames })
-      are : AreFrames iss (act.side.log ++ logged_by (length (processed_by act.side.half act.given f)) (floor_of (end_after e f)) s) frames
+      are : AreFrames iss (act.side.log ++ logged_by (length (processed_by act.side.half act.arrived f)) (floor_of (end_after e f)) s) frames
       records : (r : Record) → Contains (recorded_by (is_acking_sent s && has-vector) kept-numbers (next_number e) greatest).records r
           → IsRecorded own_iss iss frames r
 
@@ -210,7 +210,7 @@ module _ (act : Act) (own : IsOrdered act.side) (peer_ordered : IsOrdered act.pe
     frames-now : AreFrames iss act.side.log t.after.frames
     frames-now = subst (λ (fs : List Frame). AreFrames iss act.side.log fs) (sym t.frames) here.frames
 
-    none-sent : (s : Sending) → logged_by (length (processed_by act.side.half act.given f)) (floor_of (end_after e f)) s ≡ [] → is_acking_sent s ≡ false
+    none-sent : (s : Sending) → logged_by (length (processed_by act.side.half act.arrived f)) (floor_of (end_after e f)) s ≡ [] → is_acking_sent s ≡ false
         → IsSent s
     none-sent s none quiet =
         record {
@@ -227,7 +227,7 @@ module _ (act : Act) (own : IsOrdered act.side) (peer_ordered : IsOrdered act.pe
     module _ (packet : Draft) (framed : HasFrame (Next packet))
         (options : packet.options ≡ vector_of e f packet.kind ++ (confirm_items due ++ change_items (rows_by e.rows f) keys)) where
       abbrev logged : Logged
-      logged = record { draft = packet; processed = length (processed_by act.side.half act.given f); floor = floor_of (end_after e f) }
+      logged = record { draft = packet; processed = length (processed_by act.side.half act.arrived f); floor = floor_of (end_after e f) }
 
       vectors : vectors_of logged ≡ one_vector (is_acking (packet_type packet.kind) && has-vector) kept-numbers.set greatest
       vectors =
@@ -367,7 +367,7 @@ module _ (act : Act) (own : IsOrdered act.side) (peer_ordered : IsOrdered act.pe
     last = record t.after { frames = done.frames }
 
     abbrev added : List ℕ
-    added = newly_processed e act.given (end_after e f)
+    added = newly_processed e act.arrived (end_after e f)
 
     pub shown : IsShown (acted act) act.peer last
     shown =

@@ -68,7 +68,7 @@ acting act own others m =
             processed = m.there.processed;
             marked = m.there.marked;
             packets =
-                packets-more (config_of act.side).iss act.side.log (drafted_by act.side.half act.given act.effect) act.peer.half.processed m.there.packets;
+                packets-more (config_of act.side).iss act.side.log (drafted_by act.side.half act.arrived act.effect) act.peer.half.processed m.there.packets;
             frames = m.there.frames;
             records = m.there.records;
           };

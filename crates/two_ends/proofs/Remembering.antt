@@ -1,17 +1,14 @@
 -- What a side marked is what it processed, and its records say what its frames do.
-use Rattle.std.proofs.Common.{◌≡◌, ◌↔◌, refl, ap, sym, ◌∙◌, subst, ℕ, zero, suc, ◌+◌, ◌%◌, ◌^◌, ◌<◌, ◌≤◌, Bool, true, false, List, Some, slice_get, length, arith}
+use Rattle.std.proofs.Common.{◌≡◌, ◌↔◌, refl, ap, sym, ◌∙◌, subst, ℕ, zero, suc, ◌+◌, ◌%◌, ◌^◌, ◌<◌, ◌≤◌, Bool, true, false, List, Some, length, arith}
 use Rattle.std.proofs.lemmas.List.{length-map}
 use Rattle.std.proofs.lemmas.Option.{same_Some, slice_get_within}
 use Rattle.std.specs.List.{Contains}
 use Rattle.ack_vectors.specs.Vector.{is_whole}
-use Rattle.ack_vectors.specs.declared.received.Record.{Record}
 use Rattle.dccp_endpoint.proofs.OwnFrames.{type-kept}
 use Rattle.dccp_endpoint.specs.End.{floor_of, is_live}
 use Rattle.dccp_endpoint.specs.Reporting.{is_acking}
 use Rattle.dccp_packets.specs.Grammar.{Parts, packet_type}
-use Rattle.dccp_packets.specs.Kinds.{value_of}
-use Rattle.dccp_packets.specs.declared.header.PacketType.{PacketType}
-use Rattle.mark_agreement.specs.View.{Frame, MarkSide, frame_at}
+use Rattle.mark_agreement.specs.View.{MarkSide, frame_at}
 use Rattle.run_list.specs.MarkedSet.{has}
 use Rattle.seq_circle.specs.Circle.{IsBefore, IsFrom, IsWithin, distance, residue}
 use Rattle.seq_circle.specs.Counts.{number_of}
@@ -19,7 +16,7 @@ use Rattle.world_events.specs.Actors.{other}
 use Rattle.world_events.specs.declared.event.Side.{Side}
 use Rattle.two_ends.specs.declared.frames.SentFrame.{SentFrame}
 use Rattle.two_ends.specs.Frames.{packet_of}
-use Rattle.two_ends.specs.Remembered.{AreRecordsHonest, IsRecordOf, MarksWhatItProcessed, NewestIsProcessed}
+use Rattle.two_ends.specs.Remembered.{AreRecordsHonest, MarksWhatItProcessed, NewestIsProcessed}
 use Rattle.two_ends.specs.Reported.{processed_by}
 use Rattle.two_ends.specs.World.{WorldState, half_of}
 use Rattle.two_ends.proofs.Acting.{Party, config_of, end_of, party_of}
@@ -171,12 +168,12 @@ module _ (w : WorldState) (logs : Side → List Logged) (side : Side) where
     newest-found : (frame : SentFrame) (packet : Parts)
         → Found (config_of (party_of w logs (other side))) (config_of (party_of w logs (other side))).iss (logs (other side)) frame
         → is_live (half_of w side).end.phase ≡ true → packet_of frame.bytes ≡ Some packet → is_acking (packet_type packet.header.kind) ≡ true
-        → value_of packet.header.number ≡ (half_of w side).end.marks.gsr
+        → frame.number ≡ (half_of w side).end.marks.gsr
         → Contains (half_of w side).processed (half_of w side).end.marks.gsr
     newest-found frame packet (Nowhere is) live read acking same =
         let its = reset-frame (config_of (party_of w logs (other side))) frame is in
-        let packet_is : packet ≡ its.packet = same_Some packet its.packet (sym read ∙ its.is_packet) in
-        let type = without-reset (config_of (party_of w logs (other side))).role its.packet.header.kind its.has_code in
+        let packet_is : packet ≡ its.spells.packet = same_Some packet its.spells.packet (sym read ∙ its.spells.is_packet) in
+        let type = without-reset (config_of (party_of w logs (other side))).role its.spells.packet.header.kind its.has_code in
         let plain : is_acking (packet_type packet.header.kind) ≡ false = ap (λ (p : Parts). is_acking (packet_type p.header.kind)) packet_is ∙ ap is_acking type in
         cc (acking, plain)
     newest-found frame packet (AtPlace place number l there numbered is) live read acking same =
@@ -188,7 +185,7 @@ module _ (w : WorldState) (logs : Side → List Logged) (side : Side) where
         ap (λ (p : Parts). packet_type p.header.kind) packet_is ∙ ap packet_type its.kind_is ∙ type-kept l.draft.kind in
         let some : 1 ≤ m.view.greatest = m.here.heard.lives live in
         let number_is : number % 2 ^ 48 ≡ (half_of w side).end.marks.gsr =
-        sym (ap (λ (p : Parts). value_of p.header.number) packet_is ∙ its.number_is) ∙ same in
+        sym its.number_is ∙ same in
         let inside : place < length (logs (other side)) = slice_get_within (logs (other side)) place l there in
         let at : suc place ≡ m.view.greatest =
         same-place (config_of y).iss m.view.greatest place number (half_of w side).end.marks.gsr others.fits.iss some (greatest-few (party_of w logs side) y others m)
@@ -235,7 +232,7 @@ module _ (w : WorldState) (logs : Side → List Logged) (side : Side) where
               ap is_acking (ap packet_type read.kind_is ∙ type-kept l.draft.kind) ∙ sym ours.acks ∙ ours.vector_acks it.has_vector;
           is_numbered = omega (arith, read.number_is, at.is_numbered, it.number);
           acknowledges =
-              acknowledges w logs side own others m it.place at.number l at.frame entry.1 at.is_logged read.packet read.is_packet it.has_vector
+              acknowledges w logs side own others m it.place at.number l at.frame entry.1 at.is_logged it.has_vector
               ∙ ap Some (sym it.ack);
           tells_whole =
               sym it.is_whole ∙ ours.whole it.has_vector

@@ -10,7 +10,7 @@ use Rattle.ack_vectors.specs.Vector.{is_whole, vector as vector_of}
 use Rattle.dccp_endpoint.specs.End.{floor_of}
 use Rattle.dccp_options.specs.Vectors.{Report, ack_vectors, is_received, joined_report, report_of, state_at}
 use Rattle.dccp_packets.specs.Grammar.{Parts}
-use Rattle.dccp_packets.specs.Kinds.{ack_of, value_of}
+use Rattle.dccp_packets.specs.Kinds.{ack_of}
 use Rattle.dccp_packets.specs.Widths.{kind_in_widths}
 use Rattle.mark_agreement.proofs.Frames.{frame_in}
 use Rattle.mark_agreement.specs.Laws.{IsAccountedFor}
@@ -114,12 +114,9 @@ module _ (w : WorldState) (logs : Side → List Logged) (side : Side) (own : IsO
         ∙ ap (joined_report ack) its.vectors
         ∙ ap (λ (has_vector : Bool). joined_report ack (one_vector has_vector its.set its-ack)) vector
 
-    pub acknowledges : (packet : Parts) → packet_of frame.bytes ≡ Some packet → g.has_vector ≡ true → ack_of packet.header.kind ≡ Some its-ack
-    acknowledges packet is_packet vector =
-        let read = read-in (config_of x) number frame l is in
-        let same : packet ≡ read.packet = same_Some packet read.packet (sym is_packet ∙ read.is_packet) in
-        ap (λ (p : Parts). ack_of p.header.kind) same
-        ∙ ap ack_of read.kind_is
+    pub acknowledges : g.has_vector ≡ true → frame.ack ≡ Some its-ack
+    acknowledges vector =
+        (read-in (config_of x) number frame l is).ack_is
         ∙ ack-kept l.draft.kind its-ack its.long (its.acknowledges (its.vector_acks vector)) (omega arith)
 
     processed-is : frame.processed ≡ l.processed
@@ -155,7 +152,7 @@ module _ (w : WorldState) (logs : Side → List Logged) (side : Side) (own : IsO
         cc silent
     tells ack bytes carries true vector =
         let acks : ack ≡ its-ack =
-        same_Some ack its-ack (sym carries.acknowledges ∙ acknowledges carries.packet carries.is_packet vector) in
+        same_Some ack its-ack (sym carries.acknowledges ∙ acknowledges vector) in
         record {
           is_vector =
               sym (ap bytes_in carries.carries)
@@ -185,10 +182,7 @@ module _ (w : WorldState) (logs : Side → List Logged) (side : Side) (own : IsO
   acknowledged-fits : (ack : ℕ) (bytes : List ℕ) (frame : SentFrame) → Found (config_of x) (config_of x).iss x.log frame → CarriesVector frame ack bytes
       → ack < 2 ^ 48
   acknowledged-fits ack bytes frame (AtPlace place number l there same is) carries =
-      let read = read-in (config_of x) number frame l is in
-      let packet : carries.packet ≡ read.packet = same_Some carries.packet read.packet (sym carries.is_packet ∙ read.is_packet) in
-      let acks : ack_of (kind_in_widths l.draft.kind) ≡ Some ack =
-      sym (ap (λ (p : Parts). ack_of p.header.kind) packet ∙ ap ack_of read.kind_is) ∙ carries.acknowledges in
+      let acks : ack_of (kind_in_widths l.draft.kind) ≡ Some ack = sym (read-in (config_of x) number frame l is).ack_is ∙ carries.acknowledges in
       subst FitsAck acks (ack-fits l.draft.kind)
   acknowledged-fits ack bytes frame (Nowhere is) carries =
       let none : report_of ack (options_in frame.bytes) ≡ None = ap (report_of ack) (unlogged-options (config_of x) frame is) in
@@ -220,7 +214,10 @@ module _ (w : WorldState) (logs : Side → List Logged) (side : Side) (own : IsO
       by : (b : Bool) → (frame_at view.frames (suc place)).has_vector ≡ b → one_vector b (its place number l frame there is).set ack ≡ []
       by false vector = refl
       by true vector =
-          let acks : ack_of packet.header.kind ≡ Some ack = acknowledges place number l frame there is packet read vector in
+          let kept = read-in (config_of x) number frame l is in
+          let same : packet ≡ kept.packet = same_Some packet kept.packet (sym read ∙ kept.is_packet) in
+          let acks : ack_of packet.header.kind ≡ Some ack =
+          ap (λ (p : Parts). ack_of p.header.kind) same ∙ ap ack_of kept.kind_is ∙ sym kept.ack_is ∙ acknowledges place number l frame there is vector in
           cc (none, acks)
 
   pub unacknowledged : (index : ℕ) (frame : SentFrame) → slice_get (half_of w side).frames index ≡ Some frame → (packet : Parts)
@@ -237,7 +234,7 @@ module _ (w : WorldState) (logs : Side → List Logged) (side : Side) (own : IsO
         let read = read-in (config_of x) at.number at.frame l at.is_logged in
         let ours : IsFrame iss l (frame_at view.frames (suc place)) = frame-of place l m.here.frames there in
         let ack : ℕ = number_of iss (frame_at view.frames (suc place)).acknowledged in
-        let number : number_of (config_of x).iss (suc place) ≡ value_of read.packet.header.number =
+        let number : number_of (config_of x).iss (suc place) ≡ at.frame.number =
         omega (arith, read.number_is, at.is_numbered) in
         record {
           index = at.index;
@@ -247,9 +244,7 @@ module _ (w : WorldState) (logs : Side → List Logged) (side : Side) (own : IsO
           is_there = at.is_there;
           vector_is =
               record {
-                packet = read.packet;
-                is_packet = read.is_packet;
-                acknowledges = acknowledges place at.number l at.frame there at.is_logged read.packet read.is_packet vector;
+                acknowledges = acknowledges place at.number l at.frame there at.is_logged vector;
                 carries = reports place at.number l at.frame there at.is_logged ack true vector;
               };
           whole = sym (whole-is place at.number l at.frame there at.is_logged vector) ∙ sym (ours.whole vector) ∙ whole;

@@ -3,7 +3,7 @@ use Rattle.std.proofs.Common.{◌≡◌, ◌≢◌, refl, ap, ◌∙◌, subst, 
 use Rattle.std.proofs.lemmas.Option.{same_Some}
 use Rattle.dccp_endpoint.specs.declared.config.Config.{Config}
 use Rattle.dccp_packets.specs.Grammar.{Parts, packet_type}
-use Rattle.dccp_packets.specs.Kinds.{value_of}
+use Rattle.dccp_packets.specs.Kinds.{ack_of}
 use Rattle.dccp_packets.specs.Widths.{kind_in_widths}
 use Rattle.dccp_packets.specs.declared.header.Kind.{Kind}
 use Rattle.dccp_packets.specs.declared.header.Kind.TheVariants as kind
@@ -49,12 +49,13 @@ sent-at config {first} {frames} zero l (Numbered number same here rest) there =
 sent-at config {first} (suc place) l (Numbered number same here rest) there = behind config first place _ _ l (sent-at config place l rest there)
 sent-at config {first} place l (Unnumbered here rest) there = behind-other config first place _ _ l (sent-at config place l rest there)
 
--- what is read in the frame of a logged packet
+-- what is read in the frame of a logged packet, and the numbers that are kept of it
 pub record IsReadIn (number : ℕ) (frame : SentFrame) (l : Logged) : Type 0 where
   pub packet : Parts
   pub is_packet : packet_of frame.bytes ≡ Some packet
   pub kind_is : packet.header.kind ≡ kind_in_widths l.draft.kind
-  pub number_is : value_of packet.header.number ≡ number % 2 ^ 48
+  pub number_is : frame.number ≡ number % 2 ^ 48
+  pub ack_is : frame.ack ≡ ack_of (kind_in_widths l.draft.kind)
 
 pub read-in : (config : Config) (number : ℕ) (frame : SentFrame) (l : Logged) → IsLogged config number frame l → IsReadIn number frame l
 read-in config number frame l is =
@@ -63,7 +64,8 @@ read-in config number frame l is =
       packet = parts_of config number l.draft read.sum;
       is_packet = ap (λ (f : SentFrame). packet_of f.bytes) is.same ∙ read.is_packet;
       kind_is = refl;
-      number_is = refl;
+      number_is = ap (λ (f : SentFrame). f.number) is.same;
+      ack_is = ap (λ (f : SentFrame). f.ack) is.same;
     }
 
 pub no-reset : (k : Kind) → packet_type k ≢ types.Reset → is_reset (kind_in_widths k) ≡ false

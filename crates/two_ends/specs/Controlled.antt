@@ -1,5 +1,5 @@
 -- Two ends with their congestion controls (own): each event asks that of the side that acts, and its step calls it.
-use Rattle.std.specs.Prelude.{List, [], ◌∷◌, Result, Ok, Err}
+use Rattle.std.specs.Prelude.{ℕ, List, [], ◌∷◌, Option, Result, Ok, Err}
 use Rattle.congestion_trait.specs.Control.{Control, may_send}
 use Rattle.dccp_endpoint.specs.Controlled.{End, after_calls, begins, has_in_flight}
 use Rattle.dccp_endpoint.specs.Inputs.{Input}
@@ -47,15 +47,15 @@ abbrev pub said_by : {C : Type 0} → Control C → C → Said
 said_by control congestion = record { may_send = may_send control congestion; in_flight = has_in_flight control congestion }
 
 -- one step of a side's end, whose congestion control hears of it
-abbrev pub controlled_half_steps : {C : Type 0} → Control C → ControlledHalf C → Input → ControlledHalfStep C
-controlled_half_steps control side given =
+abbrev pub controlled_half_steps : {C : Type 0} → Control C → ControlledHalf C → Option ℕ → Input → ControlledHalfStep C
+controlled_half_steps control side arrived given =
     record {
       after =
           record {
-            half = (half_steps side.half given).half;
-            congestion = after_calls control side.congestion (half_steps side.half given).calls;
+            half = (half_steps side.half arrived given).half;
+            congestion = after_calls control side.congestion (half_steps side.half arrived given).calls;
           };
-      seen = (half_steps side.half given).seen;
+      seen = (half_steps side.half arrived given).seen;
     }
 
 -- the world after a step of a side, whose congestion control has heard of it

@@ -1,7 +1,6 @@
 -- Processed numbers by plain counts, and frames by their numbers (own).
 use Rattle.std.specs.Prelude.{◌≡◌, ℕ, ◌≤◌, List, Some, Contains, slice_get}
 use Rattle.dccp_packets.specs.Grammar.{Parts, packet_type}
-use Rattle.dccp_packets.specs.Kinds.{value_of}
 use Rattle.dccp_packets.specs.declared.header.PacketType.TheVariants as types
 use Rattle.seq_circle.specs.Counts.{number_of}
 use Rattle.two_ends.specs.declared.frames.SentFrame.{SentFrame}
@@ -21,4 +20,4 @@ AreAmongFirst iss most numbers = (number : ℕ) → Contains numbers number → 
 -- the frames with this number, if there are any, are Resets
 abbrev pub AreResets : List SentFrame → ℕ → Type 0
 AreResets frames number = (index : ℕ) (frame : SentFrame) (packet : Parts) → slice_get frames index ≡ Some frame → packet_of frame.bytes ≡ Some packet
-    → value_of packet.header.number ≡ number → packet_type packet.header.kind ≡ types.Reset
+    → frame.number ≡ number → packet_type packet.header.kind ≡ types.Reset

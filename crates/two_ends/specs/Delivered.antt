@@ -3,8 +3,6 @@ use Rattle.std.specs.Prelude.{◌≡◌, ℕ, ◌≤◌, true, List, [], ◌∷�
 use Rattle.congestion_trait.specs.Control.{Control}
 use Rattle.dccp_endpoint.specs.Reporting.{carries_data}
 use Rattle.dccp_packets.specs.Grammar.{Parts, packet_type}
-use Rattle.dccp_packets.specs.Kinds.{value_of}
-use Rattle.end_answers.specs.declared.outcome.Outcome.{Outcome}
 use Rattle.end_answers.specs.declared.outcome.Outcome.TheVariants as outcome
 use Rattle.world_events.specs.Actors.{other}
 use Rattle.world_events.specs.declared.event.Event.{Event}
@@ -34,7 +32,7 @@ pub record DeliversFrame (old new : WorldState) (from : Side) (index : ℕ) (pla
   pub begins : place.0 ≤ place.1
   pub ends : place.1 ≡ length frame.bytes
   pub are_its_data : drop place.0 frame.bytes ≡ packet.payload
-  pub is_processed : (half_of new (other from)).processed ≡ (half_of old (other from)).processed ++ value_of packet.header.number ∷ []
+  pub is_processed : (half_of new (other from)).processed ≡ (half_of old (other from)).processed ++ frame.number ∷ []
 
 -- Data are delivered by the arrival of their frame alone.
 abbrev pub DeliversIn : WorldState → Event → WorldState → ℕ × ℕ → Type 0

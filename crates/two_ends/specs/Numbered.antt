@@ -1,5 +1,5 @@
 -- The numbers of the frames that were sent (RFC 4340, section 7.1).
-use Rattle.std.specs.Prelude.{◌≡◌, ◌⊎◌, ℕ, ◌+◌, ◌-◌, ◌^◌, ◌<◌, ◌≤◌, Bool, true, false, List, [], ◌∷◌, length, Option, Some, None, slice_get}
+use Rattle.std.specs.Prelude.{◌≡◌, ◌⊎◌, ℕ, ◌+◌, ◌-◌, ◌^◌, ◌<◌, ◌≤◌, true, false, List, [], ◌∷◌, length, Some, None, slice_get}
 use Rattle.seq_circle.specs.Circle.{residue}
 use Rattle.dccp_options.specs.Vectors.{ack_vectors}
 use Rattle.dccp_packets.specs.Grammar.{Parts}
@@ -12,35 +12,30 @@ use Rattle.two_ends.specs.declared.frames.SentFrame.{SentFrame}
 use Rattle.world_events.specs.declared.event.Side.{Side}
 use Rattle.two_ends.specs.World.{Half, WorldState, half_of}
 use Rattle.world_events.specs.Actors.{other}
-use Rattle.two_ends.specs.Frames.{packet_of, options_in, is_reset, number_of_frame}
+use Rattle.two_ends.specs.Frames.{packet_of, options_in, is_reset, SpellsItsNumbers}
 use Rattle.two_ends.specs.Pairs.{FeatureAt, times_said}
 use Rattle.two_ends.specs.Remembered.{AreRecordsHonest, MarksWhatItProcessed, NewestIsProcessed}
 
--- bytes that are no packet are no Reset without a connection either
-abbrev pub is_packet_without_connection : Role → Option Parts → Bool
-is_packet_without_connection role None = false
-is_packet_without_connection role (Some p) = is_without_connection role p.header.kind
-
 -- A Reset without a connection, whose number comes from the packet that it answers (own): its code is 3, No Connection, or a server's
 -- 8, Bad Service Code (section 8.5, steps 2 and 3). A client's 8 belongs to its connection. It carries no option.
-pub record IsResetWithoutConnection (role : Role) (bytes : List ℕ) : Type 0 where
-  pub packet : Parts
-  pub is_packet : packet_of bytes ≡ Some packet
-  pub has_code : is_without_connection role packet.header.kind ≡ true
-  pub no_options : options_in bytes ≡ []
+pub record IsResetWithoutConnection (role : Role) (frame : SentFrame) : Type 0 where
+  pub spells : SpellsItsNumbers frame
+  pub has_code : is_without_connection role spells.packet.header.kind ≡ true
+  pub no_options : options_in frame.bytes ≡ []
 
 -- any other frame, with its number
-pub record IsNumberedFrame (role : Role) (number : ℕ) (bytes : List ℕ) : Type 0 where
-  pub of_connection : is_packet_without_connection role (packet_of bytes) ≡ false
-  pub has_number : number_of_frame bytes ≡ Some number
+pub record IsNumberedFrame (role : Role) (number : ℕ) (frame : SentFrame) : Type 0 where
+  pub spells : SpellsItsNumbers frame
+  pub of_connection : is_without_connection role spells.packet.header.kind ≡ false
+  pub has_number : frame.number ≡ number
 
 -- All frames but Resets without a connection are numbered. Of these, so many went before the list, and `count` there are with
 -- the list: each carries the next number.
 abbrev pub AreNumbered : Role → ℕ → ℕ → List SentFrame → ℕ → Type 0
 AreNumbered role iss before [] count = count ≡ before
 AreNumbered role iss before (frame ∷ frames) count =
-    (IsNumberedFrame role (residue (iss + before)) frame.bytes × AreNumbered role iss (before + 1) frames count)
-    ⊎ (IsResetWithoutConnection role frame.bytes × AreNumbered role iss before frames count)
+    (IsNumberedFrame role (residue (iss + before)) frame × AreNumbered role iss (before + 1) frames count)
+    ⊎ (IsResetWithoutConnection role frame × AreNumbered role iss before frames count)
 
 -- A side's numbered frames carry ISS, ISS + 1, and so on up to GSS, in this order. With the others they are fewer than 2^47.
 pub record IsNumbered (half : Half) : Type 0 where

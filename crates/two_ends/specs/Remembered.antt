@@ -5,7 +5,6 @@ use Rattle.ack_vectors.specs.declared.received.Record.{Record}
 use Rattle.dccp_endpoint.specs.End.{floor_of, is_live, marked_of}
 use Rattle.dccp_endpoint.specs.Reporting.{is_acking}
 use Rattle.dccp_packets.specs.Grammar.{Parts, packet_type}
-use Rattle.dccp_packets.specs.Kinds.{ack_of, value_of}
 use Rattle.run_list.specs.MarkedSet.{has}
 use Rattle.seq_circle.specs.Circle.{IsBefore, IsFrom, IsWithin, residue}
 use Rattle.world_events.specs.Actors.{other}
@@ -32,7 +31,7 @@ pub record MarksWhatItProcessed (half : Half) : Type 0 where
 abbrev pub NewestIsProcessed : WorldState → Side → Type 0
 NewestIsProcessed w side = (index : ℕ) (frame : SentFrame) (packet : Parts) → is_live (half_of w side).end.phase ≡ true
     → slice_get (half_of w (other side)).frames index ≡ Some frame → packet_of frame.bytes ≡ Some packet
-    → is_acking (packet_type packet.header.kind) ≡ true → value_of packet.header.number ≡ (half_of w side).end.marks.gsr
+    → is_acking (packet_type packet.header.kind) ≡ true → frame.number ≡ (half_of w side).end.marks.gsr
     → Contains (half_of w side).processed (half_of w side).end.marks.gsr
 
 -- A record is of an Ack or a DataAck of its end, with that frame's number and acknowledgement number, and whether its vector was
@@ -44,8 +43,8 @@ pub record IsRecordOf (w : WorldState) (side : Side) (r : Record) : Type 0 where
   pub is_there : slice_get (half_of w side).frames index ≡ Some frame
   pub is_packet : packet_of frame.bytes ≡ Some packet
   pub is_ack : is_acking (packet_type packet.header.kind) ≡ true
-  pub is_numbered : value_of packet.header.number ≡ r.number
-  pub acknowledges : ack_of packet.header.kind ≡ Some r.ack
+  pub is_numbered : frame.number ≡ r.number
+  pub acknowledges : frame.ack ≡ Some r.ack
   pub tells_whole : r.whole ≡ is_whole (has (processed_by (half_of w side) frame)) frame.floor r.ack
   pub floor_rises : IsBefore (floor_of (half_of w side).end) frame.floor → ⊥
 

@@ -5,7 +5,6 @@ use Rattle.run_list.specs.MarkedSet.{has, floor_under}
 use Rattle.ack_vectors.specs.Vector.{vector, is_whole}
 use Rattle.dccp_options.specs.Vectors.{report_of}
 use Rattle.dccp_packets.specs.Grammar.{Parts}
-use Rattle.dccp_packets.specs.Kinds.{ack_of, value_of}
 use Rattle.congestion_trait.specs.Control.{Control}
 use Rattle.dccp_endpoint.specs.Controlled.{reported_of}
 use Rattle.dccp_endpoint.specs.End.{floor_of}
@@ -24,7 +23,7 @@ pub record HasSentNumber (w : WorldState) (side : Side) (n : ℕ) : Type 0 where
   pub packet : Parts
   pub is_there : slice_get (half_of w side).frames index ≡ Some frame
   pub is_packet : packet_of frame.bytes ≡ Some packet
-  pub is_numbered : value_of packet.header.number ≡ n
+  pub is_numbered : frame.number ≡ n
   pub is_no_reset : is_reset packet.header.kind ≡ false
 
 -- Each number is processed once, and only where the other side sent it.
@@ -47,9 +46,7 @@ processed_by half frame = take frame.processed half.processed
 
 -- A frame acknowledges a number and carries Ack Vectors, whose bytes are joined here.
 pub record CarriesVector (frame : SentFrame) (ack : ℕ) (bytes : List ℕ) : Type 0 where
-  pub packet : Parts
-  pub is_packet : packet_of frame.bytes ≡ Some packet
-  pub acknowledges : ack_of packet.header.kind ≡ Some ack
+  pub acknowledges : frame.ack ≡ Some ack
   pub carries : report_of ack (options_in frame.bytes) ≡ Some (record { ack = ack; bytes = bytes })
 
 -- They are the vector of just what the side had processed, from the acknowledged number down to its floor, and it had processed
@@ -72,7 +69,7 @@ pub record ToldIn (w : WorldState) (side : Side) (n : ℕ) : Type 0 where
   pub is_there : slice_get (half_of w side).frames index ≡ Some frame
   pub vector_is : CarriesVector frame ack bytes
   pub whole : is_whole (has (processed_by (half_of w side) frame)) frame.floor ack ≡ true
-  pub heard : Contains (half_of w (other side)).processed (value_of vector_is.packet.header.number)
+  pub heard : Contains (half_of w (other side)).processed frame.number
   pub reaches : IsWithin n frame.floor ack
 
 -- why a side need not speak of a number any more: it lies more than 2,047 below one that it processed, or the other side was told

@@ -12,7 +12,8 @@ use Rattle.dccp_endpoint.specs.declared.config.Config.{Config}
 use Rattle.feature_lists.specs.declared.wishes.PreferFault.{PreferFault}
 use Rattle.feature_lists.specs.declared.wishes.PreferFault.TheVariants as prefer
 use Rattle.world_events.specs.Actors.{actor, other}
-use Rattle.two_ends.specs.Frames.{number_of_frame}
+use Rattle.two_ends.specs.Frames.{ack_in_full, number_in_full, packet_of}
+use Rattle.validity_windows.specs.declared.marks.Marks.{Marks}
 use Rattle.two_ends.specs.declared.frames.SentFrame.{SentFrame}
 use Rattle.two_ends.specs.declared.half.Asked.{Asked}
 use Rattle.two_ends.specs.declared.half.Asked.TheVariants as asked
@@ -50,34 +51,37 @@ pub record WorldStep : Type 0 where
   pub calls : List Call
   pub seen : Seen
 
--- a frame as it is kept: how many numbers its sender had processed, that step's included, and its floor
-abbrev pub as_sent : ℕ → ℕ → Option (List ℕ) → List SentFrame
-as_sent processed floor None = []
-as_sent processed floor (Some bytes) = record { bytes = bytes; processed = processed; floor = floor } ∷ []
+-- A frame as it is kept: its numbers in full, by its sender's marks after the step, how many numbers its sender had processed, that
+-- step's included, and its floor.
+abbrev pub as_sent : Marks → ℕ → ℕ → Option (List ℕ) → List SentFrame
+as_sent marks processed floor None = []
+as_sent marks processed floor (Some bytes) =
+    record {
+      bytes = bytes;
+      number = number_in_full marks (packet_of bytes);
+      ack = ack_in_full marks (packet_of bytes);
+      processed = processed;
+      floor = floor;
+    } ∷ []
 
--- the number of the packet that arrives, if one does
-abbrev pub number_given : Input → Option ℕ
-number_given (input.Arrives bytes) = number_of_frame bytes
-number_given _ = None
-
--- A step processes the number of the packet that arrives where the end's count of numbers that were taken rises.
+-- A step processes the number of the frame that arrives, if one does, where the end's count of numbers that were taken rises.
 abbrev pub number_if : Bool → Option ℕ → List ℕ
 number_if true (Some number) = number ∷ []
 number_if true None = []
 number_if false number = []
 
 -- the number that a step processed, if any
-abbrev pub newly_processed : EndState → Input → EndState → List ℕ
-newly_processed before given after = number_if (nat_lt (marked_of before) (marked_of after)) (number_given given)
+abbrev pub newly_processed : EndState → Option ℕ → EndState → List ℕ
+newly_processed before arrived after = number_if (nat_lt (marked_of before) (marked_of after)) arrived
 
 -- a side after a step of its end, with its frame at the list's end
 abbrev pub half_with : List SentFrame → EndState → List ℕ → Option (List ℕ) → Half
 half_with frames after processed frame =
-    record { end = after; frames = frames ++ as_sent (length processed) (floor_of after) frame; processed = processed }
+    record { end = after; frames = frames ++ as_sent after.marks (length processed) (floor_of after) frame; processed = processed }
 
 -- a side with what a step of its end has added: at most one frame, and at most one number processed
-abbrev pub moved : {Answer : Type 0} → Half → Input → Step Answer → Half
-moved half given step = half_with half.frames step.after (half.processed ++ newly_processed half.end given step.after) step.frame
+abbrev pub moved : {Answer : Type 0} → Half → Option ℕ → Step Answer → Half
+moved half arrived step = half_with half.frames step.after (half.processed ++ newly_processed half.end arrived step.after) step.frame
 
 -- what is seen of a call, where a refusal has this name
 abbrev pub seen_of_call : {Fault : Type 0} → (Fault → Refusal) → Result (Unit {0}) Fault → Seen
@@ -107,10 +111,14 @@ seen_of (input.Closed result) = seen_of_call (λ fault. refusal.NotOpen) result
 seen_of (input.Aborted result) = seen_of_call (λ fault. refusal.NotLive) result
 seen_of (input.Fired applies) = seen.Fired applies
 
--- one step of a side's end
-abbrev pub half_steps : Half → Input → HalfStep
-half_steps half given =
-    record { half = moved half given (end_stepped half.end given); calls = (end_stepped half.end given).calls; seen = seen_of (end_stepped half.end given).answer }
+-- one step of a side's end, with the number in full of the frame that arrives, if one does
+abbrev pub half_steps : Half → Option ℕ → Input → HalfStep
+half_steps half arrived given =
+    record {
+      half = moved half arrived (end_stepped half.end given);
+      calls = (end_stepped half.end given).calls;
+      seen = seen_of (end_stepped half.end given).answer;
+    }
 
 -- one side of the world
 abbrev pub half_of : WorldState → Side → Half
@@ -135,7 +143,8 @@ unless_full w side step =
 -- a frame of one side arrives at the other
 abbrev pub delivers_frame : WorldState → Side → Option SentFrame → Result WorldStep WorldFault
 delivers_frame w from None = Err fault.NoSuchFrame
-delivers_frame w from (Some frame) = unless_full w (other from) (half_steps (half_of w (other from)) (input.Arrives frame.bytes))
+delivers_frame w from (Some frame) =
+    unless_full w (other from) (half_steps (half_of w (other from)) (Some frame.number) (input.Arrives frame.bytes))
 
 -- What an event is: a call of a side, or the delivery of a frame of one side to the other.
 pub data Happening : Type 0 where
@@ -168,7 +177,7 @@ happening_of (event.Abort side) said = Calls side input.Aborts
 
 -- a call of an end, or a delivery, for which the frame must exist
 abbrev pub takes_place : WorldState → Happening → Result WorldStep WorldFault
-takes_place w (Calls side given) = unless_full w side (half_steps (half_of w side) given)
+takes_place w (Calls side given) = unless_full w side (half_steps (half_of w side) None given)
 takes_place w (Delivers from index) = delivers_frame w from (slice_get (half_of w from).frames index)
 
 -- one event, with what the congestion control of the side that acts says

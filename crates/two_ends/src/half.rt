@@ -1,10 +1,9 @@
 //! One side of the world: an end, the frames that it ever sent, and the numbers that it processed.
-ghost use Rattle.std.specs.Prelude.{◌≡◌, ◌<◌, ◌≤◌, ◌++◌, length, vec_len, vec_capacity};
+ghost use Rattle.std.specs.Prelude.{◌≡◌, ◌<◌, ◌≤◌, ◌++◌, length, Some, vec_len, vec_capacity};
 ghost use Rattle.dccp_endpoint.specs.Controlled.{after_calls, with_control};
 ghost use Rattle.dccp_endpoint.specs.Inputs.{end_stepped};
 ghost use Rattle.dccp_endpoint.specs.Receiving.{receives};
 ghost use Rattle.two_ends.specs.Controlled.{said_by};
-ghost use Rattle.two_ends.specs.Frames.{number_of_frame};
 ghost use Rattle.two_ends.specs.World.{input_of, number_if, refusal_of, seen_of, send_refusal_of};
 
 use crate::frames::{keep_frame, take_memory};
@@ -13,9 +12,9 @@ use congestion_trait::Congestion;
 use dccp_endpoint::{
     AbortFault, CloseFault, Config, Endpoint, OpenFault, Outcome, SendFault, Timer,
 };
-use dccp_packets::{Outbox, decode};
+use dccp_packets::Outbox;
 use feature_lists::{Feature, Place, PreferFault};
-use seq_circle::NoMemory;
+use seq_circle::{NoMemory, Seq48};
 use std::alloc::Global;
 use std::marker::Model;
 
@@ -82,7 +81,7 @@ impl<C: Congestion + Drop> HalfWorld<C> {
 }
 
 impl<C: Congestion> HalfWorld<C> {
-    ghost use Rattle.std.specs.Prelude.{◌≡◌, ◌≤◌, ◌<◌, length, IfOk, OnErr, Ok};
+    ghost use Rattle.std.specs.Prelude.{◌≡◌, ◌≤◌, ◌<◌, length, IfOk, OnErr, Ok, Some, None};
     ghost use Rattle.dccp_endpoint.specs.Inputs.{Arrives};
     ghost use Rattle.two_ends.specs.Controlled.{controlled_half_steps, said_by};
     ghost use Rattle.two_ends.specs.World.{input_of};
@@ -110,28 +109,30 @@ impl<C: Congestion> HalfWorld<C> {
     // touched.
     #[tactic(auto, using(crate::proofs::Processing::calls_process_nothing))]
     pub(crate) fn call(&mut self, asked: Asked<'_>) -> Result<Seen, NoMemory>
-        ensures ok { IfOk result (λ seen. record { after = self.new; seen = seen } ≡ controlled_half_steps C.control self.old (input_of asked.entry (said_by C.control self.old.congestion))) }
+        ensures ok { IfOk result (λ seen. record { after = self.new; seen = seen } ≡ controlled_half_steps C.control self.old None (input_of asked.entry (said_by C.control self.old.congestion))) }
         ensures err { OnErr result (self.new ≡ self.old) }
     {
         take_memory(&mut self.frames, &mut self.spare)?;
         let seen = answer(&mut self.end, asked, &mut self.out);
         let processed = self.processed.len() as u64;
+        let marks = self.end.marks();
         let floor = self.end.floor();
         keep_frame(
             self.alloc,
             &mut self.frames,
             &mut self.spare,
             &self.out,
+            &marks,
             processed,
             floor,
         );
         Ok(seen)
     }
 
-    // A frame of the other side arrives.
-    pub(crate) fn receive(&mut self, bytes: &[u8]) -> Result<Seen, NoMemory>
+    // A frame of the other side arrives, whose number in full this is.
+    pub(crate) fn receive(&mut self, bytes: &[u8], number: Seq48) -> Result<Seen, NoMemory>
         requires { length bytes.now ≤ 2044 }
-        ensures ok { IfOk result (λ seen. record { after = self.new; seen = seen } ≡ controlled_half_steps C.control self.old (Arrives bytes.now)) }
+        ensures ok { IfOk result (λ seen. record { after = self.new; seen = seen } ≡ controlled_half_steps C.control self.old (Some number) (Arrives bytes.now)) }
         ensures err { OnErr result (self.new ≡ self.old) }
     {
         take_memory(&mut self.frames, &mut self.spare)?;
@@ -139,14 +140,16 @@ impl<C: Congestion> HalfWorld<C> {
         let before = self.end.marked();
         let outcome = arrive(&mut self.end, bytes, &mut self.out);
         let taken = before < self.end.marked();
-        keep_number(&mut self.processed, taken, bytes);
+        keep_number(&mut self.processed, taken, number);
         let processed = self.processed.len() as u64;
+        let marks = self.end.marks();
         let floor = self.end.floor();
         keep_frame(
             self.alloc,
             &mut self.frames,
             &mut self.spare,
             &self.out,
+            &marks,
             processed,
             floor,
         );
@@ -211,29 +214,16 @@ fn answer<C: Congestion>(end: &mut Endpoint<C>, asked: Asked<'_>, out: &mut Outb
     }
 }
 
-// The sequence number of bytes that are a packet.
-fn number_of_frame(bytes: &[u8]) -> Option<u64>
-    ensures { result ≡ number_of_frame bytes.now }
-{
-    match decode(bytes) {
-        Ok(packet) => Some(packet.header.number.value().get()),
-        Err(_) => None,
-    }
-}
-
 // Keeps the number of a packet that was taken, in memory that was taken before.
 #[tactic(auto, using(crate::proofs::Processing::nothing_more))]
-fn keep_number(processed: &mut Vec<u64>, taken: bool, bytes: &[u8])
+fn keep_number(processed: &mut Vec<u64>, taken: bool, number: Seq48)
     requires { vec_len processed.old < vec_capacity processed.old }
-    ensures { processed.new.items ≡ processed.old.items ++ number_if taken (number_of_frame bytes.now) }
+    ensures { processed.new.items ≡ processed.old.items ++ number_if taken (Some number) }
 {
     if !taken {
         return;
     }
-    let Some(number) = number_of_frame(bytes) else {
-        return;
-    };
-    match processed.push(number) {
+    match processed.push(number.get()) {
         Ok(()) => {}
         Err(_) => unreachable!(),
     }

@@ -1,4 +1,4 @@
-//! What safe worlds come to, in other words, and what else holds of what the ends ask for.
+//! What safe worlds come to, in other words, and what else holds of frames' numbers and of what the ends ask for.
 //!
 //! Each part of `Safe` has a function whose clauses follow from it and from no weaker one. They are what a reader may
 //! hold against the definitions, by plain counts where numbers are in them.
@@ -10,6 +10,8 @@ ghost use Rattle.dccp_endpoint.specs.Drafts.{Fits};
 ghost use Rattle.dccp_endpoint.specs.End.{floor_of, held_of};
 ghost use Rattle.dccp_endpoint.specs.declared.config.Config.{Config};
 ghost use Rattle.dccp_options.specs.Vectors.{is_received, state_at};
+ghost use Rattle.dccp_packets.specs.Grammar.{Parts};
+ghost use Rattle.dccp_packets.specs.Kinds.{ack_of, value_of};
 ghost use Rattle.dccp_states.specs.declared.phase.Role.TheVariants as role;
 ghost use Rattle.feature_lists.specs.Features.{initial_of};
 ghost use Rattle.feature_lists.specs.Lists.{SharesNothing, has_entry};
@@ -27,12 +29,13 @@ ghost use Rattle.two_ends.specs.declared.frames.SentFrame.{SentFrame};
 ghost use Rattle.two_ends.specs.Asked.{AllIsAsked, KeepsInitialValues};
 ghost use Rattle.two_ends.specs.Controlled.{Controlled, begins_with, congestion_of, plays};
 ghost use Rattle.two_ends.specs.Counted.{AreAmongFirst, AreResets};
-ghost use Rattle.two_ends.specs.Frames.{number_of_frame};
+ghost use Rattle.two_ends.specs.Frames.{packet_of};
 ghost use Rattle.two_ends.specs.Negotiated.{HasSent, IsNotNegotiable, IsServerPriority, IsSettled, last_list_sent, last_value, list_said, pair_was_negotiated, value_said};
+ghost use Rattle.two_ends.specs.Numbered.{Facts};
 ghost use Rattle.two_ends.specs.Pairs.{FeatureAt, held_at, said_by};
 ghost use Rattle.two_ends.specs.Reported.{CarriesVector};
 ghost use Rattle.two_ends.specs.Safe.{Safe};
-ghost use Rattle.two_ends.specs.World.{half_of};
+ghost use Rattle.two_ends.specs.World.{WorldState, half_of};
 
 use congestion_trait::Congestion;
 use dccp_endpoint::every_step_has_one_effect;
@@ -96,10 +99,21 @@ pub fn what_none_told_is_far_behind<C: Congestion>()
     ensures { (w : Controlled C) → Safe C.control w → (side : Side) (iss count n : ℕ) → iss < 2 ^ 48 → 1 ≤ count → count + 2047 ≤ 2 ^ 47
         → n ≡ number_of iss count
         → distance (half_of w.world side).end.marks.isr n < distance (half_of w.world side).end.marks.isr (floor_of (half_of w.world side).end)
-        → ((index : ℕ) (frame : SentFrame) (ack number : ℕ) (bytes : List ℕ) → slice_get (half_of w.world side).frames index ≡ Some frame
+        → ((index : ℕ) (frame : SentFrame) (ack : ℕ) (bytes : List ℕ) → slice_get (half_of w.world side).frames index ≡ Some frame
         → CarriesVector frame ack bytes → IsTrue (is_whole (has (take frame.processed (half_of w.world side).processed)) frame.floor ack)
-        → IsWithin n frame.floor ack → number_of_frame frame.bytes ≡ Some number → Contains (half_of w.world (other side)).processed number → ⊥)
+        → IsWithin n frame.floor ack → Contains (half_of w.world (other side)).processed frame.number → ⊥)
         → AreAmongFirst iss (count + 2047) (half_of w.world side).processed → ⊥ }
+{}
+
+/// What the numbers that are kept of a frame come to, wherever the facts of a world hold: each frame is a packet, whose
+/// sequence number and acknowledgement number they are.
+pub fn frames_spell_their_numbers()
+    ensures packet { (w : WorldState) → Facts w → (side : Side) (index : ℕ) (frame : SentFrame) → slice_get (half_of w side).frames index ≡ Some frame
+        → IsSome (packet_of frame.bytes) }
+    ensures number { (w : WorldState) → Facts w → (side : Side) (index : ℕ) (frame : SentFrame) (packet : Parts)
+        → slice_get (half_of w side).frames index ≡ Some frame → packet_of frame.bytes ≡ Some packet → frame.number ≡ value_of packet.header.number }
+    ensures ack { (w : WorldState) → Facts w → (side : Side) (index : ℕ) (frame : SentFrame) (packet : Parts)
+        → slice_get (half_of w side).frames index ≡ Some frame → packet_of frame.bytes ≡ Some packet → frame.ack ≡ ack_of packet.header.kind }
 {}
 
 /// What *once* comes to. A number that a side processed early it does not process later. A number that the other side

@@ -1,5 +1,5 @@
 //! The two sides together, and exactly what an event makes of them.
-ghost use Rattle.std.specs.Prelude.{◌≡◌, ◌≢◌, ◌≤◌, ◌↔◌, length, Ok, Err, None, IfOk, IfSome, IsSome, OnErr, true, false, slice_get};
+ghost use Rattle.std.specs.Prelude.{◌≡◌, ◌≢◌, ◌≤◌, ◌↔◌, length, Ok, Err, Some, None, IfOk, IfSome, IsSome, OnErr, true, false, slice_get};
 ghost use Rattle.dccp_endpoint.specs.Inputs.{Arrives};
 ghost use Rattle.two_ends.specs.Controlled.{controlled_half_steps, said_by};
 ghost use Rattle.two_ends.specs.World.{is_full, input_of};
@@ -8,7 +8,7 @@ use crate::half::{Asked, HalfWorld};
 use crate::{Event, Seen, SentFrame, Side, WorldFault};
 use congestion_trait::Congestion;
 use dccp_endpoint::{Config, Endpoint};
-use seq_circle::NoMemory;
+use seq_circle::{NoMemory, Seq48};
 use std::alloc::Global;
 use std::marker::Model;
 
@@ -124,7 +124,7 @@ fn is_full<C: Congestion>(half: &HalfWorld<C>) -> bool
 }
 
 fn call_half<C: Congestion>(half: &mut HalfWorld<C>, asked: Asked<'_>) -> Result<Seen, WorldFault>
-    ensures ok { IfOk result (λ seen. (is_full half.old.half ≡ false) × (record { after = half.new; seen = seen } ≡ controlled_half_steps C.control half.old (input_of asked.entry (said_by C.control half.old.congestion)))) }
+    ensures ok { IfOk result (λ seen. (is_full half.old.half ≡ false) × (record { after = half.new; seen = seen } ≡ controlled_half_steps C.control half.old None (input_of asked.entry (said_by C.control half.old.congestion)))) }
     ensures full { (result ≡ Err WorldFault.Full) ↔ (is_full half.old.half ≡ true) }
     ensures there { result ≢ Err WorldFault.NoSuchFrame }
     ensures err { OnErr result (half.new ≡ half.old) }
@@ -143,20 +143,24 @@ fn deliver<C: Congestion>(
     index: u64,
     half: &mut HalfWorld<C>,
 ) -> Result<Seen, WorldFault>
-    ensures ok { IfOk result (λ seen. IfSome (slice_get frames.now index) (λ frame. (is_full half.old.half ≡ false) × (record { after = half.new; seen = seen } ≡ controlled_half_steps C.control half.old (Arrives frame.bytes)))) }
+    ensures ok { IfOk result (λ seen. IfSome (slice_get frames.now index) (λ frame. (is_full half.old.half ≡ false) × (record { after = half.new; seen = seen } ≡ controlled_half_steps C.control half.old (Some frame.number) (Arrives frame.bytes)))) }
     ensures no_such_frame { (result ≡ Err WorldFault.NoSuchFrame) ↔ (slice_get frames.now index ≡ None) }
     ensures full { (result ≡ Err WorldFault.Full) ↔ (IsSome (slice_get frames.now index) × (is_full half.old.half ≡ true)) }
     ensures err { OnErr result (half.new ≡ half.old) }
 {
     match frames.get(index as usize) {
-        Some(frame) => receive_half(half, frame.bytes.as_slice()),
+        Some(frame) => receive_half(half, frame.bytes.as_slice(), frame.number),
         None => Err(WorldFault::NoSuchFrame),
     }
 }
 
-fn receive_half<C: Congestion>(half: &mut HalfWorld<C>, bytes: &[u8]) -> Result<Seen, WorldFault>
+fn receive_half<C: Congestion>(
+    half: &mut HalfWorld<C>,
+    bytes: &[u8],
+    number: Seq48,
+) -> Result<Seen, WorldFault>
     requires { length bytes.now ≤ 2044 }
-    ensures ok { IfOk result (λ seen. (is_full half.old.half ≡ false) × (record { after = half.new; seen = seen } ≡ controlled_half_steps C.control half.old (Arrives bytes.now))) }
+    ensures ok { IfOk result (λ seen. (is_full half.old.half ≡ false) × (record { after = half.new; seen = seen } ≡ controlled_half_steps C.control half.old (Some number) (Arrives bytes.now))) }
     ensures full { (result ≡ Err WorldFault.Full) ↔ (is_full half.old.half ≡ true) }
     ensures there { result ≢ Err WorldFault.NoSuchFrame }
     ensures err { OnErr result (half.new ≡ half.old) }
@@ -164,7 +168,7 @@ fn receive_half<C: Congestion>(half: &mut HalfWorld<C>, bytes: &[u8]) -> Result<
     if is_full(half) {
         return Err(WorldFault::Full);
     }
-    match half.receive(bytes) {
+    match half.receive(bytes, number) {
         Ok(seen) => Ok(seen),
         Err(NoMemory) => Err(WorldFault::NoMemory),
     }

@@ -28,17 +28,17 @@ use std::marker::Model;
 /// other one processed.
 ///
 /// The facts: a side's frames, but for Resets without a connection, carry its first number, the next, and so on up to
-/// its greatest number sent, in this order (RFC 4340, section 7.1); there are fewer than 2^47. A Reset without a
-/// connection, whose code is 3 or a server's 8, carries no option. Once an end has received a first number (in CLOSED
-/// and TIMEWAIT numbers that are 0 may mean none), that and its greatest number received are numbers of such frames of
-/// the other side, and the first is not the later one. Once it has sent such a frame, GAR, the greatest acknowledgement
-/// number that it received or its first number, is the number of one of its own. No number that a side processed is
-/// after its greatest number received. From its floor up to that, its set has just the numbers that it processed; the
-/// floor is not after the next. Where that number's frame is an Ack or a DataAck, the side processed it, unless its
-/// phase is CLOSED. Each record of an Ack Vector is one of the end's own frames, with that frame's numbers, and tells
-/// whether its vector was whole. A Reset that arrives moves nothing received, nothing acknowledged, no row and nothing
-/// that was marked. No frame says two things of one feature and side, and none has an Ack Vector without an
-/// acknowledgement number.
+/// its greatest number sent, in this order (RFC 4340, section 7.1); there are fewer than 2^47. The bytes of each frame
+/// spell the numbers that are kept of it, whole. A Reset without a connection, whose code is 3 or a server's 8, carries
+/// no option. Once an end has received a first number (in CLOSED and TIMEWAIT numbers that are 0 may mean none), that
+/// and its greatest number received are numbers of such frames of the other side, and the first is not the later one.
+/// Once it has sent such a frame, GAR, the greatest acknowledgement number that it received or its first number, is the
+/// number of one of its own. No number that a side processed is after its greatest number received. From its floor up
+/// to that, its set has just the numbers that it processed; the floor is not after the next. Where that number's frame
+/// is an Ack or a DataAck, the side processed it, unless its phase is CLOSED. Each record of an Ack Vector is one of
+/// the end's own frames, with that frame's numbers, and tells whether its vector was whole. A Reset that arrives moves
+/// nothing received, nothing acknowledged, no row and nothing that was marked. No frame says two things of one feature
+/// and side, and none has an Ack Vector without an acknowledgement number.
 #[derive(Drop)]
 pub struct World<C: Congestion> {
     sides: Sides<C>,

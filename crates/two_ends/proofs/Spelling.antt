@@ -1,0 +1,37 @@
+-- The numbers that are kept of a frame are those that its bytes spell.
+use Rattle.std.proofs.Common.{◌≡◌, inl, inr, ap, sym, ◌∙◌, subst, ℕ, ◌+◌, zero, suc, Bool, List, [], ◌∷◌, Some, slice_get}
+use Rattle.std.proofs.lemmas.Option.{same_Some}
+use Rattle.dccp_packets.specs.Grammar.{Parts}
+use Rattle.dccp_packets.specs.Kinds.{ack_of, value_of}
+use Rattle.dccp_states.specs.declared.phase.Role.{Role}
+use Rattle.world_events.specs.declared.event.Side.{Side}
+use Rattle.two_ends.specs.declared.frames.SentFrame.{SentFrame}
+use Rattle.two_ends.specs.Frames.{SpellsItsNumbers, ack_in_width, in_width, packet_of}
+use Rattle.two_ends.specs.Numbered.{AreNumbered, Facts}
+use Rattle.two_ends.specs.World.{WorldState, half_of}
+use Rattle.two_ends.proofs.ReadBack.{width-kept}
+
+spelled : (role : Role) (iss before count : ℕ) (frames : List SentFrame) (index : ℕ) (frame : SentFrame) → AreNumbered role iss before frames count
+    → slice_get frames index ≡ Some frame → SpellsItsNumbers frame
+spelled role iss before count [] index frame are there = cc there
+spelled role iss before count (first ∷ rest) zero frame (inl numbered) there = subst SpellsItsNumbers (same_Some first frame there) numbered.0.spells
+spelled role iss before count (first ∷ rest) zero frame (inr reset) there = subst SpellsItsNumbers (same_Some first frame there) reset.0.spells
+spelled role iss before count (first ∷ rest) (suc index) frame (inl numbered) there = spelled role iss (before + 1) count rest index frame numbered.1 there
+spelled role iss before count (first ∷ rest) (suc index) frame (inr reset) there = spelled role iss before count rest index frame reset.1 there
+
+pub frame-spelled : (w : WorldState) → Facts w → (side : Side) (index : ℕ) (frame : SentFrame) → slice_get (half_of w side).frames index ≡ Some frame
+    → SpellsItsNumbers frame
+frame-spelled w facts side index frame there = spelled _ _ 0 _ (half_of w side).frames index frame (facts.numbered side).in_order there
+
+module _ (frame : SentFrame) (spells : SpellsItsNumbers frame) (packet : Parts) (read : packet_of frame.bytes ≡ Some packet) where
+  same : packet ≡ spells.packet
+  same = same_Some packet spells.packet (sym read ∙ spells.is_packet)
+
+  pub number-spelled : frame.number ≡ value_of packet.header.number
+  number-spelled =
+      sym (ap (λ (p : Parts). value_of p.header.number) same ∙ spells.number ∙ ap (λ (long : Bool). in_width long frame.number) spells.in_long_form)
+
+  pub ack-spelled : frame.ack ≡ ack_of packet.header.kind
+  ack-spelled =
+      width-kept frame.ack
+      ∙ sym (ap (λ (p : Parts). ack_of p.header.kind) same ∙ spells.ack ∙ ap (λ (long : Bool). ack_in_width long frame.ack) spells.in_long_form)
