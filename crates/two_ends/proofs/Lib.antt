@@ -36,3 +36,5 @@ pub mod Delivering
 pub mod Calling
 pub mod Believing
 pub mod Consequences
+pub mod Preferring
+pub mod Sharing
