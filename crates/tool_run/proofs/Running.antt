@@ -1,8 +1,8 @@
 -- What a schedule's lines make happen is a run of two ends from their configurations.
-use Rattle.std.proofs.Common.{◌≡◌, refl, sym, ap, ◌∙◌, subst, lit<, ℕ, zero, suc, ◌+◌, ◌<◌, Bool, true, false, if◌then◌else◌, List, [], ◌∷◌, length, take, Option, Some, None, Result, Ok, Err}
+use Rattle.std.proofs.Common.{◌≡◌, refl, sym, ap, ◌∙◌, subst, lit<, ℕ, zero, suc, ◌+◌, ◌<◌, Bool, true, false, if◌then◌else◌, List, [], ◌∷◌, ◌++◌, length, take, Option, Some, None, Result, Ok, Err}
 use Rattle.std.proofs.lemmas.Bool.{ltb-true}
 use Rattle.std.proofs.lemmas.List.Elements.{All-cons, All-nil}
-use Rattle.std.specs.Prelude.{⊤, All, is_some, nat_lt, slice_get}
+use Rattle.std.specs.Prelude.{⊤, All, flat_map, is_some, nat_lt, slice_get}
 use Rattle.ccid_two.specs.Kinds.{Both, at_first, kinds_control}
 use Rattle.dccp_endpoint.specs.Drafts.{Fits}
 use Rattle.dccp_endpoint.specs.declared.config.Config.{Config}
@@ -12,12 +12,13 @@ use Rattle.dccp_states.specs.declared.phase.Role.TheVariants as role
 use Rattle.schedule_text.specs.Reading.{read_line}
 use Rattle.schedule_text.specs.declared.line.Line as words
 use Rattle.schedule_text.specs.declared.line.Line.TheVariants as line
-use Rattle.tool_lines.specs.Jobs.{Gone, Verdict, Accepted, Refused, by_next, gone_by, gone_from, gone_through}
+use Rattle.tool_lines.specs.Jobs.{Gone, Verdict, Accepted, Refused, by_next, gone_by, gone_from, gone_through, last_lines}
 use Rattle.tool_words.specs.Refusals.{whole_line}
 use Rattle.tool_words.specs.declared.faults.LineFault.{LineFault}
 use Rattle.tool_words.specs.declared.faults.LineWhy.TheVariants as why
-use Rattle.tool_run.specs.Scenes.{Scene, scene_events, IsRun}
-use Rattle.tool_run.specs.Transcript.{IsPlayable, SafeThroughout, by_line, by_scene, by_step, configures, event_shown, first_play, judged_line, most_events, performed, run_job, says_event, with_config, with_set, world_at_first, world_of, world_or_start}
+use Rattle.tool_run.specs.Scenes.{Scene, scene_events, scene_text, IsRun}
+use Rattle.tool_run.specs.Transcript.{IsPlayable, SafeThroughout, by_line, by_scene, by_step, configures, event_shown, first_play, is_refused, judged_line, most_events, performed, run_job, says_event, transcript, with_config, with_set, world_at_first, world_of, world_or_start}
+use Rattle.tool_run.specs.WorldLines.{end_lines}
 use Rattle.tool_run.specs.declared.play.Play.{Play}
 use Rattle.two_ends.specs.Controlled.{Controlled, ControlledStep, begins_with, controlled_after, happens_to, plays}
 use Rattle.two_ends.specs.Safe.{Safe}
@@ -170,6 +171,20 @@ run-nth first (here ∷ scenes) last (before, is, rest) zero scene found =
     ap (λ (s : Scene). s.before) (sym same) ∙ before
 run-nth first (here ∷ scenes) last (before, is, rest) (suc n) scene found =
     run-nth here.step.after scenes last rest n scene found ∙ one-more first here (take n (scene_events scenes)) is
+
+-- the text of a schedule that is not refused
+refused-none : (refusal : Option LineFault) → is_some refusal ≡ false → refusal ≡ None
+refused-none None is = refl
+refused-none (Some why) is = cc is
+
+pub run-text : (input : List ℕ) → is_refused input ≡ false
+    → transcript input
+    ≡ flat_map scene_text (performed input).deeds ++ end_lines (plays kinds_control (world_at_first (performed input)) (scene_events (performed input).deeds))
+run-text input is =
+    let whole = performed input in
+    ap (λ (refusal : Option LineFault). flat_map scene_text whole.deeds ++ last_lines run_job whole.last whole.number refusal)
+    (refused-none whole.refusal is)
+    ∙ ap (λ (w : Controlled Both). flat_map scene_text whole.deeds ++ end_lines w) (run-last (world_at_first whole) whole.deeds (world_of whole.last) (every-run input))
 
 -- the law of two_ends
 abbrev pub RunsAreSafe : Type 0

@@ -1,21 +1,26 @@
 //! What a schedule's lines make happen.
-ghost use Rattle.std.specs.Prelude.{◌≡◌, ◌≢◌, ℕ, List, Some, Err, slice_get, take};
+ghost use Rattle.std.specs.Prelude.{◌≡◌, ◌≢◌, ◌++◌, ℕ, List, Some, Err, false, flat_map, slice_get, take};
 ghost use Rattle.ccid_two.specs.Kinds.{kinds_control};
 ghost use Rattle.two_ends.specs.Controlled.{happens_to, plays};
-ghost use Rattle.tool_run.specs.Scenes.{Scene, IsRun, scene_events};
-ghost use Rattle.tool_run.specs.Transcript.{performed, world_at_first, world_of};
+ghost use Rattle.tool_run.specs.Scenes.{Scene, IsRun, scene_events, scene_text};
+ghost use Rattle.tool_run.specs.Transcript.{is_refused, performed, transcript, world_at_first, world_of};
+ghost use Rattle.tool_run.specs.WorldLines.{end_lines};
 
 use two_ends::{Event, WorldFault};
 
 /// The events of which a schedule's text tells are one run (own): each took place in the world that the one before it
 /// left, the first in that of the two ends as they are configured at last, and the end lines are of the world that the
-/// last one left. So the world before the event told as the n-th is the one to which the n events before it lead.
+/// last one left. So the world before the event told as the n-th is the one to which the n events before it lead. Where
+/// no line is refused, the text is that of these events, and then the end lines of the world to which they lead.
 pub fn every_schedule_is_a_run()
     ensures run { (input : List ℕ) → IsRun (world_at_first (performed input)) (performed input).deeds (world_of (performed input).last) }
     ensures nth { (input : List ℕ) (n : ℕ) (scene : Scene) → slice_get (performed input).deeds n ≡ Some scene
         → scene.before ≡ plays kinds_control (world_at_first (performed input)) (take n (scene_events (performed input).deeds)) }
     ensures last { (input : List ℕ)
         → world_of (performed input).last ≡ plays kinds_control (world_at_first (performed input)) (scene_events (performed input).deeds) }
+    ensures ends { (input : List ℕ) → is_refused input ≡ false
+        → transcript input ≡ flat_map scene_text (performed input).deeds
+        ++ end_lines (plays kinds_control (world_at_first (performed input)) (scene_events (performed input).deeds)) }
 {}
 
 /// A schedule's world has room for whatever event its next line makes (own): no side has sent more frames than there

@@ -119,7 +119,7 @@ moved-after half arrived step f after frame =
     ap (λ (e : EndState). half_with half.frames e (half.processed ++ newly_processed half.end arrived e) step.frame) after
     ∙ ap (half_with half.frames (end_after half.end f) (processed_by half arrived f)) frame
 
-not-full : (half : Half) → is_full half ≡ false → length half.frames < 2 ^ 47 - 1
+pub not-full : (half : Half) → is_full half ≡ false → length half.frames < 2 ^ 47 - 1
 not-full half room = grind arith
 
 -- an event delivers what the other side sent, and nothing else

@@ -165,7 +165,7 @@ module _ {C : Type 0} (control : Control C) (lawful : IsLawful control) where
       pub plays-delivered : IsDeliveredOnce control start events
       plays-delivered = delivered-once control effects start events (run-kept effects client server [] client_fits server_fits)
 
-      plays-roles : client.role ≡ role.Client → server.role ≡ role.Server → HasRoles last.world
+      pub plays-roles : client.role ≡ role.Client → server.role ≡ role.Server → HasRoles last.world
       plays-roles is_client is_server =
           subst HasRoles (sym same)
           (run-roles effects client server (occurring control start events) is_client is_server client_fits server_fits)

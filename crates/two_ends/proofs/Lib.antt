@@ -37,3 +37,5 @@ pub mod Calling
 pub mod Believing
 pub mod Consequences
 pub mod Spelling
+pub mod Preferring
+pub mod Sharing

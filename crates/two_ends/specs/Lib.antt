@@ -12,3 +12,5 @@ pub mod Counted
 pub mod Reached
 pub mod Remembered
 pub mod Numbered
+pub mod Preferred
+pub mod Shared

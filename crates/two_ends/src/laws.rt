@@ -2,7 +2,7 @@
 //!
 //! Each part of `Safe` has a function whose clauses follow from it and from no weaker one. They are what a reader may
 //! hold against the definitions, by plain counts where numbers are in them.
-ghost use Rattle.std.specs.Prelude.{◌≡◌, ℕ, ◌+◌, ◌^◌, ◌<◌, ◌≤◌, List, [], ◌∷◌, Some, None, IsTrue, IsSome, Contains, take, drop, slice_get};
+ghost use Rattle.std.specs.Prelude.{◌≡◌, ℕ, ◌+◌, ◌^◌, ◌<◌, ◌≤◌, List, [], ◌∷◌, ◌++◌, Some, None, IsTrue, IsSome, Contains, take, drop, slice_get};
 ghost use Rattle.ack_vectors.specs.Vector.{is_whole};
 ghost use Rattle.congestion_trait.specs.Flight.{Has};
 ghost use Rattle.congestion_trait.specs.declared.flight.Standing.TheVariants as standing;
@@ -16,6 +16,7 @@ ghost use Rattle.dccp_states.specs.declared.phase.Role.TheVariants as role;
 ghost use Rattle.feature_lists.specs.Features.{initial_of};
 ghost use Rattle.feature_lists.specs.Lists.{SharesNothing, has_entry};
 ghost use Rattle.feature_lists.specs.declared.features.Feature.{Feature};
+ghost use Rattle.feature_lists.specs.declared.features.Place.{Place};
 ghost use Rattle.feature_lists.specs.declared.features.Place.TheVariants as place;
 ghost use Rattle.feature_machine.specs.declared.stands.Stand.TheVariants.{Stable};
 ghost use Rattle.run_list.specs.MarkedSet.{has};
@@ -33,8 +34,10 @@ ghost use Rattle.two_ends.specs.Frames.{packet_of};
 ghost use Rattle.two_ends.specs.Negotiated.{HasSent, IsNotNegotiable, IsServerPriority, IsSettled, last_list_sent, last_value, list_said, pair_was_negotiated, value_said};
 ghost use Rattle.two_ends.specs.Numbered.{Facts};
 ghost use Rattle.two_ends.specs.Pairs.{FeatureAt, held_at, said_by};
+ghost use Rattle.two_ends.specs.Preferred.{AsksNothing, IsLastAsked, WantsValues, row_of, values_configured};
 ghost use Rattle.two_ends.specs.Reported.{CarriesVector};
 ghost use Rattle.two_ends.specs.Safe.{Safe};
+ghost use Rattle.two_ends.specs.Shared.{ChangesByLists};
 ghost use Rattle.two_ends.specs.World.{WorldState, half_of};
 
 use congestion_trait::Congestion;
@@ -149,6 +152,36 @@ pub fn what_none_asked_for_stays<C: Congestion>()
 pub fn last_lists_are_active<C: Congestion>()
     ensures { (client server : Config) (for_client for_server : C) (events : List Event) → client.role ≡ role.Client → server.role ≡ role.Server
         → Fits client → Fits server → AllIsAsked (plays C.control (begins_with C.control client server for_client for_server) events).world }
+{
+    every_step_has_one_effect();
+}
+
+/// What an owner asked for last is what its end works for, after every list of events. The values of the last `prefer`
+/// of a side for a feature that was accepted are its row's active ones, or, in UNSTABLE, those that wait for the row's
+/// next Change. Where none was accepted they are those that the side was configured with. So where a row is STABLE, the
+/// last list that its end sent for it, if it sent one, has just these values ([`last_lists_are_active`]).
+pub fn what_was_asked_last_is_wanted<C: Congestion>()
+    ensures asked { (client server : Config) (for_client for_server : C) (events : List Event) → Fits client → Fits server
+        → (side : Side) (feature : Feature) (place : Place) (values : List ℕ)
+        → IsLastAsked C.control (begins_with C.control client server for_client for_server) events side feature place values
+        → WantsValues (row_of (plays C.control (begins_with C.control client server for_client for_server) events).world side feature place) values }
+    ensures configured { (client server : Config) (for_client for_server : C) (events : List Event) → Fits client → Fits server
+        → (side : Side) (feature : Feature) (place : Place)
+        → AsksNothing C.control (begins_with C.control client server for_client for_server) events side feature place
+        → WantsValues (row_of (plays C.control (begins_with C.control client server for_client for_server) events).world side feature place)
+        (values_configured (begins_with C.control client server for_client for_server).world side feature place) }
+{
+    every_step_has_one_effect();
+}
+
+/// By what a value changes. In every step of every list of events, the value that an end holds of a feature negotiated
+/// by lists changes only to the first entry, in the server's order, that its active list shares with a list in a frame
+/// of the other side (RFC 4340, section 6.3.1). So where nothing is shared, the value is the one held before.
+pub fn values_change_by_shared_lists<C: Congestion>()
+    ensures { (client server : Config) (for_client for_server : C) (events : List Event) (next : Event) → client.role ≡ role.Client
+        → server.role ≡ role.Server → Fits client → Fits server
+        → ChangesByLists (plays C.control (begins_with C.control client server for_client for_server) events).world
+        (plays C.control (begins_with C.control client server for_client for_server) (events ++ next ∷ [])).world }
 {
     every_step_has_one_effect();
 }
