@@ -4,14 +4,23 @@ from pathlib import Path
 TOP = Path(__file__).resolve().parent.parent
 
 
+def lines():
+    """Yields for each line of the map its crate, what kind of crate it says that it is, mostly nothing, and what the crate stands on."""
+    for line in (TOP / "crates.txt").read_text(encoding="utf-8").splitlines():
+        front, colon, behind = line.partition("#")[0].partition(":")
+        if colon:
+            name, *kind = front.split()
+            yield name, kind, behind.split()
+
+
 def libraries():
     """Returns for each crate of the map, in its order, what it stands on: crates of the map and libraries of the toolchain."""
-    found = {}
-    for line in (TOP / "crates.txt").read_text(encoding="utf-8").splitlines():
-        name, colon, behind = line.partition("#")[0].partition(":")
-        if colon:
-            found[name.strip()] = behind.split()
-    return found
+    return {name: behind for name, _, behind in lines()}
+
+
+def is_static(crate):
+    """Tells whether a crate is a static library."""
+    return any(name == crate and kind == ["staticlib"] for name, kind, _ in lines())
 
 
 def program_of(crate):

@@ -1,0 +1,89 @@
+-- The numbers by which C and the library name answers, timers, phases and places (own).
+use Rattle.std.specs.Prelude.{ℕ, ◌==◌, Bool, true, false, Option, Some, None, Result, Ok, Err, if◌then◌else◌}
+use Rattle.dccp_states.specs.declared.phase.Phase.{Phase}
+use Rattle.dccp_states.specs.declared.phase.Phase.TheVariants as phases
+use Rattle.end_answers.specs.declared.calls.AbortFault.{AbortFault}
+use Rattle.end_answers.specs.declared.calls.AbortFault.TheVariants.{NotLive}
+use Rattle.end_answers.specs.declared.calls.CloseFault.{CloseFault}
+use Rattle.end_answers.specs.declared.calls.CloseFault.TheVariants as close
+use Rattle.end_answers.specs.declared.calls.OpenFault.{OpenFault}
+use Rattle.end_answers.specs.declared.calls.OpenFault.TheVariants.{NotFresh}
+use Rattle.end_answers.specs.declared.calls.SendFault.{SendFault}
+use Rattle.end_answers.specs.declared.calls.SendFault.TheVariants as send
+use Rattle.end_answers.specs.declared.calls.Timer.{Timer}
+use Rattle.end_answers.specs.declared.calls.Timer.TheVariants as timers
+use Rattle.feature_lists.specs.declared.features.Place.{Place}
+use Rattle.feature_lists.specs.declared.features.Place.TheVariants.{Here, There}
+use Rattle.feature_lists.specs.declared.wishes.PreferFault.{PreferFault}
+use Rattle.feature_lists.specs.declared.wishes.PreferFault.TheVariants as prefer
+use Rattle.feature_machine.specs.declared.stands.Stand.{Stand}
+use Rattle.feature_machine.specs.declared.stands.Stand.TheVariants as stands
+
+-- the code of opening: 0, or 3 where the end was not fresh
+abbrev pub open_code : Result (Unit {0}) OpenFault → ℕ
+open_code (Ok _) = 0
+open_code (Err NotFresh) = 3
+
+-- the code of sending, each refusal its own
+abbrev pub send_code : Result (Unit {0}) SendFault → ℕ
+send_code (Ok _) = 0
+send_code (Err send.NotOpen) = 4
+send_code (Err send.TooLong) = 5
+send_code (Err send.NotNegotiated) = 6
+send_code (Err send.WindowFull) = 7
+
+-- the code of a wish for a feature, each refusal its own
+abbrev pub wish_code : Result (Unit {0}) PreferFault → ℕ
+wish_code (Ok _) = 0
+wish_code (Err prefer.NotOpen) = 4
+wish_code (Err prefer.BadList) = 8
+wish_code (Err prefer.NotOurs) = 9
+
+-- the code of closing: 0, or 4 in a phase where nothing is to be closed
+abbrev pub close_code : Result (Unit {0}) CloseFault → ℕ
+close_code (Ok _) = 0
+close_code (Err close.NotOpen) = 4
+
+-- the code of aborting: 0, or 10 where there is no connection
+abbrev pub abort_code : Result (Unit {0}) AbortFault → ℕ
+abort_code (Ok _) = 0
+abort_code (Err NotLive) = 10
+
+-- the code of a timer that has run out: 0, or 12 where it has nothing to do
+abbrev pub timer_code : Bool → ℕ
+timer_code true = 0
+timer_code false = 12
+
+-- the place of a feature: at the peer, or here
+abbrev pub place_by : Bool → Place
+place_by true = There
+place_by false = Here
+
+-- the timer of a number, if there is one
+abbrev pub timer_coded : ℕ → Option Timer
+timer_coded n =
+    if n == 0 then Some timers.Request
+    else if n == 1 then Some timers.Ack
+    else if n == 2 then Some timers.Negotiate
+    else if n == 3 then Some timers.Rto
+    else if n == 4 then Some timers.Close
+    else if n == 5 then Some timers.TimeWait
+    else None
+
+-- the number of a phase, in the order of RFC 4340, section 8.4
+abbrev pub phase_code : Phase → ℕ
+phase_code phases.Closed = 0
+phase_code phases.Listen = 1
+phase_code phases.Request = 2
+phase_code phases.Respond = 3
+phase_code phases.PartOpen = 4
+phase_code phases.Open = 5
+phase_code phases.CloseReq = 6
+phase_code phases.Closing = 7
+phase_code phases.TimeWait = 8
+
+-- the number of where a negotiation stands
+abbrev pub stand_code : Stand → ℕ
+stand_code stands.Stable = 0
+stand_code stands.Changing = 1
+stand_code stands.Unstable = 2

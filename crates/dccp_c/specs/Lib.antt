@@ -1,0 +1,6 @@
+pub mod Codes
+pub mod Doing
+pub mod Keeping
+pub mod Making
+pub mod Seeing
+pub mod Telling

@@ -1,0 +1,106 @@
+-- What an end of C's is made from (own; the configuration is that of an end).
+use Rattle.std.specs.Prelude.{◌≡◌, ◌⊎◌, ℕ, ◌^◌, nat_lt, ◌==◌, Bool, true, false, not, List, [], ◌∷◌, take, Option, Some, None, Result, Ok, Err, if◌then◌else◌}
+use Rattle.ccid_two.specs.Kinds.{at_first, kinds_control}
+use Rattle.dccp_endpoint.specs.Configured.{configured}
+use Rattle.dccp_endpoint.specs.Controlled.{begins}
+use Rattle.dccp_endpoint.specs.declared.config.Config.{Config}
+use Rattle.dccp_states.specs.declared.phase.Role.{Role}
+use Rattle.dccp_states.specs.declared.phase.Role.TheVariants.{Client, Server}
+use Rattle.dccp_sum.specs.declared.pseudo_header.Pseudo.{Pseudo}
+use Rattle.dccp_sum.specs.declared.pseudo_header.Pseudo.TheVariants.{V4, V6}
+use Rattle.feature_lists.specs.Features.{feature_numbered}
+use Rattle.feature_lists.specs.Wishes.{is_ours, wish_of}
+use Rattle.feature_lists.specs.declared.features.Feature.{Feature}
+use Rattle.feature_lists.specs.declared.features.Place.{Place}
+use Rattle.feature_lists.specs.declared.wishes.PreferFault.{PreferFault}
+use Rattle.feature_lists.specs.declared.wishes.Wanted.{Wanted}
+use Rattle.feature_machine.specs.Lists.{with_offer, with_wish, without_offers}
+use Rattle.dccp_c.specs.Codes.{place_by, wish_code}
+use Rattle.dccp_c.specs.Doing.{CEnd}
+use Rattle.dccp_c.specs.declared.making.Settings.{Settings}
+use Rattle.dccp_c.specs.declared.making.Wish.{Wish}
+
+-- an IPv4 address, which stands in the first four bytes
+abbrev pub first_four : List ℕ → List ℕ
+first_four address = take 4 address
+
+-- the addresses of the packets that the end sends, of IPv6 or of IPv4
+abbrev pub pseudo_of : Settings → Pseudo
+pseudo_of s = if s.is_v6 then V6 s.own_address s.peer_address else V4 (first_four s.own_address) (first_four s.peer_address)
+
+-- a server's end or a client's
+abbrev pub role_by : Settings → Role
+role_by s = if s.is_server then Server else Client
+
+-- the usual configuration of these settings
+abbrev pub usual_of_settings : Settings → Config
+usual_of_settings s = configured (role_by s) (pseudo_of s) (record { own = s.own_port; peer = s.peer_port }) s.service s.first_number
+
+-- with the usual offers or with none
+abbrev pub unless_plain : Bool → Config → Config
+unless_plain true config = record config { lists = without_offers config.lists }
+unless_plain false config = config
+
+-- The configuration without wishes; there is none where the first number is not below 2^48.
+abbrev pub config_by : Settings → Option Config
+config_by s = if nat_lt s.first_number (2 ^ 48) then Some (unless_plain s.is_plain (usual_of_settings s)) else None
+
+-- the wish is offered too, if so wished; one that an end may not offer is refused by 9
+abbrev pub offered_so : Wish → Feature → Place → Config → Result Config ℕ
+offered_so w feature place config =
+    if not w.is_offered then Ok config
+    else if is_ours feature place then Ok (record config { lists = with_offer config.lists feature place w.is_mandatory })
+    else Err 9
+
+-- what comes of it where it was not refused
+abbrev pub unless_refused : (Config → Result Config ℕ) → Result Config ℕ → Result Config ℕ
+unless_refused next (Ok config) = next config
+unless_refused next (Err code) = Err code
+
+-- a wish that an end may have is set; any other is refused by its code
+abbrev pub wished_so : Config → Feature → Place → Result Wanted PreferFault → Result Config ℕ
+wished_so config feature place (Ok wanted) = Ok (record config { lists = with_wish config.lists feature place wanted })
+wished_so config feature place (Err fault) = Err (wish_code (Err fault))
+
+-- more than eight values are no list
+abbrev pub wished_list : Config → Wish → Feature → Place → Result Config ℕ
+wished_list config w feature place =
+    if nat_lt 8 w.count then Err 8
+    else unless_refused (offered_so w feature place) (wished_so config feature place (wish_of feature place (take w.count w.values)))
+
+-- a number of no feature is refused by 11
+abbrev pub wished_at : Config → Wish → Option Feature → Result Config ℕ
+wished_at config w None = Err 11
+wished_at config w (Some feature) = wished_list config w feature (place_by w.at_peer)
+
+-- the configuration with a wish
+abbrev pub wished : Config → Wish → Result Config ℕ
+wished config w = wished_at config w (feature_numbered w.feature)
+
+-- one wish after another, up to the first that is refused
+abbrev pub wished_all : Config → List Wish → Result Config ℕ
+wished_all config [] = Ok config
+wished_all config (w ∷ ws) = unless_refused (λ made. wished_all made ws) (wished config w)
+
+-- with all wishes, where there is a configuration at all
+abbrev pub wished_from : Option Config → List Wish → Result Config ℕ
+wished_from None wishes = Err 11
+wished_from (Some config) wishes = wished_all config wishes
+
+-- the configuration of these settings and wishes, or the code by which they are refused
+abbrev pub configured_by : Settings → List Wish → Result Config ℕ
+configured_by s wishes = wished_from (config_by s) wishes
+
+-- The end that was made: a new one where the code says so, else none.
+abbrev pub made_from : Bool → Result Config ℕ → Option CEnd
+made_from true (Ok config) = Some (begins kinds_control config at_first)
+made_from true (Err code) = None
+made_from false _ = None
+
+abbrev pub made_of : ℕ → Result Config ℕ → Option CEnd
+made_of code config = made_from (code == 0) config
+
+-- The code of making: that of the refusal, or else 0, or 2 where memory is wanting.
+abbrev pub MakesCode : Result Config ℕ → ℕ → Type 0
+MakesCode (Ok config) code = (code ≡ 0) ⊎ (code ≡ 2)
+MakesCode (Err refusal) code = code ≡ refusal

@@ -1,0 +1,49 @@
+-- What C may read of an end (own).
+use Rattle.std.specs.Prelude.{ℕ, Option, Some, None}
+use Rattle.ccid_two.specs.Kinds.{kinds_control}
+use Rattle.dccp_endpoint.specs.Controlled.{in_flight_of, window_of}
+use Rattle.dccp_endpoint.specs.End.{held_of, marked_of}
+use Rattle.feature_lists.specs.declared.features.Feature.{Feature}
+use Rattle.feature_lists.specs.declared.features.Place.{Place}
+use Rattle.dccp_c.specs.Codes.{phase_code, stand_code}
+use Rattle.dccp_c.specs.Doing.{CEnd}
+use Rattle.dccp_c.specs.declared.readers.FeatureState.{FeatureState}
+use Rattle.dccp_c.specs.declared.readers.View.{View}
+
+-- the numbers of an end, its phase and its window
+abbrev pub seen : CEnd → View
+seen e =
+    record {
+      iss = e.state.marks.iss;
+      gss = e.state.marks.gss;
+      gar = e.state.marks.gar;
+      isr = e.state.marks.isr;
+      gsr = e.state.marks.gsr;
+      marked = marked_of e.state;
+      phase = phase_code e.state.phase;
+      window = window_of kinds_control e.congestion;
+      in_flight = in_flight_of kinds_control e.congestion;
+    }
+
+-- what it holds for a feature, and where the negotiation of it stands
+abbrev pub seen_feature : Feature → Place → CEnd → FeatureState
+seen_feature feature place e = record { value = (held_of e.state feature place).value; stand = stand_code (held_of e.state feature place).stand }
+
+-- What C finds behind a reading: what was read, or what stood there where there is no end.
+abbrev pub seen_after : {Seen : Type 0} → (CEnd → Seen) → Option CEnd → Seen → Seen
+seen_after see None old = old
+seen_after see (Some e) old = see e
+
+-- the code of a reading: 1 where there is no end
+abbrev pub look_code : Option CEnd → ℕ
+look_code None = 1
+look_code (Some e) = 0
+
+-- A feature of a number that is none is answered by 11, and nothing is read.
+abbrev pub feature_after : Option Feature → Place → Option CEnd → FeatureState → FeatureState
+feature_after None place held old = old
+feature_after (Some feature) place held old = seen_after (seen_feature feature place) held old
+
+abbrev pub feature_code : Option Feature → Option CEnd → ℕ
+feature_code None held = 11
+feature_code (Some feature) held = look_code held

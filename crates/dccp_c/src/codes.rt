@@ -1,0 +1,160 @@
+//! The codes that the calls answer, and the numbers by which C names a feature, a timer and a phase.
+ghost use Rattle.std.specs.Prelude.{◌≡◌};
+ghost use Rattle.feature_lists.specs.Features.{feature_numbered};
+ghost use Rattle.dccp_c.specs.Codes.{abort_code, close_code, open_code, phase_code, place_by, send_code, stand_code, timer_coded, timer_code, wish_code};
+
+use dccp_endpoint::{
+    AbortFault, CloseFault, Feature, OpenFault, Phase, Place, PreferFault, SendFault, Stand, Timer,
+};
+
+/// It was done.
+pub const DONE: u32 = 0;
+
+/// There is no end: it was not made, or was freed.
+pub const NOT_MADE: u32 = 1;
+
+/// No memory was to be had.
+pub const NO_MEMORY: u32 = 2;
+
+/// The end is a server's, or was opened before.
+pub const NOT_FRESH: u32 = 3;
+
+/// The connection is in no phase for it.
+pub const NOT_OPEN: u32 = 4;
+
+/// The data or the datagram are too long.
+pub const TOO_LONG: u32 = 5;
+
+/// The peer sends no Ack Vectors yet.
+pub const NOT_NEGOTIATED: u32 = 6;
+
+/// As many data packets are in flight as may be.
+pub const WINDOW_FULL: u32 = 7;
+
+/// The values are none, too many, twice the same, or not permitted.
+pub const BAD_LIST: u32 = 8;
+
+/// The feature is the peer's alone to set.
+pub const NOT_OURS: u32 = 9;
+
+/// There is no connection to abort.
+pub const NOT_LIVE: u32 = 10;
+
+/// There is no such feature, timer or sequence number.
+pub const UNKNOWN: u32 = 11;
+
+/// The timer has nothing to do.
+pub const NOTHING_DUE: u32 = 12;
+
+pub(crate) fn open_code(answer: &Result<(), OpenFault>) -> u32
+    ensures { result ≡ open_code answer.now }
+{
+    match answer {
+        Ok(()) => DONE,
+        Err(OpenFault::NotFresh) => NOT_FRESH,
+    }
+}
+
+pub(crate) fn send_code(answer: &Result<(), SendFault>) -> u32
+    ensures { result ≡ send_code answer.now }
+{
+    match answer {
+        Ok(()) => DONE,
+        Err(SendFault::NotOpen) => NOT_OPEN,
+        Err(SendFault::TooLong) => TOO_LONG,
+        Err(SendFault::NotNegotiated) => NOT_NEGOTIATED,
+        Err(SendFault::WindowFull) => WINDOW_FULL,
+    }
+}
+
+pub(crate) fn wish_code(answer: &Result<(), PreferFault>) -> u32
+    ensures { result ≡ wish_code answer.now }
+{
+    match answer {
+        Ok(()) => DONE,
+        Err(PreferFault::NotOpen) => NOT_OPEN,
+        Err(PreferFault::BadList) => BAD_LIST,
+        Err(PreferFault::NotOurs) => NOT_OURS,
+    }
+}
+
+pub(crate) fn close_code(answer: &Result<(), CloseFault>) -> u32
+    ensures { result ≡ close_code answer.now }
+{
+    match answer {
+        Ok(()) => DONE,
+        Err(CloseFault::NotOpen) => NOT_OPEN,
+    }
+}
+
+pub(crate) fn abort_code(answer: &Result<(), AbortFault>) -> u32
+    ensures { result ≡ abort_code answer.now }
+{
+    match answer {
+        Ok(()) => DONE,
+        Err(AbortFault::NotLive) => NOT_LIVE,
+    }
+}
+
+pub(crate) fn timer_code(applies: bool) -> u32
+    ensures { result ≡ timer_code applies }
+{
+    if applies { DONE } else { NOTHING_DUE }
+}
+
+// The feature of a number, 1 to 9.
+pub(crate) fn feature_of(number: u32) -> Option<Feature>
+    ensures { result ≡ feature_numbered number }
+{
+    if 9 < number {
+        return None;
+    }
+    Feature::of(number as u8)
+}
+
+pub(crate) fn place_of(at_peer: bool) -> Place
+    ensures { result ≡ place_by at_peer }
+{
+    if at_peer { Place::There } else { Place::Here }
+}
+
+// The timer of a number, 0 to 5.
+pub(crate) fn timer_of(number: u32) -> Option<Timer>
+    ensures { result ≡ timer_coded number }
+{
+    match number {
+        0 => Some(Timer::Request),
+        1 => Some(Timer::Ack),
+        2 => Some(Timer::Negotiate),
+        3 => Some(Timer::Rto),
+        4 => Some(Timer::Close),
+        5 => Some(Timer::TimeWait),
+        _ => None,
+    }
+}
+
+pub(crate) fn phase_code(phase: Phase) -> u32
+    ensures { result ≡ phase_code phase }
+{
+    match phase {
+        Phase::Closed => 0,
+        Phase::Listen => 1,
+        Phase::Request => 2,
+        Phase::Respond => 3,
+        Phase::PartOpen => 4,
+        Phase::Open => 5,
+        Phase::CloseReq => 6,
+        Phase::Closing => 7,
+        Phase::TimeWait => 8,
+    }
+}
+
+pub(crate) fn stand_code(stand: Stand) -> u32
+    ensures { result ≡ stand_code stand }
+{
+    match stand {
+        Stand::Stable => 0,
+        Stand::Changing => 1,
+        Stand::Unstable => 2,
+    }
+}

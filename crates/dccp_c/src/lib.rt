@@ -1,0 +1,24 @@
+//! One end of a DCCP connection for programs in C (own; the end is RFC 4340's): a static library over `Endpoint<Kinds>`,
+//! whose functions `include/dccp.h` declares.
+//!
+//! C holds an [`End`], which points to an end with the place where it leaves its frame. Each function does one step of
+//! `Endpoint` and answers by a code of [`codes`](crate::codes); its contract is that step. None requires anything of its
+//! caller but what the types say: pointers to what they name, `bool`s that are 0 or 1, and one call at a time for an
+//! end. What may be wrong in a value is answered by a code, and an end that was not made by `NOT_MADE`.
+#![tactic(auto)]
+
+mod calls;
+mod codes;
+mod end;
+mod frame;
+mod held;
+mod kept;
+mod making;
+mod readers;
+mod told;
+
+pub use crate::end::End;
+pub use crate::frame::Frame;
+pub use crate::making::{Settings, Wish};
+pub use crate::readers::{FeatureState, View};
+pub use crate::told::Told;

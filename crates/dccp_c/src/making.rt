@@ -1,0 +1,160 @@
+//! What C makes an end from.
+ghost use Rattle.std.specs.Prelude.{◌≡◌};
+ghost use Rattle.feature_lists.specs.Wishes.{wish_of};
+ghost use Rattle.dccp_c.specs.Making.{configured_by, first_four, pseudo_of, config_by, offered_so, wished, wished_all, wished_list, wished_so};
+
+use crate::codes::{BAD_LIST, NOT_OURS, UNKNOWN, feature_of, place_of, wish_code};
+use dccp_endpoint::{Config, Feature, Place, Ports, Pseudo, Seq48};
+
+/// Whose end it is, and between which addresses and ports.
+#[repr(C)]
+#[derive(Clone, Copy, Debug, PartialEq, Eq)]
+pub struct Settings {
+    /// The address from which it sends, in the order of the network; of an IPv4 address the first four bytes.
+    pub own_address: [u8; 16],
+    /// The address to which it sends.
+    pub peer_address: [u8; 16],
+    /// The number of its first packet, below 2^48.
+    pub first_number: u64,
+    /// The Service Code.
+    pub service: u32,
+    /// Its own port.
+    pub own_port: u16,
+    /// That of its peer.
+    pub peer_port: u16,
+    /// Whether it is a server's end, else a client's.
+    pub is_server: bool,
+    /// Whether the addresses are of IPv6, else of IPv4.
+    pub is_v6: bool,
+    /// Whether it offers no feature but those among the wishes, else the usual ones too.
+    pub is_plain: bool,
+}
+
+/// What an end wishes for a feature from the start on.
+#[repr(C)]
+#[derive(Clone, Copy, Debug, PartialEq, Eq)]
+pub struct Wish {
+    /// The values, best first.
+    pub values: [u64; 8],
+    /// How many of them there are.
+    pub count: usize,
+    /// The feature's number, 1 to 9.
+    pub feature: u32,
+    /// Whether the feature is the peer's, else the end's own.
+    pub at_peer: bool,
+    /// Whether the end asks for it by itself.
+    pub is_offered: bool,
+    /// Whether the peer has to understand it.
+    pub is_mandatory: bool,
+}
+
+fn first_four(address: &[u8; 16]) -> [u8; 4]
+    ensures { result ≡ first_four address.now }
+{
+    [address[0], address[1], address[2], address[3]]
+}
+
+fn pseudo_of(settings: &Settings) -> Pseudo
+    ensures { result ≡ pseudo_of settings.now }
+{
+    if settings.is_v6 {
+        Pseudo::V6 {
+            from: settings.own_address,
+            to: settings.peer_address,
+        }
+    } else {
+        Pseudo::V4 {
+            from: first_four(&settings.own_address),
+            to: first_four(&settings.peer_address),
+        }
+    }
+}
+
+// The configuration without wishes, or None where the first number is none.
+fn settled(settings: &Settings) -> Option<Config>
+    ensures { result ≡ config_by settings.now }
+{
+    let iss = Seq48::new(settings.first_number)?;
+    let pseudo = pseudo_of(settings);
+    let ports = Ports {
+        own: settings.own_port,
+        peer: settings.peer_port,
+    };
+    let mut config = if settings.is_server {
+        Config::server(pseudo, ports, settings.service, iss)
+    } else {
+        Config::client(pseudo, ports, settings.service, iss)
+    };
+    if settings.is_plain {
+        config.plain();
+    }
+    Some(config)
+}
+
+// The configuration with this offered, if it is.
+fn offered(config: Config, wish: &Wish, feature: Feature, place: Place) -> Result<Config, u32>
+    ensures { result ≡ offered_so wish.now feature place config }
+{
+    if !wish.is_offered {
+        return Ok(config);
+    }
+    let mut config = config;
+    match config.offer(feature, place, wish.is_mandatory) {
+        Ok(()) => Ok(config),
+        Err(_) => Err(NOT_OURS),
+    }
+}
+
+// The configuration with a wish for these values, or the code by which they are refused.
+fn set(config: Config, feature: Feature, place: Place, values: &[u64]) -> Result<Config, u32>
+    ensures { result ≡ wished_so config feature place (wish_of feature place values.now) }
+{
+    if let Err(fault) = feature_lists::wish(feature, place, values) {
+        return Err(wish_code(&Err(fault)));
+    }
+    let mut config = config;
+    let _ = config.set(feature, place, values);
+    Ok(config)
+}
+
+// The configuration with a wish for this feature, or the code by which it is refused.
+fn wished_list(config: Config, wish: &Wish, feature: Feature, place: Place) -> Result<Config, u32>
+    ensures { result ≡ wished_list config wish.now feature place }
+{
+    if 8 < wish.count {
+        return Err(BAD_LIST);
+    }
+    let config = set(config, feature, place, &wish.values[..wish.count])?;
+    offered(config, wish, feature, place)
+}
+
+fn wished(config: Config, wish: &Wish) -> Result<Config, u32>
+    ensures { result ≡ wished config wish.now }
+{
+    match feature_of(wish.feature) {
+        Some(feature) => wished_list(config, wish, feature, place_of(wish.at_peer)),
+        None => Err(UNKNOWN),
+    }
+}
+
+fn wished_all(config: Config, wishes: &[Wish]) -> Result<Config, u32>
+    ensures { result ≡ wished_all config wishes.now }
+{
+    let mut config = config;
+    let mut left = wishes;
+    while let [first, others @ ..] = left {
+        config = wished(config, first)?;
+        left = others;
+    }
+    Ok(config)
+}
+
+/// The configuration of these settings and wishes, or the code by which they are refused.
+pub(crate) fn configured_by(settings: &Settings, wishes: &[Wish]) -> Result<Config, u32>
+    ensures { result ≡ configured_by settings.now wishes.now }
+{
+    let Some(config) = settled(settings) else {
+        return Err(UNKNOWN);
+    };
+    wished_all(config, wishes)
+}

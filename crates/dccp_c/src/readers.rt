@@ -1,0 +1,68 @@
+//! What C may read of an end.
+ghost use Rattle.std.specs.Prelude.{◌≡◌};
+ghost use Rattle.dccp_c.specs.Seeing.{seen, seen_feature};
+
+use crate::codes::{phase_code, stand_code};
+use ccid_two::Kinds;
+use dccp_endpoint::{Endpoint, Feature, Place};
+
+/// An end as C may read it.
+#[repr(C)]
+#[derive(Clone, Copy, Debug, PartialEq, Eq)]
+pub struct View {
+    /// The first number sent.
+    pub iss: u64,
+    /// The greatest number sent.
+    pub gss: u64,
+    /// The greatest acknowledgement number received.
+    pub gar: u64,
+    /// The first number received.
+    pub isr: u64,
+    /// The greatest number received.
+    pub gsr: u64,
+    /// How many packets were taken.
+    pub marked: u64,
+    /// Where the connection stands.
+    pub phase: u32,
+    /// How many data packets may be in flight.
+    pub window: u32,
+    /// How many data packets are in flight.
+    pub in_flight: u32,
+}
+
+/// What an end holds for a feature.
+#[repr(C)]
+#[derive(Clone, Copy, Debug, PartialEq, Eq)]
+pub struct FeatureState {
+    /// The value that holds.
+    pub value: u64,
+    /// Where its negotiation stands.
+    pub stand: u32,
+}
+
+pub(crate) fn seen(end: &Endpoint<Kinds>) -> View
+    ensures { result ≡ seen end.now }
+{
+    let marks = end.marks();
+    View {
+        iss: marks.iss.get(),
+        gss: marks.gss.get(),
+        gar: marks.gar.get(),
+        isr: marks.isr.get(),
+        gsr: marks.gsr.get(),
+        marked: end.marked(),
+        phase: phase_code(end.phase()),
+        window: end.window(),
+        in_flight: end.in_flight(),
+    }
+}
+
+pub(crate) fn seen_feature(end: &Endpoint<Kinds>, feature: Feature, place: Place) -> FeatureState
+    ensures { result ≡ seen_feature feature place end.now }
+{
+    let held = end.held(feature, place);
+    FeatureState {
+        value: held.value,
+        stand: stand_code(held.stand),
+    }
+}

@@ -1,0 +1,232 @@
+/* A Request byte by byte, each refusal of the library in turn, and each allocation refused: a line for each that is not answered as the
+ * header says. */
+#include <stdio.h>
+#include <stdlib.h>
+#include <string.h>
+
+#include "dccp.h"
+
+/* The heap functions of the library, in place of lib/libdccp_heap.a. The allocation that `refused` counts down to fails. */
+struct room {
+    bool ok;
+    void *at;
+};
+
+static unsigned refused, held;
+
+struct room rattle_alloc(size_t size, size_t align) {
+    void *at = refused != 1 ? malloc(size ? size : align) : NULL;
+    if (refused) refused--;
+    if (at) held++;
+    return (struct room){at != NULL, at ? at : &held};
+}
+
+struct room rattle_realloc(void *old, size_t old_size, size_t size, size_t align) {
+    (void)old_size;
+    void *at = realloc(old, size ? size : align);
+    return (struct room){at != NULL, at ? at : old};
+}
+
+void rattle_dealloc(void *at) {
+    free(at);
+    held--;
+}
+
+static int wrong;
+
+static void same(const char *what, unsigned long long wanted, unsigned long long found) {
+    if (wanted == found) return;
+    printf("%s: wanted %llu, found %llu\n", what, wanted, found);
+    wrong = 1;
+}
+
+static const dccp_settings client = {
+    .own_address = {10, 0, 0, 1}, .peer_address = {10, 0, 0, 2}, .first_number = 1000, .service = 42, .own_port = 40000, .peer_port = 5001};
+
+static dccp_settings server(void) {
+    return (dccp_settings){.own_address = {10, 0, 0, 2},
+                           .peer_address = {10, 0, 0, 1},
+                           .first_number = 2000,
+                           .service = 42,
+                           .own_port = 5001,
+                           .peer_port = 40000,
+                           .is_server = true};
+}
+
+/* Hands a frame over, and the answer back, until there is none. */
+static void exchange(dccp_end *to, dccp_end *from, dccp_frame *frame) {
+    dccp_told told;
+    while (frame->length) {
+        dccp_frame answer;
+        same("a frame that arrives", DCCP_OK, dccp_receive(to, frame->bytes, frame->length, &answer, &told));
+        *frame = answer;
+        dccp_end *other = to;
+        to = from;
+        from = other;
+    }
+}
+
+static dccp_view look(dccp_end *end) {
+    dccp_view view;
+    same("a look", DCCP_OK, dccp_look(end, &view));
+    return view;
+}
+
+static void without_an_end(void) {
+    dccp_end none = DCCP_NONE;
+    dccp_frame frame;
+    dccp_told told;
+    dccp_view view;
+    dccp_feature_state state;
+    uint8_t byte = 0;
+    uint64_t value = 2;
+    same("open without an end", DCCP_NOT_MADE, dccp_open(&none, &frame));
+    same("send without an end", DCCP_NOT_MADE, dccp_send(&none, &byte, 1, &frame));
+    same("close without an end", DCCP_NOT_MADE, dccp_close(&none, &frame));
+    same("abort without an end", DCCP_NOT_MADE, dccp_abort(&none, &frame));
+    same("prefer without an end", DCCP_NOT_MADE, dccp_prefer(&none, DCCP_CCID, false, &value, 1, &frame));
+    same("a timer without an end", DCCP_NOT_MADE, dccp_timer(&none, DCCP_TIMER_ACK, &frame));
+    same("a datagram without an end", DCCP_NOT_MADE, dccp_receive(&none, &byte, 1, &frame, &told));
+    same("a look without an end", DCCP_NOT_MADE, dccp_look(&none, &view));
+    same("a feature without an end", DCCP_NOT_MADE, dccp_feature(&none, DCCP_CCID, false, &state));
+    same("its frame", 0, frame.length);
+    dccp_free(&none);
+    dccp_free(&none);
+}
+
+static void wishes(void) {
+    dccp_end end = DCCP_NONE;
+    dccp_settings settings = client;
+    dccp_wish wish = {.values = {500}, .count = 1, .feature = DCCP_SEQUENCE_WINDOW, .is_offered = true};
+    same("a wish", DCCP_OK, dccp_make(&end, &settings, &wish, 1));
+    wish.feature = 10;
+    same("feature 10", DCCP_UNKNOWN, dccp_make(&end, &settings, &wish, 1));
+    same("an end behind a refused make", false, end.made);
+    wish.feature = 0;
+    same("feature 0", DCCP_UNKNOWN, dccp_make(&end, &settings, &wish, 1));
+    wish.feature = 256 + DCCP_SEQUENCE_WINDOW;
+    same("feature 259", DCCP_UNKNOWN, dccp_make(&end, &settings, &wish, 1));
+    wish.feature = DCCP_SEQUENCE_WINDOW;
+    wish.values[0] = 31;
+    same("a window of 31", DCCP_BAD_LIST, dccp_make(&end, &settings, &wish, 1));
+    wish.values[0] = 500;
+    wish.count = 9;
+    same("nine values", DCCP_BAD_LIST, dccp_make(&end, &settings, &wish, 1));
+    wish.count = 0;
+    same("no values", DCCP_BAD_LIST, dccp_make(&end, &settings, &wish, 1));
+    wish.count = 1;
+    wish.at_peer = true;
+    same("the peer's window", DCCP_NOT_OURS, dccp_make(&end, &settings, &wish, 1));
+    wish = (dccp_wish){.values = {0, 1, 2, 3, 4, 5, 6, 7}, .count = 8, .feature = DCCP_MIN_CS_COV};
+    same("eight values", DCCP_OK, dccp_make(&end, &settings, &wish, 1));
+    settings.first_number = (uint64_t)1 << 48;
+    same("2^48", DCCP_UNKNOWN, dccp_make(&end, &settings, &wish, 0));
+    settings.first_number--;
+    same("2^48 - 1", DCCP_OK, dccp_make(&end, &settings, &wish, 0));
+    same("its first number", settings.first_number, look(&end).iss);
+    dccp_free(&end);
+}
+
+/* The Request of a client that offers nothing, whose checksum alone tells the addresses (RFC 4340, sections 5.1 and 9.1). */
+static void a_request(void) {
+    uint8_t wanted[20] = {0x9c, 0x40, 0x13, 0x89, 5, 0, 0x31, 0xec, 1, 0, 0, 0, 0, 0, 0x03, 0xe8, 0, 0, 0, 42};
+    dccp_end end = DCCP_NONE;
+    dccp_settings settings = client;
+    dccp_wish none = {.count = 0};
+    dccp_frame frame;
+    settings.is_plain = true;
+    same("a plain client", DCCP_OK, dccp_make(&end, &settings, &none, 0));
+    same("its open", DCCP_OK, dccp_open(&end, &frame));
+    same("the length of its Request", sizeof wanted, frame.length);
+    same("its Request over IPv4", 0, memcmp(frame.bytes, wanted, sizeof wanted) != 0);
+    settings.is_v6 = true;
+    memcpy(settings.own_address, (uint8_t[16]){0x20, 0x01, 0x0d, 0xb8, [15] = 1}, 16);
+    memcpy(settings.peer_address, (uint8_t[16]){0x20, 0x01, 0x0d, 0xb8, [15] = 2}, 16);
+    wanted[6] = 0xea;
+    wanted[7] = 0x79;
+    same("a client over IPv6", DCCP_OK, dccp_make(&end, &settings, &none, 0));
+    same("its open", DCCP_OK, dccp_open(&end, &frame));
+    same("its Request over IPv6", 0, memcmp(frame.bytes, wanted, sizeof wanted) != 0);
+    dccp_free(&end);
+}
+
+static void memory(void) {
+    dccp_end end = DCCP_NONE;
+    dccp_wish none = {.count = 0};
+    for (unsigned at = 1;; at++) {
+        refused = at;
+        uint32_t status = dccp_make(&end, &client, &none, 0);
+        bool is_reached = refused == 0;
+        refused = 0;
+        if (!is_reached) {
+            same("make with memory", DCCP_OK, status);
+            break;
+        }
+        same("make without memory", DCCP_NO_MEMORY, status);
+        same("an end without memory", false, end.made);
+        same("blocks that are kept", 0, held);
+    }
+    dccp_free(&end);
+    same("blocks behind free", 0, held);
+}
+
+static void a_connection(void) {
+    dccp_end one = DCCP_NONE, other = DCCP_NONE;
+    dccp_settings settings = server();
+    dccp_wish none = {.count = 0};
+    dccp_frame frame;
+    dccp_told told;
+    static uint8_t bytes[DCCP_MOST_FRAME_BYTES + 1];
+    uint64_t twice[2] = {2, 2};
+    same("a client", DCCP_OK, dccp_make(&one, &client, &none, 0));
+    same("a server", DCCP_OK, dccp_make(&other, &settings, &none, 0));
+    same("its phase", DCCP_LISTEN, look(&other).phase);
+    same("a server's open", DCCP_NOT_FRESH, dccp_open(&other, &frame));
+    same("abort in CLOSED", DCCP_NOT_LIVE, dccp_abort(&one, &frame));
+    same("close in CLOSED", DCCP_NOT_OPEN, dccp_close(&one, &frame));
+    same("send in CLOSED", DCCP_NOT_OPEN, dccp_send(&one, bytes, 1, &frame));
+    same("open", DCCP_OK, dccp_open(&one, &frame));
+    same("its Request", 0, (frame.bytes[8] >> 1) & 15);
+    exchange(&other, &one, &frame);
+    same("open twice", DCCP_NOT_FRESH, dccp_open(&one, &frame));
+    same("the client's phase", DCCP_OPEN, look(&one).phase);
+    same("the server's phase", DCCP_OPEN, look(&other).phase);
+    same("the timer Ack", DCCP_OK, dccp_timer(&other, DCCP_TIMER_ACK, &frame));
+    same("its Ack", 3, (frame.bytes[8] >> 1) & 15);
+    exchange(&one, &other, &frame);
+    same("the timer Close", DCCP_NOTHING_DUE, dccp_timer(&one, DCCP_TIMER_CLOSE, &frame));
+    same("its frame", 0, frame.length);
+    same("timer 6", DCCP_UNKNOWN, dccp_timer(&one, 6, &frame));
+    same("1,025 bytes", DCCP_TOO_LONG, dccp_send(&one, bytes, DCCP_MOST_DATA_BYTES + 1, &frame));
+    same("2,044 bytes", DCCP_OK, dccp_receive(&one, bytes, DCCP_MOST_FRAME_BYTES, &frame, &told));
+    same("what became of them", DCCP_DROPPED, told.kind);
+    same("2,045 bytes", DCCP_TOO_LONG, dccp_receive(&one, bytes, DCCP_MOST_FRAME_BYTES + 1, &frame, &told));
+    same("2 twice", DCCP_BAD_LIST, dccp_prefer(&one, DCCP_CCID, false, twice, 2, &frame));
+    same("the peer's ratio", DCCP_NOT_OURS, dccp_prefer(&one, DCCP_ACK_RATIO, true, twice, 1, &frame));
+    same("the window", 4, look(&one).window);
+    for (unsigned at = 0; at < 4; at++) same("a packet", DCCP_OK, dccp_send(&one, (const uint8_t *)"abc", at, &frame));
+    dccp_frame given = frame;
+    same("its arrival", DCCP_OK, dccp_receive(&other, given.bytes, given.length, &frame, &told));
+    same("its data", DCCP_DATA, told.kind);
+    same("how many they are", 3, told.past - told.first);
+    same("the data themselves", 0, memcmp(given.bytes + told.first, "abc", 3) != 0);
+    same("a full window", DCCP_WINDOW_FULL, dccp_send(&one, bytes, 1, &frame));
+    same("what is in flight", 4, look(&one).in_flight);
+    same("abort", DCCP_OK, dccp_abort(&one, &frame));
+    same("its Reset arrives", DCCP_OK, dccp_receive(&other, frame.bytes, frame.length, &frame, &told));
+    same("the news of it", DCCP_WAS_RESET, told.kind);
+    same("its code", 2, told.code);
+    same("the server's phase", DCCP_TIMEWAIT, look(&other).phase);
+    dccp_free(&one);
+    dccp_free(&other);
+    same("blocks behind free", 0, held);
+}
+
+int main(void) {
+    without_an_end();
+    wishes();
+    a_request();
+    memory();
+    a_connection();
+    return wrong;
+}

@@ -1,0 +1,289 @@
+/* A client and a server over UDP on this machine. Each sends 200 packets of data, and one of them closes.
+ *
+ *     talk server PORT [closes]        serves one client on 127.0.0.1, and ends
+ *     talk client PORT [closes]        talks to it
+ *
+ * Each offers a Sequence Window of 500 packets, and the one that closes asks for 700 while data flow. One frame in twenty is lost
+ * on purpose. Last comes a line: how many packets came, the Sequence Windows of this end and of its peer, and the code with which
+ * the connection ended. It is what a caller of the library needs: a socket, a clock, a random first number, the timers, and a limit
+ * on answers to strangers. */
+#include <arpa/inet.h>
+#include <errno.h>
+#include <poll.h>
+#include <stdio.h>
+#include <stdlib.h>
+#include <string.h>
+#include <sys/random.h>
+#include <sys/socket.h>
+#include <time.h>
+#include <unistd.h>
+
+#include "dccp.h"
+
+enum { TIMERS = 6, PACKETS = 200, SERVICE = 42, WIDTH = 500, WIDER = 700, LOST_OF = 20, ANSWERS_A_SECOND = 20, LINGER = 1500 };
+
+struct timer {
+    bool runs;
+    uint64_t since, wait; /* in milliseconds */
+};
+
+struct talk {
+    int socket;
+    dccp_end end;
+    struct timer timers[TIMERS];
+    uint64_t rto_wait;      /* how long the timer RTO runs when it begins next */
+    uint64_t heard, second; /* when data came last; the second in which answers are counted */
+    unsigned handed, answers, sent, got;
+    bool closes, has_ended;
+    unsigned code;
+    uint64_t ended;
+};
+
+static uint64_t now(void) {
+    struct timespec t;
+    clock_gettime(CLOCK_MONOTONIC, &t);
+    return (uint64_t)t.tv_sec * 1000 + (uint64_t)t.tv_nsec / 1000000;
+}
+
+static void fail(const char *what) {
+    fprintf(stderr, "talk: %s\n", what);
+    exit(1);
+}
+
+/* A number that nobody can guess, for the first packet (RFC 4340, section 7.2). */
+static uint64_t first_number(void) {
+    uint64_t number;
+    if (getrandom(&number, sizeof number, 0) != sizeof number) fail("no random number");
+    return number >> 16;
+}
+
+/* The frame goes to the peer, unless it is one that is lost on purpose. One that the socket does not take is lost too. */
+static void hand_over(struct talk *talk, const dccp_frame *frame) {
+    if (frame->length == 0 || ++talk->handed % LOST_OF == 0) return;
+    if (send(talk->socket, frame->bytes, frame->length, 0) < 0 && errno != ECONNREFUSED && errno != EAGAIN) fail("send");
+}
+
+static dccp_view look(struct talk *talk) {
+    dccp_view view;
+    if (dccp_look(&talk->end, &view) != DCCP_OK) fail("look");
+    return view;
+}
+
+static const uint64_t first_wait[TIMERS] = {1000, 200, 1000, 1000, 400, 240000};
+
+/* Whether a timer runs for an end (docs/USING.md, "The timers"). */
+static bool runs_in(unsigned timer, const dccp_view *view) {
+    switch (timer) {
+    case DCCP_TIMER_REQUEST: return view->phase == DCCP_REQUEST;
+    case DCCP_TIMER_ACK:
+    case DCCP_TIMER_NEGOTIATE: return view->phase == DCCP_PARTOPEN || view->phase == DCCP_OPEN;
+    case DCCP_TIMER_RTO: return view->phase == DCCP_OPEN && 0 < view->in_flight;
+    case DCCP_TIMER_CLOSE: return view->phase == DCCP_CLOSEREQ || view->phase == DCCP_CLOSING;
+    default: return view->phase == DCCP_TIMEWAIT;
+    }
+}
+
+/* After each call the timers run as the end needs them. */
+static void arrange(struct talk *talk) {
+    dccp_view view = look(talk);
+    for (unsigned it = 0; it < TIMERS; it++) {
+        if (runs_in(it, &view) && !talk->timers[it].runs)
+            talk->timers[it] = (struct timer){true, now(), it == DCCP_TIMER_RTO ? talk->rto_wait : first_wait[it]};
+        else if (!runs_in(it, &view))
+            talk->timers[it].runs = false;
+    }
+}
+
+static uint64_t left(const struct timer *timer) {
+    uint64_t gone = now() - timer->since;
+    return gone < timer->wait ? timer->wait - gone : 0;
+}
+
+/* Each timer that has run out is told once, and waits twice as long the next time, up to 64 seconds. */
+static void tick(struct talk *talk) {
+    dccp_frame frame;
+    for (unsigned it = 0; it < TIMERS; it++) {
+        struct timer *timer = &talk->timers[it];
+        if (!timer->runs || left(timer) != 0) continue;
+        *timer = (struct timer){true, now(), timer->wait < 32000 ? 2 * timer->wait : 64000};
+        if (it == DCCP_TIMER_RTO) talk->rto_wait = timer->wait;
+        dccp_timer(&talk->end, it, &frame);
+        hand_over(talk, &frame);
+        arrange(talk);
+    }
+}
+
+/* How long the program may sleep. */
+static int until_first(struct talk *talk) {
+    uint64_t soonest = 50;
+    for (unsigned it = 0; it < TIMERS; it++)
+        if (talk->timers[it].runs && left(&talk->timers[it]) < soonest) soonest = left(&talk->timers[it]);
+    return (int)soonest;
+}
+
+/* Whether another Sync or Reset may answer in this second (RFC 4340, sections 7.5.4 and 8.3.1). */
+static bool may_answer(struct talk *talk) {
+    if (talk->second != now() / 1000) {
+        talk->second = now() / 1000;
+        talk->answers = 0;
+    }
+    return talk->answers++ < ANSWERS_A_SECOND;
+}
+
+static void arrived(struct talk *talk, const uint8_t *datagram, size_t length) {
+    dccp_frame frame;
+    dccp_told told;
+    uint32_t in_flight = look(talk).in_flight;
+    if (dccp_receive(&talk->end, datagram, length, &frame, &told) != DCCP_OK) return;
+    bool is_answer = told.kind == DCCP_SYNCED || told.kind == DCCP_SENT_RESET;
+    if (!is_answer || may_answer(talk)) hand_over(talk, &frame);
+    dccp_view view = look(talk);
+    if (told.kind == DCCP_DATA) {
+        talk->got++;
+        talk->heard = now();
+        /* An Ack goes out no later than after its timer's first wait. */
+        if (talk->timers[DCCP_TIMER_ACK].wait != first_wait[DCCP_TIMER_ACK]) talk->timers[DCCP_TIMER_ACK].runs = false;
+    }
+    bool is_over = told.kind == DCCP_WAS_RESET || (told.kind == DCCP_SENT_RESET && view.phase == DCCP_CLOSED);
+    if (is_over && !talk->has_ended) {
+        talk->has_ended = true;
+        talk->code = told.code;
+        talk->ended = now();
+    }
+    if (view.in_flight < in_flight) {
+        talk->timers[DCCP_TIMER_RTO].runs = false;
+        talk->rto_wait = first_wait[DCCP_TIMER_RTO];
+    }
+    arrange(talk);
+}
+
+/* Hears all that has come. */
+static void hear(struct talk *talk) {
+    uint8_t datagram[DCCP_MOST_FRAME_BYTES + 1];
+    ssize_t length;
+    while (0 <= (length = recv(talk->socket, datagram, sizeof datagram, MSG_DONTWAIT))) arrived(talk, datagram, (size_t)length);
+}
+
+/* Asks for a wider Sequence Window. What comes of it is seen by dccp_feature. */
+static void widen(struct talk *talk) {
+    dccp_frame frame;
+    uint64_t wider = WIDER;
+    if (dccp_prefer(&talk->end, DCCP_SEQUENCE_WINDOW, false, &wider, 1, &frame) != DCCP_OK) fail("prefer");
+    hand_over(talk, &frame);
+    talk->timers[DCCP_TIMER_NEGOTIATE].runs = false;
+    arrange(talk);
+}
+
+/* Sends data as long as the window has room. */
+static void say(struct talk *talk) {
+    dccp_frame frame;
+    uint8_t data[64] = {0};
+    while (talk->sent < PACKETS) {
+        data[0] = (uint8_t)talk->sent;
+        if (dccp_send(&talk->end, data, sizeof data, &frame) != DCCP_OK) return;
+        talk->sent++;
+        hand_over(talk, &frame);
+        arrange(talk);
+        if (talk->closes && talk->sent == PACKETS / 2) widen(talk);
+    }
+}
+
+static void make(struct talk *talk, bool is_server, unsigned own_port, unsigned peer_port) {
+    dccp_settings settings = {
+        .own_address = {127, 0, 0, 1},
+        .peer_address = {127, 0, 0, 1},
+        .first_number = first_number(),
+        .service = SERVICE,
+        .own_port = (uint16_t)own_port,
+        .peer_port = (uint16_t)peer_port,
+        .is_server = is_server,
+    };
+    dccp_wish wide = {.values = {WIDTH}, .count = 1, .feature = DCCP_SEQUENCE_WINDOW, .is_offered = true};
+    if (dccp_make(&talk->end, &settings, &wide, 1) != DCCP_OK) fail("make");
+}
+
+static struct sockaddr_in here(unsigned port) {
+    struct sockaddr_in address = {.sin_family = AF_INET, .sin_port = htons((uint16_t)port)};
+    address.sin_addr.s_addr = htonl(INADDR_LOOPBACK);
+    return address;
+}
+
+static void connect_to(int socket, const struct sockaddr_in *address) {
+    if (connect(socket, (const struct sockaddr *)address, sizeof *address) != 0) fail("connect");
+}
+
+/* Waits for a client whose first datagram leads an end out of LISTEN. Any other is forgotten. */
+static void serve(struct talk *talk, unsigned port) {
+    struct sockaddr_in own = here(port), peer;
+    if (bind(talk->socket, (struct sockaddr *)&own, sizeof own) != 0) fail("bind");
+    for (;;) {
+        uint8_t datagram[DCCP_MOST_FRAME_BYTES + 1];
+        socklen_t size = sizeof peer;
+        ssize_t length = recvfrom(talk->socket, datagram, sizeof datagram, 0, (struct sockaddr *)&peer, &size);
+        if (length < 0) fail("recvfrom");
+        make(talk, true, port, ntohs(peer.sin_port));
+        connect_to(talk->socket, &peer);
+        arrived(talk, datagram, (size_t)length);
+        if (look(talk).phase != DCCP_LISTEN) return;
+        dccp_free(&talk->end);
+        struct sockaddr nobody = {.sa_family = AF_UNSPEC};
+        if (connect(talk->socket, &nobody, sizeof nobody) != 0) fail("connect");
+    }
+}
+
+static void ask(struct talk *talk, unsigned port) {
+    struct sockaddr_in peer = here(port), own;
+    socklen_t size = sizeof own;
+    connect_to(talk->socket, &peer);
+    if (getsockname(talk->socket, (struct sockaddr *)&own, &size) != 0) fail("getsockname");
+    make(talk, false, ntohs(own.sin_port), port);
+    dccp_frame frame;
+    if (dccp_open(&talk->end, &frame) != DCCP_OK) fail("open");
+    hand_over(talk, &frame);
+    arrange(talk);
+}
+
+static dccp_feature_state width(struct talk *talk, bool at_peer) {
+    dccp_feature_state state;
+    if (dccp_feature(&talk->end, DCCP_SEQUENCE_WINDOW, at_peer, &state) != DCCP_OK) fail("feature");
+    return state;
+}
+
+/* It is time to close once all was sent, the wider window is settled, and nothing has come for a second. */
+static void close_if_done(struct talk *talk) {
+    dccp_frame frame;
+    dccp_view view = look(talk);
+    if (talk->sent < PACKETS || view.in_flight != 0 || now() - talk->heard < 1000 || view.phase != DCCP_OPEN) return;
+    if (width(talk, false).stand != DCCP_STABLE) return;
+    if (dccp_close(&talk->end, &frame) == DCCP_OK) hand_over(talk, &frame);
+    arrange(talk);
+}
+
+int main(int count, char **words) {
+    bool is_server = 3 <= count && strcmp(words[1], "server") == 0, closes = count == 4 && strcmp(words[3], "closes") == 0;
+    bool is_client = 3 <= count && strcmp(words[1], "client") == 0;
+    if ((count != 3 && !closes) || (!is_server && !is_client)) fail("talk server PORT [closes], or talk client PORT [closes]");
+    struct talk talk = {.socket = socket(AF_INET, SOCK_DGRAM, 0), .end = DCCP_NONE, .heard = now(), .closes = closes};
+    talk.rto_wait = first_wait[DCCP_TIMER_RTO];
+    if (talk.socket < 0) fail("socket");
+    if (is_server)
+        serve(&talk, (unsigned)atoi(words[2]));
+    else
+        ask(&talk, (unsigned)atoi(words[2]));
+    uint64_t begun = now();
+    /* An end that has ended is kept a while for what is still under way. TIMEWAIT would keep it for four minutes. */
+    while (!talk.has_ended || now() - talk.ended < LINGER) {
+        if (60000 < now() - begun) fail("it takes over a minute");
+        struct pollfd poll_fd = {.fd = talk.socket, .events = POLLIN};
+        poll(&poll_fd, 1, until_first(&talk));
+        hear(&talk);
+        tick(&talk);
+        say(&talk);
+        if (closes) close_if_done(&talk);
+    }
+    unsigned own = (unsigned)width(&talk, false).value, peer = (unsigned)width(&talk, true).value;
+    printf("%s got %u windows %u %u code %u\n", words[1], talk.got, own, peer, talk.code);
+    dccp_free(&talk.end);
+    close(talk.socket);
+    return 0;
+}

@@ -1,0 +1,237 @@
+/* One end of a DCCP connection (RFC 4340) with CCID 2 (RFC 4341) and feature negotiation.
+ *
+ * The library has no socket, no clock and no thread. Datagrams that arrived go in, and each call leaves at most one frame,
+ * which the caller sends to the peer. It takes memory in dccp_make alone.
+ *
+ * Order of calls: begin a handle with DCCP_NONE, make an end in it, and for a client open it. From then on
+ * dccp_receive for each datagram, dccp_timer for each timer that has run out, dccp_send, dccp_prefer, dccp_close and
+ * dccp_abort in whatever order. dccp_free at last. docs/LIBRARY.md says which timers run when.
+ *
+ * After every call: if frame.length is not 0, its bytes go to the peer, whatever the call answered. A call that was
+ * refused has changed nothing and leaves no bytes.
+ *
+ * The caller keeps to this, which nothing checks:
+ *   - A handle is passed to one call at a time. It may go to another thread, if the two are ordered by a lock or a join.
+ *   - The fields of a handle are read and written by the library alone, and a handle is not copied while it is in use.
+ *   - No pointer is NULL, not even that of no bytes; what is passed by one call does not overlap; a bool is 0 or 1.
+ *   - No call comes from a signal handler.
+ * Any number in place of a feature, a timer or a value, and any bytes, are answered by a status.
+ */
+#ifndef DCCP_H
+#define DCCP_H
+
+#include <stdbool.h>
+#include <stddef.h>
+#include <stdint.h>
+
+#ifdef __cplusplus
+extern "C" {
+#endif
+
+#define DCCP_MOST_FRAME_BYTES 2044 /* the longest frame, and the longest datagram that is taken */
+#define DCCP_MOST_DATA_BYTES 1024  /* the most data of one packet */
+#define DCCP_MOST_VALUES 8         /* the most values of one wish */
+
+/* What a call answers. */
+typedef enum dccp_status {
+    DCCP_OK = 0,
+    DCCP_NOT_MADE = 1,       /* the handle holds no end */
+    DCCP_NO_MEMORY = 2,      /* dccp_make: no memory was to be had */
+    DCCP_NOT_FRESH = 3,      /* dccp_open: a server's end, or one that was opened before */
+    DCCP_NOT_OPEN = 4,       /* the connection is in no phase for the call */
+    DCCP_TOO_LONG = 5,       /* more than 1,024 bytes of data, or more than 2,044 of a datagram */
+    DCCP_NOT_NEGOTIATED = 6, /* dccp_send: the peer sends no Ack Vectors yet, which CCID 2 needs */
+    DCCP_WINDOW_FULL = 7,    /* dccp_send: as many packets are in flight as may be; offer the data again, or drop them */
+    DCCP_BAD_LIST = 8,       /* the values are none, over eight, twice the same, not permitted, or not just one where one is due */
+    DCCP_NOT_OURS = 9,       /* Sequence Window or Ack Ratio of the peer, which it alone sets */
+    DCCP_NOT_LIVE = 10,      /* dccp_abort: there is no connection */
+    DCCP_UNKNOWN = 11,       /* no feature or timer has this number, or the first number is not below 2^48 */
+    DCCP_NOTHING_DUE = 12    /* dccp_timer: the timer has nothing to do now */
+} dccp_status;
+
+/* Where a connection stands (RFC 4340, section 8.4). */
+typedef enum dccp_phase {
+    DCCP_CLOSED = 0,
+    DCCP_LISTEN = 1,
+    DCCP_REQUEST = 2,
+    DCCP_RESPOND = 3,
+    DCCP_PARTOPEN = 4,
+    DCCP_OPEN = 5,
+    DCCP_CLOSEREQ = 6,
+    DCCP_CLOSING = 7,
+    DCCP_TIMEWAIT = 8
+} dccp_phase;
+
+typedef enum dccp_timer_kind {
+    DCCP_TIMER_REQUEST = 0,   /* no answer to the Request has come */
+    DCCP_TIMER_ACK = 1,       /* an acknowledgement is due */
+    DCCP_TIMER_NEGOTIATE = 2, /* a Change is not confirmed */
+    DCCP_TIMER_RTO = 3,       /* data are not acknowledged */
+    DCCP_TIMER_CLOSE = 4,     /* a Close or CloseReq is not answered */
+    DCCP_TIMER_TIMEWAIT = 5   /* two lifetimes of a segment have gone by in TIMEWAIT */
+} dccp_timer_kind;
+
+/* The features that may be wished for (RFC 4340, section 6.4). */
+typedef enum dccp_feature_kind {
+    DCCP_CCID = 1,                /* 2 and 248 */
+    DCCP_SHORT_SEQNOS = 2,        /* 0 */
+    DCCP_SEQUENCE_WINDOW = 3,     /* one value, 32 to 2^46 - 1, in packets */
+    DCCP_ECN_INCAPABLE = 4,       /* 1 here; 0 and 1 at the peer */
+    DCCP_ACK_RATIO = 5,           /* one value, 0 to 65,535, in data packets for one Ack */
+    DCCP_SEND_ACK_VECTOR = 6,     /* 0 and 1 */
+    DCCP_SEND_NDP_COUNT = 7,      /* 0 */
+    DCCP_MIN_CS_COV = 8,          /* 0 to 15 */
+    DCCP_CHECK_DATA_CHECKSUM = 9  /* 0 */
+} dccp_feature_kind;
+
+/* Where the negotiation of a feature stands; its value is settled where it is stable. */
+typedef enum dccp_stand {
+    DCCP_STABLE = 0,
+    DCCP_CHANGING = 1,
+    DCCP_UNSTABLE = 2
+} dccp_stand;
+
+/* What became of a datagram. */
+typedef enum dccp_told_kind {
+    DCCP_TOOK = 0,      /* it was taken, and brought no data */
+    DCCP_DATA = 1,      /* it brought data: the bytes from `first` up to `past` of the datagram, maybe none */
+    DCCP_DROPPED = 2,   /* it was dropped, for `cause` */
+    DCCP_SYNCED = 3,    /* a Sync answers it, which acknowledges `number`: limit how many go out in a second */
+    DCCP_WAS_RESET = 4, /* the connection has ended by the peer's Reset with `code`; the timer TIMEWAIT runs */
+    DCCP_SENT_RESET = 5 /* a Reset with `code` and `detail` answers it; where the phase is DCCP_CLOSED now, the end may go */
+} dccp_told_kind;
+
+/* Why a datagram was dropped. */
+typedef enum dccp_cause {
+    DCCP_CAUSE_NONE = 0,
+    DCCP_CAUSE_SHORT = 1,            /* under 12 bytes */
+    DCCP_CAUSE_RESERVED_TYPE = 2,    /* a packet type of no meaning */
+    DCCP_CAUSE_OFFSET_SMALL = 3,     /* its Data Offset ends within the header */
+    DCCP_CAUSE_OFFSET_LARGE = 4,     /* its Data Offset lies beyond its end */
+    DCCP_CAUSE_SHORT_NUMBERS = 5,    /* short numbers on a type that has none */
+    DCCP_CAUSE_COVERAGE = 6,         /* its checksum covers more than there is */
+    DCCP_CAUSE_CHECKSUM = 7,         /* its checksum does not fit */
+    DCCP_CAUSE_OTHER_PORTS = 8,      /* its ports are not those of the connection */
+    DCCP_CAUSE_STRAY_RESET = 9,      /* a Reset of no connection */
+    DCCP_CAUSE_SHORT_OFF = 10,       /* short numbers, which are not negotiated */
+    DCCP_CAUSE_BAD_SYNC = 11         /* a Sync or SyncAck whose numbers are not valid */
+} dccp_cause;
+
+/* A handle: one end, or none. */
+typedef struct dccp_end {
+    void *opaque;
+    bool made;
+} dccp_end;
+
+/* A handle without an end; each begins so. */
+#ifdef __cplusplus
+#define DCCP_NONE (dccp_end{nullptr, false})
+#else
+#define DCCP_NONE ((dccp_end){NULL, false})
+#endif
+
+/* What an end is made from. */
+typedef struct dccp_settings {
+    uint8_t own_address[16];  /* in network order; of an IPv4 address the first four bytes */
+    uint8_t peer_address[16];
+    uint64_t first_number;    /* of its first packet, below 2^48: one that nobody can guess (RFC 4340, section 7.2) */
+    uint32_t service;         /* the Service Code, the same at both ends */
+    uint16_t own_port;        /* in the byte order of the machine */
+    uint16_t peer_port;
+    bool is_server;
+    bool is_v6;
+    bool is_plain;            /* takes away the usual offers, so that only those among the wishes are made */
+} dccp_settings;
+
+/* What an end wishes for a feature when the connection begins, in place of what is usual. */
+typedef struct dccp_wish {
+    uint64_t values[DCCP_MOST_VALUES]; /* best first */
+    size_t count;                      /* how many of them there are */
+    uint32_t feature;                  /* a dccp_feature_kind */
+    bool at_peer;                      /* of the peer, else of this end */
+    bool is_offered;                   /* this end asks for it, else it only answers the peer's wish */
+    bool is_mandatory;                 /* of an offer: a peer that does not understand it has to end the connection */
+} dccp_wish;
+
+/* The frame that a call leaves: `length` bytes, 0 to 2,044, at `bytes`. */
+typedef struct dccp_frame {
+    size_t length;
+    uint8_t bytes[DCCP_MOST_FRAME_BYTES];
+} dccp_frame;
+
+/* What is told of a datagram; what does not belong to its kind is 0. */
+typedef struct dccp_told {
+    uint32_t kind;  /* a dccp_told_kind */
+    uint32_t cause; /* a dccp_cause */
+    size_t first;
+    size_t past;
+    uint64_t number;
+    uint8_t code;   /* a Reset Code: 1 is an orderly close, 2 a peer that gave up, any other a fault (RFC 4340, section 5.6) */
+    uint8_t detail[3];
+} dccp_told;
+
+/* An end as it may be read: the numbers that RFC 4340, section 7.1, calls ISS, GSS, GAR, ISR and GSR (0 before the first packet
+ * was received), how many packets were taken, its phase, and in packets its window and what of it is in flight. */
+typedef struct dccp_view {
+    uint64_t iss;
+    uint64_t gss;
+    uint64_t gar;
+    uint64_t isr;
+    uint64_t gsr;
+    uint64_t marked;
+    uint32_t phase; /* a dccp_phase */
+    uint32_t window;
+    uint32_t in_flight;
+} dccp_view;
+
+/* What an end holds for a feature. */
+typedef struct dccp_feature_state {
+    uint64_t value;
+    uint32_t stand; /* a dccp_stand */
+} dccp_feature_state;
+
+/* Makes an end in the handle. An end that the handle held is freed first, also where making fails; then the handle holds none.
+ * The wishes are taken in their order. DCCP_OK; DCCP_UNKNOWN, DCCP_BAD_LIST or DCCP_NOT_OURS of the first wish that is refused, or
+ * DCCP_UNKNOWN for the first number; DCCP_NO_MEMORY. Nothing that is passed is kept. */
+uint32_t dccp_make(dccp_end *end, const dccp_settings *settings, const dccp_wish *wishes, size_t count);
+
+/* Frees what the handle holds. Afterwards it holds none, and may be freed again or made again. */
+void dccp_free(dccp_end *end);
+
+/* A client asks for its service, once: its Request is left. DCCP_OK, DCCP_NOT_MADE, DCCP_NOT_FRESH. */
+uint32_t dccp_open(dccp_end *end, dccp_frame *frame);
+
+/* Sends data, 0 to 1,024 bytes. DCCP_OK, DCCP_NOT_MADE, and the first that holds of DCCP_NOT_OPEN (in all phases but DCCP_OPEN),
+ * DCCP_TOO_LONG, DCCP_NOT_NEGOTIATED, DCCP_WINDOW_FULL. */
+uint32_t dccp_send(dccp_end *end, const uint8_t *data, size_t length, dccp_frame *frame);
+
+/* Closes the connection in order. No data are delivered to this end any more. DCCP_OK, DCCP_NOT_MADE; DCCP_NOT_OPEN in all phases but
+ * DCCP_PARTOPEN and DCCP_OPEN. */
+uint32_t dccp_close(dccp_end *end, dccp_frame *frame);
+
+/* Ends the connection at once. DCCP_OK, DCCP_NOT_MADE; DCCP_NOT_LIVE in DCCP_CLOSED, DCCP_LISTEN and DCCP_TIMEWAIT. */
+uint32_t dccp_abort(dccp_end *end, dccp_frame *frame);
+
+/* Asks for these values of a feature, best first, at the peer or at this end. DCCP_OK, DCCP_NOT_MADE, DCCP_UNKNOWN; DCCP_NOT_OPEN in all
+ * phases but DCCP_PARTOPEN and DCCP_OPEN; then DCCP_BAD_LIST, DCCP_NOT_OURS. What comes of it is seen by dccp_feature. */
+uint32_t dccp_prefer(dccp_end *end, uint32_t feature, bool at_peer, const uint64_t *values, size_t count, dccp_frame *frame);
+
+/* A timer has run out. DCCP_OK; DCCP_NOTHING_DUE where it has nothing to do in this phase, which is no fault; DCCP_NOT_MADE,
+ * DCCP_UNKNOWN. */
+uint32_t dccp_timer(dccp_end *end, uint32_t timer, dccp_frame *frame);
+
+/* A datagram of the peer has arrived: the bytes of one DCCP packet, from the generic header on. DCCP_OK, and what became of it in `told`;
+ * DCCP_NOT_MADE, or DCCP_TOO_LONG over 2,044 bytes, and `told` is as it was. */
+uint32_t dccp_receive(dccp_end *end, const uint8_t *datagram, size_t length, dccp_frame *frame, dccp_told *told);
+
+/* Reads an end. DCCP_OK, or DCCP_NOT_MADE and `view` is as it was. */
+uint32_t dccp_look(dccp_end *end, dccp_view *view);
+
+/* Reads what an end holds for a feature. DCCP_OK; DCCP_NOT_MADE or DCCP_UNKNOWN, and `state` is as it was. */
+uint32_t dccp_feature(dccp_end *end, uint32_t feature, bool at_peer, dccp_feature_state *state);
+
+#ifdef __cplusplus
+}
+#endif
+
+#endif

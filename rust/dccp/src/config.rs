@@ -1,0 +1,117 @@
+//! What a connection is made from.
+
+use crate::{Feature, Place, sys};
+use std::net::{IpAddr, SocketAddr};
+
+/// What an end is made from: whose it is, between which addresses, and what it wishes for its features.
+#[derive(Clone, Debug)]
+pub struct Config {
+    settings: sys::Settings,
+    wishes: Vec<sys::Wish>,
+}
+
+impl Config {
+    /// A client's end from `own` to `peer`, which asks for this Service Code. `first_number` is that of its first packet, below
+    /// 2^48: one that nobody can guess (RFC 4340, section 7.2). The ports and addresses are those of the DCCP packets.
+    pub fn client(own: SocketAddr, peer: SocketAddr, service: u32, first_number: u64) -> Config {
+        Config::between(own, peer, service, first_number, false)
+    }
+
+    /// A server's end for one peer, which serves this Service Code; else as [`Config::client`].
+    pub fn server(own: SocketAddr, peer: SocketAddr, service: u32, first_number: u64) -> Config {
+        Config::between(own, peer, service, first_number, true)
+    }
+
+    fn between(
+        own: SocketAddr,
+        peer: SocketAddr,
+        service: u32,
+        first_number: u64,
+        is_server: bool,
+    ) -> Config {
+        let is_v6 = own.is_ipv6() || peer.is_ipv6();
+        let settings = sys::Settings {
+            own_address: address(own.ip(), is_v6),
+            peer_address: address(peer.ip(), is_v6),
+            first_number,
+            service,
+            own_port: own.port(),
+            peer_port: peer.port(),
+            is_server,
+            is_v6,
+            is_plain: false,
+        };
+        Config {
+            settings,
+            wishes: Vec::new(),
+        }
+    }
+
+    /// Takes the usual offers away, so that the end makes only those of [`Config::offer`].
+    pub fn plain(mut self) -> Config {
+        self.settings.is_plain = true;
+        self
+    }
+
+    /// Wishes these values for a feature, best first, and answers the peer's wishes by them.
+    pub fn wish(self, feature: Feature, place: Place, values: &[u64]) -> Config {
+        self.with(feature, place, values, false, false)
+    }
+
+    /// Wishes these values for a feature, and asks the peer for them.
+    pub fn offer(self, feature: Feature, place: Place, values: &[u64]) -> Config {
+        self.with(feature, place, values, true, false)
+    }
+
+    /// Wishes these values for a feature, and asks the peer for them; a peer that does not know the feature has to end the
+    /// connection.
+    pub fn insist(self, feature: Feature, place: Place, values: &[u64]) -> Config {
+        self.with(feature, place, values, true, true)
+    }
+
+    fn with(
+        mut self,
+        feature: Feature,
+        place: Place,
+        given: &[u64],
+        is_offered: bool,
+        is_mandatory: bool,
+    ) -> Config {
+        let mut values = [0; 8];
+        for (value, wanted) in values.iter_mut().zip(given) {
+            *value = *wanted;
+        }
+        // More than eight values are told as so many, and refused where the end is made.
+        let count = given.len();
+        self.wishes.push(sys::Wish {
+            values,
+            count,
+            feature: feature as u32,
+            at_peer: place.is_peer(),
+            is_offered,
+            is_mandatory,
+        });
+        self
+    }
+
+    pub(crate) fn settings(&self) -> &sys::Settings {
+        &self.settings
+    }
+
+    pub(crate) fn wishes(&self) -> &[sys::Wish] {
+        &self.wishes
+    }
+}
+
+/// An address in network order; of IPv4 the first four bytes, or the mapped address where the other is of IPv6.
+fn address(ip: IpAddr, is_v6: bool) -> [u8; 16] {
+    match ip {
+        IpAddr::V4(v4) if !is_v6 => {
+            let mut bytes = [0; 16];
+            bytes[..4].copy_from_slice(&v4.octets());
+            bytes
+        }
+        IpAddr::V4(v4) => v4.to_ipv6_mapped().octets(),
+        IpAddr::V6(v6) => v6.octets(),
+    }
+}

@@ -1,0 +1,377 @@
+//! A connection: an end with its timers, the frames that wait to be sent, and what its owner is told.
+
+use crate::end::End;
+use crate::timers::{self, Timers};
+use crate::{
+    AbortError, CloseError, Config, Feature, Held, MakeError, OpenError, Phase, Place, PreferError,
+    SendError, sys,
+};
+use std::collections::VecDeque;
+use std::time::Instant;
+
+/// A frame for the peer: the bytes of one DCCP packet, from the generic header on.
+#[derive(Clone, Debug, PartialEq, Eq)]
+pub struct Transmit {
+    /// At most 2,044 bytes.
+    pub bytes: Vec<u8>,
+    /// Whether it is a Sync or a Reset that answers a packet, as anybody may call them forth: limit how many go out in a second
+    /// (RFC 4340, sections 7.5.4 and 8.3.1). One that is left out is a lost frame.
+    pub is_answer: bool,
+}
+
+/// What the owner of a connection is told.
+#[derive(Clone, Debug, PartialEq, Eq)]
+pub enum Event {
+    /// Data came, of one packet, maybe none. No packet's data come twice.
+    Data(Vec<u8>),
+    /// The connection has ended, by a Reset with this code: 1 is an orderly close, 2 a peer that gave up, any other a fault (RFC 4340,
+    /// section 5.6). Whoever closes may also hear 3. It comes at most once, and not behind an own [`Connection::abort`].
+    Ended {
+        /// The Reset Code.
+        code: u8,
+    },
+}
+
+/// What a server makes of a datagram from a peer that it does not know.
+#[derive(Debug)]
+pub enum Accepted {
+    /// It is a Request: this is the connection, and its answer waits in [`Connection::poll_transmit`].
+    Connection(Box<Connection>),
+    /// It is none, and this answers it.
+    Answer(Transmit),
+    /// It is none.
+    Nothing,
+}
+
+/// One end of a DCCP connection, with its timers. It has no socket and no clock: its owner hands in datagrams and the time.
+///
+/// After each call, [`poll_transmit`](Connection::poll_transmit) and [`poll_event`](Connection::poll_event) are asked until they have
+/// nothing more; [`handle_timeout`](Connection::handle_timeout) is called once [`poll_timeout`](Connection::poll_timeout) has gone by.
+/// A connection may go once its phase is [`Phase::Closed`] again; in [`Phase::TimeWait`] it answers what is still under way.
+///
+/// A connection may be moved to another thread, and is not shared by several:
+///
+/// ```
+/// fn moves<T: Send>() {}
+/// moves::<dccp::Connection>();
+/// ```
+///
+/// ```compile_fail,E0277
+/// fn shares<T: Sync>() {}
+/// shares::<dccp::Connection>();
+/// ```
+#[derive(Debug)]
+pub struct Connection {
+    end: End,
+    view: sys::View,
+    timers: Timers,
+    frames: VecDeque<Transmit>,
+    events: VecDeque<Event>,
+    has_ended: bool,
+}
+
+impl Connection {
+    /// A connection that has sent and received nothing. Refused where a wish is, or where there is no memory.
+    ///
+    /// ```
+    /// use dccp::{Config, Connection, Feature, MakeError, Phase, Place};
+    ///
+    /// let (own, peer) = ("192.0.2.1:40000".parse()?, "192.0.2.2:5001".parse()?);
+    /// let config = Config::client(own, peer, 42, 1_000);
+    /// assert_eq!(Connection::new(&config)?.phase(), Phase::Closed);
+    ///
+    /// // RFC 4340, section 7.5.2: a Sequence Window is at least 32.
+    /// let narrow = config.offer(Feature::SequenceWindow, Place::Here, &[31]);
+    /// assert_eq!(Connection::new(&narrow).unwrap_err(), MakeError::BadList);
+    /// # Ok::<(), Box<dyn std::error::Error>>(())
+    /// ```
+    pub fn new(config: &Config) -> Result<Connection, MakeError> {
+        let mut end = match End::make(config.settings(), config.wishes()) {
+            Ok(end) => end,
+            Err(status) => return Err(MakeError::answer(status).expect_err("no end was made")),
+        };
+        let view = end.look();
+        let (frames, events) = (VecDeque::new(), VecDeque::new());
+        Ok(Connection {
+            end,
+            view,
+            timers: Timers::new(),
+            frames,
+            events,
+            has_ended: false,
+        })
+    }
+
+    /// What a server makes of a datagram from a peer that it does not know: a connection exactly where it leads a new end of this
+    /// configuration out of [`Phase::Listen`].
+    ///
+    /// ```
+    /// use dccp::{Accepted, Config, Connection};
+    /// use std::time::Instant;
+    ///
+    /// let (here, there) = ("192.0.2.1:40000".parse()?, "192.0.2.2:5001".parse()?);
+    /// let config = Config::server(there, here, 42, 2_000);
+    /// assert!(matches!(Connection::accept(&config, b"no packet", Instant::now())?, Accepted::Nothing));
+    ///
+    /// let mut client = Connection::new(&Config::client(here, there, 42, 1_000))?;
+    /// client.open(Instant::now())?;
+    /// let request = client.poll_transmit().ok_or("a Request")?;
+    /// assert!(matches!(Connection::accept(&config, &request.bytes, Instant::now())?, Accepted::Connection(_)));
+    /// # Ok::<(), Box<dyn std::error::Error>>(())
+    /// ```
+    pub fn accept(config: &Config, datagram: &[u8], now: Instant) -> Result<Accepted, MakeError> {
+        let mut connection = Connection::new(config)?;
+        connection.handle_datagram(datagram, now);
+        if connection.phase() != Phase::Listen {
+            return Ok(Accepted::Connection(Box::new(connection)));
+        }
+        Ok(connection
+            .poll_transmit()
+            .map_or(Accepted::Nothing, Accepted::Answer))
+    }
+
+    /// A client asks for its service, once: its Request goes out.
+    ///
+    /// ```
+    /// use dccp::{Config, Connection, OpenError};
+    /// use std::time::{Duration, Instant};
+    ///
+    /// let (own, peer) = ("192.0.2.1:40000".parse()?, "192.0.2.2:5001".parse()?);
+    /// let mut client = Connection::new(&Config::client(own, peer, 42, 1_000))?;
+    /// let now = Instant::now();
+    /// client.open(now)?;
+    /// // A Request has type 0 (RFC 4340, section 5.1). The next goes out after a second.
+    /// let request = client.poll_transmit().ok_or("a Request")?;
+    /// assert_eq!((request.bytes[8] >> 1) & 15, 0);
+    /// assert_eq!(client.poll_timeout(), Some(now + Duration::from_secs(1)));
+    /// assert_eq!(client.open(now), Err(OpenError::NotFresh));
+    /// # Ok::<(), Box<dyn std::error::Error>>(())
+    /// ```
+    pub fn open(&mut self, now: Instant) -> Result<(), OpenError> {
+        let status = queue(&mut self.frames, self.end.open(), false);
+        self.called(now);
+        OpenError::answer(status)
+    }
+
+    /// Sends data, 0 to 1,024 bytes, in one packet. A refused call changes nothing.
+    ///
+    /// ```
+    /// use dccp::{Config, Connection, SendError};
+    /// use std::time::Instant;
+    ///
+    /// let (own, peer) = ("192.0.2.1:40000".parse()?, "192.0.2.2:5001".parse()?);
+    /// let mut client = Connection::new(&Config::client(own, peer, 42, 1_000))?;
+    /// assert_eq!(client.send(b"early", Instant::now()), Err(SendError::NotOpen));
+    /// # Ok::<(), Box<dyn std::error::Error>>(())
+    /// ```
+    pub fn send(&mut self, data: &[u8], now: Instant) -> Result<(), SendError> {
+        let status = queue(&mut self.frames, self.end.send(data), false);
+        self.called(now);
+        SendError::answer(status)
+    }
+
+    /// Asks for these values of a feature, best first. What comes of it is seen by [`Connection::feature`].
+    ///
+    /// ```
+    /// use dccp::{Config, Connection, Feature, Place, PreferError};
+    /// use std::time::Instant;
+    ///
+    /// let (own, peer) = ("192.0.2.1:40000".parse()?, "192.0.2.2:5001".parse()?);
+    /// let mut client = Connection::new(&Config::client(own, peer, 42, 1_000))?;
+    /// let early = client.prefer(Feature::AckRatio, Place::Here, &[4], Instant::now());
+    /// assert_eq!(early, Err(PreferError::NotOpen));
+    /// # Ok::<(), Box<dyn std::error::Error>>(())
+    /// ```
+    pub fn prefer(
+        &mut self,
+        feature: Feature,
+        place: Place,
+        values: &[u64],
+        now: Instant,
+    ) -> Result<(), PreferError> {
+        let status = queue(
+            &mut self.frames,
+            self.end.prefer(feature as u32, place.is_peer(), values),
+            false,
+        );
+        if status == sys::DONE {
+            self.timers.preferred();
+        }
+        self.called(now);
+        PreferError::answer(status)
+    }
+
+    /// Closes the connection in order. No data are delivered to this end any more; data that are in flight may come behind the close, so
+    /// wait until [`Connection::in_flight`] is 0, or some seconds.
+    ///
+    /// ```
+    /// use dccp::{CloseError, Config, Connection};
+    /// use std::time::Instant;
+    ///
+    /// let (own, peer) = ("192.0.2.1:40000".parse()?, "192.0.2.2:5001".parse()?);
+    /// let mut client = Connection::new(&Config::client(own, peer, 42, 1_000))?;
+    /// assert_eq!(client.close(Instant::now()), Err(CloseError::NotOpen));
+    /// # Ok::<(), Box<dyn std::error::Error>>(())
+    /// ```
+    pub fn close(&mut self, now: Instant) -> Result<(), CloseError> {
+        let status = queue(&mut self.frames, self.end.close(), false);
+        self.called(now);
+        CloseError::answer(status)
+    }
+
+    /// Ends the connection at once.
+    ///
+    /// ```
+    /// use dccp::{AbortError, Config, Connection, Phase};
+    /// use std::time::Instant;
+    ///
+    /// let (own, peer) = ("192.0.2.1:40000".parse()?, "192.0.2.2:5001".parse()?);
+    /// let mut client = Connection::new(&Config::client(own, peer, 42, 1_000))?;
+    /// assert_eq!(client.abort(Instant::now()), Err(AbortError::NotLive));
+    /// client.open(Instant::now())?;
+    /// client.abort(Instant::now())?;
+    /// assert_eq!(client.phase(), Phase::Closed);
+    /// # Ok::<(), Box<dyn std::error::Error>>(())
+    /// ```
+    pub fn abort(&mut self, now: Instant) -> Result<(), AbortError> {
+        let status = queue(&mut self.frames, self.end.abort(), false);
+        self.has_ended |= status == sys::DONE;
+        self.called(now);
+        AbortError::answer(status)
+    }
+
+    /// A datagram of the peer has arrived: the bytes of one DCCP packet. One of more than 2,044 bytes changes nothing.
+    ///
+    /// ```
+    /// use dccp::{Config, Connection};
+    /// use std::time::Instant;
+    ///
+    /// let (own, peer) = ("192.0.2.1:40000".parse()?, "192.0.2.2:5001".parse()?);
+    /// let mut client = Connection::new(&Config::client(own, peer, 42, 1_000))?;
+    /// client.handle_datagram(b"no packet", Instant::now());
+    /// assert_eq!((client.poll_transmit(), client.poll_event()), (None, None));
+    /// # Ok::<(), Box<dyn std::error::Error>>(())
+    /// ```
+    pub fn handle_datagram(&mut self, datagram: &[u8], now: Instant) {
+        let before = self.view.in_flight;
+        let (status, frame, told) = self.end.receive(datagram);
+        queue(
+            &mut self.frames,
+            (status, frame),
+            matches!(told.kind, sys::SYNCED | sys::SENT_RESET),
+        );
+        self.view = self.end.look();
+        match told.kind {
+            sys::DATA => {
+                self.events
+                    .push_back(Event::Data(datagram[told.first..told.past].to_vec()));
+                self.timers.delivered();
+            }
+            sys::WAS_RESET => self.ended(told.code),
+            sys::SENT_RESET if self.phase() == Phase::Closed => self.ended(told.code),
+            _ => {}
+        }
+        if self.view.in_flight < before {
+            self.timers.progressed();
+        }
+        self.arrange(now);
+    }
+
+    /// Tells each timer that has run out. Calling it early does nothing.
+    ///
+    /// ```
+    /// use dccp::{Config, Connection};
+    /// use std::time::Instant;
+    ///
+    /// let (own, peer) = ("192.0.2.1:40000".parse()?, "192.0.2.2:5001".parse()?);
+    /// let mut client = Connection::new(&Config::client(own, peer, 42, 1_000))?;
+    /// client.open(Instant::now())?;
+    /// let request = client.poll_transmit();
+    /// let due = client.poll_timeout().ok_or("a timer")?;
+    /// client.handle_timeout(due);
+    /// // Another Request, under the next number.
+    /// assert!(client.poll_transmit().is_some_and(|it| Some(it) != request));
+    /// # Ok::<(), Box<dyn std::error::Error>>(())
+    /// ```
+    pub fn handle_timeout(&mut self, now: Instant) {
+        for timer in 0..timers::COUNT {
+            if self.timers.ring(timer, now) {
+                queue(&mut self.frames, self.end.timer(timer as u32), false);
+                self.called(now);
+            }
+        }
+    }
+
+    /// When [`Connection::handle_timeout`] has something to do; None where no timer runs. Ask again after every other call.
+    pub fn poll_timeout(&self) -> Option<Instant> {
+        self.timers.first_due()
+    }
+
+    /// The next frame for the peer.
+    pub fn poll_transmit(&mut self) -> Option<Transmit> {
+        self.frames.pop_front()
+    }
+
+    /// The next that the owner is told.
+    pub fn poll_event(&mut self) -> Option<Event> {
+        self.events.pop_front()
+    }
+
+    /// What this end holds for a feature.
+    ///
+    /// ```
+    /// use dccp::{Config, Connection, Feature, Place};
+    ///
+    /// let (own, peer) = ("192.0.2.1:40000".parse()?, "192.0.2.2:5001".parse()?);
+    /// let mut client = Connection::new(&Config::client(own, peer, 42, 1_000))?;
+    /// // RFC 4340, section 7.5.2: a Sequence Window begins with 100.
+    /// assert_eq!(client.feature(Feature::SequenceWindow, Place::Here).value, 100);
+    /// # Ok::<(), Box<dyn std::error::Error>>(())
+    /// ```
+    pub fn feature(&mut self, feature: Feature, place: Place) -> Held {
+        Held::of(&self.end.feature(feature as u32, place.is_peer()))
+    }
+
+    /// Where the connection stands.
+    pub fn phase(&self) -> Phase {
+        Phase::of(self.view.phase)
+    }
+
+    /// How many data packets may be in flight.
+    pub fn window(&self) -> u32 {
+        self.view.window
+    }
+
+    /// How many data packets are in flight.
+    pub fn in_flight(&self) -> u32 {
+        self.view.in_flight
+    }
+
+    fn ended(&mut self, code: u8) {
+        if !self.has_ended {
+            self.has_ended = true;
+            self.events.push_back(Event::Ended { code });
+        }
+    }
+
+    fn called(&mut self, now: Instant) {
+        self.view = self.end.look();
+        self.arrange(now);
+    }
+
+    fn arrange(&mut self, now: Instant) {
+        self.timers
+            .arrange(Phase::of(self.view.phase), self.view.in_flight, now);
+    }
+}
+
+/// Keeps the frame that a call has left, if any, and answers the call's status.
+fn queue(frames: &mut VecDeque<Transmit>, (status, frame): (u32, &[u8]), is_answer: bool) -> u32 {
+    if !frame.is_empty() {
+        frames.push_back(Transmit {
+            bytes: frame.to_vec(),
+            is_answer,
+        });
+    }
+    status
+}

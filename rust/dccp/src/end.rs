@@ -1,0 +1,115 @@
+//! An end of the library for C. All unsafe code of this crate is here.
+//!
+//! What the library asks of its caller, as `include/dccp.h` has it, holds of each call: every pointer is that of a
+//! reference, so that it is not null, points to a value of its type and overlaps no other; a slice gives its own pointer
+//! and length; `bool`s are Rust's; and `&mut self` gives the handle to one call at a time. It asks nothing of values, and
+//! what a call then does is proved (`docs/LIBRARY.md`).
+
+use crate::sys;
+use std::fmt;
+use std::ptr;
+
+/// One end. It takes its memory where it is made, and gives it back where it is dropped.
+pub struct End {
+    handle: sys::End,
+    frame: Box<sys::Frame>,
+}
+
+// SAFETY: the library has no thread, and no state beside what a handle owns, which may be used from another thread: the
+// crate dccp_c proves `Send` of it. It has no `Sync`, since its readers take the end out of the handle and put it back.
+unsafe impl Send for End {}
+
+impl fmt::Debug for End {
+    fn fmt(&self, f: &mut fmt::Formatter<'_>) -> fmt::Result {
+        f.debug_struct("End").finish_non_exhaustive()
+    }
+}
+
+impl Drop for End {
+    fn drop(&mut self) {
+        // SAFETY: the handle is this end's alone, as the head of this module says, and nothing uses it afterwards.
+        unsafe { sys::dccp_free(&mut self.handle) }
+    }
+}
+
+impl End {
+    /// Makes an end, or answers the status by which it was refused.
+    pub fn make(settings: &sys::Settings, wishes: &[sys::Wish]) -> Result<End, u32> {
+        let handle = sys::End {
+            opaque: ptr::null_mut(),
+            is_made: false,
+        };
+        let frame = Box::new(sys::Frame {
+            length: 0,
+            bytes: [0; sys::MOST_FRAME_BYTES],
+        });
+        let mut end = End { handle, frame };
+        // SAFETY: pointers and length are as the head of this module says; the handle holds no end yet, and says so.
+        match unsafe { sys::dccp_make(&mut end.handle, settings, wishes.as_ptr(), wishes.len()) } {
+            sys::DONE => Ok(end),
+            status => Err(status),
+        }
+    }
+
+    /// Does a call, and answers its status and the frame that it leaves, which may be of no bytes.
+    fn call(&mut self, doing: impl FnOnce(&mut sys::End, &mut sys::Frame) -> u32) -> (u32, &[u8]) {
+        let status = doing(&mut self.handle, &mut self.frame);
+        (status, &self.frame.bytes[..self.frame.length])
+    }
+
+    pub fn open(&mut self) -> (u32, &[u8]) {
+        // SAFETY: as the head of this module says.
+        self.call(|end, frame| unsafe { sys::dccp_open(end, frame) })
+    }
+
+    pub fn send(&mut self, data: &[u8]) -> (u32, &[u8]) {
+        // SAFETY: as the head of this module says.
+        self.call(|end, frame| unsafe { sys::dccp_send(end, data.as_ptr(), data.len(), frame) })
+    }
+
+    pub fn close(&mut self) -> (u32, &[u8]) {
+        // SAFETY: as the head of this module says.
+        self.call(|end, frame| unsafe { sys::dccp_close(end, frame) })
+    }
+
+    pub fn abort(&mut self) -> (u32, &[u8]) {
+        // SAFETY: as the head of this module says.
+        self.call(|end, frame| unsafe { sys::dccp_abort(end, frame) })
+    }
+
+    pub fn prefer(&mut self, feature: u32, at_peer: bool, values: &[u64]) -> (u32, &[u8]) {
+        self.call(|end, frame| {
+            // SAFETY: as the head of this module says.
+            unsafe { sys::dccp_prefer(end, feature, at_peer, values.as_ptr(), values.len(), frame) }
+        })
+    }
+
+    pub fn timer(&mut self, timer: u32) -> (u32, &[u8]) {
+        // SAFETY: as the head of this module says.
+        self.call(|end, frame| unsafe { sys::dccp_timer(end, timer, frame) })
+    }
+
+    /// Takes a datagram; what became of it is told where the status is `DONE`.
+    pub fn receive(&mut self, datagram: &[u8]) -> (u32, &[u8], sys::Told) {
+        let mut told = sys::Told::default();
+        let (status, frame) = self.call(|end, frame| {
+            // SAFETY: as the head of this module says.
+            unsafe { sys::dccp_receive(end, datagram.as_ptr(), datagram.len(), frame, &mut told) }
+        });
+        (status, frame, told)
+    }
+
+    pub fn look(&mut self) -> sys::View {
+        let mut view = sys::View::default();
+        // SAFETY: as the head of this module says. Of an end that is made the status is `DONE`.
+        unsafe { sys::dccp_look(&mut self.handle, &mut view) };
+        view
+    }
+
+    pub fn feature(&mut self, feature: u32, at_peer: bool) -> sys::FeatureState {
+        let mut state = sys::FeatureState::default();
+        // SAFETY: as the head of this module says. Of an end that is made, and a feature that is one, the status is `DONE`.
+        unsafe { sys::dccp_feature(&mut self.handle, feature, at_peer, &mut state) };
+        state
+    }
+}

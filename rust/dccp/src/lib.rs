@@ -1,0 +1,58 @@
+//! One end of a DCCP connection (RFC 4340) with CCID 2 (RFC 4341) and feature negotiation, over the proved library for C.
+//!
+//! It has no socket, no clock and no thread. A [`Connection`] takes datagrams and the time, and gives frames and events.
+//! `docs/LIBRARY.md` of the repository says what of it is proved: the library below, and nothing of this crate.
+//!
+//! ```
+//! use dccp::{Accepted, Config, Connection, Event};
+//! use std::time::Instant;
+//!
+//! let (here, there) = ("192.0.2.1:40000".parse()?, "192.0.2.2:5001".parse()?);
+//! let now = Instant::now();
+//! let mut client = Connection::new(&Config::client(here, there, 42, 1_000))?;
+//! client.open(now)?;
+//!
+//! // A server makes a connection of the Request. A real one draws the first number.
+//! let request = client.poll_transmit().ok_or("a Request")?;
+//! let config = Config::server(there, here, 42, 2_000);
+//! let Accepted::Connection(mut server) = Connection::accept(&config, &request.bytes, now)? else {
+//!     return Err("a Request is accepted".into());
+//! };
+//!
+//! // In place of a network: frames arrive until there are no more.
+//! let exchange = |client: &mut Connection, server: &mut Connection| loop {
+//!     match (client.poll_transmit(), server.poll_transmit()) {
+//!         (None, None) => break,
+//!         (to_server, to_client) => {
+//!             to_server.iter().for_each(|it| server.handle_datagram(&it.bytes, now));
+//!             to_client.iter().for_each(|it| client.handle_datagram(&it.bytes, now));
+//!         }
+//!     }
+//! };
+//! exchange(&mut client, &mut server);
+//! client.send(b"hello", now)?;
+//! exchange(&mut client, &mut server);
+//! assert_eq!(server.poll_event(), Some(Event::Data(b"hello".to_vec())));
+//! client.close(now)?;
+//! exchange(&mut client, &mut server);
+//! assert_eq!(server.poll_event(), Some(Event::Ended { code: 1 }));
+//! assert_eq!(client.poll_event(), Some(Event::Ended { code: 1 }));
+//! # Ok::<(), Box<dyn std::error::Error>>(())
+//! ```
+
+mod config;
+mod connection;
+mod end;
+mod names;
+mod sys;
+mod timers;
+
+pub use crate::config::Config;
+pub use crate::connection::{Accepted, Connection, Event, Transmit};
+pub use crate::names::{
+    AbortError, CloseError, Feature, Held, MakeError, OpenError, Phase, Place, PreferError,
+    SendError,
+};
+
+/// The longest frame, and the longest datagram that is taken.
+pub const MOST_FRAME_BYTES: usize = sys::MOST_FRAME_BYTES;

@@ -1,0 +1,194 @@
+//! The names of what crosses to the library as a number.
+
+use crate::sys;
+use std::error::Error;
+use std::fmt;
+
+/// Where a connection stands (RFC 4340, section 8.4).
+#[derive(Clone, Copy, Debug, PartialEq, Eq)]
+pub enum Phase {
+    /// It has ended, or a client has not asked yet.
+    Closed,
+    /// A server waits for a Request.
+    Listen,
+    /// A client has asked.
+    Request,
+    /// A server has answered.
+    Respond,
+    /// A client has its answer, and waits for the server to know.
+    PartOpen,
+    /// Data may go out.
+    Open,
+    /// A server wants to close.
+    CloseReq,
+    /// An end has closed.
+    Closing,
+    /// It has ended, and late packets are waited for.
+    TimeWait,
+}
+
+impl Phase {
+    pub(crate) fn of(number: u32) -> Phase {
+        match number {
+            0 => Phase::Closed,
+            1 => Phase::Listen,
+            2 => Phase::Request,
+            3 => Phase::Respond,
+            4 => Phase::PartOpen,
+            5 => Phase::Open,
+            6 => Phase::CloseReq,
+            7 => Phase::Closing,
+            8 => Phase::TimeWait,
+            _ => unreachable!("the library has nine phases"),
+        }
+    }
+}
+
+/// A feature (RFC 4340, section 6.4), with the values that may be wished for.
+#[derive(Clone, Copy, Debug, PartialEq, Eq)]
+pub enum Feature {
+    /// 2 and 248.
+    Ccid = 1,
+    /// 0.
+    ShortSeqnos = 2,
+    /// One value, 32 to 2^46 - 1, in packets.
+    SequenceWindow = 3,
+    /// 1 here; 0 and 1 at the peer.
+    EcnIncapable = 4,
+    /// One value, 0 to 65,535, in data packets for one Ack.
+    AckRatio = 5,
+    /// 0 and 1.
+    SendAckVector = 6,
+    /// 0.
+    SendNdpCount = 7,
+    /// 0 to 15.
+    MinCsCov = 8,
+    /// 0.
+    CheckDataChecksum = 9,
+}
+
+/// Where a feature is located.
+#[derive(Clone, Copy, Debug, PartialEq, Eq)]
+pub enum Place {
+    /// At this end.
+    Here,
+    /// At its peer.
+    There,
+}
+
+impl Place {
+    pub(crate) fn is_peer(self) -> bool {
+        self == Place::There
+    }
+}
+
+/// What an end holds for a feature.
+#[derive(Clone, Copy, Debug, PartialEq, Eq)]
+pub struct Held {
+    /// The value that holds.
+    pub value: u64,
+    /// Whether this end asks for nothing and waits for nothing. Both hold one value where this is so at both.
+    pub is_stable: bool,
+}
+
+impl Held {
+    pub(crate) fn of(state: &sys::FeatureState) -> Held {
+        Held {
+            value: state.value,
+            is_stable: state.stand == 0,
+        }
+    }
+}
+
+/// The refusals of a call, each with its status of the library and what it says.
+macro_rules! refusals {
+    ($(#[$head:meta])* $name:ident { $($(#[$doc:meta])* $variant:ident = $status:ident, $said:literal;)+ }) => {
+        $(#[$head])*
+        #[derive(Clone, Copy, Debug, PartialEq, Eq)]
+        pub enum $name {
+            $($(#[$doc])* $variant,)+
+        }
+
+        impl $name {
+            pub(crate) fn answer(status: u32) -> Result<(), $name> {
+                match status {
+                    sys::DONE => Ok(()),
+                    $(sys::$status => Err($name::$variant),)+
+                    _ => unreachable!("the library has no such status here"),
+                }
+            }
+        }
+
+        impl fmt::Display for $name {
+            fn fmt(&self, f: &mut fmt::Formatter<'_>) -> fmt::Result {
+                f.write_str(match self { $($name::$variant => $said,)+ })
+            }
+        }
+
+        impl Error for $name {}
+    };
+}
+
+refusals! {
+    /// Why no end was made.
+    MakeError {
+        /// No memory was to be had.
+        NoMemory = NO_MEMORY, "no memory for an end";
+        /// The first number is not below 2^48.
+        FirstNumber = UNKNOWN, "the first number is not below 2^48";
+        /// The values of a wish are none, over eight, twice the same, not permitted, or not just one where one is due.
+        BadList = BAD_LIST, "values that a feature may not have";
+        /// A wish for Sequence Window or Ack Ratio of the peer, which it alone sets.
+        NotOurs = NOT_OURS, "a feature that the peer alone sets";
+    }
+}
+
+refusals! {
+    /// Why a connection was not opened.
+    OpenError {
+        /// The end is a server's, or was opened before.
+        NotFresh = NOT_FRESH, "a server's end, or one that was opened before";
+    }
+}
+
+refusals! {
+    /// Why data were not sent; the first that holds.
+    SendError {
+        /// The phase is not `Open`.
+        NotOpen = NOT_OPEN, "the connection is not open";
+        /// There are more than 1,024 bytes.
+        TooLong = TOO_LONG, "more than 1,024 bytes of data";
+        /// The peer sends no Ack Vectors yet, which CCID 2 needs.
+        NotNegotiated = NOT_NEGOTIATED, "the peer sends no Ack Vectors yet";
+        /// As many packets are in flight as may be: offer the data again, or drop them.
+        WindowFull = WINDOW_FULL, "as many packets are in flight as may be";
+    }
+}
+
+refusals! {
+    /// Why a feature's values were not asked for.
+    PreferError {
+        /// The phase is neither `PartOpen` nor `Open`.
+        NotOpen = NOT_OPEN, "the connection is not open";
+        /// The values are none, over eight, twice the same, not permitted, or not just one where one is due.
+        BadList = BAD_LIST, "values that a feature may not have";
+        /// Sequence Window or Ack Ratio of the peer, which it alone sets.
+        NotOurs = NOT_OURS, "a feature that the peer alone sets";
+    }
+}
+
+refusals! {
+    /// Why a connection was not closed.
+    CloseError {
+        /// The phase is neither `PartOpen` nor `Open`.
+        NotOpen = NOT_OPEN, "the connection is not open";
+    }
+}
+
+refusals! {
+    /// Why a connection was not aborted.
+    AbortError {
+        /// The phase is `Closed`, `Listen` or `TimeWait`.
+        NotLive = NOT_LIVE, "there is no connection";
+    }
+}

@@ -1,0 +1,131 @@
+//! The library for C, as `include/dccp.h` has it: a quick check of the repository compares this file with it.
+
+use std::ffi::c_void;
+
+#[repr(C)]
+pub struct End {
+    pub opaque: *mut c_void,
+    pub is_made: bool,
+}
+
+#[repr(C)]
+#[derive(Clone, Debug)]
+pub struct Settings {
+    pub own_address: [u8; 16],
+    pub peer_address: [u8; 16],
+    pub first_number: u64,
+    pub service: u32,
+    pub own_port: u16,
+    pub peer_port: u16,
+    pub is_server: bool,
+    pub is_v6: bool,
+    pub is_plain: bool,
+}
+
+#[repr(C)]
+#[derive(Clone, Copy, Debug)]
+pub struct Wish {
+    pub values: [u64; 8],
+    pub count: usize,
+    pub feature: u32,
+    pub at_peer: bool,
+    pub is_offered: bool,
+    pub is_mandatory: bool,
+}
+
+#[repr(C)]
+pub struct Frame {
+    pub length: usize,
+    pub bytes: [u8; MOST_FRAME_BYTES],
+}
+
+#[repr(C)]
+#[derive(Default)]
+pub struct Told {
+    pub kind: u32,
+    pub cause: u32,
+    pub first: usize,
+    pub past: usize,
+    pub number: u64,
+    pub code: u8,
+    pub detail: [u8; 3],
+}
+
+#[repr(C)]
+#[derive(Clone, Copy, Debug, Default)]
+pub struct View {
+    pub iss: u64,
+    pub gss: u64,
+    pub gar: u64,
+    pub isr: u64,
+    pub gsr: u64,
+    pub marked: u64,
+    pub phase: u32,
+    pub window: u32,
+    pub in_flight: u32,
+}
+
+#[repr(C)]
+#[derive(Default)]
+pub struct FeatureState {
+    pub value: u64,
+    pub stand: u32,
+}
+
+pub const MOST_FRAME_BYTES: usize = 2044;
+
+pub const DONE: u32 = 0;
+pub const NO_MEMORY: u32 = 2;
+pub const NOT_FRESH: u32 = 3;
+pub const NOT_OPEN: u32 = 4;
+pub const TOO_LONG: u32 = 5;
+pub const NOT_NEGOTIATED: u32 = 6;
+pub const WINDOW_FULL: u32 = 7;
+pub const BAD_LIST: u32 = 8;
+pub const NOT_OURS: u32 = 9;
+pub const NOT_LIVE: u32 = 10;
+pub const UNKNOWN: u32 = 11;
+
+pub const DATA: u32 = 1;
+pub const SYNCED: u32 = 3;
+pub const WAS_RESET: u32 = 4;
+pub const SENT_RESET: u32 = 5;
+
+const _: () = assert!(size_of::<End>() == 16 && std::mem::offset_of!(End, is_made) == 8);
+
+unsafe extern "C" {
+    pub fn dccp_make(
+        end: *mut End,
+        settings: *const Settings,
+        wishes: *const Wish,
+        wishes_count: usize,
+    ) -> u32;
+    pub fn dccp_free(end: *mut End);
+    pub fn dccp_open(end: *mut End, frame: *mut Frame) -> u32;
+    pub fn dccp_send(end: *mut End, data: *const u8, data_count: usize, frame: *mut Frame) -> u32;
+    pub fn dccp_close(end: *mut End, frame: *mut Frame) -> u32;
+    pub fn dccp_abort(end: *mut End, frame: *mut Frame) -> u32;
+    pub fn dccp_prefer(
+        end: *mut End,
+        feature: u32,
+        at_peer: bool,
+        values: *const u64,
+        values_count: usize,
+        frame: *mut Frame,
+    ) -> u32;
+    pub fn dccp_timer(end: *mut End, timer: u32, frame: *mut Frame) -> u32;
+    pub fn dccp_receive(
+        end: *mut End,
+        datagram: *const u8,
+        datagram_count: usize,
+        frame: *mut Frame,
+        told: *mut Told,
+    ) -> u32;
+    pub fn dccp_look(end: *mut End, view: *mut View) -> u32;
+    pub fn dccp_feature(
+        end: *mut End,
+        feature: u32,
+        at_peer: bool,
+        state: *mut FeatureState,
+    ) -> u32;
+}

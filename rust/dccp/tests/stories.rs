@@ -1,0 +1,159 @@
+//! Two connections in one process, whose time is counted on and whose frames are lost by number.
+
+use dccp::{Accepted, Config, Connection, Event, Feature, Phase, Place, Transmit};
+use std::error::Error;
+use std::net::SocketAddr;
+use std::time::{Duration, Instant};
+
+const SERVICE: u32 = 42;
+
+fn addresses() -> (SocketAddr, SocketAddr) {
+    (
+        SocketAddr::from(([10, 0, 0, 1], 40_000)),
+        SocketAddr::from(([10, 0, 0, 2], 5_001)),
+    )
+}
+
+fn client() -> Config {
+    let (here, there) = addresses();
+    Config::client(here, there, SERVICE, 1_000)
+}
+
+fn server() -> Config {
+    let (here, there) = addresses();
+    Config::server(there, here, SERVICE, 2_000)
+}
+
+/// A packet's type (RFC 4340, section 5.1).
+fn kind(frame: &Transmit) -> u8 {
+    (frame.bytes[8] >> 1) & 15
+}
+
+/// A client and a server that are open, and the time.
+fn open_pair() -> Result<(Connection, Connection, Instant), Box<dyn Error>> {
+    let now = Instant::now();
+    let mut one = Connection::new(&client())?;
+    one.open(now)?;
+    let request = one.poll_transmit().ok_or("a Request")?;
+    let Accepted::Connection(mut other) = Connection::accept(&server(), &request.bytes, now)?
+    else {
+        return Err("a Request is accepted".into());
+    };
+    while one.phase() != Phase::Open || other.phase() != Phase::Open {
+        let frame = other.poll_transmit().ok_or("a frame of the server")?;
+        one.handle_datagram(&frame.bytes, now);
+        while let Some(frame) = one.poll_transmit() {
+            other.handle_datagram(&frame.bytes, now);
+        }
+    }
+    Ok((one, *other, now))
+}
+
+/// Hands all frames of an end to the other, but each twentieth.
+fn hand(from: &mut Connection, to: &mut Connection, count: &mut u32, now: Instant) {
+    while let Some(frame) = from.poll_transmit() {
+        *count += 1;
+        if !count.is_multiple_of(20) {
+            to.handle_datagram(&frame.bytes, now);
+        }
+    }
+}
+
+/// The data that an end was given, and the code with which it ended.
+fn events(connection: &mut Connection, data: &mut Vec<Vec<u8>>) -> Option<u8> {
+    let mut ended = None;
+    while let Some(event) = connection.poll_event() {
+        match event {
+            Event::Data(bytes) => data.push(bytes),
+            Event::Ended { code } => ended = Some(code),
+        }
+    }
+    ended
+}
+
+#[test]
+fn a_request_waits_twice_as_long_each_time() -> Result<(), Box<dyn Error>> {
+    let mut now = Instant::now();
+    let mut one = Connection::new(&client())?;
+    one.open(now)?;
+    for seconds in [1, 2, 4, 8, 16, 32, 64, 64] {
+        assert!(one.poll_transmit().is_some_and(|it| kind(&it) == 0));
+        let due = one.poll_timeout().ok_or("a timer")?;
+        assert_eq!(due - now, Duration::from_secs(seconds));
+        one.handle_timeout(due - Duration::from_millis(1));
+        assert_eq!(one.poll_transmit(), None);
+        now = due;
+        one.handle_timeout(now);
+    }
+    Ok(())
+}
+
+#[test]
+fn a_stranger_is_answered_by_a_reset_and_makes_no_connection() -> Result<(), Box<dyn Error>> {
+    let (mut one, _, now) = open_pair()?;
+    one.send(b"stray", now)?;
+    let stray = one.poll_transmit().ok_or("data")?;
+    let Accepted::Answer(answer) = Connection::accept(&server(), &stray.bytes, now)? else {
+        return Err("it is answered".into());
+    };
+    assert_eq!((kind(&answer), answer.is_answer), (7, true));
+    Ok(())
+}
+
+#[test]
+fn data_come_once_and_a_window_is_settled_where_frames_are_lost() -> Result<(), Box<dyn Error>> {
+    let (mut one, mut other, mut now) = open_pair()?;
+    let (mut counts, mut got) = ([0; 2], [const { Vec::new() }; 2]);
+    let mut sent = [0_u8; 2];
+    one.prefer(Feature::SequenceWindow, Place::Here, &[700], now)?;
+    for _ in 0..1_000 {
+        for (end, sent) in [&mut one, &mut other].into_iter().zip(&mut sent) {
+            while *sent < 200 && end.send(&[*sent; 16], now).is_ok() {
+                *sent += 1;
+            }
+        }
+        hand(&mut one, &mut other, &mut counts[0], now);
+        hand(&mut other, &mut one, &mut counts[1], now);
+        assert_eq!(events(&mut one, &mut got[0]), None);
+        assert_eq!(events(&mut other, &mut got[1]), None);
+        now += Duration::from_millis(20);
+        one.handle_timeout(now);
+        other.handle_timeout(now);
+    }
+    assert_eq!((sent, one.in_flight(), other.in_flight()), ([200; 2], 0, 0));
+    for data in &got {
+        // In the order in which they were sent, since the frames that arrive keep theirs.
+        assert!(data.is_sorted_by(|a, b| a < b) && data.iter().all(|it| *it == [it[0]; 16]));
+        assert!((180..200).contains(&data.len()), "{}", data.len());
+    }
+    let held = one.feature(Feature::SequenceWindow, Place::Here);
+    assert_eq!((held.value, held.is_stable), (700, true));
+    assert_eq!(
+        other.feature(Feature::SequenceWindow, Place::There).value,
+        700
+    );
+    Ok(())
+}
+
+#[test]
+fn a_server_closes_and_both_are_told_once() -> Result<(), Box<dyn Error>> {
+    let (mut one, mut other, now) = open_pair()?;
+    other.close(now)?;
+    let mut none = Vec::new();
+    let mut codes = Vec::new();
+    for _ in 0..4 {
+        hand(&mut other, &mut one, &mut 0, now);
+        hand(&mut one, &mut other, &mut 0, now);
+        codes.extend(events(&mut one, &mut none));
+        codes.extend(events(&mut other, &mut none));
+    }
+    assert_eq!(codes, [1, 1]);
+    // The server's end may go; the client waits for late packets, four minutes (RFC 4340, section 8.3).
+    assert_eq!(
+        (other.phase(), one.phase()),
+        (Phase::Closed, Phase::TimeWait)
+    );
+    one.handle_timeout(now + Duration::from_secs(240));
+    assert_eq!((one.phase(), one.poll_timeout()), (Phase::Closed, None));
+    Ok(())
+}
