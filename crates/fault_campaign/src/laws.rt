@@ -43,14 +43,17 @@ pub fn seeded_runs_are_safe()
 
 /// The draws on which no count of a report depends (own), by values that were worked out apart. The first words of seed 1
 /// are 33a70be6, 7dbcf3ee, cadf4751 and 11ac71c0. Of the first the last 16 bits stand before the 32 of the second, and that
-/// is the initial number of the client; the third and the fourth give the server's. Data are the four bytes of a word, the
-/// highest first, and lists of feature 8 are wished for in this order.
+/// is the initial number of the client; the third and the fourth give the server's. 0000ffff and ffffffff give the
+/// greatest number. Data are the four bytes of a word, the highest first, and lists of feature 8 are wished for in this
+/// order.
 #[tactic(auto, unfolding(crate::specs::Draws::drawn, crate::specs::Seeded::begun_run))]
 pub fn draws_that_no_count_shows()
     ensures client { (g : Lcg) → word g ≡ 866585574 → word (behind_word g) ≡ 2109535214
         → (half_of (begun_run g).world.world Client).end.marks.iss ≡ 13084579918830 }
     ensures server { (g : Lcg) → word (behind_two g) ≡ 3403630417 → word (behind_word (behind_two g)) ≡ 296513984
         → (half_of (begun_run g).world.world Server).end.marks.iss ≡ 78413514437056 }
+    ensures greatest { (g : Lcg) → word g ≡ 65535 → word (behind_word g) ≡ 4294967295
+        → (half_of (begun_run g).world.world Client).end.marks.iss ≡ 281474976710655 }
     ensures data { (clients servers : ℕ) → drawn 24 441867712 clients servers ≡ Send Client (26 ∷ 86 ∷ 93 ∷ 192 ∷ []) }
     ensures data_of_the_server { (clients servers : ℕ) → drawn 25 1 clients servers ≡ Send Server (0 ∷ 0 ∷ 0 ∷ 1 ∷ []) }
     ensures three { (clients servers : ℕ) → drawn 26 3 clients servers ≡ Prefer Client MinCsCov Here (1 ∷ 2 ∷ 3 ∷ []) }

@@ -203,10 +203,12 @@ fn window_of_ccid_two(rt: HostRuntime) -> Result<(), Fail> {
     play(rt.alloc(), &WINDOW_OF_CCID_TWO)
 }
 
-const KINDS_SWITCH: [Call; 17] = [
+const KINDS_SWITCH: [Call; 19] = [
     Call::Know(2, true),
     Call::Know(248, true),
     Call::Know(3, false),
+    Call::Know(247, false),
+    Call::Know(249, false),
     Call::Send(1, 2),
     Call::Window(4),
     Call::InFlight(1),
@@ -435,6 +437,17 @@ const MARKED_AFTER_A_START: [Call; 4] = [
     Call::Threshold(2),
 ];
 
+// Nor has a timeout behind a start a mark: of 1 to 4 all are received, and 5 is marked.
+const TIMED_OUT_AFTER_A_START: [Call; 7] = [
+    Call::Start(2),
+    Call::Timeout,
+    Call::Fill(0, 4, 65_535),
+    Call::Shown(3, 2),
+    Call::Send(5, 6),
+    Call::Tell(5, 0x40),
+    Call::Shown(1, 2),
+];
+
 // A second timeout with nothing sent between has the same mark: older numbers that are received open the window to 2,
 // and one that is marked does not halve it.
 const MARKED_BEHIND_A_SECOND_TIMEOUT: [Call; 11] = [
@@ -469,5 +482,6 @@ fn the_mark_of_a_timeout(rt: HostRuntime) -> Result<(), Fail> {
     )?;
     play_behind(rt.alloc(), &TIMED_OUT_AT_47, &MARKED_47)?;
     play_behind(rt.alloc(), &TIMED_OUT_AT_47, &MARKED_48)?;
-    play_behind(rt.alloc(), &TIMED_OUT_AT_47, &MARKED_AFTER_A_START)
+    play_behind(rt.alloc(), &TIMED_OUT_AT_47, &MARKED_AFTER_A_START)?;
+    play_behind(rt.alloc(), &TIMED_OUT_AT_47, &TIMED_OUT_AFTER_A_START)
 }

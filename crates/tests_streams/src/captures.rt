@@ -369,18 +369,21 @@ fn every_prefix_of_three_records(rt: HostRuntime) -> Result<(), Fail> {
 
 // Places of a file header with what stands there, how many of its bytes come, and why it is refused: CutShort before
 // BadMagic, that before BadVersion, and that before BadLink.
-const REFUSALS: [(&[(usize, u8)], usize, Option<CaptureFault>); 15] = [
+const REFUSALS: [(&[(usize, u8)], usize, Option<CaptureFault>); 18] = [
     (&[(0, 0xa1)], 24, None),
     (&[(0, 0xa0)], 24, Some(CaptureFault::BadMagic)),
     (&[(3, 0x4d)], 24, Some(CaptureFault::BadMagic)),
     (&[(4, 1)], 24, Some(CaptureFault::BadVersion)),
     (&[(5, 1)], 24, Some(CaptureFault::BadVersion)),
+    (&[(5, 3)], 24, Some(CaptureFault::BadVersion)),
     (&[(7, 3)], 24, Some(CaptureFault::BadVersion)),
     (&[(7, 5)], 24, Some(CaptureFault::BadVersion)),
     (&[(6, 1)], 24, Some(CaptureFault::BadVersion)),
     (&[(20, 1)], 24, Some(CaptureFault::BadLink)),
     (&[(23, 0)], 24, Some(CaptureFault::BadLink)),
     (&[(23, 2)], 24, Some(CaptureFault::BadLink)),
+    (&[(23, 12)], 24, Some(CaptureFault::BadLink)),
+    (&[(23, 228)], 24, Some(CaptureFault::BadLink)),
     (&[(23, 100)], 24, Some(CaptureFault::BadLink)),
     (&[(7, 3), (23, 2)], 24, Some(CaptureFault::BadVersion)),
     (&[(0, 0), (7, 3), (23, 2)], 24, Some(CaptureFault::BadMagic)),

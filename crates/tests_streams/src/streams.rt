@@ -121,6 +121,26 @@ fn memory_sink_fails_at_the_listed_call(rt: HostRuntime) -> Result<(), Fail> {
     Ok(())
 }
 
+// Pieces, and how many bytes of each a sink with room for 9 takes, at most 4 a call: the least of the three numbers.
+const TAKES: [(&[u8], usize); 4] = [(b"hello", 4), (b"abc", 3), (b"hello", 2), (b"h", 0)];
+
+// The place of the first of these pieces of which another number is taken.
+fn first_other_take(alloc: Global) -> Result<Option<usize>, Fail> {
+    let mut sink = sink_of(alloc, &[], 4)?;
+    for (place, (piece, count)) in TAKES.iter().enumerate() {
+        if write_once(&mut sink, *piece) != Ok(*count) {
+            return Ok(Some(place));
+        }
+    }
+    Ok(None)
+}
+
+#[test]
+fn a_sink_takes_what_it_may(rt: HostRuntime) -> Result<(), Fail> {
+    assert_eq!(rt; first_other_take(rt.alloc())?, None);
+    Ok(())
+}
+
 // A whole piece, and one of no bytes.
 const WRITES_OF_NOTHING: [WriteRow<'static>; 2] = [
     (b"hello", Err(Failed), b""),

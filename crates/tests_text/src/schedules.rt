@@ -21,6 +21,17 @@ fn bytes_above_127(rt: HostRuntime) {
         "of a schedule"
     );
     assert!(rt; read_frame(b"#\xff").err() == not_text(2), "of a replay");
+    assert!(rt; read_line(b"#\x80").err() == not_text(2), "the least");
+}
+
+// No other fault of the line is looked for.
+#[test]
+fn a_line_of_4097_bytes_is_too_long(rt: HostRuntime) {
+    let fault = LineFault {
+        column: 4097,
+        why: LineWhy::LineTooLong,
+    };
+    assert!(rt; read_line(&[7; 4097]).err() == Some(fault));
 }
 
 // Whether the event of this line is printed behind the text.
