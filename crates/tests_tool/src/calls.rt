@@ -35,11 +35,13 @@ impl Streams {
     }
 }
 
-/// How a call ended, and all that it wrote.
+/// How a call ended, all that it wrote, and how many of its reads and writes failed.
 #[derive(Drop)]
 pub(crate) struct Answer {
     pub(crate) status: Status,
     pub(crate) text: Vec<u8>,
+    pub(crate) failed_reads: u64,
+    pub(crate) failed_writes: u64,
 }
 
 impl Answer {
@@ -114,7 +116,12 @@ pub(crate) fn answer_to<R: Threads + Sync, G: Gate + Sync>(
     let mut output = sink(alloc, streams)?;
     let status = dccp(rt, alloc, gate, &words, &mut input, &mut output);
     let text = output.taken().to_vec(alloc)?;
-    Ok(Answer { status, text })
+    Ok(Answer {
+        status,
+        text,
+        failed_reads: input.faults(),
+        failed_writes: output.faults(),
+    })
 }
 
 /// Whether a case comes out over these streams.

@@ -1,7 +1,7 @@
 //! Streams that fail at each of their calls in turn, in all four forms.
 //!
-//! A source gives seven bytes a call, and a sink takes seven or one: so it is known beforehand which calls there are. One
-//! that fails ends the tool with its status and a front of its text, and one behind the last is none.
+//! The streams tell whether one of their calls failed. Exactly where one did, the tool ends with the status of a failed
+//! read or write and has written a front of its text; else it ends as ever.
 use crate::calls::{Answer, Streams, answer_to};
 use dccp_command::Status;
 use fault_campaign::OpenGate;
@@ -9,54 +9,74 @@ use std::alloc::Global;
 use std::test::Fail;
 use std::thread::Threads;
 
-// A call of the tool, how many reads of seven bytes it makes, and what comes of it where none of them fails.
+// A call of the tool, and what comes of it where nothing fails.
 struct Form {
     words: &'static str,
     input: &'static [u8],
-    reads: u64,
     status: Status,
     text: &'static str,
 }
 
-// Of each form one call that is done, and where there is one, one whose input is refused. Where the whole input is read,
-// one read more finds its end.
-const FORMS: [Form; 7] = [
+// Of each form calls that are done, and where there is one, one whose input is refused.
+const FORMS: [Form; 10] = [
     Form {
         words: "run",
-        input: b"plain\nopen\ndeliver c0\n",
-        reads: 5,
+        input: b"plain\nopen\ndeliver c0\ndeliver s0\ndeliver c1\n",
         status: Status::Done,
         text: "2 open: ok\n\
 sent c0 9c401389050031ec01000000000003e80000002a\n\
 3 deliver c0: took\n\
 sent s0 13899c400700261403000000000007d000000000000003e80000002a\n\
-end client REQUEST window 4 flight 0 1=2/2 2=0/0 3=100/100 4=0/0 5=2/2 6=0/0 7=0/0 8=0/0 9=0/0\n\
-end server RESPOND window 4 flight 0 1=2/2 2=0/0 3=100/100 4=0/0 5=2/2 6=0/0 7=0/0 8=0/0 9=0/0\n",
+4 deliver s0: took\n\
+sent c1 9c4013890600234107000000000003e900000000000007d0\n\
+5 deliver c1: took\n\
+sent s1 13899c400600234007000000000007d100000000000003e9\n\
+end client PARTOPEN window 4 flight 0 1=2/2 2=0/0 3=100/100 4=0/0 5=2/2 6=0/0 7=0/0 8=0/0 9=0/0\n\
+end server OPEN window 4 flight 0 1=2/2 2=0/0 3=100/100 4=0/0 5=2/2 6=0/0 7=0/0 8=0/0 9=0/0\n",
     },
     Form {
         words: "run",
         input: b"plain\nopen\nplain\nopen\nopen\nopen\n",
-        reads: 3,
         status: Status::Input,
         text: "2 open: ok\n\
 sent c0 9c401389050031ec01000000000003e80000002a\n\
 line 3 column 1: HeaderLate\n",
     },
+    // Mandatory at the end of the options, with nothing that it could stand for.
     Form {
-        words: "replay,--side,client,--plain",
-        input: b"seal 13899c400400000005000000000007d0\n",
-        reads: 7,
+        words: "replay,--side,server,--plain",
+        input: b"seal 9c4013890600000001000000000003e80000002a00000001\n",
         status: Status::Done,
-        text: "open: ok\n\
-sent c0 9c401389050031ec01000000000003e80000002a\n\
-1: sent reset 4 2 0 0\n\
-sent c1 9c4013890700163b0f000000000003e900000000000007d004020000\n\
-end client REQUEST window 4 flight 0 1=2/2 2=0/0 3=100/100 4=0/0 5=2/2 6=0/0 7=0/0 8=0/0 9=0/0\n",
+        text: "1: sent reset 5 1 0 0\n\
+sent s0 13899c400700153d0f000000000007d000000000000003e805010000\n\
+end server CLOSED window 4 flight 0 1=2/2 2=0/0 3=100/100 4=0/0 5=2/2 6=0/0 7=0/0 8=0/0 9=0/0\n",
+    },
+    Form {
+        words: "replay,--side,server,--plain",
+        input: b"seal 9c4013890600000001000000000003e80000002a01000000\n",
+        status: Status::Done,
+        text: "1: took\n\
+sent s0 13899c400700261403000000000007d000000000000003e80000002a\n\
+end server RESPOND window 4 flight 0 1=2/2 2=0/0 3=100/100 4=0/0 5=2/2 6=0/0 7=0/0 8=0/0 9=0/0\n",
+    },
+    Form {
+        words: "replay,--side,server,--plain",
+        input: b"seal 9c4013890600000001000000000003e80000002a20010000\n",
+        status: Status::Done,
+        text: "1: took\n\
+sent s0 13899c400700261403000000000007d000000000000003e80000002a\n\
+end server RESPOND window 4 flight 0 1=2/2 2=0/0 3=100/100 4=0/0 5=2/2 6=0/0 7=0/0 8=0/0 9=0/0\n",
+    },
+    Form {
+        words: "replay,--side,server,--plain",
+        input: b"9c4013890503000001000000000003e80000002a01020304050607\n",
+        status: Status::Done,
+        text: "1: dropped CoverageTooLarge\n\
+end server LISTEN window 4 flight 0 1=2/2 2=0/0 3=100/100 4=0/0 5=2/2 6=0/0 7=0/0 8=0/0 9=0/0\n",
     },
     Form {
         words: "replay,--side=server",
         input: b"00\nseal 0011223344556\nseal 00\n",
-        reads: 4,
         status: Status::Input,
         text: "1: dropped Short\nline 2 column 19: BadHex\n",
     },
@@ -66,7 +86,6 @@ end client REQUEST window 4 flight 0 1=2/2 2=0/0 3=100/100 4=0/0 5=2/2 6=0/0 7=0
 \x01\x00\x00\x00\x20\xa1\x07\x00\x28\x00\x00\x00\x28\x00\x00\x00\
 \x45\x00\x00\x28\x00\x01\x00\x00\x40\x21\x66\xb2\x0a\x00\x00\x01\x0a\x00\x00\x02\
 \x9c\x40\x13\x89\x05\x00\x31\xec\x01\x00\x00\x00\x00\x00\x03\xe8\x00\x00\x00\x2a",
-        reads: 13,
         status: Status::Done,
         text: "1 1.500000 flow 1 10.0.0.1 40000 > 10.0.0.2 5001 Request seq 1000 service 42 data 0 sum ok\n\
 records 1 shown 1 skipped 0 flows 1\n",
@@ -76,19 +95,43 @@ records 1 shown 1 skipped 0 flows 1\n",
         input: b"\xd4\xc3\xb2\xa1\x02\x00\x04\x00\x00\x00\x00\x00\x00\x00\x00\x00\xff\xff\x00\x00\x65\x00\x00\x00\
 \x01\x00\x00\x00\x20\xa1\x07\x00\x28\x00\x00\x00\x28\x00\x00\x00\
 \x45\x00",
-        reads: 7,
         status: Status::Input,
         text: "capture CutShort after record 0\n",
     },
     Form {
         words: "campaign,--first,1,--seeds,3,--events,1,--workers,2",
         input: b"",
-        reads: 0,
         status: Status::Done,
         text: "seeds 3\nevents 3\nclient_frames 3\nserver_frames 0\ntook 0\ndelivered 0\ndropped 0\n\
 synced 0\nwas_reset 0\nsent_reset 0\nrefused 0\nsettled 48\n",
     },
 ];
+
+// More than any call here reads or writes.
+const MOST_CALLS: u64 = 1000;
+
+fn has_failed(answer: &Answer) -> bool {
+    answer.failed_reads != 0 || answer.failed_writes != 0
+}
+
+// The status that a call has to end with whose reads and writes failed so often.
+fn wanted(form: &Form, answer: &Answer) -> Status {
+    if answer.failed_reads != 0 {
+        Status::Read
+    } else if answer.failed_writes != 0 {
+        Status::Write
+    } else {
+        form.status
+    }
+}
+
+// Whether a call ended as it has to: with a front of the text that lacks something where a read or a write failed, and else
+// with all of it.
+fn holds(form: &Form, answer: &Answer) -> bool {
+    let is_front = form.text.as_bytes().starts_with(answer.text.as_slice());
+    let is_whole = answer.text.len() == form.text.len();
+    answer.status == wanted(form, answer) && is_front && is_whole != has_failed(answer)
+}
 
 fn answer<R: Threads + Sync>(
     rt: &R,
@@ -99,83 +142,55 @@ fn answer<R: Threads + Sync>(
     answer_to(rt, alloc, &OpenGate, streams, form.words, form.input)
 }
 
-// Whether a call whose read with this number fails ends as it has to: with a front of the text where there is such a
-// read, and as ever where there is none.
-fn holds_for_read<R: Threads + Sync>(
+// Seven bytes a call, of which the read or the write with this number fails.
+fn failing(read: Option<u64>, write: Option<u64>) -> Streams {
+    Streams {
+        failing_read: read,
+        failing_write: write,
+        given: 7,
+        taken: 7,
+    }
+}
+
+// Whether a call ends as it has to over these streams, and whether one of their calls failed.
+fn holds_over<R: Threads + Sync>(
     rt: &R,
     alloc: Global,
     form: &Form,
-    number: u64,
-) -> Result<bool, Fail> {
-    let streams = Streams {
-        failing_read: Some(number),
-        failing_write: None,
-        given: 7,
-        taken: 4096,
-    };
-    let answer = answer(rt, alloc, form, &streams)?;
-    if form.reads < number {
-        return Ok(answer.is(form.status, form.text));
+    streams: &Streams,
+) -> Result<(bool, bool), Fail> {
+    let answer = answer(rt, alloc, form, streams)?;
+    Ok((holds(form, &answer), has_failed(&answer)))
+}
+
+// Whether each read fails in turn, up to the first number that no read has.
+fn holds_for_reads<R: Threads + Sync>(rt: &R, alloc: Global, form: &Form) -> Result<bool, Fail> {
+    for number in 1..MOST_CALLS {
+        let (holds, failed) = holds_over(rt, alloc, form, &failing(Some(number), None))?;
+        if !holds || !failed {
+            return Ok(holds);
+        }
     }
-    let is_front = form.text.as_bytes().starts_with(answer.text.as_slice());
-    Ok(answer.status == Status::Read && is_front)
+    Ok(false)
+}
+
+// Whether each write fails in turn, up to the first number that no write has.
+fn holds_for_writes<R: Threads + Sync>(rt: &R, alloc: Global, form: &Form) -> Result<bool, Fail> {
+    for number in 1..MOST_CALLS {
+        let (holds, failed) = holds_over(rt, alloc, form, &failing(None, Some(number)))?;
+        if !holds || !failed {
+            return Ok(holds);
+        }
+    }
+    Ok(false)
 }
 
 #[test]
 fn each_read_fails_in_turn(rt: HostRuntime) -> Result<(), Fail> {
     for form in &FORMS {
-        for number in 1..form.reads + 3 {
-            assert!(rt;
-                holds_for_read(&rt, rt.alloc(), form, number)?,
-                "{} {number}",
-                form.words
-            );
-        }
+        assert!(rt; holds_for_reads(&rt, rt.alloc(), form)?, "{}", form.words);
     }
     Ok(())
-}
-
-// How many bytes a call has written whose write with this number fails: a front of the text that lacks something, or
-// all of it where there is no such write. None where it ends otherwise.
-fn written<R: Threads + Sync>(
-    rt: &R,
-    alloc: Global,
-    form: &Form,
-    number: u64,
-    taken: usize,
-) -> Result<Option<usize>, Fail> {
-    let streams = Streams {
-        failing_read: None,
-        failing_write: Some(number),
-        given: 4096,
-        taken,
-    };
-    let answer = answer(rt, alloc, form, &streams)?;
-    let count = answer.text.len();
-    let is_front = form.text.as_bytes().starts_with(answer.text.as_slice());
-    let is_whole = count == form.text.len();
-    let status = if is_whole { form.status } else { Status::Write };
-    Ok((is_front && answer.status == status).then_some(count))
-}
-
-// Whether each write of seven bytes fails in turn: the first before all bytes, each behind what the one before it would
-// have written, and after the last the text is whole.
-fn holds_for_writes<R: Threads + Sync>(rt: &R, alloc: Global, form: &Form) -> Result<bool, Fail> {
-    let (mut least, mut most) = (0, 0);
-    for number in 1..1000 {
-        let Some(count) = written(rt, alloc, form, number, 7)? else {
-            return Ok(false);
-        };
-        if count < least || most < count {
-            return Ok(false);
-        }
-        if count == form.text.len() {
-            return Ok(true);
-        }
-        least = count.saturating_add(1);
-        most = count.saturating_add(7);
-    }
-    Ok(false)
 }
 
 #[test]
@@ -186,16 +201,26 @@ fn each_write_fails_in_turn(rt: HostRuntime) -> Result<(), Fail> {
     Ok(())
 }
 
-// Whether the last of the writes of one byte fails behind all the others, and one more is not made.
+// A sink that takes one byte a call, and whose call with this number fails.
+fn by_the_byte(write: u64) -> Streams {
+    Streams {
+        failing_read: None,
+        failing_write: Some(write),
+        given: 4096,
+        taken: 1,
+    }
+}
+
+// Whether the last byte fails behind all the others, and one write more is not made.
 fn holds_for_last_byte<R: Threads + Sync>(
     rt: &R,
     alloc: Global,
     form: &Form,
 ) -> Result<bool, Fail> {
-    let size = form.text.len();
-    let last = written(rt, alloc, form, size as u64, 1)?;
-    let more = written(rt, alloc, form, (size as u64).saturating_add(1), 1)?;
-    Ok(last == size.checked_sub(1) && more == Some(size))
+    let size = form.text.len() as u64;
+    let last = holds_over(rt, alloc, form, &by_the_byte(size))?;
+    let more = holds_over(rt, alloc, form, &by_the_byte(size.saturating_add(1)))?;
+    Ok(last == (true, true) && more == (true, false))
 }
 
 #[test]
