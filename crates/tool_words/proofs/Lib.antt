@@ -1,4 +1,4 @@
-pub mod Blocks
+pub mod BlockLaws
 pub mod Bytes
 pub mod Decoding
 pub mod DigitLaws

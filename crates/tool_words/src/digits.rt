@@ -1,9 +1,9 @@
 //! Bytes as digits in hexadecimal.
-ghost use Rattle.std.specs.Prelude.{take, true, ◌≡◌, ◌+◌, ◌*◌, ◌/◌, ◌%◌, ◌≤◌, ◌<◌, ◌==◌, None, [], length, IfSome};
-ghost use Rattle.std.specs.List.{list_all};
+ghost use Rattle.std.specs.Prelude.{◌≡◌, ◌+◌, ◌*◌, ◌≤◌, ◌<◌, ◌==◌, not, None, [], length, slice_index, IfSome};
 ghost use Rattle.hex.specs.Hex.{is_hex_digit};
-ghost use Rattle.tool_words.specs.Digits.{first_no_digit, digits_flaw, digit_value, bytes_of_digits, ArePairs};
+ghost use Rattle.tool_words.specs.Digits.{digits_flaw, digit_value, bytes_of_digits, ArePairs};
 
+use crate::blocks::{Sought, first_far};
 use std::marker::Model;
 
 fn is_hex_digit(byte: u8) -> bool
@@ -12,48 +12,15 @@ fn is_hex_digit(byte: u8) -> bool
     matches!(byte, b'0'..=b'9' | b'a'..=b'f' | b'A'..=b'F')
 }
 
-// How many bytes are judged at a time, so that they can be judged side by side.
-const BLOCK: usize = 32;
+// Bytes that are no digits.
+#[derive(Drop)]
+struct NoDigit;
 
-// Whether a block has digits alone; no byte of it ends the search.
-fn are_digits(block: &[u8]) -> bool
-    ensures { result ≡ list_all is_hex_digit block.now }
-{
-    let mut all = true;
-    for byte in block {
-        all = all & is_hex_digit(*byte);
-    }
-    all
-}
+impl Sought for NoDigit {
+    ghost sought = { λ s byte. not (is_hex_digit byte) };
 
-// How many bytes of whole blocks of digits a word begins with.
-fn digits_in_front(word: &[u8]) -> usize
-    ensures digits { list_all is_hex_digit (take result word.now) ≡ true }
-    ensures within { result ≤ length word.now }
-{
-    let mut done = 0;
-    while BLOCK <= word.len() - done && are_digits(&word[done..done + BLOCK]) {
-        done += BLOCK;
-    }
-    done
-}
-
-fn first_in(rest: &[u8]) -> Option<usize>
-    ensures value { result ≡ first_no_digit rest.now }
-    ensures within { IfSome result (λ place. place ≤ length rest.now) }
-{
-    rest.iter().position(|byte| !is_hex_digit(*byte))
-}
-
-#[tactic(auto, using(crate::proofs::Blocks::none_passed, crate::proofs::Blocks::some_passed))]
-fn first_no_digit(word: &[u8]) -> Option<usize>
-    ensures value { result ≡ first_no_digit word.now }
-    ensures within { IfSome result (λ place. place ≤ length word.now) }
-{
-    let front = digits_in_front(word);
-    match first_in(&word[front..]) {
-        Some(place) => Some(front + place),
-        None => None,
+    fn is_sought(&self, byte: u8) -> bool {
+        !is_hex_digit(byte)
     }
 }
 
@@ -62,31 +29,34 @@ pub(crate) fn flaw_in_digits(word: &[u8]) -> Option<usize>
     ensures value { result ≡ digits_flaw word.now }
     ensures within { IfSome result (λ place. place ≤ length word.now) }
 {
-    match first_no_digit(word) {
+    match first_far(&NoDigit, word) {
         Some(place) => Some(place),
         None if word.len() % 2 == 1 => Some(word.len()),
         None => None,
     }
 }
 
-// The byte of two digits, the high one first.
-fn byte_of(high: u8, low: u8) -> u8
-    requires high { digit_value high < 16 }
-    requires low { digit_value low < 16 }
-    ensures { result ≡ 16 * digit_value high + digit_value low }
+// The byte of two digits, the high one first. Their values are found side by side, in the two halves of one number.
+fn byte_of(pair: [u8; 2]) -> u8
+    requires high { digit_value (slice_index pair 0) < 16 }
+    requires low { digit_value (slice_index pair 1) < 16 }
+    ensures { result ≡ 16 * digit_value (slice_index pair 0) + digit_value (slice_index pair 1) }
 {
-    16 * (high % 16 + 9 * (high / 64)) + (low % 16 + 9 * (low / 64))
+    let both = 256 * u16::from(pair[1]) + u16::from(pair[0]);
+    let values = (both & 0x0f0f) + 9 * ((both / 64) & 0x0101);
+    (16 * (values % 256) + values / 256) as u8
 }
 
-#[tactic(auto, using(crate::proofs::Decoding::bytes_length, crate::proofs::Decoding::digit_small, crate::proofs::Decoding::one_decoded, crate::proofs::Decoding::all_decoded))]
+#[tactic(auto, using(crate::proofs::Decoding::bytes_length, crate::proofs::Decoding::all_decoded))]
 fn decode(text: &[u8], room: &mut [u8])
     requires pairs { ArePairs text.now }
     requires sized { length text.now ≡ 2 * length room.old }
     ensures { room.new ≡ bytes_of_digits text.now }
 {
+    let (pairs, _) = text.as_chunks::<2>();
     let mut place = 0;
     while place < room.len() {
-        room[place] = byte_of(text[2 * place], text[2 * place + 1]);
+        room[place] = byte_of(pairs[place]);
         place += 1;
     }
 }

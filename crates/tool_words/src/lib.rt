@@ -4,6 +4,7 @@
 //! memory.
 #![tactic(auto)]
 
+mod blocks;
 mod digits;
 mod faults;
 mod kinds;

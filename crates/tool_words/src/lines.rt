@@ -1,8 +1,8 @@
 //! Lines, whole.
-ghost use Rattle.std.specs.Prelude.{◌≡◌, ◌≤◌, ◌<◌, length, take, true, OnOk, IfSome};
-ghost use Rattle.std.specs.List.{list_all};
+ghost use Rattle.std.specs.Prelude.{◌≡◌, ◌≤◌, not, length, OnOk};
 ghost use Rattle.tool_words.specs.Lines as spec;
 
+use crate::blocks::{Sought, first_far};
 use crate::faults::{LineFault, LineWhy};
 use crate::rows::Row;
 use crate::words::Words;
@@ -16,48 +16,15 @@ fn is_text(byte: u8) -> bool
     32 <= byte && byte <= 126
 }
 
-// How many bytes are judged at a time, so that they can be judged side by side.
-const BLOCK: usize = 32;
+// Bytes that are no text.
+#[derive(Drop)]
+struct NoText;
 
-// Whether a block has text alone; no byte of it ends the search.
-fn are_text(block: &[u8]) -> bool
-    ensures { result ≡ list_all spec.is_text block.now }
-{
-    let mut all = true;
-    for byte in block {
-        all = all & is_text(*byte);
-    }
-    all
-}
+impl Sought for NoText {
+    ghost sought = { λ s byte. not (spec.is_text byte) };
 
-// How many bytes of whole blocks of text a line begins with.
-fn text_in_front(line: &[u8]) -> usize
-    ensures text { list_all spec.is_text (take result line.now) ≡ true }
-    ensures within { result ≤ length line.now }
-{
-    let mut done = 0;
-    while BLOCK <= line.len() - done && are_text(&line[done..done + BLOCK]) {
-        done += BLOCK;
-    }
-    done
-}
-
-fn first_in(rest: &[u8]) -> Option<usize>
-    ensures value { result ≡ spec.first_other rest.now }
-    ensures within { IfSome result (λ place. place < length rest.now) }
-{
-    rest.iter().position(|byte| !is_text(*byte))
-}
-
-#[tactic(auto, using(crate::proofs::Blocks::no_text_passed, crate::proofs::Blocks::some_text_passed))]
-fn first_other(line: &[u8]) -> Option<usize>
-    ensures first { result ≡ spec.first_other line.now }
-    ensures within { IfSome result (λ place. place < length line.now) }
-{
-    let front = text_in_front(line);
-    match first_in(&line[front..]) {
-        Some(place) => Some(front + place),
-        None => None,
+    fn is_sought(&self, byte: u8) -> bool {
+        !is_text(byte)
     }
 }
 
@@ -72,7 +39,7 @@ pub fn clean(line: &[u8]) -> Result<(), LineFault>
             why: LineWhy::LineTooLong,
         });
     }
-    match first_other(line) {
+    match first_far(&NoText, line) {
         Some(place) => Err(LineFault {
             column: place as u32 + 1,
             why: LineWhy::NotText,

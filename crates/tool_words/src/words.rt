@@ -1,8 +1,9 @@
 //! The words of a line.
-ghost use Rattle.std.specs.Prelude.{◌≡◌, ◌==◌, ◌+◌, ◌<◌, ◌≤◌, ◌∷◌, length, IfSome};
-ghost use Rattle.std.specs.List.{position_from};
+ghost use Rattle.std.specs.Prelude.{◌≡◌, ◌==◌, ◌+◌, ◌≤◌, ◌∷◌, length};
 ghost use Rattle.tool_words.specs.Words.{parted_by};
 ghost use Rattle.tool_words.specs.Rest.{pieces_left, rest_length};
+
+use crate::blocks::{Sought, first_near};
 
 /// A word of a line, and the column of its first byte, from 1 (own). It has no bytes where the line has no such word.
 #[derive(Clone, Copy)]
@@ -11,11 +12,18 @@ pub struct Word<'a> {
     pub text: &'a [u8],
 }
 
-fn place_of(mark: u8, text: &[u8]) -> Option<usize>
-    ensures first { result ≡ position_from (λ byte. byte == mark) 0 text.now }
-    ensures within { IfSome result (λ place. place < length text.now) }
-{
-    text.iter().position(|byte| *byte == mark)
+// The byte that parts a text.
+#[derive(Drop)]
+struct Mark {
+    byte: u8,
+}
+
+impl Sought for Mark {
+    ghost sought = { λ mark byte. byte == mark.byte };
+
+    fn is_sought(&self, byte: u8) -> bool {
+        byte == self.byte
+    }
 }
 
 /// The first piece of a text that this byte parts, and what follows that byte, if it stands there (own).
@@ -24,7 +32,7 @@ pub fn first_piece(mark: u8, text: &[u8]) -> (&[u8], Option<&[u8]>)
     ensures pieces { parted_by mark text.now ≡ result.0.now ∷ pieces_left mark result.1 }
     ensures whole { length result.0.now + rest_length result.1 ≡ length text.now }
 {
-    match place_of(mark, text) {
+    match first_near(&Mark { byte: mark }, text) {
         Some(end) => (&text[..end], Some(&text[end + 1..])),
         None => (text, None),
     }

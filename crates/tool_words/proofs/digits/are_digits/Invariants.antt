@@ -1,7 +1,0 @@
-use Rattle.std.proofs.Common.{◌≡◌, ◌&&◌, drop}
-use Rattle.std.specs.List.{list_all}
-use Rattle.hex.specs.Hex.{is_hex_digit}
-use Rattle.tool_words.proofs.digits.are_digits.Given as goal
-
-abbrev pub invariant-loop-byte : goal.invariant-loop-byte
-invariant-loop-byte l = record { same : (l.all && list_all is_hex_digit (drop l.byte-index l.block)) ≡ list_all is_hex_digit l.block }

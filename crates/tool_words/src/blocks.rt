@@ -1,0 +1,90 @@
+//! The first byte of a kind in a text.
+ghost use Rattle.std.specs.Prelude.{take, true, not, ℕ, Bool, ◌≡◌, ◌≤◌, ◌<◌, length, IfSome};
+ghost use Rattle.std.specs.List.{list_all, position_from};
+
+/// What is looked for in a text, byte by byte.
+pub(crate) trait Sought {
+    ghost sought: { Self → ℕ → Bool };
+
+    /// Tells whether a byte is looked for.
+    fn is_sought(&self, byte: u8) -> bool
+        ensures { result ≡ sought self.now byte };
+}
+
+// Most words are shorter.
+const NEAR: usize = 10;
+
+// Whether a block has no such byte; none of its bytes ends the search.
+fn lacks<S: Sought>(what: &S, block: &[u8]) -> bool
+    ensures { result ≡ list_all (λ byte. not (S.sought what.now byte)) block.now }
+{
+    let mut lacks = true;
+    for byte in block {
+        lacks = lacks & !what.is_sought(*byte);
+    }
+    lacks
+}
+
+// How many bytes without such a byte a text begins with, going on from so many by whole blocks. The bytes of a block are judged
+// side by side.
+#[tactic(auto, using(crate::proofs::BlockLaws::block_further))]
+fn blocks_from<const BLOCK: usize, S: Sought>(what: &S, text: &[u8], front: usize) -> usize
+    requires some { 0 < BLOCK }
+    requires without { list_all (λ byte. not (S.sought what.now byte)) (take front text.now) ≡ true }
+    requires within { front ≤ length text.now }
+    ensures without { list_all (λ byte. not (S.sought what.now byte)) (take result text.now) ≡ true }
+    ensures within { result ≤ length text.now }
+{
+    let mut done = front;
+    while BLOCK <= text.len() - done && lacks(what, &text[done..done + BLOCK]) {
+        done += BLOCK;
+    }
+    done
+}
+
+fn first_in<S: Sought>(what: &S, text: &[u8]) -> Option<usize>
+    ensures first { result ≡ position_from (S.sought what.now) 0 text.now }
+    ensures within { IfSome result (λ place. place < length text.now) }
+{
+    text.iter().position(|byte| what.is_sought(*byte))
+}
+
+// The first one behind so many bytes that are none.
+#[tactic(auto, using(crate::proofs::BlockLaws::none_behind, crate::proofs::BlockLaws::some_behind))]
+fn first_behind<S: Sought>(what: &S, text: &[u8], front: usize) -> Option<usize>
+    requires without { list_all (λ byte. not (S.sought what.now byte)) (take front text.now) ≡ true }
+    requires within { front ≤ length text.now }
+    ensures first { result ≡ position_from (S.sought what.now) 0 text.now }
+    ensures within { IfSome result (λ place. place < length text.now) }
+{
+    match first_in(what, &text[front..]) {
+        Some(place) => Some(front + place),
+        None => None,
+    }
+}
+
+/// The place of the first byte that is looked for, where it seldom stands anywhere.
+pub(crate) fn first_far<S: Sought>(what: &S, text: &[u8]) -> Option<usize>
+    ensures first { result ≡ position_from (S.sought what.now) 0 text.now }
+    ensures within { IfSome result (λ place. place < length text.now) }
+{
+    let large = blocks_from::<32, S>(what, text, 0);
+    let front = blocks_from::<8, S>(what, text, large);
+    first_behind(what, text, front)
+}
+
+/// The same, where it mostly stands near.
+#[tactic(auto, using(crate::proofs::BlockLaws::none_there, crate::proofs::BlockLaws::some_near))]
+pub(crate) fn first_near<S: Sought>(what: &S, text: &[u8]) -> Option<usize>
+    ensures first { result ≡ position_from (S.sought what.now) 0 text.now }
+    ensures within { IfSome result (λ place. place < length text.now) }
+{
+    let near = text.len().min(NEAR);
+    match first_in(what, &text[..near]) {
+        Some(place) => Some(place),
+        None => {
+            let front = blocks_from::<32, S>(what, text, near);
+            first_behind(what, text, front)
+        }
+    }
+}
