@@ -33,7 +33,6 @@ use Rattle.feature_machine.specs.declared.judging.Proposal.TheVariants as p
 use Rattle.feature_machine.specs.declared.offers.Offer.{Offer}
 use Rattle.feature_machine.specs.declared.row.Row.{Row}
 use Rattle.feature_machine.specs.declared.stands.Role2.{Role2}
-use Rattle.feature_machine.specs.declared.stands.Role2.TheVariants as end
 use Rattle.feature_machine.specs.declared.stands.Stand.{Stand}
 use Rattle.feature_machine.specs.declared.stands.Stand.TheVariants.{Changing, Stable, Unstable}
 use Rattle.seq_circle.specs.Counts.{count_of}
