@@ -19,3 +19,4 @@ pub mod Controlled
 pub mod Effects
 pub mod Causes
 pub mod Outcomes
+pub mod Feeding

@@ -16,6 +16,7 @@ mod connection;
 mod endpoint;
 mod exit;
 mod faults;
+mod feeding;
 mod heeding;
 mod incoming;
 mod laws;
@@ -24,6 +25,7 @@ mod speaking;
 pub use crate::config::{Config, Ports};
 pub use crate::endpoint::Endpoint;
 pub(crate) use crate::exit::Exit;
+pub use crate::feeding::feed;
 pub use crate::laws::{
     every_step_has_one_effect, own_frames_are_read, own_packets_say_one_thing_of_a_row,
     own_packets_speak_once, packets_say_one_thing_to_a_row, reading_stops_at_the_first_fault,

@@ -177,7 +177,12 @@ fn tell_phase(end: &Endpoint, told: &mut String) -> Result<(), Fail> {
 }
 
 // What the end shows.
-fn tell_shown(end: &Endpoint, verb: &str, rest: &str, told: &mut String) -> Result<(), Fail> {
+pub(crate) fn tell_shown(
+    end: &Endpoint,
+    verb: &str,
+    rest: &str,
+    told: &mut String,
+) -> Result<(), Fail> {
     match verb {
         "marks" => tell_marks(end, told),
         "windows" => tell_windows(end, told),

@@ -12,6 +12,8 @@ mod ends;
 #[cfg(test)]
 mod features;
 #[cfg(test)]
+mod feeds;
+#[cfg(test)]
 mod negotiations;
 #[cfg(test)]
 mod runs;
