@@ -27,6 +27,7 @@ const EDGES: &str = "\
     there/1/3: not BadList\n\
     here/1/248: permitted [248]\n\
     here/1/249: not BadList\n\
+    there/1/247: not BadList\n\
     here/2/0: permitted [0]\n\
     here/2/1: not BadList\n\
     there/2/0: permitted [0]\n\

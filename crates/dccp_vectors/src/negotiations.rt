@@ -39,6 +39,9 @@ const STORIES: &str = "\
     plain/ client/ prefer/here/8/1,2 send/here/8/1002 prefer/here/8/2,1 send/here/8/1003 prefer/here/8/2 send/here/8/1004 confirm/here/8/020102@1004 held/here/8/: Now Later Later Settled 2\n\
     wish/there/8/1,2 plain/ server/ change/there/8/02 held/there/8/: ok R8=020102 2\n\
     plain/ client/ prefer/here/8/1,2 send/here/8/1002 prefer/here/8/2,1 send/here/8/1003 prefer/here/8/2 send/here/8/1004 confirm/here/8/010102@1002 held/here/8/: Now Later Later Ignored 0*\n\
+    # A Confirm that comes before the Change went out\n\
+    server/ prefer/here/8/1 confirm/here/8/0101@1000 held/here/8/ send/here/8/1000 confirm/here/8/0101@1000: Now Ignored 0* Settled\n\
+    client/ prefer/here/8/1 confirm/here/8/0101@1000 held/here/8/ send/here/8/1000 confirm/here/8/0101@1000: Now Ignored 0* Settled\n\
     # The lists come to share nothing\n\
     plain/ client/ prefer/here/8/1,2 send/here/8/1002 change/here/8/03 held/here/8/: Now L8=000102 0*\n\
     wish/there/8/1,2 plain/ server/ change/there/8/0102 prefer/there/8/3 send/there/8/2003 confirm/there/8/000102@2003 held/there/8/: ok R8=010102 Now Fatal 1*\n\
