@@ -56,7 +56,7 @@ module _ (e : EndState) (bytes : List ℕ) where
   came-goes a came =
       let given : Input.Arrives bytes ≡ Arrives came.bytes = came.is_given in
       let same : bytes ≡ came.bytes = cc given in
-      rw (same, came.is_packet, came.sum_fits, came.is_ours, came.is_long, came.same) refl
+      rw (same, came.is_packet, came.sum_fits, came.is_ours, came.reads, came.same) refl
 
   -- steps 2 to 6
   valid-goes : (a : Incoming) (entered : EndState) → IsValidPacket e bytes a entered
@@ -92,7 +92,7 @@ module _ (e : EndState) (bytes : List ℕ) where
   dropped-so (why.Malformed fault) is = rw is refl
   dropped-so (why.Sum fault) is = rw (is.is_packet, is.sum_fails) refl
   dropped-so why.OtherFlow is = rw (is.is_packet, is.sum_fits, is.not_ours) refl
-  dropped-so why.ShortOff is = rw (is.is_packet, is.sum_fits, is.is_ours, is.is_short) refl
+  dropped-so why.ShortOff is = rw (is.is_packet, is.sum_fits, is.is_ours, is.is_short, is.not_taken) refl
   dropped-so why.StrayReset (StrayWithoutConnection a came is) = ap answer_of (came-goes a came) ∙ rw is refl
   dropped-so why.StrayReset (StrayInRequest a came is reset wrong) = ap answer_of (came-goes a came) ∙ rw is (rw (wrong, reset, through) refl)
   dropped-so why.BadSync is = ap answer_of (came-goes is.packet is.came) ∙ rw is.is_checked (rw (is.is_bad, through) refl)

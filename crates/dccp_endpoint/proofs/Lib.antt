@@ -31,3 +31,4 @@ pub mod RowsPrefers
 pub mod RowsVectors
 pub mod RowsData
 pub mod RowsReports
+pub mod RowsShort

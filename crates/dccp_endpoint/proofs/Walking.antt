@@ -6,9 +6,9 @@ use Rattle.std.proofs.Common.{◌≡◌, ◌≢◌, ◌⊎◌, inl, inr, refl, a
 use Rattle.std.proofs.lemmas.Bool.{and_parts, false≢true}
 use Rattle.std.proofs.lemmas.List.{append-nil, append_assoc}
 use Rattle.congestion_trait.specs.Calls.{Call}
-use Rattle.seq_circle.specs.Circle.{is_before, later_of}
+use Rattle.seq_circle.specs.Circle.{extended, is_before, later_of}
 use Rattle.dccp_packets.specs.Grammar.{Parts, decoded, packet_type}
-use Rattle.dccp_packets.specs.Kinds.{ack_of}
+use Rattle.dccp_packets.specs.Forms.{ack_near}
 use Rattle.dccp_packets.specs.ResetCodes.{number_of_code}
 use Rattle.dccp_packets.specs.declared.header.Kind.{Kind}
 use Rattle.dccp_packets.specs.declared.header.Kind.TheVariants as kind
@@ -47,7 +47,7 @@ use Rattle.dccp_endpoint.specs.Heeding.{Due, Heeding, heeds, unheeded}
 use Rattle.dccp_endpoint.specs.Incoming.{Incoming, incoming, is_newest}
 use Rattle.dccp_endpoint.specs.Inputs.{Input, Arrives}
 use Rattle.dccp_endpoint.specs.Outcomes.{HasCause, HasForm, IsNoAnswer, IsValidReset, data_sent, effect_of_closing, effect_of_refusing, effect_of_reset, hears_first, offered_with, replying, IsAdmitted, IsReset, IsValid, IsValidPacket, OutOfWindow, Unexpected, NoConnection, OtherService, NoAnswer, OtherType, OtherRequest, WrongService, Faulted, AnswersClose, OpensConnection, ResponseToRequest, PacketInWindow, ResetToRequest, ResetInWindow, StrayWithoutConnection, StrayInRequest, is_for_another, IsTaken, IsTaking, kind_sent, unacked_by}
-use Rattle.dccp_endpoint.specs.Receiving.{Goes, acknowledges, acknowledges_in_window, answers, becomes_open, by_ports, by_sum, by_verdict, checks_numbers, checks_type, ends_as, ends_by_reset, expects, heeded, is_of_connection, is_own_service, is_unexpected, long_number, moved_to, needs_ack, number_without_connection, opens_connection, packet_fault, raises, reads_options, received, receives, replies, resets, resets_without_connection, responds, responds_asking, responds_offering, serves, started, takes_answer, the_steps, through, with_own_number, with_packet, with_raised_marks}
+use Rattle.dccp_endpoint.specs.Receiving.{Goes, acknowledges, acknowledges_in_window, answers, becomes_open, by_ports, by_sum, by_verdict, checks_numbers, checks_type, ends_as, ends_by_reset, expects, heeded, is_of_connection, is_own_service, is_unexpected, moved_to, needs_ack, number_without_connection, opens_connection, packet_fault, raises, read_number, reads_options, received, receives, replies, resets, resets_without_connection, responds, responds_asking, responds_offering, serves, short_number, started, takes_answer, takes_short, the_steps, through, with_own_number, with_packet, with_raised_marks}
 use Rattle.dccp_endpoint.specs.Reporting.{counts_data, delivered_if, delivers, is_acking, is_enough, looked_up, looks_up, marks, unacked_after}
 use Rattle.dccp_endpoint.specs.Speaking.{asking, confirm_items, confirming, has_confirms, is_confirmed, saying}
 use Rattle.dccp_endpoint.specs.Steps.{Step, in_phase, detail_of, idle, next_number, reset_of, sends, with_calls, without_detail}
@@ -66,10 +66,10 @@ use Rattle.dccp_endpoint.proofs.Room.{AreShort, IsBoundedReading, asking-few, co
 use Rattle.dccp_endpoint.proofs.Tables.{gar-by, no-connection-code, numbered-code, other-service-asked, sync-acknowledges, unexpected-no-ack}
 
 -- a Request acknowledges nothing
-request-no-ack : (k : Kind) → packet_type k ≡ types.Request → ack_of k ≡ None
-request-no-ack (kind.Request service) is = refl
-request-no-ack kind.Data is = refl
-request-no-ack _ is = cc is
+request-no-ack : (reference : ℕ) (k : Kind) → packet_type k ≡ types.Request → ack_near reference k ≡ None
+request-no-ack reference (kind.Request service) is = refl
+request-no-ack reference kind.Data is = refl
+request-no-ack reference _ is = cc is
 
 -- what a packet acknowledges
 acks-so : (e : EndState) (given : Input) (t : PacketType) (ack : Option ℕ) → ((n : ℕ) → ack ≡ Some n → IsAcknowledging e given (Some n))
@@ -570,7 +570,7 @@ module _ (o : EndState) (bytes : List ℕ) (proper : IsProper (wide o)) where
           none : (n : ℕ) → a.ack ≡ Some n → a.kind ≡ types.Request → ⊥
           none n same request =
               cc (sym same ∙ ap (λ (b : Incoming). b.ack) came.same
-              ∙ request-no-ack came.packet.header.kind (sym (ap (λ (b : Incoming). b.kind) came.same) ∙ request))
+              ∙ request-no-ack e.marks.gss came.packet.header.kind (sym (ap (λ (b : Incoming). b.kind) came.same) ∙ request))
 
     answered-entry : entrance_of e a ≡ entrance.InRequest → a.kind ≢ types.Reset → acknowledges_in_window e a ≡ true → Entry e bytes a
     answered-entry is no_reset fits =
@@ -691,15 +691,41 @@ module _ (o : EndState) (bytes : List ℕ) (proper : IsProper (wide o)) where
   -- step 1
   module _ (p : Parts) (is : decoded bytes ≡ Ok p) where
     form-told : checked e.config.pseudo_in bytes ≡ Ok tt → is_of_connection e p.header ≡ true → (number : Number) → p.header.number ≡ number
-        → Told e bytes (received e (with_own_number e bytes p (long_number number)))
+        → Told e bytes (received e (with_own_number e bytes p (read_number e number)))
     form-told fits ours (Long n) same =
         entered-told (incoming e bytes p n)
-        (record { bytes = bytes; packet = p; number = n; is_given = refl; is_packet = is; sum_fits = fits; is_ours = ours; is_long = same; same = refl }) _ refl
-    form-told fits ours (Short n) same =
-        dropped-told why.ShortOff (record { packet = p; number = n; is_packet = is; sum_fits = fits; is_ours = ours; is_short = same })
+        (record {
+          bytes = bytes;
+          packet = p;
+          number = n;
+          is_given = refl;
+          is_packet = is;
+          sum_fits = fits;
+          is_ours = ours;
+          reads = ap (read_number e) same;
+          same = refl;
+        }) _ refl
+    form-told fits ours (Short n) same = by (takes_short e) refl where
+      by : (taken : Bool) → takes_short e ≡ taken → Told e bytes (received e (with_own_number e bytes p (short_number taken n e.marks.gsr)))
+      by true takes =
+          entered-told (incoming e bytes p (extended n e.marks.gsr))
+          (record {
+            bytes = bytes;
+            packet = p;
+            number = extended n e.marks.gsr;
+            is_given = refl;
+            is_packet = is;
+            sum_fits = fits;
+            is_ours = ours;
+            reads = ap (read_number e) same ∙ ap (λ (b : Bool). short_number b n e.marks.gsr) takes;
+            same = refl;
+          }) _ refl
+      by false none =
+          dropped-told why.ShortOff
+          (record { packet = p; number = n; is_packet = is; sum_fits = fits; is_ours = ours; is_short = same; not_taken = none })
 
     ports-told : checked e.config.pseudo_in bytes ≡ Ok tt → (ours : Bool) → is_of_connection e p.header ≡ ours
-        → Told e bytes (received e (with_own_number e bytes p (by_ports p.header.number ours)))
+        → Told e bytes (received e (with_own_number e bytes p (by_ports e p.header.number ours)))
     ports-told fits true same = form-told fits same p.header.number refl
     ports-told fits false same = dropped-told why.OtherFlow (record { packet = p; is_packet = is; sum_fits = fits; not_ours = same })
 

@@ -7,7 +7,6 @@ use Rattle.dccp_options.specs.Written.{Item}
 use Rattle.dccp_packets.specs.Grammar.{Parts, decoded, packet_type}
 use Rattle.dccp_packets.specs.declared.header.Kind.{Kind}
 use Rattle.dccp_packets.specs.declared.header.Kind.TheVariants as kind
-use Rattle.dccp_packets.specs.declared.header.Number.TheVariants.{Long}
 use Rattle.dccp_packets.specs.declared.header.PacketType.{PacketType}
 use Rattle.dccp_packets.specs.declared.header.PacketType.TheVariants as types
 use Rattle.dccp_states.specs.Entrance.{gate}
@@ -40,13 +39,13 @@ use Rattle.dccp_endpoint.specs.Inputs as input
 use Rattle.dccp_endpoint.specs.Reporting.{carries_data, is_acking, sends_vectors, vector_items}
 use Rattle.dccp_endpoint.specs.Speaking.{asking, change_items, confirm_items, is_confirmed}
 use Rattle.dccp_endpoint.specs.Turns.{Key, offerings, sendings, turn_of}
-use Rattle.dccp_endpoint.specs.Receiving.{acknowledges_in_window, is_of_connection, number_without_connection}
+use Rattle.dccp_endpoint.specs.Receiving.{acknowledges_in_window, is_of_connection, number_without_connection, read_number}
 use Rattle.dccp_packets.specs.ResetCodes.{number_of_code}
 use Rattle.dccp_packets.specs.declared.reset_code.ResetCode.TheVariants as codes
 use Rattle.dccp_endpoint.specs.Steps.{detail_of, next_number, without_detail}
 use Rattle.end_answers.specs.declared.calls.Timer.TheVariants as timers
 
--- A packet of the connection with a long number arrived (step 1).
+-- A packet of the connection arrived, whose number is long or is taken (step 1).
 pub record Came (e : EndState) (given : Input) (a : Incoming) : Type 0 where
   pub bytes : List ℕ
   pub packet : Parts
@@ -55,7 +54,7 @@ pub record Came (e : EndState) (given : Input) (a : Incoming) : Type 0 where
   pub is_packet : decoded bytes ≡ Ok packet
   pub sum_fits : checked e.config.pseudo_in bytes ≡ Ok tt
   pub is_ours : is_of_connection e packet.header ≡ true
-  pub is_long : packet.header.number ≡ Long number
+  pub reads : read_number e packet.header.number ≡ Ok number
   pub same : a ≡ incoming e bytes packet number
 
 -- what its type means in the phase (steps 2 to 4)

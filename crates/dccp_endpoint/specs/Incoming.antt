@@ -3,8 +3,9 @@ use Rattle.std.specs.Prelude.{ℕ, ◌-◌, Bool, not, ◌||◌, List, length, O
 use Rattle.seq_circle.specs.Circle.{is_before}
 use Rattle.dccp_options.specs.Grammar.{Entry, options_of}
 use Rattle.dccp_options.specs.declared.option.OptFault.{OptFault}
+use Rattle.dccp_packets.specs.Forms.{ack_near}
 use Rattle.dccp_packets.specs.Grammar.{Parts, packet_type}
-use Rattle.dccp_packets.specs.Kinds.{ack_of, is_data, reset_code, service_of}
+use Rattle.dccp_packets.specs.Kinds.{is_data, reset_code, service_of}
 use Rattle.dccp_packets.specs.declared.header.PacketType.{PacketType}
 use Rattle.dccp_packets.specs.declared.reading.Packet.{Packet}
 use Rattle.dccp_endpoint.specs.End.{EndState, is_live}
@@ -13,7 +14,7 @@ use Rattle.dccp_endpoint.specs.End.{EndState, is_live}
 abbrev pub parts_of_packet : Packet → Parts
 parts_of_packet p = record { header = p.header; options = p.options.now; payload = p.payload.now }
 
--- A packet of the connection with a long number. Its data lie in the input from the first place up to the second. It is newest
+-- A packet of the connection, with its numbers in full. Its data lie in the input from the first place up to the second. It is newest
 -- where no number was received before it, or none as great (own).
 pub record Incoming : Type 0 where
   pub kind : PacketType
@@ -29,13 +30,13 @@ pub record Incoming : Type 0 where
 abbrev pub is_newest : EndState → ℕ → Bool
 is_newest e number = not (is_live e.phase) || is_before e.marks.gsr number
 
--- What is read of a packet with this number, in an input of so many bytes.
-abbrev pub incoming_of : Parts → ℕ → ℕ → Bool → Incoming
-incoming_of p number size newest =
+-- What is read of a packet with these numbers in full, in an input of so many bytes.
+abbrev pub incoming_of : Parts → ℕ → Option ℕ → ℕ → Bool → Incoming
+incoming_of p number ack size newest =
     record {
       kind = packet_type p.header.kind;
       number = number;
-      ack = ack_of p.header.kind;
+      ack = ack;
       service = service_of p.header.kind;
       code = reset_code p.header.kind;
       options = options_of p.options (is_data (packet_type p.header.kind));
@@ -43,6 +44,7 @@ incoming_of p number size newest =
       newest = newest;
     }
 
--- the packet that was read from these bytes; the end tells by its GSR whether it is newest
+-- The packet that was read from these bytes. Its acknowledgement number, where it is short, is the one near GSS, and the end tells by
+-- its GSR whether it is newest.
 abbrev pub incoming : EndState → List ℕ → Parts → ℕ → Incoming
-incoming e bytes p number = incoming_of p number (length bytes) (is_newest e number)
+incoming e bytes p number = incoming_of p number (ack_near e.marks.gss p.header.kind) (length bytes) (is_newest e number)

@@ -26,7 +26,7 @@ use Rattle.dccp_endpoint.specs.End.{EndState, is_live, phase_entered}
 use Rattle.dccp_endpoint.specs.Heeding.{Due, Heeding}
 use Rattle.dccp_endpoint.specs.Incoming.{Incoming}
 use Rattle.dccp_endpoint.specs.Inputs.{Arrives}
-use Rattle.dccp_endpoint.specs.Receiving.{acknowledges_in_window, becomes_open, is_of_connection, is_other_service, is_own_service, is_unexpected, needs_ack, number_without_connection, packet_fault, reads_options, started, with_raised_marks}
+use Rattle.dccp_endpoint.specs.Receiving.{acknowledges_in_window, becomes_open, is_of_connection, is_other_service, is_own_service, is_unexpected, needs_ack, number_without_connection, packet_fault, reads_options, started, with_raised_marks, takes_short}
 use Rattle.dccp_packets.specs.ResetCodes.{number_of_code}
 use Rattle.dccp_packets.specs.declared.reset_code.ResetCode.TheVariants as codes
 use Rattle.dccp_endpoint.specs.Reporting.{delivered_if, delivers, looked_up, unacked_after}
@@ -51,7 +51,7 @@ pub record HasWrongPorts (e : EndState) (bytes : List ℕ) : Type 0 where
   pub sum_fits : checked e.config.pseudo_in bytes ≡ Ok tt
   pub not_ours : is_of_connection e packet.header ≡ false
 
--- such a packet of the connection has a short number
+-- such a packet of the connection has a short number, and the end takes none
 pub record HasShortNumber (e : EndState) (bytes : List ℕ) : Type 0 where
   pub packet : Parts
   pub number : ℕ
@@ -59,6 +59,7 @@ pub record HasShortNumber (e : EndState) (bytes : List ℕ) : Type 0 where
   pub sum_fits : checked e.config.pseudo_in bytes ≡ Ok tt
   pub is_ours : is_of_connection e packet.header ≡ true
   pub is_short : packet.header.number ≡ Short number
+  pub not_taken : takes_short e ≡ false
 
 -- a Reset in CLOSED, LISTEN or TIMEWAIT, or one in REQUEST whose acknowledgement number is outside the window
 pub data IsStray (e : EndState) (bytes : List ℕ) : Type 0 where

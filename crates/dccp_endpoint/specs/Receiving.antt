@@ -4,7 +4,7 @@
 -- them. Each step has one definition, above these.
 use Rattle.std.specs.Prelude.{◌==◌, ◌&&◌, ◌||◌, not, if◌then◌else◌, ℕ, ◌+◌, Bool, true, false, List, [], ◌∷◌, Option, Some, None, Result, Ok, Err}
 use Rattle.ack_vectors.specs.Kept as kept
-use Rattle.seq_circle.specs.Circle.{residue, is_before}
+use Rattle.seq_circle.specs.Circle.{residue, extended, is_before}
 use Rattle.dccp_sum.specs.Checksum.{checked}
 use Rattle.dccp_sum.specs.declared.packet_sum.SumFault.{SumFault}
 use Rattle.dccp_packets.specs.Grammar.{Parts, decoded, code_of}
@@ -24,6 +24,8 @@ use Rattle.dccp_states.specs.declared.phase.Phase.{Phase}
 use Rattle.dccp_states.specs.declared.phase.Phase.TheVariants as phases
 use Rattle.dccp_states.specs.declared.reply.Reply.{Reply}
 use Rattle.dccp_states.specs.declared.reply.Reply.TheVariants as reply
+use Rattle.feature_lists.specs.declared.features.Feature.TheVariants.{ShortSeqnos}
+use Rattle.feature_lists.specs.declared.features.Place.TheVariants.{There}
 use Rattle.feature_machine.specs.declared.row.Row.{Row}
 use Rattle.run_list.specs.MarkedSet.{answer_to}
 use Rattle.run_list.specs.declared.answers.Marked.{Marked}
@@ -33,7 +35,7 @@ use Rattle.validity_windows.specs.Verdict.{verdict, is_ack_within, taken}
 use Rattle.validity_windows.specs.declared.verdict.Verdict.{Verdict}
 use Rattle.validity_windows.specs.declared.verdict.Verdict.TheVariants as verdicts
 use Rattle.dccp_endpoint.specs.Drafts.{alone, frame_of}
-use Rattle.dccp_endpoint.specs.End.{EndState, is_connected, is_open, with_rows}
+use Rattle.dccp_endpoint.specs.End.{EndState, is_connected, is_live, is_open, value_in, with_rows}
 use Rattle.dccp_endpoint.specs.Faults.{counts}
 use Rattle.dccp_endpoint.specs.Heeding.{Due, Heeding, heeds, unheeded}
 use Rattle.dccp_endpoint.specs.Incoming.{Incoming, incoming}
@@ -52,28 +54,37 @@ use Rattle.end_answers.specs.declared.outcome.Outcome.TheVariants.{Took, Dropped
 use Rattle.end_answers.specs.declared.outcome.Why.{Why}
 use Rattle.end_answers.specs.declared.outcome.Why.TheVariants as why
 
--- Step 1 drops what is no packet, has a wrong checksum, comes over other ports or has short numbers, in this order.
+-- Step 1 drops what is no packet, has a wrong checksum, comes over other ports or has a short number that is not taken, in this order.
 
--- short numbers are not negotiated yet
-abbrev pub long_number : Number → Result ℕ Why
-long_number (Long number) = Ok number
-long_number (Short number) = Err why.ShortOff
+-- Short numbers are taken where the peer may send them (section 7.6.1), in the phases in which a first number was received (own).
+abbrev pub takes_short : EndState → Bool
+takes_short e = is_live e.phase && (value_in e.rows ShortSeqnos There == 1)
+
+-- by whether they are, the number near GSR that a short one stands for (section 7.6)
+abbrev pub short_number : Bool → ℕ → ℕ → Result ℕ Why
+short_number true number gsr = Ok (extended number gsr)
+short_number false number gsr = Err why.ShortOff
+
+-- the number of a packet in full
+abbrev pub read_number : EndState → Number → Result ℕ Why
+read_number e (Long number) = Ok number
+read_number e (Short number) = short_number (takes_short e) number e.marks.gsr
 
 -- the ports are those of the connection, as the packets of the peer carry them
 abbrev pub is_of_connection : EndState → Header → Bool
 is_of_connection e header = (header.from == e.config.peer_port) && (header.to == e.config.own_port)
 
 -- the ports come before the form of the number
-abbrev pub by_ports : Number → Bool → Result ℕ Why
-by_ports number true = long_number number
-by_ports number false = Err why.OtherFlow
+abbrev pub by_ports : EndState → Number → Bool → Result ℕ Why
+by_ports e number true = read_number e number
+by_ports e number false = Err why.OtherFlow
 
 -- the checksum comes before the ports
 abbrev pub by_sum : EndState → Header → Result (Unit {0}) SumFault → Result ℕ Why
-by_sum e header (Ok _) = by_ports header.number (is_of_connection e header)
+by_sum e header (Ok _) = by_ports e header.number (is_of_connection e header)
 by_sum e header (Err fault) = Err (why.Sum fault)
 
--- what the header and the checksum say of a packet: its long number, or why it is dropped
+-- what the header and the checksum say of a packet: its number in full, or why it is dropped
 abbrev pub checks_header : EndState → List ℕ → Header → Result ℕ Why
 checks_header e bytes header = by_sum e header (checked e.config.pseudo_in bytes)
 

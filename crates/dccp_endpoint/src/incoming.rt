@@ -3,7 +3,7 @@ use dccp_packets::{Packet, PacketType};
 use seq_circle::Seq48;
 use std::marker::Model;
 
-// What an end has to know of a packet of its connection with a long number.
+// What an end has to know of a packet of its connection, with its numbers in full.
 #[derive(Drop)]
 pub(crate) struct IncomingPacket<'a> {
     pub(crate) kind: PacketType,
@@ -33,24 +33,28 @@ impl<'a> Model for IncomingPacket<'a> {
 }
 
 impl<'a> IncomingPacket<'a> {
-    ghost use Rattle.std.specs.Prelude.{◌≡◌, ◌≤◌, length};
+    ghost use Rattle.std.specs.Prelude.{◌≡◌, ◌≤◌, length, is_some};
+    ghost use Rattle.dccp_packets.specs.Grammar.{packet_type};
+    ghost use Rattle.dccp_packets.specs.Kinds.{has_ack};
     ghost use Rattle.dccp_endpoint.specs.Incoming.{incoming_of, parts_of_packet};
 
-    // What is read of a packet with this number, in an input of so many bytes.
+    // What is read of a packet with these numbers in full, in an input of so many bytes.
     pub(crate) fn of(
         packet: &Packet<'a>,
         number: Seq48,
+        ack: Option<Seq48>,
         size: usize,
         newest: bool,
     ) -> IncomingPacket<'a>
         requires short { length packet.now.options.now ≤ 1008 }
-        ensures { result ≡ incoming_of (parts_of_packet packet.now) number size newest }
+        requires acknowledges { is_some ack ≡ has_ack (packet_type packet.now.header.kind) }
+        ensures { result ≡ incoming_of (parts_of_packet packet.now) number ack size newest }
     {
         let kind = &packet.header.kind;
         IncomingPacket {
             kind: kind.packet_type(),
             number,
-            ack: kind.ack(),
+            ack,
             service: kind.service(),
             code: kind.reset_code(),
             options: packet.options,

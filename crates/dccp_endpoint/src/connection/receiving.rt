@@ -17,9 +17,10 @@ use congestion_trait::Congestion;
 use dccp_packets::{Header, Number, Outbox, PacketType, ResetCode, decode};
 use dccp_states::{Entrance, Phase, after, gate, unexpected};
 use dccp_sum::check;
+use feature_lists::{Feature, Place};
 use feature_machine::ConfirmOut;
 use run_list::Marked;
-use seq_circle::Seq48;
+use seq_circle::{Seq48, extend};
 use validity_windows::Verdict;
 
 // The phase is OPEN.
@@ -84,7 +85,7 @@ impl Connection {
     ghost use Rattle.dccp_endpoint.specs.Heeding.{due_of, heeding_or, unheeded};
     ghost use Rattle.dccp_endpoint.specs.Speaking.{HaveRoom};
     ghost use Rattle.dccp_endpoint.specs.Incoming.{is_newest};
-    ghost use Rattle.dccp_endpoint.specs.Receiving.{receives, takes, checks_header, is_of_connection, course, Goes, the_steps, through, finds_connection, is_own_service, accepts_request, started};
+    ghost use Rattle.dccp_endpoint.specs.Receiving.{receives, takes, checks_header, read_number, takes_short, is_of_connection, course, Goes, the_steps, through, finds_connection, is_own_service, accepts_request, started};
     ghost use Rattle.dccp_endpoint.specs.Receiving.{acknowledges_in_window, answers, takes_answer, raises, checks_numbers, ends_by_reset, is_unexpected, is_other_service, checks_type, heeded, reads_options, moved_to, processes};
     ghost use Rattle.dccp_endpoint.specs.Reporting.{counts_data, delivered_if, delivers, looked_up, looks_up, marks};
     ghost use Rattle.run_list.specs.MarkedSet.{answer_to};
@@ -135,7 +136,8 @@ impl Connection {
         match self.check_header(bytes, &packet.header) {
             Ok(number) => {
                 let newest = self.is_newest(number);
-                let packet = IncomingPacket::of(&packet, number, bytes.len(), newest);
+                let ack = packet.header.kind.ack_near(self.marks.gss);
+                let packet = IncomingPacket::of(&packet, number, ack, bytes.len(), newest);
                 self.take(&packet, out, congestion)
             }
             Err(why) => Outcome::Dropped(why),
@@ -216,7 +218,8 @@ impl Connection {
         self.check_type(packet) // 7
     }
 
-    // Step 1 drops what has a wrong checksum, comes over other ports or has short numbers, in this order.
+    // Step 1 drops what has a wrong checksum, comes over other ports or has a short number that is not taken, in this
+    // order.
     fn check_header(&self, bytes: &[u8], header: &Header) -> Result<Seq48, Why>
         requires low { 8 ≤ length bytes.now }
         requires high { length bytes.now ≤ 65535 }
@@ -228,10 +231,30 @@ impl Connection {
         if !self.is_of_connection(header) {
             return Err(Why::OtherFlow);
         }
-        match header.number {
+        self.read_number(&header.number)
+    }
+
+    // The number in full: a short one is near GSR, where short numbers are taken.
+    fn read_number(&self, number: &Number) -> Result<Seq48, Why>
+        ensures { result ≡ read_number self.now number.now }
+    {
+        match *number {
             Number::Long(number) => Ok(number),
-            Number::Short(_) => Err(Why::ShortOff),
+            Number::Short(short) => {
+                if self.takes_short() {
+                    Ok(extend(short, self.marks.gsr))
+                } else {
+                    Err(Why::ShortOff)
+                }
+            }
         }
+    }
+
+    // The peer may send short numbers, and a first number was received.
+    fn takes_short(&self) -> bool
+        ensures { result ≡ takes_short self.now }
+    {
+        is_live(self.phase) && self.rows.held(Feature::ShortSeqnos, Place::There).value == 1
     }
 
     fn is_of_connection(&self, header: &Header) -> bool
