@@ -20,6 +20,8 @@ use Rattle.dccp_endpoint.specs.Faults.{counts}
 use Rattle.dccp_endpoint.specs.Heeding.{Due, event_of, is_change}
 use Rattle.dccp_endpoint.specs.Incoming.{Incoming, incoming}
 use Rattle.dccp_endpoint.specs.Inputs.{Input, Arrives}
+use Rattle.dccp_endpoint.specs.Receiving.{read_number}
+use Rattle.end_answers.specs.declared.outcome.Why.{Why}
 use Rattle.dccp_endpoint.proofs.FirstFaults.{changes-few}
 use Rattle.dccp_endpoint.proofs.OneConfirm.{rows_hear_the_packet}
 use Rattle.dccp_endpoint.specs.Saying.{confirm_for, event_in, said_to, speaks_to, times_said_to}
@@ -50,9 +52,9 @@ came-one e given a b one two =
     let first = one.is_packet in
     let second = two.is_packet in
     let packet : one.packet ≡ two.packet = cc (bytes, first, second) in
-    let long = one.is_long in
-    let other = two.is_long in
-    let number : one.number ≡ two.number = cc (packet, long, other) in
+    let reads : ◌≡◌ {A = Result ℕ Why} (Ok one.number) (Ok two.number) =
+    sym one.reads ∙ ap (λ (p : Parts). read_number e p.header.number) packet ∙ two.reads in
+    let number : one.number ≡ two.number = cc reads in
     one.same ∙ ap (λ (bs : List ℕ). incoming e bs one.packet one.number) bytes
     ∙ ap (λ (p : Parts). incoming e two.bytes p one.number) packet
     ∙ ap (incoming e two.bytes two.packet) number ∙ sym two.same

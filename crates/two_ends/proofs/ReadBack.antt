@@ -1,5 +1,5 @@
 -- The one place that looks at the bytes of frames: what was drafted is what is read.
-use Rattle.std.proofs.Common.{◌≡◌, ◌≢◌, inl, inr, refl, ap, sym, ◌∙◌, subst, ℕ, ◌+◌, ◌%◌, ◌^◌, ◌<◌, List, [], ◌∷◌, Option, Some, None, true, Ok, slice_get, length, map, arith}
+use Rattle.std.proofs.Common.{◌≡◌, ◌≢◌, inl, inr, refl, ap, sym, ◌∙◌, subst, ℕ, ◌+◌, ◌%◌, ◌^◌, ◌<◌, List, [], ◌∷◌, Option, Some, None, true, Result, Ok, slice_get, length, map, arith}
 use Rattle.std.proofs.lemmas.Option.{same_Some}
 use Rattle.std.specs.Result.{result_ok}
 use Rattle.seq_circle.specs.Circle.{residue}
@@ -10,7 +10,6 @@ use Rattle.dccp_packets.specs.Kinds.{ack_of}
 use Rattle.dccp_packets.specs.Widths.{in_widths, kind_in_widths}
 use Rattle.dccp_packets.specs.declared.header.Kind.{Kind}
 use Rattle.dccp_packets.specs.declared.header.Kind.TheVariants as kind
-use Rattle.dccp_packets.specs.declared.header.Number.{Number}
 use Rattle.dccp_packets.specs.declared.header.Number.TheVariants.{Long, Short}
 use Rattle.dccp_packets.specs.declared.header.PacketType.TheVariants as types
 use Rattle.validity_windows.specs.declared.marks.Marks.{Marks}
@@ -20,8 +19,10 @@ use Rattle.dccp_endpoint.specs.Drafts.{Draft, IsSendable, alone, frame_of, own_h
 use Rattle.dccp_endpoint.specs.End.{EndState}
 use Rattle.dccp_endpoint.specs.Incoming.{Incoming}
 use Rattle.dccp_endpoint.specs.Inputs.{Input, Arrives}
+use Rattle.dccp_endpoint.specs.Receiving.{read_number}
 use Rattle.dccp_endpoint.specs.declared.config.Config.{Config}
 use Rattle.dccp_endpoint.proofs.OwnFrames.{own_frames_read_in_widths, type-kept}
+use Rattle.end_answers.specs.declared.outcome.Why.{Why}
 use Rattle.two_ends.specs.declared.frames.SentFrame.{SentFrame}
 use Rattle.two_ends.specs.Frames.{SpellsItsNumbers, ack_in_full, ack_in_width, number_in_full, options_in, packet_of, packet_options}
 use Rattle.two_ends.specs.Numbered.{AreNumbered, IsNumberedFrame, IsResetWithoutConnection}
@@ -206,12 +207,15 @@ module _ (e : EndState) (given : Input) (a : Incoming) (came : Came e given a) (
   read-as n number draft numbered sendable same =
       let read = is-drafted config number draft sendable in
       let packet : came.packet ≡ parts_of config number draft read.sum = the-packet e given a came _ (ap packet_of same ∙ read.is_packet) in
-      let long : Number.Long came.number ≡ Long (number % 2 ^ 48) = sym came.is_long ∙ ap (λ (p : Parts). p.header.number) packet in
-      let number_is : came.number ≡ number % 2 ^ 48 = cc long in
+      let reads : ◌≡◌ {A = Result ℕ Why} (Ok came.number) (Ok (number % 2 ^ 48)) =
+      sym came.reads ∙ ap (λ (p : Parts). read_number e p.header.number) packet in
+      let number_is : came.number ≡ number % 2 ^ 48 = cc reads in
       record {
         number = ap (λ (x : Incoming). x.number) came.same ∙ number_is ∙ numbered;
         type = ap (λ (x : Incoming). x.kind) came.same ∙ ap (λ (p : Parts). packet_type p.header.kind) packet ∙ type-kept draft.kind;
-        ack = ap (λ (x : Incoming). x.ack) came.same ∙ ap (λ (p : Parts). ack_of p.header.kind) packet;
+        ack =
+            ap (λ (x : Incoming). x.ack) came.same ∙ ap (λ (p : Parts). ack_near e.marks.gss p.header.kind) packet
+            ∙ long-ack e.marks.gss draft.kind sendable.is_long;
         options =
             ap (λ (x : Incoming). x.options) came.same ∙ ap (λ (p : Parts). packet_options (Some p)) packet
             ∙ ap packet_options (sym read.is_packet) ∙ read.are_options;
