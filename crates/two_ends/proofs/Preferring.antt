@@ -400,26 +400,28 @@ call-accepted (Ok tt) is = refl
 call-accepted (Err why) is = cc is
 
 module _ (effects : EveryStepHasOneEffect) (w : WorldState) (held : IsHeld SideInvariant w) where
-  call-keeps : (acting : Side) (given : Input) → IsCalmInput given → (side : Side) (k : Key)
-      → latest (row_of (world_after w (unless_full w acting (half_steps (half_of w acting) given))) side k.0 k.1) ≡ latest (row_of w side k.0 k.1)
-  call-keeps acting given calm side k = by (is_full (half_of w acting)) where
+  call-keeps : (acting : Side) (arrived : Option ℕ) (given : Input) → IsCalmInput given → (side : Side) (k : Key)
+      → latest (row_of (world_after w (unless_full w acting (half_steps (half_of w acting) arrived given))) side k.0 k.1)
+      ≡ latest (row_of w side k.0 k.1)
+  call-keeps acting arrived given calm side k = by (is_full (half_of w acting)) where
     own : acting ≡ side → latest (row_at (end_stepped (half_of w acting).end given).after.rows k.0 k.1) ≡ latest (row_of w side k.0 k.1)
     own same =
         subst (λ (s : Side). latest (row_at (end_stepped (half_of w acting).end given).after.rows k.0 k.1) ≡ latest (row_of w s k.0 k.1)) same
         (end-keeps effects (half_of w acting).end given (kept-proper w held acting) calm k)
 
-    by : (full : Bool) → latest (row_of (world_after w (unless w acting (half_steps (half_of w acting) given) full)) side k.0 k.1) ≡ latest (row_of w side k.0 k.1)
+    by : (full : Bool) → latest (row_of (world_after w (unless w acting (half_steps (half_of w acting) arrived given) full)) side k.0 k.1)
+        ≡ latest (row_of w side k.0 k.1)
     by true = refl
-    by false = other-set w acting side (half_steps (half_of w acting) given).half k own
+    by false = other-set w acting side (half_steps (half_of w acting) arrived given).half k own
 
   delivery-keeps : (from : Side) (frame : Option SentFrame) (side : Side) (k : Key)
       → latest (row_of (world_after w (delivers_frame w from frame)) side k.0 k.1) ≡ latest (row_of w side k.0 k.1)
   delivery-keeps from None side k = refl
-  delivery-keeps from (Some frame) side k = call-keeps (other from) (input.Arrives frame.bytes) tt side k
+  delivery-keeps from (Some frame) side k = call-keeps (other from) (Some frame.number) (input.Arrives frame.bytes) tt side k
 
   preference-keeps : (acting : Side) (key : Key) (values : List ℕ) (side : Side) (k : Key)
       → (acting ≡ side → k ≡ key → is_full (half_of w acting) ≡ false → (prefers (half_of w acting).end key values).answer ≡ Ok tt → ⊥)
-      → latest (row_of (world_after w (unless_full w acting (half_steps (half_of w acting) (input.Prefers key values)))) side k.0 k.1)
+      → latest (row_of (world_after w (unless_full w acting (half_steps (half_of w acting) None (input.Prefers key values)))) side k.0 k.1)
       ≡ latest (row_of w side k.0 k.1)
   preference-keeps acting key values side k none = by (is_full (half_of w acting)) refl where
     own : is_full (half_of w acting) ≡ false → acting ≡ side
@@ -430,10 +432,10 @@ module _ (effects : EveryStepHasOneEffect) (w : WorldState) (held : IsHeld SideI
         (preferred (half_of w acting).end key values) (λ keys accepted. none same keys room accepted))
 
     by : (full : Bool) → is_full (half_of w acting) ≡ full
-        → latest (row_of (world_after w (unless w acting (half_steps (half_of w acting) (input.Prefers key values)) full)) side k.0 k.1)
+        → latest (row_of (world_after w (unless w acting (half_steps (half_of w acting) None (input.Prefers key values)) full)) side k.0 k.1)
         ≡ latest (row_of w side k.0 k.1)
     by true full = refl
-    by false room = other-set w acting side (half_steps (half_of w acting) (input.Prefers key values)).half k (own room)
+    by false room = other-set w acting side (half_steps (half_of w acting) None (input.Prefers key values)).half k (own room)
 
 module _ {C : Type 0} (control : Control C) (effects : EveryStepHasOneEffect) where
   abbrev said : Controlled C → Event → Said
@@ -458,14 +460,14 @@ module _ {C : Type 0} (control : Control C) (effects : EveryStepHasOneEffect) wh
 
   -- a side's preference, by whether it is full
   abbrev asked-of : Controlled C → Side → Key → List ℕ → Bool → Result (ControlledStep C) WorldFault
-  asked-of w side key values full = controls control w side (unless w.world side (half_steps (half_of w.world side) (input.Prefers key values)) full)
+  asked-of w side key values full = controls control w side (unless w.world side (half_steps (half_of w.world side) None (input.Prefers key values)) full)
 
   abbrev done : Controlled C → Seen → Result (ControlledStep C) WorldFault
   done after what = Ok (record { after = after; seen = what })
 
   abbrev asked-world : Controlled C → Side → Key → List ℕ → Controlled C
   asked-world w side key values =
-      let step : HalfStep = half_steps (half_of w.world side) (input.Prefers key values) in
+      let step : HalfStep = half_steps (half_of w.world side) None (input.Prefers key values) in
       controlled control w side (record { world = with_half w.world side step.half; calls = step.calls; seen = step.seen })
 
   accepted-so : (w : Controlled C) (side : Side) (feature : Feature) (place : Place) (values : List ℕ) → is_full (half_of w.world side) ≡ false
@@ -490,18 +492,18 @@ module _ {C : Type 0} (control : Control C) (effects : EveryStepHasOneEffect) wh
 
       by : (what : Event) → (AsksFor side feature place what → IsAccepted control w what → ⊥)
           → latest (row_of (world_after w.world (happens w.world what (said w what))) side feature place) ≡ latest (row_of w.world side feature place)
-      by event.Open unless_so = call-keeps effects w.world held Client input.Opens tt side k
+      by event.Open unless_so = call-keeps effects w.world held Client None input.Opens tt side k
       by (event.Deliver from index) unless_so = delivery-keeps effects w.world held from (slice_get (half_of w.world from).frames index) side k
       by (event.Send acting payload) unless_so =
-          call-keeps effects w.world held acting (input.Sends payload (said w (event.Send acting payload)).may_send) tt side k
+          call-keeps effects w.world held acting None (input.Sends payload (said w (event.Send acting payload)).may_send) tt side k
       by (event.Prefer acting one there values) unless_so =
           preference-keeps effects w.world held acting (one, there) values side k
           (λ sides keys room answer.
           unless_so (sides, sym (ap (λ (key : Key). key.0) keys), sym (ap (λ (key : Key). key.1) keys)) (accepted-so w acting one there values room answer))
       by (event.Timer acting timer) unless_so =
-          call-keeps effects w.world held acting (input.Fires timer (said w (event.Timer acting timer)).in_flight) tt side k
-      by (event.Close acting) unless_so = call-keeps effects w.world held acting input.Closes tt side k
-      by (event.Abort acting) unless_so = call-keeps effects w.world held acting input.Aborts tt side k
+          call-keeps effects w.world held acting None (input.Fires timer (said w (event.Timer acting timer)).in_flight) tt side k
+      by (event.Close acting) unless_so = call-keeps effects w.world held acting None input.Closes tt side k
+      by (event.Abort acting) unless_so = call-keeps effects w.world held acting None input.Aborts tt side k
 
   nothing-asked : (w : Controlled C) → IsHeld SideInvariant w.world → (events : List Event) (side : Side) (feature : Feature) (place : Place)
       → AsksNothing control w events side feature place

@@ -349,16 +349,17 @@ module _ (effects : EveryStepHasOneEffect) (w : WorldState) (h : IsHeld SideInva
               ∙ f.first;
         }
 
-    own-step : (side : Side) (given : Input) → is_full (half_of w side) ≡ false → IsFromPeer (half_of w (other side)).frames given
+    own-step : (side : Side) (arrived : Option ℕ) (given : Input) → is_full (half_of w side) ≡ false
+        → IsFromPeer (half_of w (other side)).frames arrived given
         → (new : WorldState) → (held_at new pair side).value ≡ (row_at (end_stepped (half_of w side).end given).after.rows pair.feature (place_at side pair.location)).value
         → ((held_at new pair side).value ≡ (held_at w pair side).value) ⊎ IsShared w new pair side
-    own-step side given room from new is =
+    own-step side arrived given room from new is =
         let x : Party = party_of w h.logs side in
         let y : Party = party_of w h.logs (other side) in
         let now = both side in
         let has = effects x.half.end given now.0.ordered.proper in
         let act : Act =
-        record { side = x; peer = y; given = given; effect = has.effect; room = not-full x.half room; from_peer = from; because = has.because } in
+        record { side = x; peer = y; arrived = arrived; given = given; effect = has.effect; room = not-full x.half room; from_peer = from; because = has.because } in
         let on : HearsOn act now.0.negotiated.greatest = hears-on act now.1.ordered now.0.negotiated.greatest now.0.negotiated.hears in
         let known : KnownStep =
         record {
@@ -385,12 +386,12 @@ module _ (effects : EveryStepHasOneEffect) (w : WorldState) (h : IsHeld SideInva
     changes-by : (acting : Side) (r : Result WorldStep WorldFault) → Takes w acting r → (side : Side)
         → ((held_at (world_after w r) pair side).value ≡ (held_at w pair side).value) ⊎ IsShared w (world_after w r) pair side
     changes-by acting _ (Refused why) side = inl refl
-    changes-by Client _ (Steps given room from) Client =
-        own-step Client given room from (with_half w Client (half_steps (half_of w Client) given).half) refl
-    changes-by Client _ (Steps given room from) Server = inl refl
-    changes-by Server _ (Steps given room from) Client = inl refl
-    changes-by Server _ (Steps given room from) Server =
-        own-step Server given room from (with_half w Server (half_steps (half_of w Server) given).half) refl
+    changes-by Client _ (Steps arrived given room from) Client =
+        own-step Client arrived given room from (with_half w Client (half_steps (half_of w Client) arrived given).half) refl
+    changes-by Client _ (Steps arrived given room from) Server = inl refl
+    changes-by Server _ (Steps arrived given room from) Client = inl refl
+    changes-by Server _ (Steps arrived given room from) Server =
+        own-step Server arrived given room from (with_half w Server (half_steps (half_of w Server) arrived given).half) refl
 
   step-changes : (acting : Side) (r : Result WorldStep WorldFault) → Takes w acting r → ChangesByLists w (world_after w r)
   step-changes acting r takes pair side priority differs =
