@@ -1,5 +1,5 @@
 -- How much a run counts: an event sends one frame at most, and is seen once.
-use Rattle.std.proofs.Common.{◌≡◌, ℕ, zero, suc, ◌+◌, ◌-◌, ◌*◌, ◌≤◌, Bool, true, false, if◌then◌else◌, List, ◌++◌, length, length-append, Option, Some, None, Result, Ok, Err, arith}
+use Rattle.std.proofs.Common.{◌≡◌, ℕ, zero, suc, ◌+◌, ◌-◌, ◌*◌, ◌≤◌, Bool, true, false, if◌then◌else◌, ◌++◌, length, length-append, Option, Some, None, Result, Ok, Err, arith}
 use Rattle.std.specs.Prelude.{slice_get}
 use Rattle.rand_pcg.specs.Lcg.{Lcg}
 use Rattle.ccid_two.specs.Kinds.{kinds_control}
@@ -52,7 +52,7 @@ one-frame : (half : Half) (number : Option ℕ) (given : Input) → length (half
 one-frame half number given =
     let step = end_stepped half.end given in
     let sent = as_sent step.after.marks (length (half_steps half number given).half.processed) (floor_of step.after) step.frame in
-    let few : length sent ≤ 1 = sent-few _ _ _ step.frame in
+    let few : length sent ≤ 1 = sent-few step.after.marks _ _ step.frame in
     let both : length (half.frames ++ sent) ≡ length half.frames + length sent = length-append half.frames sent in
     omega arith
 

@@ -1,5 +1,5 @@
 -- A schedule's world always has room for one more frame: an event sends one at most, and the events are few.
-use Rattle.std.proofs.Common.{◌≡◌, ◌≢◌, arith, refl, sym, ap, ◌∙◌, subst, ℕ, ◌+◌, ◌-◌, ◌^◌, ◌≤◌, ◌<◌, Bool, true, false, if◌then◌else◌, List, [], ◌∷◌, ◌++◌, length, length-append, Option, Some, None, Result, Ok, Err, IfSome}
+use Rattle.std.proofs.Common.{◌≡◌, ◌≢◌, arith, refl, sym, ◌∙◌, subst, ℕ, ◌+◌, ◌-◌, ◌^◌, ◌≤◌, ◌<◌, Bool, true, false, if◌then◌else◌, List, [], ◌∷◌, ◌++◌, length, length-append, Option, Some, None, Result, Ok, Err, IfSome}
 use Rattle.std.proofs.lemmas.Bool.{leb-true}
 use Rattle.std.specs.Prelude.{⊤, slice_get}
 use Rattle.ccid_two.specs.Kinds.{Both, kinds_control}
@@ -16,7 +16,7 @@ use Rattle.tool_run.specs.Transcript.{IsPlayable, SentFew, ShowsEvent, by_step, 
 use Rattle.tool_run.specs.declared.play.Play.{Play}
 use Rattle.two_ends.proofs.Numbering.{sent-few}
 use Rattle.two_ends.specs.Controlled.{Controlled, ControlledStep, congestion_of, controlled, controls, happens_to, said_by}
-use Rattle.two_ends.specs.World.{Half, HalfStep, Happening, WorldState, WorldStep, Calls, Delivers, as_sent, delivers_frame, half_of, half_steps, happening_of, is_full, takes_place, unless_full, with_half}
+use Rattle.two_ends.specs.World.{Half, Happening, WorldState, WorldStep, Calls, Delivers, as_sent, delivers_frame, half_of, half_steps, happening_of, is_full, takes_place, unless_full, with_half}
 use Rattle.two_ends.specs.declared.frames.SentFrame.{SentFrame}
 use Rattle.world_events.specs.Actors.{actor, other}
 use Rattle.world_events.specs.declared.event.Event.{Event}
@@ -39,7 +39,7 @@ half-grows : (half : Half) (number : Option ℕ) (given : Input) (n : ℕ) → l
 half-grows half number given n few =
     let step = end_stepped half.end given in
     let sent = as_sent step.after.marks (length (half_steps half number given).half.processed) (floor_of step.after) step.frame in
-    let one : length sent ≤ 1 = sent-few _ _ _ step.frame in
+    let one : length sent ≤ 1 = sent-few step.after.marks _ _ step.frame in
     let all : length (half.frames ++ sent) ≡ length half.frames + length sent = length-append half.frames sent in
     omega arith
 
