@@ -117,7 +117,7 @@ module _ (o : EndState) (given : Input) (proper : IsProper (wide o)) where
 
   plain-has : {ph : Phase} {called : Bool} → Ready e given Unheard None false ph called None → (k : Kind) → has_forms true k ≡ true → HasDetail k
       → is_acking (packet_type k) ≡ false → Acknowledges e given e.marks.gsr (ack_of k) → is_without_connection e.config.role k ≡ false
-      → HasEffect e given (end_after e (effect_of e Unheard None false ph called (Next (alone k)))) (frame_by e (Next (alone k))) []
+      → HasEffect e given (end_after e (effect_of e Unheard None false ph called (Next (alone k)))) (frame_by e (effect_of e Unheard None false ph called (Next (alone k))) (Next (alone k))) []
   plain-has ready k long detail other acknowledges numbered = has-by (plain-caused ready k long detail other acknowledges numbered)
 
   ack-has : is_connected e.phase ≡ true → Has e given (sends_ack e (alone (kind.Ack (Long e.marks.gsr))) true)

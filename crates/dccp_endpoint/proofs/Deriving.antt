@@ -293,11 +293,11 @@ pub record Told (e : EndState) (bytes : List ℕ) (step : Step Outcome) : Type 0
   pub effect : HasEffectOf e bytes step.answer step.after step.frame step.calls
 
 -- the step of an effect, where it is known why that is so
-pub has-by : {e : EndState} {given : Input} {f : Effect} → IsCaused e given f → HasEffect e given (end_after e f) (frame_by e f.sending) f.calls
+pub has-by : {e : EndState} {given : Input} {f : Effect} → IsCaused e given f → HasEffect e given (end_after e f) (frame_by e f f.sending) f.calls
 has-by {f = f} because = record { effect = f; after_is = refl; frame_is = refl; calls_are = refl; because = because }
 
 pub told-by : {e : EndState} {bytes : List ℕ} {f : Effect} (outcome : Outcome) (because : IsCaused e (Arrives bytes) f) (cause : HasCause e bytes outcome)
     → HasForm e bytes outcome cause f because.turns
-    → Told e bytes (record { after = end_after e f; frame = frame_by e f.sending; calls = f.calls; answer = outcome })
+    → Told e bytes (record { after = end_after e f; frame = frame_by e f f.sending; calls = f.calls; answer = outcome })
 told-by {f = f} outcome because cause form =
     record { cause = cause; effect = record { effect = f; after_is = refl; frame_is = refl; calls_are = refl; because = because; cause = cause; form = form } }

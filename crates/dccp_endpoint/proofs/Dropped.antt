@@ -25,7 +25,7 @@ module _ {C : Type 0} (control : Control C) (old : C) (e : EndState) (bytes : Li
       let calls : step.calls ≡ [] = has.calls_are ∙ ap (λ (f : Effect). f.calls) has.form in (
         ap (λ (x : EndState). record { state = x; congestion = after_calls control old step.calls }) state
             ∙ ap (λ (cs : List Call). record { state = e; congestion = after_calls control old cs }) calls,
-        has.frame_is ∙ ap (λ (f : Effect). frame_by e f.sending) has.form,
+        has.frame_is ∙ ap (λ (f : Effect). frame_by e f f.sending) has.form,
       )
   dropped-step step (Synced number) same has = tt
   dropped-step step (WasReset code) same has = tt

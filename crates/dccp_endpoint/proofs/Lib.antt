@@ -1,6 +1,8 @@
 pub mod Frames
 pub mod AnyFrames
+pub mod Short
 pub mod OwnFrames
+pub mod InFull
 pub mod Phases
 pub mod Arriving
 pub mod Tables
@@ -32,3 +34,4 @@ pub mod RowsVectors
 pub mod RowsData
 pub mod RowsReports
 pub mod RowsShort
+pub mod RowsShortSent

@@ -23,7 +23,7 @@ use Rattle.end_answers.specs.declared.outcome.Outcome.TheVariants.{Dropped, Sync
 use Rattle.end_answers.specs.declared.outcome.Why.TheVariants as why
 
 -- the end with this value of a feature at a place
-abbrev holding : Feature → Place → ℕ → EndState → EndState
+abbrev pub holding : Feature → Place → ℕ → EndState → EndState
 holding feature place value e =
     with_rows e (slice_set e.rows (index_of feature place) (record (row_at e.rows feature place) { value = value }))
 
@@ -37,7 +37,7 @@ taking_from iss request ack =
     holding ShortSeqnos There 1 (arrives (arrives (new_end (record (plain Server) { iss = iss })) request).after ack).after
 
 -- An Ack of the client's with the short numbers 1002 and 2001.
-abbrev short_ack : String
+abbrev pub short_ack : String
 short_ack = "9c40138904002647060003ea000007d1"
 
 -- the step in which it comes, in a phase

@@ -281,7 +281,7 @@ module _ (o : EndState) (bytes : List ℕ) (proper : IsProper (wide o)) where
 
       takes-by : {f : Effect} (outcome : Outcome) (because : IsCaused e (Arrives bytes) f) → f.hearing ≡ heard_so → (cause : HasCause e bytes outcome)
           → HasForm e bytes outcome cause (calling due f) because.turns
-          → Told e bytes (record { after = end_after e f; frame = frame_by e f.sending; calls = due; answer = outcome })
+          → Told e bytes (record { after = end_after e f; frame = frame_by e f f.sending; calls = due; answer = outcome })
       takes-by outcome because is_heard cause form =
           told-by outcome (calling-caused (CallsFor a h (record { came = entry.came; first = entry.first; is_heard = is_heard }) heeded-so) because) cause form
 

@@ -293,7 +293,7 @@ pub record IsCaused (e : EndState) (given : Input) (f : Effect) : Type 0 where
 pub record HasEffect (e : EndState) (given : Input) (after : EndState) (frame : Option (List ℕ)) (calls : List Call) : Type 0 where
   pub effect : Effect
   pub after_is : after ≡ end_after e effect
-  pub frame_is : frame ≡ frame_by e effect.sending
+  pub frame_is : frame ≡ frame_by e effect effect.sending
   pub calls_are : calls ≡ effect.calls
   pub because : IsCaused e given effect
 

@@ -1,20 +1,20 @@
 -- What an end writes: a packet before it has a number, and the frame that it becomes (RFC 4340, sections 5 and 9).
-use Rattle.std.specs.Prelude.{◌≡◌, ℕ, ◌+◌, ◌^◌, ◌<◌, ◌≤◌, true, List, [], length, map, Ok}
+use Rattle.std.specs.Prelude.{◌≡◌, ℕ, ◌+◌, ◌^◌, ◌<◌, ◌≤◌, Bool, true, List, [], length, map, Ok}
 use Rattle.std.specs.List.{All}
 use Rattle.dccp_options.specs.Grammar.{options_of}
 use Rattle.dccp_options.specs.Written.{Item, IsWritable, written, entries_at}
+use Rattle.dccp_packets.specs.Forms.{in_form, number_in_form}
 use Rattle.dccp_packets.specs.Grammar.{decoded, fixed_length, has_forms, packet_type, padded, spelling}
 use Rattle.dccp_packets.specs.Widths.{HasDetail}
 use Rattle.dccp_packets.specs.declared.header.Header.{Header}
 use Rattle.dccp_packets.specs.declared.header.Kind.{Kind}
-use Rattle.dccp_packets.specs.declared.header.Number.TheVariants.{Long}
 use Rattle.dccp_sum.specs.Checksum.{checked, sealed}
 use Rattle.dccp_sum.specs.declared.pseudo_header.Pseudo.{Pseudo}
 use Rattle.dccp_packets.specs.Kinds.{is_data}
 use Rattle.feature_machine.specs.Lists.{IsLists}
 use Rattle.dccp_endpoint.specs.declared.config.Config.{Config}
 
--- a packet that is to be sent: its type with its fields, its options and its data
+-- a packet that is to be sent: its type with its fields, in the long form, its options and its data
 pub record Draft : Type 0 where
   pub kind : Kind
   pub options : List Item
@@ -28,18 +28,26 @@ alone kind = record { kind = kind; options = []; payload = [] }
 abbrev pub carrying : Kind → List ℕ → Draft
 carrying kind payload = record { kind = kind; options = []; payload = payload }
 
--- the header of an end's own packets: all of the packet is covered, and the checksum follows
-abbrev pub own_header : Config → ℕ → Kind → Header
-own_header config number kind =
-    record { from = config.own_port; to = config.peer_port; ccval = 0; cscov = 0; checksum = 0; number = Long number; kind = kind }
+-- the header of an end's own packets, with short numbers or with long ones: all of the packet is covered, and the checksum follows
+abbrev pub own_header : Config → Bool → ℕ → Kind → Header
+own_header config short number kind =
+    record {
+      from = config.own_port;
+      to = config.peer_port;
+      ccval = 0;
+      cscov = 0;
+      checksum = 0;
+      number = number_in_form short number;
+      kind = in_form short kind;
+    }
 
 -- a packet as it goes out, with its checksum
-unfoldable pub framed : Config → ℕ → Kind → List ℕ → List ℕ → List ℕ
-framed config number kind area payload = sealed config.pseudo_out (spelling (own_header config number kind) area payload)
+unfoldable pub framed : Config → Bool → ℕ → Kind → List ℕ → List ℕ → List ℕ
+framed config short number kind area payload = sealed config.pseudo_out (spelling (own_header config short number kind) area payload)
 
--- the frame of a draft
-abbrev pub frame_of : Config → ℕ → Draft → List ℕ
-frame_of config number draft = framed config number draft.kind (written draft.options) draft.payload
+-- the frame of a draft, in which the form of its numbers is chosen
+abbrev pub frame_of : Config → Bool → ℕ → Draft → List ℕ
+frame_of config short number draft = framed config short number draft.kind (written draft.options) draft.payload
 
 -- the widths of the fields (RFC 4340, section 5) and the order of the lists, which every configuration of the program keeps
 pub record Fits (config : Config) : Type 0 where

@@ -12,6 +12,7 @@ use Rattle.dccp_states.specs.declared.phase.Phase.{Phase}
 use Rattle.dccp_endpoint.specs.Drafts.{Draft, alone, frame_of}
 use Rattle.dccp_endpoint.specs.End.{EndState, value_in}
 use Rattle.dccp_endpoint.specs.Receiving.{osr_after}
+use Rattle.dccp_endpoint.specs.ShortForm.{goes_short}
 use Rattle.dccp_endpoint.specs.Reporting.{is_acking, is_new, looked_by, one_more_taken, recorded_by, sends_vectors}
 use Rattle.dccp_endpoint.specs.Steps.{next_number}
 use Rattle.feature_lists.specs.declared.features.Feature.TheVariants.{SequenceWindow}
@@ -209,8 +210,8 @@ end_after e f =
       unacked = f.unacked;
     }
 
--- The frame of a step.
-abbrev pub frame_by : EndState → Sending → Option (List ℕ)
-frame_by e Silent = None
-frame_by e (Next packet) = Some (frame_of e.config (next_number e) packet)
-frame_by e (WithoutConnection number packet) = Some (frame_of e.config number (alone packet))
+-- The frame of a step, in the form in which the end as the step leaves it sends the packet; a Reset without a connection is long.
+abbrev pub frame_by : EndState → Effect → Sending → Option (List ℕ)
+frame_by e f Silent = None
+frame_by e f (Next packet) = Some (frame_of e.config (goes_short (end_after e f) packet) (next_number e) packet)
+frame_by e f (WithoutConnection number packet) = Some (frame_of e.config false number (alone packet))

@@ -6,8 +6,9 @@ pub mod Congesting
 pub mod Faults
 pub mod Drafts
 pub mod Turns
-pub mod Steps
 pub mod Heeding
+pub mod ShortForm
+pub mod Steps
 pub mod Speaking
 pub mod Reporting
 pub mod Saying
@@ -18,5 +19,6 @@ pub mod Inputs
 pub mod Controlled
 pub mod Effects
 pub mod Causes
+pub mod InFull
 pub mod Outcomes
 pub mod Feeding

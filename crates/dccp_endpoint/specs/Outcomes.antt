@@ -285,7 +285,7 @@ HasForm e bytes (Took delivered) cause f turns = IsTaking e bytes delivered caus
 pub record HasEffectOf (e : EndState) (bytes : List ℕ) (outcome : Outcome) (after : EndState) (frame : Option (List ℕ)) (calls : List Call) : Type 0 where
   pub effect : Effect
   pub after_is : after ≡ end_after e effect
-  pub frame_is : frame ≡ frame_by e effect.sending
+  pub frame_is : frame ≡ frame_by e effect effect.sending
   pub calls_are : calls ≡ effect.calls
   pub because : IsCaused e (Arrives bytes) effect
   pub cause : HasCause e bytes outcome

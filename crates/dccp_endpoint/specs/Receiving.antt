@@ -305,7 +305,7 @@ abbrev pub resets_without_connection : EndState → Incoming → Fault → Step 
 resets_without_connection e a fault =
     record {
       after = e;
-      frame = Some (frame_of e.config (number_without_connection a.ack) (reset_of a.number fault));
+      frame = Some (frame_of e.config false (number_without_connection a.ack) (reset_of a.number fault));
       calls = [];
       answer = SentReset fault.code (detail_of fault);
     }

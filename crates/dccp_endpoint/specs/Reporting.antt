@@ -13,9 +13,9 @@ use Rattle.feature_machine.specs.declared.row.Row.{Row}
 use Rattle.run_list.specs.MarkedSet.{MarkedSet, answer_to, has}
 use Rattle.run_list.specs.declared.answers.Marked.{Marked}
 use Rattle.run_list.specs.declared.answers.Marked.TheVariants.{New, Again, BelowFloor}
-use Rattle.dccp_endpoint.specs.Drafts.{Draft, frame_of}
+use Rattle.dccp_endpoint.specs.Drafts.{Draft}
 use Rattle.dccp_endpoint.specs.End.{EndState, is_open, value_in}
-use Rattle.dccp_endpoint.specs.Steps.{Step, next_number, with_next_number}
+use Rattle.dccp_endpoint.specs.Steps.{Step, next_frame, next_number, with_next_number}
 
 -- Ack and DataAck
 abbrev pub is_acking : PacketType → Bool
@@ -124,4 +124,4 @@ reporting e draft = record draft { options = vector_items (sends_vectors e.rows)
 -- an Ack or a DataAck goes out under the next number
 abbrev pub sends_ack : {Answer : Type 0} → EndState → Draft → Answer → Step Answer
 sends_ack e draft answer =
-    record { after = acknowledged e; frame = Some (frame_of e.config (next_number e) (reporting e draft)); calls = []; answer = answer }
+    record { after = acknowledged e; frame = Some (next_frame e (reporting e draft)); calls = []; answer = answer }

@@ -6,6 +6,7 @@ use Rattle.dccp_packets.specs.declared.header.Kind.TheVariants as kind
 use Rattle.dccp_states.specs.declared.phase.Phase.{Phase}
 use Rattle.dccp_endpoint.specs.Drafts.{Draft, alone, frame_of}
 use Rattle.dccp_endpoint.specs.End.{EndState}
+use Rattle.dccp_endpoint.specs.ShortForm.{goes_short}
 use Rattle.end_answers.specs.declared.outcome.Fault.{Fault}
 
 -- An end after a step, the frame that it sends, if any, the calls that are due to its congestion control, in order, and its answer.
@@ -27,10 +28,14 @@ next_number e = residue (e.marks.gss + 1)
 abbrev pub with_next_number : EndState → EndState
 with_next_number e = record e { marks = record e.marks { gss = next_number e } }
 
+-- the frame of a packet under the next number, in the form in which the end sends it
+abbrev pub next_frame : EndState → Draft → List ℕ
+next_frame e draft = frame_of e.config (goes_short e draft) (next_number e) draft
+
 -- a packet goes out under the next number
 abbrev pub sends : {Answer : Type 0} → EndState → Draft → Answer → Step Answer
 sends e draft answer =
-    record { after = with_next_number e; frame = Some (frame_of e.config (next_number e) draft); calls = []; answer = answer }
+    record { after = with_next_number e; frame = Some (next_frame e draft); calls = []; answer = answer }
 
 -- the step with these calls due to the congestion control
 abbrev pub with_calls : {Answer : Type 0} → List Call → Step Answer → Step Answer

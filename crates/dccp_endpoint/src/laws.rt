@@ -1,21 +1,32 @@
 //! What holds of every end and of every frame, beside the contracts of the calls.
-ghost use Rattle.std.specs.Prelude.{◌<◌, ◌^◌, ℕ};
-ghost use Rattle.dccp_packets.specs.Grammar.{KindFits};
+ghost use Rattle.std.specs.Prelude.{◌≡◌, ◌<◌, ◌^◌, ℕ, Bool, true};
+ghost use Rattle.dccp_packets.specs.Forms.{may_be_short};
+ghost use Rattle.dccp_packets.specs.Grammar.{KindFits, packet_type};
 ghost use Rattle.dccp_packets.specs.Widths.{in_widths};
 ghost use Rattle.dccp_endpoint.specs.declared.config.Config.{Config};
 ghost use Rattle.dccp_endpoint.specs.Causes.{EveryStepHasOneEffect};
 ghost use Rattle.dccp_endpoint.specs.Drafts.{Draft, Fits, IsSendable, ReadsAs, frame_of, own_header};
+ghost use Rattle.dccp_endpoint.specs.InFull.{FramesAreReadInFull};
 ghost use Rattle.dccp_endpoint.specs.FirstFault.{ReadingGoesThrough, ReadingStopsAtTheFirstFault};
 ghost use Rattle.dccp_endpoint.specs.Saying.{ConfirmsAreSingle, OwnPacketsSayOfARow, OwnPacketsSpeakOnce, RowsHearThePacket};
 
 /// What an end writes is read as it was meant: each frame of a draft is a packet with the draft's type, options and
-/// data under the end's ports and the number, and its checksum fits (RFC 4340, sections 5 and 9). Where numbers are too
-/// large for their fields, the low bits are read.
+/// data under the end's ports and the number, with short numbers or with long ones, and its checksum fits (RFC 4340,
+/// sections 5 and 9). Where numbers are too large for their fields, the low bits are read.
 pub fn own_frames_are_read()
-    ensures whole { (config : Config) (number : ℕ) (draft : Draft) → Fits config → number < 2 ^ 48 → KindFits draft.kind → IsSendable draft
-        → ReadsAs (own_header config number draft.kind) config.pseudo_out draft (frame_of config number draft) }
-    ensures in_widths { (config : Config) (number : ℕ) (draft : Draft) → IsSendable draft
-        → ReadsAs (in_widths (own_header config number draft.kind)) config.pseudo_out draft (frame_of config number draft) }
+    ensures whole { (config : Config) (short : Bool) (number : ℕ) (draft : Draft) → Fits config → number < 2 ^ 48 → KindFits draft.kind → IsSendable draft
+        → (short ≡ true → may_be_short (packet_type draft.kind) ≡ true)
+        → ReadsAs (own_header config short number draft.kind) config.pseudo_out draft (frame_of config short number draft) }
+    ensures in_widths { (config : Config) (short : Bool) (number : ℕ) (draft : Draft) → IsSendable draft
+        → (short ≡ true → may_be_short (packet_type draft.kind) ≡ true)
+        → ReadsAs (in_widths (own_header config short number draft.kind)) config.pseudo_out draft (frame_of config short number draft) }
+{}
+
+/// What an end reads of a frame of any end's are its type and its numbers in full, in which form they ever are (RFC
+/// 4340, section 7.6). A frame with short numbers has a premise, where they are taken: its number lies fewer than 2^23
+/// from GSR, and the one that it acknowledges fewer than 2^23 from GSS, up or down the circle.
+pub fn frames_are_read_in_full()
+    ensures { FramesAreReadInFull }
 {}
 
 /// Each step of an end has an effect, one for the whole step: a record of what becomes of each part of the end, of what

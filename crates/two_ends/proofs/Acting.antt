@@ -46,13 +46,13 @@ processed_by half arrived f = half.processed ++ newly_processed half.end arrived
 -- what a step keeps of its frame, and what it adds to the log
 abbrev pub sent_by : Half → Option ℕ → Effect → List SentFrame
 sent_by half arrived f =
-    as_sent (end_after half.end f).marks (length (processed_by half arrived f)) (floor_of (end_after half.end f)) (frame_by half.end f.sending)
+    as_sent (end_after half.end f).marks (length (processed_by half arrived f)) (floor_of (end_after half.end f)) (frame_by half.end f f.sending)
 
 abbrev pub drafted_by : Half → Option ℕ → Effect → List Logged
 drafted_by half arrived f = logged_by (length (processed_by half arrived f)) (floor_of (end_after half.end f)) f.sending
 
 abbrev pub half_after : Half → Option ℕ → Effect → Half
-half_after half arrived f = half_with half.frames (end_after half.end f) (processed_by half arrived f) (frame_by half.end f.sending)
+half_after half arrived f = half_with half.frames (end_after half.end f) (processed_by half arrived f) (frame_by half.end f f.sending)
 
 abbrev pub at_beginning : Config → Party
 at_beginning config = record { half = half_at_start config; log = [] }
@@ -114,7 +114,7 @@ held-with This w logs Client x both = record { logs = with_log logs Client x.log
 held-with This w logs Server x both = record { logs = with_log logs Server x.log; holds = (both.1, both.0) }
 
 moved-after : {Answer : Type 0} (half : Half) (arrived : Option ℕ) (step : Step Answer) (f : Effect) → step.after ≡ end_after half.end f
-    → step.frame ≡ frame_by half.end f.sending → moved half arrived step ≡ half_after half arrived f
+    → step.frame ≡ frame_by half.end f f.sending → moved half arrived step ≡ half_after half arrived f
 moved-after half arrived step f after frame =
     ap (λ (e : EndState). half_with half.frames e (half.processed ++ newly_processed half.end arrived e) step.frame) after
     ∙ ap (half_with half.frames (end_after half.end f) (processed_by half arrived f)) frame

@@ -1,4 +1,5 @@
 pub mod Processing
+pub mod LongAlone
 pub mod Logged
 pub mod ReadBack
 pub mod Acting

@@ -24,7 +24,7 @@ pub record IsLogged (config : Config) (number : ℕ) (frame : SentFrame) (l : Lo
   pub of_connection : is_without_connection config.role l.draft.kind ≡ false
   pub same : frame
       ≡ record {
-        bytes = frame_of config number l.draft;
+        bytes = frame_of config false number l.draft;
         number = number % 2 ^ 48;
         ack = ack_of (kind_in_widths l.draft.kind);
         processed = l.processed;
@@ -37,7 +37,7 @@ pub record IsUnlogged (config : Config) (frame : SentFrame) : Type 0 where
   pub kind : Kind
   pub sendable : IsSendable (alone kind)
   pub without_connection : is_without_connection config.role kind ≡ true
-  pub same : frame.bytes ≡ frame_of config number (alone kind)
+  pub same : frame.bytes ≡ frame_of config false number (alone kind)
   pub numbered : frame.number ≡ number % 2 ^ 48
   pub acks : frame.ack ≡ ack_of (kind_in_widths kind)
 

@@ -1,5 +1,5 @@
 -- A side's numbered frames carry ISS, ISS + 1, and so on up to GSS, and its end is proper.
-use Rattle.std.proofs.Common.{◌≡◌, ◌≢◌, refl, ap, sym, ◌∙◌, subst, ℕ, ◌+◌, ◌-◌, ◌^◌, ◌<◌, ◌≤◌, List, Option, Some, None, true, false, [], ◌∷◌, length, length-append, arith}
+use Rattle.std.proofs.Common.{◌≡◌, ◌≢◌, refl, ap, sym, ◌∙◌, subst, ℕ, ◌+◌, ◌-◌, ◌^◌, ◌<◌, ◌≤◌, Bool, List, Option, Some, None, true, false, [], ◌∷◌, length, length-append, arith}
 use Rattle.seq_circle.specs.Circle.{residue}
 use Rattle.dccp_packets.specs.Grammar.{packet_type}
 use Rattle.dccp_packets.specs.declared.header.Kind.{Kind}
@@ -13,6 +13,7 @@ use Rattle.dccp_endpoint.specs.Drafts.{Draft, Fits, IsSendable, alone, frame_of}
 use Rattle.dccp_endpoint.specs.Effects.{Effect, Sending, Silent, Next, WithoutConnection, end_after, frame_by, gss_by}
 use Rattle.dccp_endpoint.specs.End.{EndState, IsProper, floor_of}
 use Rattle.dccp_endpoint.specs.Incoming.{Incoming}
+use Rattle.dccp_endpoint.specs.ShortForm.{goes_short}
 use Rattle.dccp_endpoint.specs.Inputs.{Input}
 use Rattle.dccp_endpoint.specs.Steps.{next_number}
 use Rattle.dccp_endpoint.proofs.Staying.{first-proper, proper-after}
@@ -20,6 +21,7 @@ use Rattle.two_ends.specs.Numbered.{IsNumberOf}
 use Rattle.two_ends.specs.declared.frames.SentFrame.{SentFrame}
 use Rattle.two_ends.specs.World.{as_sent}
 use Rattle.two_ends.proofs.Acting.{Act, Keeps, NoFact, Party, acted, config_of, drafted_by, end_of, logged_by, processed_by, sent_by}
+use Rattle.two_ends.proofs.LongAlone.{goes-long}
 use Rattle.two_ends.proofs.Logged.{AreLogged, Logged, NoFrames, Numbered, Unnumbered, logged-append, logged-few}
 use Rattle.two_ends.proofs.ReadBack.{IsFromLog, arrived-so, from-log, kept-frame}
 
@@ -55,25 +57,28 @@ acking-connected r (kind.Reset ack code detail) is = cc is
 acking-connected r _ is = refl
 
 -- a packet under the next number is logged
-next-logged : (e : EndState) (draft : Draft) (marks : Marks) (processed floor first : ℕ) → next_number e ≡ residue first
+next-logged : (e : EndState) (draft : Draft) (short : Bool) (marks : Marks) (processed floor first : ℕ) → short ≡ false → next_number e ≡ residue first
     → is_without_connection e.config.role draft.kind ≡ false → IsSendable draft
-    → AreLogged e.config first (as_sent marks processed floor (Some (frame_of e.config (next_number e) draft)))
+    → AreLogged e.config first (as_sent marks processed floor (Some (frame_of e.config short (next_number e) draft)))
     (record { draft = draft; processed = processed; floor = floor } ∷ [])
-next-logged e draft marks processed floor first same connected sendable =
+next-logged e draft short marks processed floor first long same connected sendable =
     let kept = kept-frame e.config (next_number e) draft marks processed floor sendable in
     let log : List Logged = record { draft = draft; processed = processed; floor = floor } ∷ [] in
-    subst (λ (frames : List SentFrame). AreLogged e.config first frames log) (sym kept)
-    (Numbered (next_number e) same (record { sendable = sendable; of_connection = connected; same = refl }) NoFrames)
+    subst (λ (form : Bool). AreLogged e.config first (as_sent marks processed floor (Some (frame_of e.config form (next_number e) draft))) log) (sym long)
+    (subst (λ (frames : List SentFrame). AreLogged e.config first frames log) (sym kept)
+    (Numbered (next_number e) same (record { sendable = sendable; of_connection = connected; same = refl }) NoFrames))
 
 -- what goes out is logged under the next number, or not at all
-sent-logged : (e : EndState) (given : Input) (f : Effect) (s : Sending) (marks : Marks) (processed floor first : ℕ) → next_number e ≡ residue first → IsSending e given f s
-    → HasFrame s → AreLogged e.config first (as_sent marks processed floor (frame_by e s)) (logged_by processed floor s)
-sent-logged e given f Silent marks processed floor first same Rests framed = NoFrames
-sent-logged e given f (Next draft) marks processed floor first same (Acks _ acking ack connected owed unacked) framed =
-    next-logged e draft marks processed floor first same (acking-connected e.config.role draft.kind acking) framed
-sent-logged e given f (Next draft) marks processed floor first same (Others _ acking ack connected) framed =
-    next-logged e draft marks processed floor first same connected framed
-sent-logged e given f (WithoutConnection number k) marks processed floor first same (Refuses a code came is unheard turns unmoved) framed =
+sent-logged : (e : EndState) (given : Input) (f : Effect) (s : Sending) (marks : Marks) (processed floor first : ℕ) → IsProper (end_after e f)
+    → next_number e ≡ residue first → IsSending e given f s
+    → HasFrame s → AreLogged e.config first (as_sent marks processed floor (frame_by e f s)) (logged_by processed floor s)
+sent-logged e given f Silent marks processed floor first proper same Rests framed = NoFrames
+sent-logged e given f (Next draft) marks processed floor first proper same (Acks _ acking ack connected owed unacked) framed =
+    next-logged e draft (goes_short (end_after e f) draft) marks processed floor first (goes-long (end_after e f) draft proper) same
+    (acking-connected e.config.role draft.kind acking) framed
+sent-logged e given f (Next draft) marks processed floor first proper same (Others _ acking ack connected) framed =
+    next-logged e draft (goes_short (end_after e f) draft) marks processed floor first (goes-long (end_after e f) draft proper) same connected framed
+sent-logged e given f (WithoutConnection number k) marks processed floor first proper same (Refuses a code came is unheard turns unmoved) framed =
     let kept = kept-frame e.config number (alone k) marks processed floor framed in
     subst (λ (frames : List SentFrame). AreLogged e.config first frames []) (sym kept)
     (Unnumbered (record { number = number; kind = k; sendable = framed; without_connection = is; same = refl; numbered = refl; acks = refl }) NoFrames)
@@ -102,11 +107,11 @@ acting act o =
       first = o.first;
       logged =
           logged-append e.config _ (sent_by act.side.half act.arrived act.effect) (drafted_by act.side.half act.arrived act.effect) refl o.logged
-          (sent-logged e act.given act.effect act.effect.sending marks processed floor _ next act.because.sends act.because.framed);
+          (sent-logged e act.given act.effect act.effect.sending marks processed floor _ (proper-after o.proper act.because) next act.because.sends act.because.framed);
       greatest =
           sent-greatest e act.effect.sending processed floor (length act.side.log) o.greatest
           ∙ ap (λ (n : ℕ). residue (e.config.iss + n + (2 ^ 48 - 1))) (sym (length-append act.side.log (drafted_by act.side.half act.arrived act.effect)));
-      few = omega (arith, act.room, sent-few marks processed floor (frame_by e act.effect.sending), length-append act.side.half.frames (sent_by act.side.half act.arrived act.effect));
+      few = omega (arith, act.room, sent-few marks processed floor (frame_by e act.effect act.effect.sending), length-append act.side.half.frames (sent_by act.side.half act.arrived act.effect));
     }
 
 pub numbering : Keeps NoFact (λ x y. IsOrdered x)

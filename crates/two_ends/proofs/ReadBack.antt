@@ -1,5 +1,5 @@
 -- The one place that looks at the bytes of frames: what was drafted is what is read.
-use Rattle.std.proofs.Common.{◌≡◌, ◌≢◌, inl, inr, refl, ap, sym, ◌∙◌, subst, ℕ, ◌+◌, ◌%◌, ◌^◌, ◌<◌, List, [], ◌∷◌, Option, Some, None, true, Result, Ok, slice_get, length, map, arith}
+use Rattle.std.proofs.Common.{◌≡◌, ◌≢◌, inl, inr, refl, ap, sym, ◌∙◌, subst, ℕ, ◌+◌, ◌%◌, ◌^◌, ◌<◌, List, [], ◌∷◌, Option, Some, None, true, false, Result, Ok, slice_get, length, map, arith}
 use Rattle.std.proofs.lemmas.Option.{same_Some}
 use Rattle.std.specs.Result.{result_ok}
 use Rattle.seq_circle.specs.Circle.{residue}
@@ -33,7 +33,7 @@ use Rattle.two_ends.proofs.Logged.{Logged, IsLogged, IsUnlogged, AreLogged, NoFr
 abbrev pub parts_of : Config → ℕ → Draft → ℕ → Parts
 parts_of config number draft sum =
     record {
-      header = record (in_widths (own_header config number draft.kind)) { checksum = sum };
+      header = record (in_widths (own_header config false number draft.kind)) { checksum = sum };
       options = padded (written draft.options);
       payload = draft.payload;
     }
@@ -43,9 +43,9 @@ pub record IsDrafted (config : Config) (number : ℕ) (draft : Draft) (bytes : L
   pub is_packet : packet_of bytes ≡ Some (parts_of config number draft sum)
   pub are_options : options_in bytes ≡ map Ok (entries_at 0 draft.options)
 
-pub is-drafted : (config : Config) (number : ℕ) (draft : Draft) → IsSendable draft → IsDrafted config number draft (frame_of config number draft)
+pub is-drafted : (config : Config) (number : ℕ) (draft : Draft) → IsSendable draft → IsDrafted config number draft (frame_of config false number draft)
 is-drafted config number draft sendable =
-    let read = own_frames_read_in_widths config number draft sendable in
+    let read = own_frames_read_in_widths config false number draft sendable (λ is. cc is) in
     let packet = ap result_ok read.is_packet in
     record { sum = read.sum; is_packet = packet; are_options = ap packet_options packet ∙ read.are_listed }
 
@@ -96,19 +96,19 @@ one_frame bytes number ack processed floor = record { bytes = bytes; number = nu
 
 -- what is kept of a frame that goes out, whatever its sender's marks are
 pub kept-frame : (config : Config) (number : ℕ) (draft : Draft) (marks : Marks) (processed floor : ℕ) → IsSendable draft
-    → as_sent marks processed floor (Some (frame_of config number draft))
-    ≡ one_frame (frame_of config number draft) (number % 2 ^ 48) (ack_of (kind_in_widths draft.kind)) processed floor
+    → as_sent marks processed floor (Some (frame_of config false number draft))
+    ≡ one_frame (frame_of config false number draft) (number % 2 ^ 48) (ack_of (kind_in_widths draft.kind)) processed floor
 kept-frame config number draft marks processed floor sendable =
     let read = is-drafted config number draft sendable in
-    let number_is : number_in_full marks (packet_of (frame_of config number draft)) ≡ number % 2 ^ 48 =
+    let number_is : number_in_full marks (packet_of (frame_of config false number draft)) ≡ number % 2 ^ 48 =
     ap (number_in_full marks) read.is_packet in
-    let ack_is : ack_in_full marks (packet_of (frame_of config number draft)) ≡ ack_of (kind_in_widths draft.kind) =
+    let ack_is : ack_in_full marks (packet_of (frame_of config false number draft)) ≡ ack_of (kind_in_widths draft.kind) =
     ap (ack_in_full marks) read.is_packet ∙ long-ack marks.gsr draft.kind sendable.is_long in
-    ap (λ (n : ℕ). one_frame (frame_of config number draft) n (ack_in_full marks (packet_of (frame_of config number draft))) processed floor) number_is
-    ∙ ap (λ (a : Option ℕ). one_frame (frame_of config number draft) (number % 2 ^ 48) a processed floor) ack_is
+    ap (λ (n : ℕ). one_frame (frame_of config false number draft) n (ack_in_full marks (packet_of (frame_of config false number draft))) processed floor) number_is
+    ∙ ap (λ (a : Option ℕ). one_frame (frame_of config false number draft) (number % 2 ^ 48) a processed floor) ack_is
 
 -- the frame of a draft spells the numbers that are kept of it
-abbrev spells-kept : (config : Config) (number : ℕ) (draft : Draft) (frame : SentFrame) → IsSendable draft → frame.bytes ≡ frame_of config number draft
+abbrev spells-kept : (config : Config) (number : ℕ) (draft : Draft) (frame : SentFrame) → IsSendable draft → frame.bytes ≡ frame_of config false number draft
     → frame.number ≡ number % 2 ^ 48 → frame.ack ≡ ack_of (kind_in_widths draft.kind) → SpellsItsNumbers frame
 spells-kept config number draft frame sendable same numbered acks =
     let read = is-drafted config number draft sendable in
@@ -203,7 +203,7 @@ pub the-packet : (e : EndState) (given : Input) (a : Incoming) (came : Came e gi
 the-packet e given a came p is = same_Some came.packet p (sym (ap result_ok came.is_packet) ∙ is)
 
 module _ (e : EndState) (given : Input) (a : Incoming) (came : Came e given a) (config : Config) where
-  read-as : (n number : ℕ) (draft : Draft) → number % 2 ^ 48 ≡ residue n → IsSendable draft → came.bytes ≡ frame_of config number draft → IsReadAs n draft a
+  read-as : (n number : ℕ) (draft : Draft) → number % 2 ^ 48 ≡ residue n → IsSendable draft → came.bytes ≡ frame_of config false number draft → IsReadAs n draft a
   read-as n number draft numbered sendable same =
       let read = is-drafted config number draft sendable in
       let packet : came.packet ≡ parts_of config number draft read.sum = the-packet e given a came _ (ap packet_of same ∙ read.is_packet) in

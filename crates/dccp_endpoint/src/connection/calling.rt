@@ -27,7 +27,8 @@ impl Connection {
     ghost use Rattle.dccp_packets.specs.declared.header.Number.TheVariants.{Long};
     ghost use Rattle.dccp_endpoint.specs.Reporting.{sends_ack};
     ghost use Rattle.dccp_endpoint.specs.Steps.{sends};
-    ghost use Rattle.dccp_packets.specs.Grammar.{has_forms};
+    ghost use Rattle.dccp_packets.specs.Forms.{may_be_short};
+    ghost use Rattle.dccp_packets.specs.Grammar.{packet_type};
 
     /// The client sends its Request.
     #[tactic(auto, unfolding(crate::specs::Calling::opens))]
@@ -273,7 +274,7 @@ impl Connection {
     }
 
     fn fire(&mut self, kind: Kind, out: &mut Outbox) -> bool
-        requires { has_forms true kind ≡ true }
+        requires { may_be_short (packet_type kind) ≡ false }
         ensures { record { after = self.new; frame = out.new; calls = []; answer = result } ≡ sends self.old (alone kind) true }
     {
         self.send(kind, out);

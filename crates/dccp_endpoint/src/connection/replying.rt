@@ -27,8 +27,9 @@ fn packet_fault(packet: &IncomingPacket<'_>) -> Fault
 }
 
 impl Connection {
-    ghost use Rattle.std.specs.Prelude.{◌≡◌, if◌then◌else◌, [], None, true, map};
-    ghost use Rattle.dccp_packets.specs.Grammar.{has_forms};
+    ghost use Rattle.std.specs.Prelude.{◌≡◌, if◌then◌else◌, [], None, false, map};
+    ghost use Rattle.dccp_packets.specs.Forms.{may_be_short};
+    ghost use Rattle.dccp_packets.specs.Grammar.{packet_type};
     ghost use Rattle.dccp_endpoint.specs.Heeding.{due_of};
     ghost use Rattle.dccp_endpoint.specs.Speaking.{HaveRoom, confirming};
     ghost use Rattle.dccp_endpoint.specs.Receiving.{needs_ack, acknowledges, responds, replies, resets, resets_without_connection, leaves};
@@ -137,7 +138,7 @@ impl Connection {
         delivered: Option<(usize, usize)>,
         out: &mut Outbox,
     ) -> Outcome
-        requires form { has_forms true kind ≡ true }
+        requires form { may_be_short (packet_type kind) ≡ false }
         requires room { HaveRoom (map due_of confirms.now) }
         ensures { record { after = self.new; frame = out.new; calls = []; answer = result } ≡ sends self.old (confirming kind (map due_of confirms.now)) (Took delivered) }
     {

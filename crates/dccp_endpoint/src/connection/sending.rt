@@ -1,7 +1,12 @@
-//! The frames that an end sends, and what they say of features.
-ghost use Rattle.std.specs.Prelude.{◌≡◌, ◌≤◌, Some, None, true, false, if◌then◌else◌, length, map};
+//! The frames that an end sends, in which form of numbers, and what they say of features.
+ghost use Rattle.std.specs.Prelude.{◌≡◌, ◌≤◌, ◌||◌, Some, None, true, false, if◌then◌else◌, length, map};
+ghost use Rattle.dccp_endpoint.specs.Calling.{has_keys};
+ghost use Rattle.dccp_endpoint.specs.Heeding.{due_of};
+ghost use Rattle.dccp_endpoint.specs.ShortForm.{is_settled_on_one};
+ghost use Rattle.dccp_endpoint.specs.Speaking.{has_confirms};
 ghost use Rattle.dccp_sum.specs.Checksum.{sealed};
 
+use super::receiving::is_open;
 use super::{Connection, fit};
 use crate::speaking::{asking, open_offers, put_changes, put_confirms, send_all};
 use ack_vectors::VectorBytes;
@@ -10,8 +15,25 @@ use dccp_options::kinds::ACK_VECTOR_0;
 use dccp_packets::{Frame, Header, Kind, Number, Outbox, encode};
 use dccp_sum::{Pseudo, seal};
 use feature_lists::{Feature, Place};
-use feature_machine::ConfirmOut;
+use feature_machine::{ConfirmOut, Held, Stand};
 use seq_circle::Seq48;
+
+// The widest window under which short numbers go out, so that no valid number of a packet is far.
+const WIDEST_SHORT: u64 = 4_194_304;
+
+// Nothing is under way for the row, and its value is 1.
+fn is_settled_on_one(held: &Held) -> bool
+    ensures { result ≡ is_settled_on_one held.now }
+{
+    matches!(held.stand, Stand::Stable) && held.value == 1
+}
+
+// A packet with these Confirms and the Changes of these rows says something of features.
+fn negotiates(confirms: &[ConfirmOut], keys: &[(Feature, Place)]) -> bool
+    ensures { result ≡ (has_confirms (map due_of confirms.now) || has_keys keys.now) }
+{
+    !confirms.is_empty() || !keys.is_empty()
+}
 
 impl Connection {
     ghost use Rattle.std.specs.Prelude.{◌+◌, ◌++◌, [], Ok, true, false, None, Some, if◌then◌else◌};
@@ -19,57 +41,61 @@ impl Connection {
     ghost use Rattle.dccp_options.specs.Written.{written};
     ghost use Rattle.run_list.specs.MarkedSet.{has};
     ghost use Rattle.dccp_endpoint.specs.Reporting.{acknowledged, recorded_by, reporting, sends_vectors, vector_items};
+    ghost use Rattle.dccp_packets.specs.Forms.{may_be_short};
     ghost use Rattle.dccp_packets.specs.Grammar.{fixed_length, has_forms, packet_type, padded};
     ghost use Rattle.dccp_endpoint.specs.Drafts.{alone, carrying, frame_of, framed};
+    ghost use Rattle.dccp_endpoint.specs.ShortForm.{allows_short};
     ghost use Rattle.dccp_endpoint.specs.Calling.{sends_data};
     ghost use Rattle.dccp_packets.specs.declared.header.Kind.TheVariants as kind;
     ghost use Rattle.dccp_packets.specs.declared.header.Number.TheVariants.{Long};
     ghost use Rattle.dccp_endpoint.specs.Heeding.{due_of};
     ghost use Rattle.dccp_endpoint.specs.Speaking.{HaveRoom, AreChanging, AreDue, asking, asks, confirming, offers, saying};
-    ghost use Rattle.dccp_endpoint.specs.Steps.{next_number, with_next_number};
+    ghost use Rattle.dccp_endpoint.specs.Steps.{next_frame, next_number, with_next_number};
 
-    // Sends a packet without options and data under the next number.
+    // Sends a packet without options and data under the next number; its type has long numbers alone.
     pub(crate) fn send(&mut self, kind: Kind, out: &mut Outbox)
-        requires { has_forms true kind ≡ true }
+        requires { may_be_short (packet_type kind) ≡ false }
         ensures counted { self.new ≡ with_next_number self.old }
-        ensures sent { out.new ≡ Some (frame_of self.old.config (next_number self.old) (alone kind)) }
+        ensures sent { out.new ≡ Some (next_frame self.old (alone kind)) }
     {
         let number = self.take_number();
         self.put_alone(number, kind, out);
     }
 
-    // Sends a packet under the next number.
-    pub(crate) fn send_with(
+    // Sends a packet under the next number, with short numbers or with long ones.
+    fn send_with(
         &mut self,
         kind: Kind,
+        short: bool,
         options: &OptWriter,
         payload: &[u8],
         out: &mut Outbox,
     )
         requires form { has_forms true kind ≡ true }
+        requires may { short ≡ true → may_be_short (packet_type kind) ≡ true }
         requires area { fixed_length true (packet_type kind) + length (padded options.now) ≤ 1020 }
         requires short { length payload.now ≤ 1024 }
         ensures counted { self.new ≡ with_next_number self.old }
-        ensures sent { out.new ≡ Some (framed self.old.config (next_number self.old) kind options.now payload.now) }
+        ensures sent { out.new ≡ Some (framed self.old.config short (next_number self.old) kind options.now payload.now) }
     {
         let number = self.take_number();
-        self.put_frame(number, kind, options.bytes(), payload, out);
+        self.put_frame(number, short, kind, options.bytes(), payload, out);
     }
 
     // Sends a packet with Confirms alone under the next number.
     #[tactic(auto, using(crate::proofs::Frames::fixed_part_is_short))]
     pub(crate) fn send_confirming(&mut self, kind: Kind, confirms: &[ConfirmOut], out: &mut Outbox)
-        requires form { has_forms true kind ≡ true }
+        requires form { may_be_short (packet_type kind) ≡ false }
         requires room { HaveRoom (map due_of confirms.now) }
         ensures counted { self.new ≡ with_next_number self.old }
-        ensures sent { out.new ≡ Some (frame_of self.old.config (next_number self.old) (confirming kind (map due_of confirms.now))) }
+        ensures sent { out.new ≡ Some (next_frame self.old (confirming kind (map due_of confirms.now))) }
     {
         if confirms.is_empty() {
             return self.send(kind, out);
         }
         let mut area = OptWriter::new();
         put_confirms(&mut area, confirms);
-        self.send_with(kind, &area, &[], out);
+        self.send_with(kind, false, &area, &[], out);
     }
 
     // Sends a packet that says all that is due: the Confirms, and the Changes of these rows, which are in CHANGING.
@@ -81,12 +107,12 @@ impl Connection {
         keys: &[(Feature, Place)],
         out: &mut Outbox,
     )
-        requires form { has_forms true kind ≡ true }
+        requires form { may_be_short (packet_type kind) ≡ false }
         requires room { HaveRoom (map due_of confirms.now) }
         requires rows { length keys.now ≤ 18 }
         requires changing { AreChanging self.old.rows keys.now }
         ensures counted { self.new ≡ with_next_number self.old }
-        ensures sent { out.new ≡ Some (frame_of self.old.config (next_number self.old) (saying kind (map due_of confirms.now) self.old.rows keys.now)) }
+        ensures sent { out.new ≡ Some (next_frame self.old (saying kind (map due_of confirms.now) self.old.rows keys.now)) }
     {
         if confirms.is_empty() && keys.is_empty() {
             return self.send(kind, out);
@@ -94,7 +120,17 @@ impl Connection {
         let mut area = OptWriter::new();
         put_confirms(&mut area, confirms);
         put_changes(&mut area, &self.rows, keys);
-        self.send_with(kind, &area, &[], out);
+        self.send_with(kind, false, &area, &[], out);
+    }
+
+    // The end may send short numbers: in OPEN, where the feature is settled here, with windows that are not too wide.
+    fn allows_short(&self) -> bool
+        ensures { result ≡ allows_short self.now }
+    {
+        is_open(self.phase)
+            && is_settled_on_one(&self.rows.held(Feature::ShortSeqnos, Place::Here))
+            && self.marks.own_w <= WIDEST_SHORT
+            && self.marks.peer_w <= WIDEST_SHORT
     }
 
     // Whether Ack Vectors go out.
@@ -144,7 +180,7 @@ impl Connection {
 
     // Sends an Ack or a DataAck: behind its Ack Vector the Confirms, and the Changes of these rows, which are in
     // CHANGING.
-    #[tactic(auto, using(crate::proofs::Frames::fixed_part_is_short, crate::proofs::Writing::written_all))]
+    #[tactic(auto, using(crate::proofs::Frames::fixed_part_is_short, crate::proofs::Writing::written_all, crate::proofs::Short::short_ack))]
     pub(crate) fn send_ack(
         &mut self,
         kind: Kind,
@@ -153,42 +189,46 @@ impl Connection {
         out: &mut Outbox,
     )
         requires form { has_forms true kind ≡ true }
+        requires may { may_be_short (packet_type kind) ≡ true }
         requires room { HaveRoom (map due_of confirms.now) }
         requires rows { length keys.now ≤ 18 }
         requires changing { AreChanging self.old.rows keys.now }
         ensures counted { self.new ≡ acknowledged self.old }
-        ensures sent { out.new ≡ Some (frame_of self.old.config (next_number self.old) (reporting self.old (saying kind (map due_of confirms.now) self.old.rows keys.now))) }
+        ensures sent { out.new ≡ Some (next_frame self.old (reporting self.old (saying kind (map due_of confirms.now) self.old.rows keys.now))) }
     {
+        let short = self.allows_short() && !negotiates(confirms, keys);
         let mut area = OptWriter::new();
         let whole = self.report(&mut area);
         put_confirms(&mut area, confirms);
         put_changes(&mut area, &self.rows, keys);
-        self.send_with(kind, &area, &[], out);
+        self.send_with(kind, short, &area, &[], out);
         self.record(whole);
     }
 
     // Sends a DataAck, which has its Ack Vector alone beside the data.
-    #[tactic(auto, using(crate::proofs::Frames::fixed_part_is_short, crate::proofs::Writing::written_alone))]
+    #[tactic(auto, using(crate::proofs::Frames::fixed_part_is_short, crate::proofs::Writing::written_alone, crate::proofs::Short::short_data_ack))]
     fn send_data_ack(&mut self, payload: &[u8], out: &mut Outbox)
         requires { length payload.now ≤ 1024 }
         ensures counted { self.new ≡ acknowledged self.old }
-        ensures sent { out.new ≡ Some (frame_of self.old.config (next_number self.old) (reporting self.old (carrying (kind.DataAck (Long self.old.marks.gsr)) payload.now))) }
+        ensures sent { out.new ≡ Some (next_frame self.old (reporting self.old (carrying (kind.DataAck (Long self.old.marks.gsr)) payload.now))) }
     {
         let ack = Number::Long(self.marks.gsr);
+        let short = self.allows_short();
         let mut area = OptWriter::new();
         let whole = self.report(&mut area);
-        self.send_with(Kind::DataAck { ack }, &area, payload, out);
+        self.send_with(Kind::DataAck { ack }, short, &area, payload, out);
         self.record(whole);
     }
 
     // Sends a Data, which has no options.
-    #[tactic(auto, using(crate::proofs::Frames::fixed_part_is_short))]
+    #[tactic(auto, using(crate::proofs::Frames::fixed_part_is_short, crate::proofs::Short::short_data))]
     fn send_plain_data(&mut self, payload: &[u8], out: &mut Outbox)
         requires { length payload.now ≤ 1024 }
         ensures counted { self.new ≡ with_next_number self.old }
-        ensures sent { out.new ≡ Some (frame_of self.old.config (next_number self.old) (carrying kind.Data payload.now)) }
+        ensures sent { out.new ≡ Some (next_frame self.old (carrying kind.Data payload.now)) }
     {
-        self.send_with(Kind::Data, &OptWriter::new(), payload, out);
+        let short = self.allows_short();
+        self.send_with(Kind::Data, short, &OptWriter::new(), payload, out);
     }
 
     /// Sends data, and tells under which number: on a DataAck where an acknowledgement is owed, else on a Data.
@@ -223,12 +263,12 @@ impl Connection {
         keys: &[(Feature, Place)],
         out: &mut Outbox,
     )
-        requires form { has_forms true kind ≡ true }
+        requires form { may_be_short (packet_type kind) ≡ false }
         requires room { HaveRoom (map due_of confirms.now) }
         requires rows { length keys.now ≤ 18 }
         requires due { AreDue self.old.rows keys.now }
         ensures counted { self.new ≡ with_next_number (asks self.old keys.now) }
-        ensures sent { out.new ≡ Some (frame_of self.old.config (next_number self.old) (saying kind (map due_of confirms.now) (asks self.old keys.now).rows keys.now)) }
+        ensures sent { out.new ≡ Some (next_frame (asks self.old keys.now) (saying kind (map due_of confirms.now) (asks self.old keys.now).rows keys.now)) }
     {
         self.ask(keys);
         self.send_saying(kind, confirms, keys, out);
@@ -245,10 +285,10 @@ impl Connection {
     // Sends a packet with these Confirms, once all offers have come up: it carries the Changes of all rows that ask and
     // have no Confirm in it.
     pub(crate) fn send_offering(&mut self, kind: Kind, confirms: &[ConfirmOut], out: &mut Outbox)
-        requires form { has_forms true kind ≡ true }
+        requires form { may_be_short (packet_type kind) ≡ false }
         requires room { HaveRoom (map due_of confirms.now) }
         ensures counted { self.new ≡ with_next_number (asks (offers self.old (map due_of confirms.now)) (asking (offers self.old (map due_of confirms.now)).rows (map due_of confirms.now))) }
-        ensures sent { out.new ≡ Some (frame_of self.old.config (next_number self.old) (saying kind (map due_of confirms.now)
+        ensures sent { out.new ≡ Some (next_frame (asks (offers self.old (map due_of confirms.now)) (asking (offers self.old (map due_of confirms.now)).rows (map due_of confirms.now))) (saying kind (map due_of confirms.now)
             (asks (offers self.old (map due_of confirms.now)) (asking (offers self.old (map due_of confirms.now)).rows (map due_of confirms.now))).rows
             (asking (offers self.old (map due_of confirms.now)).rows (map due_of confirms.now)))) }
     {
@@ -267,22 +307,31 @@ impl Connection {
         number
     }
 
-    // Leaves a packet without options and data in the Outbox.
+    // Leaves a packet without options and data in the Outbox; its type has long numbers alone.
     #[tactic(auto, using(crate::proofs::Frames::fixed_part_is_short))]
     pub(crate) fn put_alone(&self, number: Seq48, kind: Kind, out: &mut Outbox)
-        requires { has_forms true kind ≡ true }
-        ensures { out.new ≡ Some (frame_of self.now.config number (alone kind)) }
+        requires { may_be_short (packet_type kind) ≡ false }
+        ensures { out.new ≡ Some (frame_of self.now.config false number (alone kind)) }
     {
-        self.put_frame(number, kind, &[], &[], out);
+        self.put_frame(number, false, kind, &[], &[], out);
     }
 
     // Leaves a packet in the Outbox, where it is written: a frame is large.
-    #[tactic(auto, unfolding(crate::specs::Drafts::framed))]
-    fn put_frame(&self, number: Seq48, kind: Kind, options: &[u8], payload: &[u8], out: &mut Outbox)
+    #[tactic(auto, unfolding(crate::specs::Drafts::framed), using(crate::proofs::Short::is_formed, crate::proofs::Short::no_longer))]
+    fn put_frame(
+        &self,
+        number: Seq48,
+        short: bool,
+        kind: Kind,
+        options: &[u8],
+        payload: &[u8],
+        out: &mut Outbox,
+    )
         requires form { has_forms true kind ≡ true }
+        requires may { short ≡ true → may_be_short (packet_type kind) ≡ true }
         requires area { fixed_length true (packet_type kind) + length (padded options.now) ≤ 1020 }
         requires short { length payload.now ≤ 1024 }
-        ensures { out.new ≡ Some (framed self.now.config number kind options.now payload.now) }
+        ensures { out.new ≡ Some (framed self.now.config short number kind options.now payload.now) }
     {
         let header = Header {
             from: self.config.own_port,
@@ -290,8 +339,8 @@ impl Connection {
             ccval: 0,
             cscov: 0,
             checksum: 0,
-            number: Number::Long(number),
-            kind,
+            number: Number::in_form(number, short),
+            kind: kind.in_form(short),
         };
         let frame = out.begin();
         match encode(&header, options, payload, frame) {

@@ -1,10 +1,9 @@
 use Rattle.std.proofs.Common.{◌≡◌, ◌∙◌, ℕ, List, Option, Some, ap, map}
 use Rattle.feature_machine.specs.declared.row.Row.{Row}
-use Rattle.dccp_endpoint.specs.Drafts.{frame_of}
 use Rattle.dccp_endpoint.specs.End.{EndState}
 use Rattle.dccp_endpoint.specs.Heeding.{Due, due_of}
 use Rattle.dccp_endpoint.specs.Speaking.{asking, asks, offers, saying}
-use Rattle.dccp_endpoint.specs.Steps.{next_number}
+use Rattle.dccp_endpoint.specs.Steps.{next_frame}
 use Rattle.dccp_endpoint.specs.Turns.{Key}
 use Rattle.dccp_endpoint.proofs.connection.Connection.send_offering.Goals as goal
 
@@ -13,7 +12,7 @@ returns-clause-sent c =
     let e : EndState = c.args.self.now in
     let confirms : List Due = map due_of c.args.confirms.now in
     let frame : EndState → List Key → Option (List ℕ) =
-    λ x keys. Some (frame_of x.config (next_number x) (saying c.args.kind confirms (asks x keys).rows keys)) in
+    λ x keys. Some (next_frame (asks x keys) (saying c.args.kind confirms (asks x keys).rows keys)) in
     let keys : c.as_slice.result.now ≡ asking (offers e confirms).rows confirms =
     c.as_slice.ensures.keys ∙ c.asking-keys.ensures.keys ∙ ap (λ (r : List Row). asking r confirms) c.rows.ensures.value
     ∙ ap (λ (x : EndState). asking x.rows confirms) c.offer.ensures in
