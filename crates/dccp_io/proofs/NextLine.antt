@@ -1,7 +1,9 @@
 -- What stands next in an input, as the bytes show it that are pending.
-use Rattle.std.proofs.Common.{arith, ◌≡◌, refl, sym, ap, ◌∙◌, subst, inl, inr, ℕ, suc, ◌+◌, ◌-◌, ◌≤◌, ◌<◌, min, nat_le, nat_lt, Bool, true, false, if◌then◌else◌, ◌==◌, List, [], ◌∷◌, ◌++◌, length, length-append, take, drop, Option, Some, None, IfSome}
+use Rattle.std.proofs.Common.{arith, ◌≡◌, refl, sym, ap, ◌∙◌, subst, inl, inr, ℕ, zero, suc, ◌+◌, ◌-◌, ◌≤◌, ◌<◌, min, nat_le, nat_lt, Bool, true, false, not, ◌&&◌, if◌then◌else◌, ◌==◌, List, [], ◌∷◌, ◌++◌, length, length-append, take, drop, Option, Some, None, IfSome}
 use Rattle.std.proofs.lemmas.Bool.Decides.{nat_tests}
-use Rattle.std.proofs.lemmas.List.{append-nil, take-append-le, take_min, length-take}
+use Rattle.std.specs.List.{list_all}
+use Rattle.std.proofs.lemmas.Grind.{common_steps}
+use Rattle.std.proofs.lemmas.List.{append-nil, drop-drop, take-append-le, take_min, length-take}
 use Rattle.std.proofs.lemmas.Option.{none-some}
 use Rattle.std.proofs.Math.Seq.{drop-append_seam}
 use Rattle.std.specs.Io.KnownBytes.{prepend_known}
@@ -16,6 +18,31 @@ text_length-past : (xs ys : List ℕ) → text_length xs ≡ length xs → text_
 text_length-past [] ys none = omega arith
 text_length-past (x ∷ xs) ys none =
     past-by (x == newline) (text_length xs) (text_length (xs ++ ys)) (length xs) (text_length ys) none (text_length-past xs ys)
+
+lacking-by : (test all : Bool) (t n k : ℕ) → (not test && all) ≡ true → (all ≡ true → t ≡ n + k) → (if test then 0 else suc t) ≡ suc n + k
+lacking-by true all t n k is more = cc is
+lacking-by false all t n k is more = let same : t ≡ n + k = more is in omega (arith, same)
+
+block-length : (n : ℕ) (xs : List ℕ) → n ≤ length xs → list_all (λ byte. not (byte == newline)) (take n xs) ≡ true → text_length xs ≡ n + text_length (drop n xs)
+block-length zero xs fits all = omega arith
+block-length (suc n) [] fits all = absurd (omega (arith, fits))
+block-length (suc n) (x ∷ xs) fits all =
+    lacking-by (x == newline) (list_all (λ byte. not (byte == newline)) (take n xs)) (text_length xs) n (text_length (drop n xs)) all
+    (block-length n xs (omega (arith, fits)))
+
+room_behind : (bytes : List ℕ) (done size : ℕ) → done + size ≤ length bytes → size ≤ length (drop done bytes)
+room_behind bytes done size fits = grind (arith, common_steps)
+
+-- nor does one stand in a block behind them
+pub block_seen : (bytes : List ℕ) (done size : ℕ) → done + size ≤ length bytes → text_length bytes ≡ done + text_length (drop done bytes)
+    → list_all (λ byte. not (byte == newline)) (take (done + size - done) (drop done bytes)) ≡ true → text_length bytes ≡ done + size + text_length (drop (done + size) bytes)
+block_seen bytes done size fits before lacks =
+    let same : size ≡ done + size - done = omega arith in
+    let block =
+    block-length size (drop done bytes) (room_behind bytes done size fits)
+    (ap (λ (n : ℕ). list_all (λ byte. not (byte == newline)) (take n (drop done bytes))) same ∙ lacks) in
+    let behind : text_length (drop size (drop done bytes)) ≡ text_length (drop (done + size) bytes) = ap text_length (drop-drop size done bytes) in
+    omega (arith, before, block, behind)
 
 -- a newline stands among them
 first-by : (test : Bool) (n m k : ℕ) → (if test then 0 else suc n) < suc k → (n < k → m ≡ n) → (if test then 0 else suc m) ≡ (if test then 0 else suc n)

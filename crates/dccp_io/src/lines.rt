@@ -1,8 +1,9 @@
 //! The lines of an input, one by one.
-ghost use Rattle.std.specs.Prelude.{◌≡◌, ◌+◌, ◌≤◌, [], length, take, drop, true, None, IfOk, OnErr, IfSome};
+ghost use Rattle.std.specs.Prelude.{◌≡◌, ◌+◌, ◌≤◌, ◌==◌, [], length, take, drop, not, true, None, IfOk, OnErr, IfSome};
+ghost use Rattle.std.specs.List.{list_all};
 ghost use Rattle.dccp_io.specs.Counts.{Rose};
 ghost use Rattle.dccp_io.specs.Ahead.{ahead_of};
-ghost use Rattle.dccp_io.specs.Lines.{IsLineOf, IsSought, Seeks, enough, first_line, holds_next, is_line_settled, made_out, next_in_bytes, text_length};
+ghost use Rattle.dccp_io.specs.Lines.{IsLineOf, IsSought, Seeks, enough, first_line, holds_next, is_line_settled, made_out, newline, next_in_bytes, text_length};
 
 use crate::{Failed, ReadAhead, Source};
 use seq_circle::NoMemory;
@@ -58,6 +59,35 @@ enum Stands {
     TooMuch,
 }
 
+// How many bytes are judged at a time, so that they can be judged side by side.
+const SIDE_BY_SIDE: usize = 32;
+
+// Whether a block has no newline; none of its bytes ends the search.
+fn lacks_newline(block: &[u8]) -> bool
+    ensures { result ≡ list_all (λ byte. not (byte == newline)) block.now }
+{
+    let mut lacks = true;
+    for byte in block {
+        lacks = lacks & (*byte != b'\n');
+    }
+    lacks
+}
+
+// How many bytes stand before the first newline at least: the first `seen`, and those of whole blocks behind them.
+#[tactic(auto, using(crate::proofs::NextLine::block_seen))]
+fn blocks_seen(bytes: &[u8], seen: usize) -> usize
+    requires inside { seen ≤ length bytes.now }
+    requires before { text_length bytes.now ≡ seen + text_length (drop seen bytes.now) }
+    ensures inside { result ≤ length bytes.now }
+    ensures before { text_length bytes.now ≡ result + text_length (drop result bytes.now) }
+{
+    let mut done = seen;
+    while SIDE_BY_SIDE <= bytes.len() - done && lacks_newline(&bytes[done..done + SIDE_BY_SIDE]) {
+        done += SIDE_BY_SIDE;
+    }
+    done
+}
+
 // How many bytes stand before the first newline, where none of these is among the first `seen`.
 fn text_length(bytes: &[u8], seen: usize) -> usize
     requires inside { seen ≤ length bytes.now }
@@ -65,7 +95,8 @@ fn text_length(bytes: &[u8], seen: usize) -> usize
     ensures value { result ≡ text_length bytes.now }
     ensures fits { result ≤ length bytes.now }
 {
-    for index in seen..bytes.len() {
+    let front = blocks_seen(bytes, seen);
+    for index in front..bytes.len() {
         if bytes[index] == b'\n' {
             return index;
         }
