@@ -85,6 +85,7 @@ fn closes<C: Congestion>(pair: &mut Pair<C>, role: Role) -> bool {
         && has_ended(pair)
         && pair.pass(240_000)
         && pair.are(Phase::Closed)
+        && pair.wait_of(role, Timer::TimeWait).is_none()
 }
 
 fn is_four(held: Held) -> bool {
@@ -99,14 +100,20 @@ fn settles<C: Congestion>(pair: &mut Pair<C>) -> bool {
         && pair.told(Feature::AckRatio).is_some_and(is_four)
 }
 
+// The client is in PARTOPEN, the server in RESPOND.
+fn waits_in_part_open<C: Congestion>(pair: &Pair<C>) -> bool {
+    pair.wait_of(Role::Client, Timer::Ack) == Some(200)
+        && pair.wait_of(Role::Client, Timer::Negotiate) == Some(1_000)
+        && pair.wait_of(Role::Server, Timer::Request).is_none()
+}
+
 // The waits of RFC 4340, sections 8.1.1, 8.1.5 and 8.3, with round trips of 200 milliseconds and segments that live for
 // two minutes (section 3.4); and a second for a Confirm and for a report: the first that is amiss.
 fn first_wait_amiss<C: Congestion>(pair: &mut Pair<C>) -> usize {
     if pair.wait_of(Role::Client, Timer::Request) != Some(1_000) {
         return 1;
     }
-    // In PARTOPEN.
-    if !pair.go_on(1) || pair.wait_of(Role::Client, Timer::Ack) != Some(200) {
+    if !pair.go_on(1) || !waits_in_part_open(pair) {
         return 2;
     }
     if !pair.opens() || pair.wait_of(Role::Server, Timer::Ack) != Some(200) {
@@ -121,12 +128,15 @@ fn first_wait_amiss<C: Congestion>(pair: &mut Pair<C>) -> usize {
     closing_wait_amiss(pair)
 }
 
-// The server is in CLOSEREQ, the client in CLOSING and then in TIMEWAIT.
+// The server is in CLOSEREQ, the client in CLOSING, where its data are in flight still, and then in TIMEWAIT.
 fn closing_wait_amiss<C: Congestion>(pair: &mut Pair<C>) -> usize {
     if !pair.close(Role::Server) || pair.wait_of(Role::Server, Timer::Close) != Some(400) {
         return 6;
     }
-    if !pair.go_on(1) || pair.wait_of(Role::Client, Timer::Close) != Some(400) {
+    if !pair.go_on(1)
+        || pair.wait_of(Role::Client, Timer::Close) != Some(400)
+        || pair.wait_of(Role::Client, Timer::Rto).is_some()
+    {
         return 7;
     }
     if !pair.go_on(5) || pair.wait_of(Role::Client, Timer::TimeWait) != Some(240_000) {
@@ -217,6 +227,17 @@ const REPORTS: [(usize, bool, u64); 7] = [
     (7, true, 1_000),
 ];
 
+// Two data go out, of which the first are acknowledged before the second have come: from then on the second are waited
+// for anew (RFC 2988, section 5.3).
+fn waits_anew<C: Congestion>(pair: &mut Pair<C>) -> bool {
+    pair.send(&[8]) == Some(true)
+        && pair.go_on(5)
+        && pair.send(&[9]) == Some(true)
+        && pair.until_first() == Some(750)
+        && pair.go_on(1)
+        && pair.until_first() == Some(1_000)
+}
+
 // A timeout leaves nothing in flight, so the timer stops; the next data begin it with twice its wait (RFC 2988, section
 // 5.5), until an acknowledgement brings the first wait back (section 5.3): the first data that are amiss.
 fn report_amiss<C: Congestion>(pair: &mut Pair<C>) -> usize {
@@ -229,7 +250,11 @@ fn report_amiss<C: Congestion>(pair: &mut Pair<C>) -> usize {
         }
     }
     // The three others were lost.
-    if pair.delivered().len() == 4 { 0 } else { 9 }
+    if pair.delivered().len() == 4 && waits_anew(pair) {
+        0
+    } else {
+        9
+    }
 }
 
 // A datagram that is too long is not heard, and one that says nothing changes nothing.

@@ -44,6 +44,8 @@ fn round_the_circle(rt: HostRuntime) -> Result<(), Fail> {
     assert_eq!(rt; last.distance(first), 1);
     assert!(rt; last.before(first));
     assert!(rt; !first.before(last));
+    assert!(rt; !first.before(first), "no number is before itself");
+    assert!(rt; first.before(half.sub(1)), "a step less than half a circle");
     assert!(rt; !first.before(half), "half a circle ahead is not before");
     assert_eq!(rt; last.max_of(first), first);
     assert_eq!(rt; last.add(281_474_976_710_656), last, "once round");

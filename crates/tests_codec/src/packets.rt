@@ -94,8 +94,9 @@ fn refused_packets(rt: HostRuntime) -> Result<(), Fail> {
 }
 
 // Types that have long numbers alone, with X = 0: the offset is measured by the long form, and that comes first. A Data
-// of the short form is measured by that.
-const WITHOUT_LONG_NUMBERS: [(&str, Malformed); 15] = [
+// of the short form is measured by that. An offset that is both too small and beyond the end is too small, and one
+// beyond the end comes before the form of the numbers.
+const WITHOUT_LONG_NUMBERS: [(&str, Malformed); 17] = [
     ("9c401389040000000000000100000000", Malformed::OffsetSmall),
     (
         "9c40138905000000000000010000000000000000",
@@ -150,6 +151,11 @@ const WITHOUT_LONG_NUMBERS: [(&str, Malformed); 15] = [
         Malformed::ShortNumbers,
     ),
     ("9c4013890200000004000001", Malformed::OffsetSmall),
+    ("9c4013890400000000000001", Malformed::OffsetSmall),
+    (
+        "9c40138906000000000000010000000000000000",
+        Malformed::OffsetLarge,
+    ),
 ];
 
 #[test]
@@ -217,7 +223,7 @@ fn fields_of_a_request(rt: HostRuntime) -> Result<(), Fail> {
 
 // A frame, its type, and its acknowledgement number, Service Code and Reset Code as they stand in it. In the last two the
 // three reserved bits before the type are set.
-const FIELDS: [(&str, PacketType, Option<u64>, Option<u32>, u8); 12] = [
+const FIELDS: [(&str, PacketType, Option<u64>, Option<u32>, u8); 13] = [
     (
         "9c401389050031ec01000000000003e80000002a",
         PacketType::Request,
@@ -289,6 +295,13 @@ const FIELDS: [(&str, PacketType, Option<u64>, Option<u32>, u8); 12] = [
         0,
     ),
     (
+        "13899c400700193a0f000000000007d200000000000003eac8000000",
+        PacketType::Reset,
+        Some(1002),
+        None,
+        200,
+    ),
+    (
         "13899c4004000000e5000000000007d0",
         PacketType::Data,
         None,
@@ -343,6 +356,25 @@ fn carries(
             && has_codes(&kind, service, code),
         None => false,
     }
+}
+
+// Whether the header has a spelling with these fields.
+fn is_valid_with(header: &Header, ccval: u8, cscov: u8) -> bool {
+    let changed = Header {
+        ccval,
+        cscov,
+        ..*header
+    };
+    changed.valid()
+}
+
+#[test]
+fn fields_of_four_bits(rt: HostRuntime) -> Result<(), Fail> {
+    let request = header_of(&bytes_of(rt.alloc(), REQUEST)?).ok_or("a Request")?;
+    assert!(rt; is_valid_with(&request, 15, 15));
+    assert!(rt; !is_valid_with(&request, 16, 0));
+    assert!(rt; !is_valid_with(&request, 0, 16));
+    Ok(())
 }
 
 #[test]
@@ -560,6 +592,10 @@ fn numbers_in_a_form(rt: HostRuntime) -> Result<(), Fail> {
     assert_eq!(rt; ack.in_form(true).ack_near(number.next()), Some(number));
     let data_ack = Kind::DataAck { ack: long };
     assert_eq!(rt; data_ack.in_form(true), Kind::DataAck { ack: short });
+    assert_eq!(rt;
+        data_ack.in_form(true).ack_near(number.next()),
+        Some(number)
+    );
     let sync = Kind::Sync { ack: number };
     assert_eq!(rt; sync.in_form(true), sync, "a Sync has the long form alone");
     assert_eq!(rt; sync.ack_near(number.add(1 << 40)), Some(number));

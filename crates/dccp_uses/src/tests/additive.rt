@@ -14,7 +14,7 @@ fn take_report<C: Congestion>(kind: &mut C, ack: u64, byte: u8) -> Result<(u32, 
     Ok((kind.window(), kind.in_flight()))
 }
 
-// 1 is received: the window is 2. Then 2 is marked: it is 1 again.
+// 1 is received: the window is 2, and a report that says no more leaves it. Then 2 is marked: it is 1 again.
 #[test]
 fn grows_and_is_halved(rt: HostRuntime) -> Result<(), Fail> {
     let mut kind = AdditiveWindow::new(rt.alloc())?;
@@ -22,10 +22,12 @@ fn grows_and_is_halved(rt: HostRuntime) -> Result<(), Fail> {
     assert!(rt; kind.may_send());
     kind.on_sent(Seq48::new(1).ok_or("below 2^48")?);
     assert_eq!(rt; take_report(&mut kind, 1, 0x00)?, (2, 0));
+    assert_eq!(rt; take_report(&mut kind, 1, 0x00)?, (2, 0));
     assert!(rt; kind.may_send());
     kind.on_sent(Seq48::new(2).ok_or("below 2^48")?);
     assert_eq!(rt; take_report(&mut kind, 2, 0x40)?, (1, 0));
     kind.on_timeout();
+    assert_eq!(rt; (kind.window(), kind.in_flight()), (1, 0));
     kind.start(249);
     assert_eq!(rt; (kind.window(), kind.in_flight()), (1, 0));
     Ok(())
