@@ -38,6 +38,11 @@ def program():
     return PROGRAM
 
 
+def example(name):
+    """The file of this name in examples/, in whichever folder it stands."""
+    return next(EXAMPLES.glob(f"*/{name}"))
+
+
 def compare(wanted, found):
     """Prints where two texts differ."""
     texts = [it.decode(errors="backslashreplace").splitlines() for it in (wanted, found)]

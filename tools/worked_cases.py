@@ -89,7 +89,7 @@ def case_of(words, given, told, indent):
 
 def cases(stem):
     """The cases of a file of examples/."""
-    path = next(it for it in sorted(EXAMPLES.glob(f"{stem}.*")) if it.suffix in (".schedule", ".replay", ".campaign"))
+    path = next(it for it in sorted(EXAMPLES.glob(f"*/{stem}.*")) if it.suffix in (".schedule", ".replay", ".campaign"))
     told = path.with_suffix(".expected").read_bytes().decode()
     for words, given in inputs(path.read_bytes().decode()):
         own, told = answers(told, words)
