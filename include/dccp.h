@@ -5,7 +5,7 @@
  *
  * Order of calls: begin a handle with DCCP_NONE, make an end in it, and for a client open it. From then on
  * dccp_receive for each datagram, dccp_timer for each timer that has run out, dccp_send, dccp_prefer, dccp_close and
- * dccp_abort in whatever order. dccp_free at last. docs/LIBRARY.md says which timers run when.
+ * dccp_abort in whatever order. dccp_free at last. docs/USING.md, "The timers", says which run when.
  *
  * After every call: if frame.length is not 0, its bytes go to the peer, whatever the call answered. A call that was
  * refused has changed nothing and leaves no bytes.
