@@ -1,0 +1,127 @@
+-- What is computed of a list of deeds is a run: one deed by cases on what its peer has, and the induction over all.
+use Rattle.std.proofs.Common.{◌≡◌, refl, ap, sym, ◌∙◌, ℕ, Bool, true, false, cond, if◌then◌else◌, List, [], ◌∷◌, Option, Some, None, IsSome, is_some}
+use Rattle.std.proofs.lemmas.Map.{lookup-remove_entry, lookup-set_value}
+use Rattle.std.proofs.lemmas.Map.Keys.{IsDistinct-from_sorted}
+use Rattle.std.specs.Map.{keys_of, remove_entry, set_value}
+use Rattle.ccid_two.specs.Kinds.{Both}
+use Rattle.dccp_endpoint.specs.Controlled.{EndStep}
+use Rattle.dccp_endpoint.specs.Inputs.{Answer}
+use Rattle.two_ends.specs.World.{seen_of}
+use Rattle.dccp_listener.specs.Calls.{IsStep}
+use Rattle.dccp_listener.specs.Chain.{Arrives, Calls, ChainStep, Deed, chain_step, flow_step, fresh_end, is_flow, is_given_up}
+use Rattle.dccp_listener.specs.Listens.{AreInOrder, WhatIsComputedIsARun, is_table_full, listening_after, listens_by, fresh_met, with_end}
+use Rattle.dccp_listener.specs.Peers.{FlowEnd, Flows, Listening, end_of_peer, is_peer, peer_cmp}
+use Rattle.dccp_listener.specs.Runs.{IsTurnSo}
+use Rattle.dccp_listener.specs.declared.peer.Peer.{Peer}
+use Rattle.dccp_listener.proofs.InOrder.{found_insert, in_order_insert, in_order_remove, in_order_set}
+use Rattle.dccp_listener.proofs.OnePeer.{peers_alike}
+
+-- a step of which this end is left
+abbrev shows : Option FlowEnd → EndStep Both Answer → ChainStep
+shows after step = record { after = after; frame = step.frame; seen = Some (seen_of step.answer) }
+
+abbrev nothing_shown : Option FlowEnd → ChainStep
+nothing_shown after = record { after = after; frame = None; seen = None }
+
+own-after : (peer : Peer) (e : FlowEnd) (flows : Flows) (over : Bool) → AreInOrder flows → IsSome (end_of_peer flows peer)
+    → end_of_peer (if over then remove_entry (is_peer peer) flows else set_value (is_peer peer) flows e) peer ≡ (if over then None else Some e)
+own-after peer e flows true ordered there =
+    lookup-remove_entry peers_alike (is_peer peer) (peers_alike.congr peer) peer flows (IsDistinct-from_sorted peer_cmp (keys_of flows) ordered)
+    ∙ ap (λ (b : Bool). cond b None (end_of_peer flows peer)) (peers_alike.refl peer)
+own-after peer e flows false ordered there =
+    lookup-set_value peers_alike (is_peer peer) (peers_alike.congr peer) peer e flows there
+    ∙ ap (λ (b : Bool). cond b (Some e) (end_of_peer flows peer)) (peers_alike.refl peer)
+
+others-after : (peer other : Peer) (e : FlowEnd) (flows : Flows) (over : Bool) → AreInOrder flows → IsSome (end_of_peer flows peer) → is_peer peer other ≡ false
+    → end_of_peer (if over then remove_entry (is_peer peer) flows else set_value (is_peer peer) flows e) other ≡ end_of_peer flows other
+others-after peer other e flows true ordered there apart =
+    lookup-remove_entry peers_alike (is_peer peer) (peers_alike.congr peer) other flows (IsDistinct-from_sorted peer_cmp (keys_of flows) ordered)
+    ∙ ap (λ (b : Bool). cond b None (end_of_peer flows other)) apart
+others-after peer other e flows false ordered there apart =
+    lookup-set_value peers_alike (is_peer peer) (peers_alike.congr peer) other e flows there
+    ∙ ap (λ (b : Bool). cond b (Some e) (end_of_peer flows other)) apart
+
+-- an end that stands takes a step
+stands-step : (l : Listening) (peer : Peer) (deed : Deed) (e : FlowEnd) → end_of_peer l.flows peer ≡ Some e → AreInOrder l.flows
+    → IsStep l (record l { flows = with_end l.flows peer (flow_step e deed).after }) peer deed (flow_step e deed).frame (Some (seen_of (flow_step e deed).answer))
+stands-step l peer deed e found ordered =
+    let next : FlowEnd = (flow_step e deed).after in
+    let there : IsSome (end_of_peer l.flows peer) = ap is_some found in
+    let shown = λ (after : Option FlowEnd). shows after (flow_step e deed) in
+    record {
+      own = ap shown (own-after peer next l.flows (is_given_up next.state.phase) ordered there) ∙ ap (λ (x : Option FlowEnd). chain_step l.config peer x deed) (sym found);
+      others = λ other apart. others-after peer other next l.flows (is_given_up next.state.phase) ordered there apart;
+      same_config = refl;
+    }
+
+-- a fresh end meets a datagram
+meets : (l : Listening) (peer : Peer) (iss : ℕ) (bytes : List ℕ) → end_of_peer l.flows peer ≡ None → (stays full : Bool)
+    → is_flow (flow_step (fresh_end l.config peer iss bytes) (Arrives iss bytes)).after.state.phase ≡ stays
+    → IsTurnSo l (record l { flows = (fresh_met l peer iss bytes (flow_step (fresh_end l.config peer iss bytes) (Arrives iss bytes)) stays full).flows })
+    (record {
+      peer = peer;
+      deed = Arrives iss bytes;
+      frame = (fresh_met l peer iss bytes (flow_step (fresh_end l.config peer iss bytes) (Arrives iss bytes)) stays full).frame;
+      told = (fresh_met l peer iss bytes (flow_step (fresh_end l.config peer iss bytes) (Arrives iss bytes)) stays full).told;
+    })
+    (fresh_met l peer iss bytes (flow_step (fresh_end l.config peer iss bytes) (Arrives iss bytes)) stays full).told
+meets l peer iss bytes found false full is =
+    let step : EndStep Both Answer = flow_step (fresh_end l.config peer iss bytes) (Arrives iss bytes) in
+    record {
+      own = ap (λ (x : Option FlowEnd). shows x step) found ∙ ap (λ (b : Bool). shows (if b then Some step.after else None) step) (sym is)
+          ∙ ap (λ (x : Option FlowEnd). chain_step l.config peer x (Arrives iss bytes)) (sym found);
+      others = λ other apart. refl;
+      same_config = refl;
+    }
+meets l peer iss bytes found true true is = refl
+meets l peer iss bytes found true false is =
+    let step : EndStep Both Answer = flow_step (fresh_end l.config peer iss bytes) (Arrives iss bytes) in
+    record {
+      own = ap (λ (x : Option FlowEnd). shows x step)
+          (found_insert peer peer step.after l.flows ∙ ap (λ (b : Bool). cond b (Some step.after) (end_of_peer l.flows peer)) (peers_alike.refl peer))
+          ∙ ap (λ (b : Bool). shows (if b then Some step.after else None) step) (sym is)
+          ∙ ap (λ (x : Option FlowEnd). chain_step l.config peer x (Arrives iss bytes)) (sym found);
+      others = λ other apart. found_insert other peer step.after l.flows
+          ∙ ap (λ (b : Bool). cond b (Some step.after) (end_of_peer l.flows other)) (peers_alike.symm other peer ∙ apart);
+      same_config = refl;
+    }
+
+turn-so : (l : Listening) (peer : Peer) (found : Option FlowEnd) (deed : Deed) → end_of_peer l.flows peer ≡ found → AreInOrder l.flows
+    → IsTurnSo l (record l { flows = (listens_by l peer found deed).flows })
+    (record { peer = peer; deed = deed; frame = (listens_by l peer found deed).frame; told = (listens_by l peer found deed).told })
+    (listens_by l peer found deed).told
+turn-so l peer (Some e) deed is ordered = stands-step l peer deed e is ordered
+turn-so l peer None (Arrives iss bytes) is ordered =
+    meets l peer iss bytes is (is_flow (flow_step (fresh_end l.config peer iss bytes) (Arrives iss bytes)).after.state.phase) (is_table_full l) refl
+turn-so l peer None (Calls call) is ordered =
+    record {
+      own = ap (λ (x : Option FlowEnd). nothing_shown x) is ∙ ap (λ (x : Option FlowEnd). chain_step l.config peer x (Calls call)) (sym is);
+      others = λ other apart. refl;
+      same_config = refl;
+    }
+
+order-with : (peer : Peer) (e : FlowEnd) (flows : Flows) (over : Bool) → AreInOrder flows
+    → AreInOrder (if over then remove_entry (is_peer peer) flows else set_value (is_peer peer) flows e)
+order-with peer e flows true ordered = in_order_remove (is_peer peer) flows ordered
+order-with peer e flows false ordered = in_order_set (is_peer peer) flows e ordered
+
+order-met : (l : Listening) (peer : Peer) (iss : ℕ) (bytes : List ℕ) (step : EndStep Both Answer) (stays full : Bool) → AreInOrder l.flows
+    → AreInOrder (fresh_met l peer iss bytes step stays full).flows
+order-met l peer iss bytes step false full ordered = ordered
+order-met l peer iss bytes step true true ordered = ordered
+order-met l peer iss bytes step true false ordered = in_order_insert peer step.after l.flows ordered
+
+order-so : (l : Listening) (peer : Peer) (found : Option FlowEnd) (deed : Deed) → AreInOrder l.flows → AreInOrder (listens_by l peer found deed).flows
+order-so l peer (Some e) deed ordered =
+    order-with peer (flow_step e deed).after l.flows (is_given_up (flow_step e deed).after.state.phase) ordered
+order-so l peer None (Arrives iss bytes) ordered =
+    order-met l peer iss bytes (flow_step (fresh_end l.config peer iss bytes) (Arrives iss bytes))
+    (is_flow (flow_step (fresh_end l.config peer iss bytes) (Arrives iss bytes)).after.state.phase) (is_table_full l) ordered
+order-so l peer None (Calls call) ordered = ordered
+
+pub computed_runs : WhatIsComputedIsARun
+computed_runs l [] ordered = (refl, ordered)
+computed_runs l (now ∷ later) ordered =
+    let next : Listening = listening_after l now.0 now.1 in
+    let rest = computed_runs next later (order-so l now.0 (end_of_peer l.flows now.0) now.1 ordered) in
+    ((next, turn-so l now.0 (end_of_peer l.flows now.0) now.1 refl ordered, rest.0), rest.1)

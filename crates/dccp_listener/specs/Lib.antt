@@ -1,0 +1,8 @@
+pub mod Peers
+pub mod Chain
+pub mod Calls
+pub mod Runs
+pub mod Listens
+pub mod Moves
+pub mod Standing
+pub mod Turning

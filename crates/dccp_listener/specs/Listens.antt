@@ -1,0 +1,85 @@
+-- What a call of a listener comes to, computed (own).
+use Rattle.std.specs.Prelude.{◌≡◌, nat_le, ℕ, Bool, true, false, List, [], ◌∷◌, length, Option, Some, None, if◌then◌else◌, slice_get}
+use Rattle.std.specs.BTreeMap.{insert_entry}
+use Rattle.std.specs.List.Sorted.{IsStrictlySortedBy}
+use Rattle.std.specs.Map.{keys_of, remove_entry, set_value}
+use Rattle.ccid_two.specs.Kinds.{Both}
+use Rattle.dccp_endpoint.specs.Controlled.{EndStep}
+use Rattle.dccp_endpoint.specs.Inputs.{Answer}
+use Rattle.dccp_packets.specs.Grammar.{decoded}
+use Rattle.two_ends.specs.World.{seen_of}
+use Rattle.dccp_listener.specs.Calls.{busy_frame}
+use Rattle.dccp_listener.specs.Chain.{Arrives, Calls, Deed, config_for, flow_step, fresh_end, is_flow, is_given_up}
+use Rattle.dccp_listener.specs.Peers.{FlowEnd, Flows, Listening, end_of_peer, is_peer, peer_cmp}
+use Rattle.dccp_listener.specs.Runs.{IsRunOfTurns, Stepped, CallTold, CallTurn, WasBusy}
+use Rattle.dccp_listener.specs.declared.peer.Peer.{Peer}
+
+-- the flows after a call, the frame that goes to the peer, and what was told
+pub record Listened : Type 0 where
+  pub flows : Flows
+  pub frame : Option (List ℕ)
+  pub told : CallTold
+
+-- the flows once the peer's end is this one, which goes where it is CLOSED
+abbrev pub with_end : Flows → Peer → FlowEnd → Flows
+with_end flows peer e = if is_given_up e.state.phase then remove_entry (is_peer peer) flows else set_value (is_peer peer) flows e
+
+-- an end has flow_answered, and these are the flows then
+abbrev pub flow_answered : Flows → EndStep Both Answer → Listened
+flow_answered flows step = record { flows = flows; frame = step.frame; told = Stepped (Some (seen_of step.answer)) }
+
+-- A fresh end has met a datagram. Unless it stays nothing else changes; if it would, there has to be room.
+abbrev pub fresh_met : Listening → Peer → ℕ → List ℕ → EndStep Both Answer → (stays full : Bool) → Listened
+fresh_met l peer iss bytes step false full = flow_answered l.flows step
+fresh_met l peer iss bytes step true true =
+    record { flows = l.flows; frame = busy_frame (config_for l.config peer iss bytes) (decoded bytes); told = WasBusy }
+fresh_met l peer iss bytes step true false = flow_answered (insert_entry peer_cmp l.flows peer step.after) step
+
+-- as many flows stand as may
+abbrev pub is_table_full : Listening → Bool
+is_table_full l = nat_le l.config.most (length l.flows)
+
+-- a deed of a peer that has this end or none
+abbrev pub listens_by : Listening → Peer → Option FlowEnd → Deed → Listened
+listens_by l peer (Some e) deed = flow_answered (with_end l.flows peer (flow_step e deed).after) (flow_step e deed)
+listens_by l peer None (Arrives iss bytes) =
+    fresh_met l peer iss bytes (flow_step (fresh_end l.config peer iss bytes) (Arrives iss bytes))
+    (is_flow (flow_step (fresh_end l.config peer iss bytes) (Arrives iss bytes)).after.state.phase) (is_table_full l)
+listens_by l peer None (Calls call) = record { flows = l.flows; frame = None; told = Stepped None }
+
+-- a deed of a peer, where memory is found
+abbrev pub listens : Listening → Peer → Deed → Listened
+listens l peer deed = listens_by l peer (end_of_peer l.flows peer) deed
+
+-- the listener after it
+abbrev pub listening_after : Listening → Peer → Deed → Listening
+listening_after l peer deed = record l { flows = (listens l peer deed).flows }
+
+-- it as one turn
+abbrev pub computed_turn : Listening → Peer → Deed → CallTurn
+computed_turn l peer deed = record { peer = peer; deed = deed; frame = (listens l peer deed).frame; told = (listens l peer deed).told }
+
+-- deeds one after another
+abbrev pub listening_through : Listening → List (Peer × Deed) → Listening
+listening_through l [] = l
+listening_through l (now ∷ later) = listening_through (listening_after l now.0 now.1) later
+
+abbrev pub turns_of : Listening → List (Peer × Deed) → List CallTurn
+turns_of l [] = []
+turns_of l (now ∷ later) = computed_turn l now.0 now.1 ∷ turns_of (listening_after l now.0 now.1) later
+
+-- the peers stand in order, each once
+abbrev pub AreInOrder : Flows → Type 0
+AreInOrder flows = IsStrictlySortedBy peer_cmp (keys_of flows)
+
+-- What is computed of a list of deeds is a run of the listener, and leaves the peers in order.
+abbrev pub WhatIsComputedIsARun : Type 0
+WhatIsComputedIsARun =
+    (l : Listening) (deeds : List (Peer × Deed)) → AreInOrder l.flows
+    → IsRunOfTurns l (listening_through l deeds) (turns_of l deeds) × AreInOrder (listening_through l deeds).flows
+
+-- the peer at a place has the end that stands there
+abbrev pub PeersAtPlaces : Type 0
+PeersAtPlaces =
+    (flows : Flows) → AreInOrder flows → (place : ℕ) (peer : Peer) (e : FlowEnd) → slice_get flows place ≡ Some (peer, e)
+    → end_of_peer flows peer ≡ Some e

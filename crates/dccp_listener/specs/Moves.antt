@@ -1,0 +1,25 @@
+-- What one deed makes of a peer's end where it stands among the others, in two halves: it moves, and goes where it is over (own).
+use Rattle.std.specs.Prelude.{◌≡◌, ℕ, Bool, List, Option, Some, None}
+use Rattle.std.specs.Map.{set_value}
+use Rattle.ccid_two.specs.Kinds.{Both}
+use Rattle.dccp_endpoint.specs.Controlled.{EndStep}
+use Rattle.dccp_listener.specs.Chain.{is_given_up, kept_until_over}
+use Rattle.dccp_listener.specs.Listens.{with_end}
+use Rattle.dccp_listener.specs.Peers.{FlowEnd, Flows, is_peer}
+use Rattle.dccp_listener.specs.declared.peer.Peer.{Peer}
+
+-- the peer's own end after the first half, all flows, the frame, and what is shown of the answer beside whether the end is over
+abbrev pub FlowMoves : {A B : Type 0} → (FlowEnd → EndStep Both A) → (A → B) → Option FlowEnd → (own : Option FlowEnd) (before after : Flows) → Peer
+    → Option (List ℕ) → Option (B × Bool) → Type 0
+FlowMoves step show (Some e) own before after peer frame told =
+    (own ≡ Some (step e).after) × (after ≡ set_value (is_peer peer) before (step e).after) × (frame ≡ (step e).frame)
+    × (told ≡ Some (show (step e).answer, is_given_up (step e).after.state.phase))
+FlowMoves step show None own before after peer frame told = (own ≡ None) × (after ≡ before) × (frame ≡ None) × (told ≡ None)
+
+-- the same after both
+abbrev pub FlowSteps : {A B : Type 0} → (FlowEnd → EndStep Both A) → (A → B) → Option FlowEnd → (own : Option FlowEnd) (before after : Flows) → Peer
+    → Option (List ℕ) → Option B → Type 0
+FlowSteps step show (Some e) own before after peer frame told =
+    (own ≡ kept_until_over (step e).after) × (after ≡ with_end before peer (step e).after) × (frame ≡ (step e).frame)
+    × (told ≡ Some (show (step e).answer))
+FlowSteps step show None own before after peer frame told = (own ≡ None) × (after ≡ before) × (frame ≡ None) × (told ≡ None)

@@ -1,0 +1,36 @@
+-- What always holds of a listener and of each end in it (own).
+use Rattle.std.specs.Prelude.{◌≡◌, ◌≤◌, ℕ, true, List, length, Option, IfSome}
+use Rattle.feature_lists.specs.Lists.{is_distinct}
+use Rattle.feature_machine.specs.Lists.{IsLists}
+use Rattle.dccp_endpoint.specs.End.{IsProper}
+use Rattle.dccp_listener.specs.Chain.{Deed, chain_step, config_for, is_flow}
+use Rattle.dccp_listener.specs.Peers.{FlowEnd, Flows, end_of_peer}
+use Rattle.dccp_listener.specs.declared.config.ListenConfig.{ListenConfig}
+use Rattle.dccp_listener.specs.declared.peer.Peer.{Peer}
+
+-- what a listener may be made from
+pub record IsListening (config : ListenConfig) : Type 0 where
+  pub some : 1 ≤ length config.services.items
+  pub distinct : is_distinct config.services.items ≡ true
+  pub least : 1 ≤ config.most
+  pub most : config.most ≤ 1024
+
+-- An end of a peer was made for the peer, by the listener's configuration, and is neither CLOSED nor in LISTEN.
+pub record Stands (config : ListenConfig) (peer : Peer) (e : FlowEnd) : Type 0 where
+  pub iss : ℕ
+  pub bytes : List ℕ
+  pub made_for : e.state.config ≡ config_for config peer iss bytes
+  pub proper : IsProper e.state
+  pub phase_is : is_flow e.state.phase ≡ true
+
+-- There are no more flows than may be, and the end of each peer stands.
+pub record IsSoundListener (config : ListenConfig) (flows : Flows) : Type 0 where
+  pub room : length flows ≤ config.most
+  pub lists : IsLists config.lists
+  pub stand : (peer : Peer) → IfSome (end_of_peer flows peer) (Stands config peer)
+
+-- Every step of a chain leaves none, or an end that stands.
+abbrev pub ChainsStand : Type 0
+ChainsStand =
+    (config : ListenConfig) (peer : Peer) (before : Option FlowEnd) (deed : Deed) → IsLists config.lists
+    → IfSome before (Stands config peer) → IfSome (chain_step config peer before deed).after (Stands config peer)

@@ -1,0 +1,84 @@
+//! What a listener is made from, and what a peer's end is made from then.
+ghost use Rattle.std.specs.Prelude.{◌≡◌, length};
+ghost use Rattle.dccp_packets.specs.Grammar.{decoded};
+ghost use Rattle.dccp_listener.specs.Chain.{asked_service, config_for, service_for};
+
+use crate::Peer;
+use arrayvec::ArrayVec;
+use dccp_endpoint::{Config, Lists, Pseudo, Role, Seq48};
+use dccp_packets::{Kind, decode};
+
+/// What a listener is made from (own).
+#[derive(Clone, Debug, Drop)]
+pub struct ListenConfig {
+    /// The IPv4 address that datagrams are sent to.
+    pub own_address: [u8; 4],
+    /// The port that they are sent to.
+    pub own_port: u16,
+    /// The Service Codes that it serves (RFC 4340, section 8.1.2): 1 to 16, each once.
+    pub services: ArrayVec<u32, 16>,
+    /// What each peer's end wishes for its features. Its offers are not made (RFC 4340, section 6).
+    pub lists: Lists,
+    /// The most flows that stand at a time: 1 to 1,024.
+    pub most: u16,
+}
+
+// The Service Code that bytes ask for.
+fn asked_service(bytes: &[u8]) -> Option<u32>
+    ensures { result ≡ asked_service (decoded bytes.now) }
+{
+    match decode(bytes) {
+        Ok(packet) => match packet.header.kind {
+            Kind::Request { service } => Some(service),
+            _ => None,
+        },
+        Err(_) => None,
+    }
+}
+
+// The service that a fresh end offers.
+fn service_for(services: &[u32], asked: Option<u32>) -> u32
+    ensures { result ≡ service_for services.now asked }
+{
+    let first = match services.first() {
+        Some(first) => *first,
+        None => 0,
+    };
+    match asked {
+        Some(asked) => {
+            if services.contains(&asked) {
+                asked
+            } else {
+                first
+            }
+        }
+        None => first,
+    }
+}
+
+/// What a fresh end for the peer is made from.
+pub(crate) fn config_for(config: &ListenConfig, peer: Peer, iss: Seq48, bytes: &[u8]) -> Config
+    ensures { result ≡ config_for config.now peer iss bytes.now }
+{
+    let mut lists = config.lists;
+    lists.plain();
+    let own_address = config.own_address;
+    let address = peer.address;
+    let service = service_for(config.services.as_slice(), asked_service(bytes));
+    Config {
+        role: Role::Server,
+        pseudo_out: Pseudo::V4 {
+            from: own_address,
+            to: address,
+        },
+        pseudo_in: Pseudo::V4 {
+            from: address,
+            to: own_address,
+        },
+        own_port: config.own_port,
+        peer_port: peer.port,
+        service,
+        iss,
+        lists,
+    }
+}

@@ -1,0 +1,165 @@
+//! The map from peers to their ends, and what one deed makes of it.
+ghost use Rattle.std.specs.Prelude.{◌≡◌, ◌≤◌, ◌+◌, None, Some, Ok, Err, OnOk, OnErr, length, false, if◌then◌else◌};
+ghost use Rattle.std.specs.BTreeMap.{insert_entry};
+ghost use Rattle.std.specs.Map.{remove_entry};
+ghost use Rattle.ccid_two.specs.Kinds.{kinds_control};
+ghost use Rattle.dccp_endpoint.specs.Feeding.{receiving};
+ghost use Rattle.two_ends.specs.World.{seen_of};
+ghost use Rattle.dccp_listener.specs.Chain.{Calls, call_of, flow_step};
+ghost use Rattle.dccp_listener.specs.Moves.{FlowMoves, FlowSteps};
+ghost use Rattle.dccp_listener.specs.Peers.{end_of_peer, is_peer, peer_cmp};
+ghost use Rattle.dccp_listener.specs.declared.peer.Peer.{Peer};
+
+use crate::answers::{call, is_given_up, receive};
+use crate::{Act, Peer};
+use ccid_two::Kinds;
+use dccp_endpoint::{Endpoint, NoMemory, Outbox, Outcome};
+use std::alloc::Global;
+use std::collections::BTreeMap;
+use std::marker::Model;
+use world_events::Seen;
+
+// The end of a peer. It stands apart, so that it stays where it is as peers come and go.
+#[derive(Drop)]
+pub(crate) struct Held {
+    end: Box<Endpoint<Kinds>>,
+}
+
+impl Model for Held {
+    ghost use Rattle.dccp_listener.specs.Peers.{FlowEnd};
+
+    ghost Value = { FlowEnd };
+
+    ghost view = { λ h. h.end.value };
+}
+
+impl Held {
+    ghost use Rattle.std.specs.Prelude.{◌≡◌};
+
+    /// The end.
+    pub(crate) fn end(&self) -> &Endpoint<Kinds>
+        ensures { result.now ≡ self.now }
+    {
+        &self.end
+    }
+}
+
+// The peer's end takes a call where it stands: what was seen, and whether the end is over.
+fn call_flow(
+    flows: &mut BTreeMap<Peer, Held>,
+    peer: Peer,
+    act: Act<'_>,
+    out: &mut Outbox,
+) -> Option<(Seen, bool)>
+    requires { out.old ≡ None }
+    ensures moves { FlowMoves (λ e. flow_step e (Calls (call_of act.entry))) seen_of (end_of_peer flows.old.entries peer) (end_of_peer flows.new.entries peer) flows.old.entries flows.new.entries peer out.new result }
+    ensures others { (other : Peer) → is_peer peer other ≡ false → end_of_peer flows.new.entries other ≡ end_of_peer flows.old.entries other }
+    ensures count { length flows.new.entries ≡ length flows.old.entries }
+{
+    match flows.get_mut(&peer) {
+        Some(held) => {
+            let seen = call(&mut held.end, act, out);
+            let over = is_given_up(held.end.phase());
+            Some((seen, over))
+        }
+        None => None,
+    }
+}
+
+// The peer's end hears a datagram where it stands: its answer, and whether the end is over.
+fn receive_at(
+    flows: &mut BTreeMap<Peer, Held>,
+    peer: Peer,
+    bytes: &[u8],
+    out: &mut Outbox,
+) -> Option<(Outcome, bool)>
+    requires empty { out.old ≡ None }
+    requires short { length bytes.now ≤ 2044 }
+    ensures moves { FlowMoves (λ e. receiving kinds_control e bytes.now) (λ outcome. outcome) (end_of_peer flows.old.entries peer) (end_of_peer flows.new.entries peer) flows.old.entries flows.new.entries peer out.new result }
+    ensures others { (other : Peer) → is_peer peer other ≡ false → end_of_peer flows.new.entries other ≡ end_of_peer flows.old.entries other }
+    ensures count { length flows.new.entries ≡ length flows.old.entries }
+{
+    match flows.get_mut(&peer) {
+        Some(held) => {
+            let outcome = receive(&mut held.end, bytes, out);
+            let over = is_given_up(held.end.phase());
+            Some((outcome, over))
+        }
+        None => None,
+    }
+}
+
+// The peer's end goes where it is over.
+fn settle(flows: &mut BTreeMap<Peer, Held>, peer: Peer, over: bool)
+    ensures own { end_of_peer flows.new.entries peer ≡ (if over then None else end_of_peer flows.old.entries peer) }
+    ensures others { (other : Peer) → is_peer peer other ≡ false → end_of_peer flows.new.entries other ≡ end_of_peer flows.old.entries other }
+    ensures entries { flows.new.entries ≡ (if over then remove_entry (is_peer peer) flows.old.entries else flows.old.entries) }
+    ensures count { length flows.new.entries ≤ length flows.old.entries }
+{
+    if over {
+        let _ = flows.remove(&peer);
+    }
+}
+
+/// The peer's end takes a call, and goes where it is over. None where the peer has no end.
+#[tactic(auto, using(crate::proofs::Removing::removed))]
+pub(crate) fn act_at(
+    flows: &mut BTreeMap<Peer, Held>,
+    peer: Peer,
+    act: Act<'_>,
+    out: &mut Outbox,
+) -> Option<Seen>
+    requires { out.old ≡ None }
+    ensures steps { FlowSteps (λ e. flow_step e (Calls (call_of act.entry))) seen_of (end_of_peer flows.old.entries peer) (end_of_peer flows.new.entries peer) flows.old.entries flows.new.entries peer out.new result }
+    ensures others { (other : Peer) → is_peer peer other ≡ false → end_of_peer flows.new.entries other ≡ end_of_peer flows.old.entries other }
+    ensures count { length flows.new.entries ≤ length flows.old.entries }
+{
+    let Some((seen, over)) = call_flow(flows, peer, act, out) else {
+        return None;
+    };
+    settle(flows, peer, over);
+    Some(seen)
+}
+
+/// The peer's end hears a datagram, and goes where it is over. None where the peer has no end.
+#[tactic(auto, using(crate::proofs::Removing::removed))]
+pub(crate) fn hear_at(
+    flows: &mut BTreeMap<Peer, Held>,
+    peer: Peer,
+    bytes: &[u8],
+    out: &mut Outbox,
+) -> Option<Outcome>
+    requires empty { out.old ≡ None }
+    requires short { length bytes.now ≤ 2044 }
+    ensures steps { FlowSteps (λ e. receiving kinds_control e bytes.now) (λ outcome. outcome) (end_of_peer flows.old.entries peer) (end_of_peer flows.new.entries peer) flows.old.entries flows.new.entries peer out.new result }
+    ensures others { (other : Peer) → is_peer peer other ≡ false → end_of_peer flows.new.entries other ≡ end_of_peer flows.old.entries other }
+    ensures count { length flows.new.entries ≤ length flows.old.entries }
+{
+    let Some((outcome, over)) = receive_at(flows, peer, bytes, out) else {
+        return None;
+    };
+    settle(flows, peer, over);
+    Some(outcome)
+}
+
+/// The peer, which has none, gets this end. NoMemory where none is to be had for it, and then nothing changes.
+pub(crate) fn put_flow(
+    alloc: Global,
+    flows: &mut BTreeMap<Peer, Held>,
+    peer: Peer,
+    end: Endpoint<Kinds>,
+) -> Result<(), NoMemory>
+    ensures own { OnOk result (end_of_peer flows.new.entries peer ≡ Some end) }
+    ensures others { (other : Peer) → is_peer peer other ≡ false → end_of_peer flows.new.entries other ≡ end_of_peer flows.old.entries other }
+    ensures entries { OnOk result (flows.new.entries ≡ insert_entry peer_cmp flows.old.entries peer end) }
+    ensures unchanged { OnErr result (flows.new.entries ≡ flows.old.entries) }
+    ensures count { length flows.new.entries ≤ length flows.old.entries + 1 }
+{
+    let Ok(end) = Box::new(alloc, end) else {
+        return Err(NoMemory);
+    };
+    match flows.insert(peer, Held { end }) {
+        Ok(_) => Ok(()),
+        Err(_) => Err(NoMemory),
+    }
+}

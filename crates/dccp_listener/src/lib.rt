@@ -1,0 +1,28 @@
+//! A server with many flows: one value that serves up to 1,024 peers at one address and port, by an end for each (own;
+//! the ends are RFC 4340's).
+//!
+//! A datagram is handed in with the peer that it came from. Each peer gets exactly what a server's end of its own would
+//! have given it, whatever the others do; what others may do is to fill the table. It has no socket and no clock, and
+//! takes memory only where a peer has no flow.
+#![tactic(auto)]
+
+mod answers;
+mod calls;
+mod config;
+mod flows;
+mod greeting;
+mod laws;
+mod listener;
+mod meeting;
+mod peer;
+mod strangers;
+
+pub use crate::calls::{Act, Heard, NoFlow};
+pub use crate::config::ListenConfig;
+pub use crate::laws::{
+    busy_answers_requests, each_peer_has_its_own_chain, ends_of_peers_stand,
+    peers_are_found_at_their_places, what_is_computed_is_a_run,
+};
+pub use crate::listener::Listener;
+pub use crate::peer::Peer;
+pub use world_events::{Refusal, Seen};

@@ -1,0 +1,153 @@
+//! The listener.
+ghost use Rattle.std.specs.Prelude.{◌≡◌};
+
+use crate::flows::Held;
+use crate::meeting::{arrive, perform};
+use crate::{Act, Heard, ListenConfig, NoFlow, Peer};
+use ccid_two::Kinds;
+use dccp_endpoint::{Endpoint, Feature, NoMemory, Outbox, Place, Seq48};
+use std::alloc::Global;
+use std::collections::BTreeMap;
+use std::marker::Model;
+use world_events::Seen;
+
+/// A server that serves many peers at one address and port: each peer gets exactly what a server's end of its own would
+/// have given it, whatever the others do. It has no socket and no clock, as an end has none.
+///
+/// # The order of calls
+///
+/// `new` makes it. From then on, in whatever order, `arrive` for each datagram, with the peer that it came from and an
+/// initial sequence number that nobody can guess (RFC 4340, section 7.2), which a fresh end would have; and `act` for each call of a peer's end
+/// and each of its timers that has run out. Each call that takes an Outbox empties it first and leaves at most one
+/// frame there, which goes to the peer of the call.
+///
+/// # Flows
+///
+/// A peer's flow begins where its datagram lets a fresh end leave LISTEN, and ends where its end is CLOSED. At most
+/// `most` stand at a time. A datagram that would open one more is answered with a Reset that says so, and `Busy`.
+///
+/// # Sizes
+///
+/// A flow takes the blocks of its end and of its congestion control, about 87 KB, beside an entry of the map: 1,024 take 89 MB.
+/// Of a peer that has no flow only a Request for a service makes an end, which goes again unless it stays; while `most`
+/// flows stand, only one with options. Any other datagram is answered without one.
+#[derive(Drop)]
+pub struct Listener {
+    alloc: Global,
+    config: ListenConfig,
+    flows: BTreeMap<Peer, Held>,
+}
+
+impl Model for Listener {
+    ghost use Rattle.dccp_listener.specs.Peers.{Listening};
+    ghost use Rattle.dccp_listener.specs.Standing.{IsSoundListener};
+
+    ghost Value = { Listening };
+
+    ghost view = { λ l. record { config = l.config; flows = l.flows.entries } };
+
+    ghost invariant = { λ l. IsSoundListener l.config l.flows.entries };
+}
+
+impl Listener {
+    ghost use Rattle.std.specs.Prelude.{◌≡◌, ◌≤◌, ◌<◌, ◌↔◌, [], None, Some, Ok, IfOk, IfSome, IsErr, IsNone, OnErr, MatchOption, length, slice_get};
+    ghost use Rattle.std.specs.Map.{keys_of};
+    ghost use Rattle.dccp_listener.specs.Calls.{Arrived, IsStep, seen_if};
+    ghost use Rattle.dccp_listener.specs.Chain.{Arrives, Calls, call_of};
+    ghost use Rattle.dccp_listener.specs.Listens.{AreInOrder, listens};
+    ghost use Rattle.dccp_listener.specs.Peers.{end_of_peer};
+    ghost use Rattle.dccp_listener.specs.Runs.{IsTurn, Stepped, arrival, call_turn, told_of};
+    ghost use Rattle.dccp_listener.specs.Standing.{IsListening, Stands};
+
+    /// A listener without flows. It takes no memory.
+    pub fn new(alloc: Global, config: ListenConfig) -> Listener
+        requires { IsListening config }
+        ensures { result ≡ record { config = config; flows = [] } }
+    {
+        let _wish = config.lists.wish(Feature::Ccid, Place::Here);
+        Listener {
+            alloc,
+            config,
+            flows: BTreeMap::new(alloc),
+        }
+    }
+
+    /// A datagram of a peer has arrived, at most 2,044 bytes. `iss` is the first sequence number of an end that is made
+    /// for it.
+    ///
+    /// A peer's own end hears it, or else a fresh one. Busy comes exactly where the peer has no flow, `most` stand and the fresh end would stay:
+    /// nothing changes, and a Reset with the code Too Busy goes to the peer (RFC 4340, section 5.6). NoMemory comes
+    /// only where the peer has no flow, and then nothing changes and nothing goes out.
+    pub fn arrive(
+        &mut self,
+        peer: Peer,
+        iss: Seq48,
+        bytes: &[u8],
+        out: &mut Outbox,
+    ) -> Result<Heard, NoMemory>
+        requires { length bytes.now ≤ 2044 }
+        ensures arrived { Arrived self.old self.new peer iss bytes.now out.new result }
+        ensures turn { IsTurn self.old self.new (arrival peer iss bytes.now out.new result) }
+        ensures computed { IfOk result (λ heard. record { flows = self.new.flows; frame = out.new; told = told_of (Ok heard) } ≡ listens self.old peer (Arrives iss bytes.now)) }
+    {
+        arrive(
+            self.alloc,
+            &self.config,
+            &mut self.flows,
+            peer,
+            iss,
+            bytes,
+            out,
+        )
+    }
+
+    /// The owner calls a peer's end. NoFlow comes exactly where the peer has none, and then nothing changes and nothing
+    /// goes out. It takes no memory.
+    pub fn act(&mut self, peer: Peer, act: Act<'_>, out: &mut Outbox) -> Result<Seen, NoFlow>
+        ensures step { IsStep self.old self.new peer (Calls (call_of act.entry)) out.new (seen_if result) }
+        ensures turn { IsTurn self.old self.new (call_turn peer (call_of act.entry) out.new result) }
+        ensures computed { record { flows = self.new.flows; frame = out.new; told = Stepped (seen_if result) } ≡ listens self.old peer (Calls (call_of act.entry)) }
+        ensures no_flow { IsErr result ↔ (end_of_peer self.old.flows peer ≡ None) }
+        ensures refused { OnErr result ((self.new ≡ self.old) × (out.new ≡ None)) }
+    {
+        perform(&self.config, &mut self.flows, peer, act, out)
+    }
+
+    /// A peer's end, or None exactly where it has none. It was made for this peer, and is neither CLOSED nor in LISTEN.
+    pub fn flow(&self, peer: Peer) -> Option<&Endpoint<Kinds>>
+        ensures value { MatchOption result (end_of_peer self.now.flows peer ≡ None) (λ end. end_of_peer self.now.flows peer ≡ Some end.now) }
+        ensures stands { IfSome result (λ end. Stands self.now.config peer end.now) }
+    {
+        match self.flows.get(&peer) {
+            Some(held) => Some(held.end()),
+            None => None,
+        }
+    }
+
+    /// How many flows stand, at most `most`.
+    pub fn flows(&self) -> u16
+        ensures value { result ≡ length self.now.flows }
+        ensures fits { result ≤ self.now.config.most }
+    {
+        let most = self.config.most;
+        let count = self.flows.len();
+        if most as usize <= count {
+            most
+        } else {
+            count as u16
+        }
+    }
+
+    /// The peer at this place, from 0, among those that have a flow, in their order; None exactly where the place is
+    /// not below `flows`.
+    pub fn peer(&self, place: u16) -> Option<Peer>
+        ensures value { result ≡ slice_get (keys_of self.now.flows) place }
+        ensures none { IsNone result ↔ (length self.now.flows ≤ place) }
+        ensures ordered { AreInOrder self.now.flows }
+    {
+        match self.flows.keys().nth(place as usize) {
+            Some(peer) => Some(*peer),
+            None => None,
+        }
+    }
+}
