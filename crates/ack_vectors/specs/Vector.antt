@@ -1,4 +1,7 @@
 -- The Ack Vector of numbers with states, a floor and an acknowledgement (RFC 4340, section 11.4).
+--
+-- It takes the state of each number and the number of bytes, so packets marked by ECN and a second option change
+-- arguments alone. A set is a test on numbers, so any list's membership can stand there.
 use Rattle.std.specs.Prelude.{ℕ, ◌+◌, ◌-◌, ◌*◌, ◌/◌, ◌%◌, ◌==◌, nat_le, Bool, true, false, List, [], ◌∷◌, ◌++◌, zero, suc, length, take, replicate, if◌then◌else◌}
 use Rattle.seq_circle.specs.Circle.{distance, down, is_from}
 use Rattle.dccp_options.specs.Vectors.{states}

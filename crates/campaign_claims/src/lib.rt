@@ -4,6 +4,11 @@
 //! another thread, and takes another back; whoever has all back closes the claims, and then knows that its numbers are
 //! those below the lesser of the limit and the word. Nothing here starts a thread, waits, or knows what the numbers are
 //! for, and nothing is said of which claimer gets which number. Only `make_claims` takes memory.
+//!
+//! A claimer's share of 2^62 is its right to claim. All shares are 2^62 together, at every moment: so the word does not
+//! wrap, and whoever has all has joined all others, and `close` needs no condition on who is left. Shares and numbers
+//! are for contracts alone; at run time a claimer is the limit, and the claims are one word. The limit is at most
+//! 100,000, so that a worker that claims to the end stays far below any share that it may have.
 #![tactic(auto)]
 
 mod claims;

@@ -1,4 +1,9 @@
 //! What follows for CCID 2 from its rules.
+//!
+//! That one mark halves once is said by two laws: for every list of calls, what must lie past the mark; and that right
+//! after a halving nothing does, which needs that numbers were sent in their order, as an end's numbering gives. The
+//! window's bounds are clauses of `window` besides, from the type's invariant: a law over all records would be false of
+//! records that no value has.
 ghost use Rattle.std.specs.Prelude.{◌≡◌, ℕ, ◌<◌, ◌≤◌, ◌⊎◌, ◌↔◌, List, IsTrue};
 ghost use Rattle.congestion_trait.specs.Flight.{States, is_congested};
 ghost use Rattle.congestion_trait.specs.Calls.{Call, run};

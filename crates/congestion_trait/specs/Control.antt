@@ -1,4 +1,6 @@
 -- What contracts see of a congestion control: its functions on its state.
+--
+-- What a kind knows is a function of the CCID alone, and not of its state: a kind cannot forget a CCID.
 use Rattle.std.specs.Prelude.{◌≡◌, ℕ, Bool, nat_lt, List, []}
 use Rattle.congestion_trait.specs.declared.flight.Entry.{Entry}
 use Rattle.congestion_trait.specs.Flight.{States, pipe_of, sent, after_report}

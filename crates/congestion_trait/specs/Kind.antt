@@ -1,4 +1,7 @@
 -- A kind of congestion control by its own rules alone: the flight list follows the list's rules (own).
+--
+-- So a kind cannot break the list's rules, and owes no proof that it keeps them. `FixedWindow` and CCID 2 write their
+-- functions themselves, since the state of each is one plain list or record.
 use Rattle.std.specs.Prelude.{ℕ, Bool, List, [], refl}
 use Rattle.congestion_trait.specs.declared.flight.Entry.{Entry}
 use Rattle.congestion_trait.specs.Flight.{States, sent, after_report}

@@ -32,7 +32,7 @@ pub enum Standing {
     Lost,
 }
 
-/// A data packet that was sent.
+/// A data packet that was sent. No call gives one out; contracts speak of it.
 #[derive(Clone, Copy, Debug, PartialEq, Eq)]
 pub struct Entry {
     /// Its sequence number.

@@ -1,4 +1,14 @@
 //! What a report makes of the entries, from the newest to the oldest.
+//!
+//! Losses count the Reported entries after the report made its entries Reported, so one pass from the newest down does
+//! both. It ends at the place before which every entry is Reported, which is kept beside the list, or earlier at an
+//! entry to which the report gives no state, where no entry before it is Out: nothing older can change then. So a
+//! packet that was lost long ago costs later reports nothing. Its entry stays Lost until 2,048 later ones drive it out.
+//!
+//! Numbers need not rise: the contracts hold for every list. The steps from each number to the next since the list was
+//! empty are summed (`span`), and the pass ends early only while that sum and the way from the acknowledgement number
+//! down to the entry make less than one round of the circle. Where numbers fall, the sum is past that, and the pass
+//! goes on to the place that is kept.
 ghost use Rattle.std.specs.Prelude.{◌≡◌, ℕ, ◌+◌, ◌<◌, ◌≤◌, ◌&&◌, ◌||◌, not, nat_le, length, take, slice_get, slice_set, Some, Option};
 ghost use Rattle.circular_buffer.specs.Buffer.{buffer};
 ghost use Rattle.dccp_options.specs.Vectors.{state_at, is_received, is_unmarked, is_marked};

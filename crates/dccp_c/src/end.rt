@@ -54,7 +54,7 @@ impl End {
     }
 }
 
-// Frees what it holds: a derived drop would forget it.
+// Frees what it holds: a derived drop would forget it, which no contract refuses.
 impl Drop for End {
     fn drop(self) {
         drop(self.into_box());

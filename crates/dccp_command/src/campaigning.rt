@@ -43,6 +43,7 @@ fn put_arrivals(text: &mut Vec<u8>, report: &Report) -> Result<(), NoMemory>
     put_count(text, b"sent_reset ", report.sent_reset)
 }
 
+// Puts all lines of a report, in the order in which `docs/TOOL.md` lists them.
 #[tactic(auto, unfolding(crate::specs::CampaignText::report_text))]
 fn put_report(text: &mut Vec<u8>, report: &Report) -> Result<(), NoMemory>
     ensures { OnOk result (text.new.items ≡ text.old.items ++ report_text report.now) }

@@ -1,4 +1,7 @@
 -- What an end writes: a packet before it has a number, and the frame that it becomes (RFC 4340, sections 5 and 9).
+--
+-- `framed` is shut, and takes the configuration and not the end: a shut definition over a whole end would not reduce
+-- after a change of any of its fields.
 use Rattle.std.specs.Prelude.{◌≡◌, ℕ, ◌+◌, ◌^◌, ◌<◌, ◌≤◌, Bool, true, List, [], length, map, Ok}
 use Rattle.std.specs.List.{All}
 use Rattle.dccp_options.specs.Grammar.{options_of}

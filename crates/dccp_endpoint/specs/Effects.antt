@@ -26,7 +26,9 @@ use Rattle.run_list.specs.MarkedSet.{answer_to}
 pub data Passing : Type 0 where
   Refused Shut Taken : Passing
 
--- what was heard: nothing new, or a valid packet's number, as the first of the connection or not
+-- What was heard: nothing new, or a valid packet's number, as the first of the connection or not. That is a Bool of one constructor, so
+-- that each part of the end is computed while the case is still open. Whether OSR changes is a Bool too, since its new value can only be
+-- the number heard.
 pub data Hearing : Type 0 where
   Unheard : Hearing
   Heard : (first : Bool) (number : ℕ) (how : Passing) → Hearing
@@ -59,7 +61,8 @@ pub record Effect : Type 0 where
   pub owed : Bool
   pub unacked : ℕ
 
--- an acknowledgement is owed once a packet was taken
+-- An acknowledgement is owed once a packet was taken. What is owed after a step is computed from what was heard and what goes out, so a
+-- Close that is marked and answered with a Reset is no case of its own.
 abbrev pub owed_as : Passing → Bool → Bool
 owed_as Taken old = true
 owed_as Refused old = old

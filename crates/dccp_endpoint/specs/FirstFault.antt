@@ -1,4 +1,8 @@
 -- At which option of a packet the reading stops, and for which fault (RFC 4340, sections 5.8.2 and 8.5, step 8; which options count is own).
+--
+-- It stands above the fold of Heeding: the fold is asked what the options before that one left in the rows, and whether
+-- they were read; what counts is said of the list of them. That feature numbers are below 256, as bytes are, is a
+-- premise.
 use Rattle.std.specs.Prelude.{◌≡◌, ◌↔◌, ◌<◌, ◌&&◌, not, ℕ, Bool, true, false, List, [], ◌∷◌, ◌++◌, length, Option, Result, Ok, Err}
 use Rattle.std.specs.List.{All, list_any}
 use Rattle.dccp_options.specs.Grammar.{Entry}

@@ -1,4 +1,7 @@
 -- What the options of a packet say to the rows: step 8 of RFC 4340, section 8.5, by section 6 (which options count is own).
+--
+-- That is a fold over their list (`heeds`). Beside it stands what each row hears (`heard_turns`), so that an effect
+-- tells of rows without the packet's other options.
 use Rattle.std.specs.Prelude.{◌==◌, ◌&&◌, ◌||◌, not, nat_le, nat_lt, if◌then◌else◌, ℕ, ◌+◌, ◌*◌, Bool, true, false, List, [], ◌∷◌, ◌++◌, length, replicate, slice_index, slice_index_or, slice_set, Option, Some, None, Result, Ok, Err}
 use Rattle.dccp_options.specs.Grammar.{Entry}
 use Rattle.dccp_options.specs.Kinds as options

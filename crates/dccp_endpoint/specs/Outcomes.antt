@@ -1,4 +1,12 @@
 -- Why each outcome of `receive` comes, and what the step's effect then is (RFC 4340, section 8.5).
+--
+-- The effect is proved from the steps directly. What the outcomes tell stands on it: a cause, and for each cause one
+-- form of the effect. For a Sync and a Reset that is a function of the cause; a packet that was taken has a row for
+-- each part. The frame and the end are said once, by the effect.
+--
+-- Causes are said by the tables of the crates below, and not in the order of the steps: what a type means in the phase,
+-- the verdict, what is unexpected, the phase after. They share with the steps what a packet raises, the test of the
+-- ports, how options are read and faulted, and what a mark answers.
 use Rattle.std.specs.Prelude.{◌≡◌, ◌≢◌, not, if◌then◌else◌, ℕ, Bool, true, false, List, [], Option, Some, None, Ok, Err, is_some}
 use Rattle.congestion_trait.specs.Calls.{Call}
 use Rattle.dccp_sum.specs.Checksum.{checked}

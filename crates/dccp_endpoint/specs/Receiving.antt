@@ -2,6 +2,10 @@
 --
 -- `the_steps` lists steps 2 to 9 but for step 8, and `receives` at the foot joins step 1 before and steps 8 and 10 to 16 behind
 -- them. Each step has one definition, above these.
+--
+-- Any other body of a step is refused by the clause `step`, which is this equation. What is said wrongly here is
+-- refused by the causes, the effect and the worked packets (`proofs/Rows` and those whose names begin so); a must-fail
+-- edit is a mistake that has a name.
 use Rattle.std.specs.Prelude.{◌==◌, ◌&&◌, ◌||◌, not, if◌then◌else◌, ℕ, ◌+◌, Bool, true, false, List, [], ◌∷◌, Option, Some, None, Result, Ok, Err}
 use Rattle.ack_vectors.specs.Kept as kept
 use Rattle.seq_circle.specs.Circle.{residue, extended, is_before}

@@ -1,4 +1,7 @@
 -- What happens to the rows of the negotiation in one step, in order (RFC 4340, section 6).
+--
+-- Offers come up for a Request that is asked for or a packet that was taken, and Changes go out again for the timer
+-- negotiate. So a packet that is not heard turns no row, and nobody above has to look into a step for that.
 use Rattle.std.specs.Prelude.{ℕ, Bool, List, map}
 use Rattle.feature_lists.specs.declared.features.Feature.{Feature}
 use Rattle.feature_lists.specs.declared.features.Place.{Place}

@@ -16,7 +16,8 @@ const FIRST_CCID: u8 = 2;
 /// One end of a connection, with the congestion control of the data that it sends. It has no socket and no clock:
 /// whoever owns it has both. Each call that takes an Outbox empties it first and leaves at most one frame there, which
 /// the owner then sends to the peer. A refused call leaves the end and its congestion control unchanged and the box
-/// empty. Only `new` may take memory.
+/// empty. Only `new` may take memory. No call gives the congestion control out: `window`, `in_flight` and `is_reported`
+/// show what it shows.
 ///
 /// # The order of calls
 ///
@@ -85,7 +86,8 @@ impl<C: Congestion + Drop> Endpoint<C> {
     ghost use Rattle.dccp_endpoint.specs.Controlled.{begins};
 
     /// An end of its configuration: CLOSED for a client, LISTEN for a server (RFC 4340, section 8.1). The congestion
-    /// control is started with CCID 2, and has to know it.
+    /// control is started with CCID 2, and has to know it. With `NoMemory` it is let go, so `C` has to be one that may
+    /// be (`Drop`), for this call alone.
     pub fn new(alloc: Global, config: Config, congestion: C) -> Result<Endpoint<C>, NoMemory>
         requires { IsTrue (C.control.is_known 2) }
         ensures { IfOk result (λ e. e ≡ begins C.control config congestion) }

@@ -3,7 +3,8 @@ use crate::{Fault, Why};
 use dccp_packets::ResetCode;
 use seq_circle::Seq48;
 
-// What is done with a packet that one of the steps 2 to 9 of receiving is the last to see (RFC 4340, section 8.5).
+// What is done with a packet that one of the steps 2 to 9 of receiving is the last to see (RFC 4340, section 8.5). It
+// is for this crate alone; definitions speak of it.
 #[derive(Clone, Copy)]
 pub enum Exit {
     /// It is dropped.

@@ -245,6 +245,7 @@ impl Reading {
         Ok(())
     }
 
+    // An option, or a fault of Mandatory itself; `count` tells whether options of the negotiation count.
     fn heed_item(
         &mut self,
         item: &Result<Opt<'_>, OptFault>,

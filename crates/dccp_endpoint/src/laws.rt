@@ -12,7 +12,8 @@ ghost use Rattle.dccp_endpoint.specs.Saying.{ConfirmsAreSingle, OwnPacketsSayOfA
 
 /// What an end writes is read as it was meant: each frame of a draft is a packet with the draft's type, options and
 /// data under the end's ports and the number, with short numbers or with long ones, and its checksum fits (RFC 4340,
-/// sections 5 and 9). Where numbers are too large for their fields, the low bits are read.
+/// sections 5 and 9). Where the fields of the configuration fit, it is read whole (`whole`). Where numbers are too large
+/// for their fields, the low bits are read, which needs nothing of the configuration (`in_widths`).
 pub fn own_frames_are_read()
     ensures whole { (config : Config) (short : Bool) (number : ℕ) (draft : Draft) → Fits config → number < 2 ^ 48 → KindFits draft.kind → IsSendable draft
         → (short ≡ true → may_be_short (packet_type draft.kind) ≡ true)

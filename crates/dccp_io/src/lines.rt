@@ -1,4 +1,8 @@
 //! The lines of an input, one by one.
+//!
+//! A line that was given is let go at the next call and not before, so lending needs no second block. One that is too
+//! long or too much is never let go. Why no further line comes is kept all the same, so that each further call reads
+//! nothing.
 ghost use Rattle.std.specs.Prelude.{◌≡◌, ◌+◌, ◌≤◌, ◌==◌, [], length, take, drop, not, true, None, IfOk, OnErr, IfSome};
 ghost use Rattle.std.specs.List.{list_all};
 ghost use Rattle.dccp_io.specs.Counts.{Rose};

@@ -29,7 +29,8 @@ impl Model for ReadAhead {
     ghost invariant = { λ a. (a.from ≤ a.to) × (a.to ≤ vec_len a.block) };
 }
 
-// Moves the pending bytes to the block's front where they end at its end; answers where they stand then.
+// Moves the pending bytes to the block's front where they end at its end; answers where they stand then. That is at
+// most once for each block that was filled.
 fn make_room(block: &mut Vec<u8>, from: usize, to: usize) -> (usize, usize)
     requires order { from ≤ to }
     requires inside { to ≤ length block.old.items }

@@ -1,4 +1,7 @@
 //! Sources and sinks over the readers and writers of the standard library.
+//!
+//! They try an interrupted call again and count it as no fault. No clause says so, since they tell no bytes; tests do.
+//! The sink does not flush: the toolchain's standard output has no buffer.
 ghost use Rattle.std.specs.Prelude.{◌≡◌, ◌<◌, ◌≤◌, length, is_ok, IfSome, IfOk, OnErr, None, if◌then◌else◌};
 ghost use Rattle.dccp_io.specs.Counts.{Rose, one_more, counted_write};
 

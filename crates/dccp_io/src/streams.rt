@@ -1,4 +1,6 @@
 //! Where bytes come from and where they go, as contracts see it.
+//!
+//! A stream that does not tell its bytes never starts to: the clauses are equations between optional lists.
 ghost use Rattle.std.specs.Prelude.{◌≡◌, ℕ, ◌<◌, ◌≤◌, ◌↔◌, List, [], length, take, Option, IfOk, OnErr, IfSome};
 ghost use Rattle.std.specs.Io.KnownBytes.{prepend_known, append_known};
 ghost use Rattle.dccp_io.specs.Counts.{Rose};

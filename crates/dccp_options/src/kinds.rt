@@ -1,4 +1,7 @@
 //! The types of options by name, and what the table of the standard says of each (RFC 4340, section 5.8, table 3).
+//!
+//! In an option the type stays a number, since any byte may come. Padding and Mandatory stand in the table as
+//! understood, and are never listed.
 ghost use Rattle.std.specs.Prelude.{◌≡◌};
 ghost use Rattle.dccp_options.specs.Kinds as spec;
 ghost use Rattle.dccp_options.specs.Vectors.{is_ack_vector};

@@ -2,6 +2,8 @@
 //! 4340, sections 5.8 and 11.4).
 //!
 //! Nothing here takes memory, and nothing judges an option beyond its length.
+//!
+//! `OptList`, `AckReport` and `ReportRuns` are `Clone` and not `Copy`, since contracts see them as lists and a report.
 #![tactic(auto)]
 
 mod cursor;

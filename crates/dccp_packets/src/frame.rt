@@ -133,7 +133,8 @@ impl Outbox {
         self.holds = true;
     }
 
-    /// Holds a frame of no bytes alone, to be written where it stands.
+    /// Holds a frame of no bytes alone, to be written where it stands: a frame has room for 2,044 bytes, and moving one
+    /// copies them all.
     pub fn begin(&mut self) -> &mut Frame
         ensures* writes_back { sem 𝓛 (LendsFrame self.entry result) }
         ensures empty { result.now ≡ [] }

@@ -250,7 +250,8 @@ impl Kind {
 impl Header {
     /// Tells whether the header has a spelling: CCVal and CsCov are below 16, and the numbers have the one form that
     /// the type may carry, which for the acknowledgement of Ack and DataAck is that of the sequence number (RFC 4340,
-    /// section 5.1).
+    /// section 5.1). No bytes spell a header with short numbers on a type without a short form: what `encode` wrote of
+    /// it would not be read back.
     pub fn valid(&self) -> bool
         ensures { result ≡ is_valid self.now }
     {

@@ -1,4 +1,8 @@
 //! A packet's parts from its bytes, or why the bytes are refused.
+//!
+//! The refusals are laws on the grammar, and `decode` has one clause that its answer is the grammar's (`exact`).
+//! Callers write `match decode(bytes) { .. }`: `decode(bytes)?` has no proof today, since the value of its Result holds
+//! references beside a type with a model.
 ghost use Rattle.std.specs.Prelude.{◌≡◌, ◌<◌, ◌≤◌, length, MatchResult, IfOk, IsTrue};
 ghost use Rattle.dccp_packets.specs.Grammar.{decoded, is_valid, HeaderFits};
 

@@ -1,4 +1,7 @@
 //! A packet's bytes from its parts, and the one reason to refuse them.
+//!
+//! Beside the spelling `encode` says that its frame is read back, so no caller has to know the widths of fields behind
+//! a reference.
 ghost use Rattle.std.specs.Prelude.{◌≡◌, ◌+◌, ◌*◌, ◌/◌, ◌%◌, ◌-◌, ◌^◌, ◌<◌, ◌≤◌, ◌↔◌, ◌∷◌, [], ◌++◌, length, replicate, IsTrue, IsErr, OnOk, OnErr};
 ghost use Rattle.byteorder.specs.Endian.{big_bytes};
 ghost use Rattle.dccp_packets.specs.Grammar.{is_valid, HeaderFits, decoded, header_length, type_byte, number_bytes, long_ack_bytes, ack_bytes, kind_bytes, common_bytes, header_bytes, padded, spelling};

@@ -15,7 +15,8 @@ fn is_for_the_other_role(role: Role, kind: PacketType) -> bool
     }
 }
 
-// Tells whether the phase is OPEN or comes after it (RFC 4340, section 4.3).
+// Tells whether the phase is OPEN or comes after it (RFC 4340, section 4.3). TIMEWAIT does, in the standard's order of
+// states, although no packet of TIMEWAIT comes so far.
 fn is_open_or_later(phase: Phase) -> bool
     ensures { result ≡ is_open_or_later phase }
 {

@@ -9,34 +9,9 @@ pub enum Role {
     Server,
 }
 
-/// The states of an end (RFC 4340, section 8.4). The arrows are the packets that it takes, and behind a slash stands
-/// the reply (`after`); dotted arrows are the end's own calls, which are not in the tables of this crate.
-///
-/// ```text
-///       a client                                      a server
-///
-///       CLOSED                                        LISTEN
-///         : opens                                       | Request / Response
-///         v                                             v
-///       REQUEST                                       RESPOND <--+ Request / Response
-///         | Response / Ack                              |   +----+
-///         v                                             |
-///       PARTOPEN <--+ Response / Ack                    | Ack, DataAck, SyncAck / Ack
-///         |    +----+ Sync / SyncAck                    | Sync / SyncAck
-///         | Data, Ack, DataAck, SyncAck                 |
-///         v                                             v
-///       OPEN                                          OPEN
-///         | CloseReq / Close (also from PARTOPEN)       : asks for a Close
-///         v                                             v
-///       CLOSING                                       CLOSEREQ
-///         | Close / Reset 1                             | Close / Reset 1
-///         v                                             v
-///       CLOSED                                        CLOSED
-/// ```
-///
-/// Close leads to CLOSED in the same way from RESPOND, PARTOPEN and OPEN, at both ends. A Reset that is taken leads to
-/// TIMEWAIT from everywhere and is not answered. OPEN, CLOSEREQ and CLOSING answer a Sync by a SyncAck and stay. All
-/// other packets that are taken change nothing.
+/// The states of an end (RFC 4340, section 8.4). `docs/PROTOCOL.md` draws them, under "The phases": there the plain
+/// arrows are the packets that an end takes, with its reply (`after`), and the dotted ones its own calls and timers,
+/// which are not in the tables of this crate.
 #[derive(Clone, Copy, Debug, PartialEq, Eq)]
 pub enum Phase {
     /// Not opened, or given up.

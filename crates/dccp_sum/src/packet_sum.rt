@@ -69,7 +69,7 @@ fn add_covered(start: u64, bytes: &[u8], covered: usize) -> u64
 /// The checksum of a packet whose first `covered` bytes it covers: the complement of the ones' complement sum over the
 /// pseudo-header and these bytes, with the checksum's own bytes 6 and 7 taken as zero and an odd last byte followed by
 /// zero (RFC 4340, section 9; RFC 1071, section 1). The packet has 8 to 65,535 bytes, and `covered` is at most its
-/// length.
+/// length. Where it is below 8, it covers so many bytes of the packet with its checksum zeroed.
 pub fn checksum(pseudo: &Pseudo, bytes: &[u8], covered: usize) -> u16
     requires low { 8 ≤ length bytes.now }
     requires high { length bytes.now ≤ 65535 }

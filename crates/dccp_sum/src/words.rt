@@ -1,4 +1,8 @@
 //! Sums of 16-bit words, taken many at a time.
+//!
+//! Two words of 32 bits are added a turn into 64 bits, and the carries are folded at the end. So the contract of the
+//! inner sum is a relation: the same residue modulo 65,535, and zero for zero (`IsSameSum`). The public contracts are
+//! equations.
 ghost use Rattle.std.specs.Prelude.{◌≡◌, ◌+◌, ◌*◌, ◌^◌, ◌<◌, ◌≤◌, length};
 ghost use Rattle.dccp_sum.specs.Words.{word_sum, ones_complement, IsSameSum};
 

@@ -31,7 +31,7 @@ pub struct Condition {
     pub in_flight: bool,
 }
 
-/// The timers that run for an end, of the six that it has.
+/// The timers that run for an end, of the six that it has: six fields and not a list, so that a call takes no memory.
 #[derive(Clone, Copy, Debug, PartialEq, Eq)]
 pub struct Alarms {
     /// Another Request goes out.

@@ -7,7 +7,8 @@ use dccp_endpoint::Outbox;
 /// What carries frames to the peer: a socket, a tunnel, or a wire of a test. A frame that it does not carry is a lost
 /// one, for which the protocol is made; so there is no answer.
 pub trait Network {
-    // What becomes of the network by a frame: the network before, the frame's bytes, and the network after.
+    // What becomes of the network by a frame: the network before, the frame's bytes, and the network after. It is a
+    // relation, and no definition that computes: a socket says nothing.
     ghost sends: { Self → List ℕ → Self → Type 0 };
 
     /// Takes a frame for the peer, at most 2,044 bytes.

@@ -1,4 +1,7 @@
 //! What is counted of runs.
+//!
+//! No sum of a campaign passes 2^62, since a run counts no more than five for an event and nineteen more
+//! (`reports_count_little`). So `+` needs no other answer.
 ghost use Rattle.std.specs.Prelude.{◌≡◌, ◌+◌, ◌<◌, ◌^◌};
 ghost use Rattle.fault_campaign.specs.Reports.{nothing, plus, size, with_outcome, with_seen};
 

@@ -1,4 +1,7 @@
 //! Workers, who claim seeds, run them and add what they count.
+//!
+//! A worker's loop ends because a claimer's numbers rise below a limit: no bound on the turns is written. What workers
+//! begin and end with is one record each (`CanWork`, `HaveWorked`), the only clauses of the closures that `join` takes.
 ghost use Rattle.std.specs.Prelude.{◌≡◌, ◌+◌, ◌^◌, ◌<◌, ◌≤◌, IfOk};
 ghost use Rattle.std.specs.Thread.{IsSync};
 ghost use Rattle.fault_campaign.specs.Reports.{size};

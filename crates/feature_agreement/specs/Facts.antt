@@ -19,14 +19,14 @@ pub record SpeaksForItsRow (rule : Rule) (side peer : FeatureSide) : Type 0 wher
   pub confirms_ruled : (count acknowledged value agreed : ℕ) (wish other : List ℕ)
       → carried_at side.frames count ≡ Confirm acknowledged value wish → carried_at peer.frames acknowledged ≡ Change other
       → rule wish other ≡ Some agreed → value ≡ agreed
-  -- of two Confirms the later acknowledges the later frame
+  -- of two Confirms the later acknowledges the later frame; no other fact needs this
   pub confirms_rise : (earlier later acknowledged other value held : ℕ) (wish list : List ℕ)
       → carried_at side.frames earlier ≡ Confirm acknowledged value wish → carried_at side.frames later ≡ Confirm other held list
       → earlier < later → acknowledged < other
   -- an opening of the peer that settled was heard here
   pub settled_heard : 0 < peer.opened → peer.stand ≡ Stable → peer.opened ≤ side.greatest
   -- A Confirm that the peer could still take and that answers the peer's last opening has the active wish and the value of its
-  -- side, unless the side has opened after it and is not STABLE.
+  -- side, unless the side has opened after it and is not STABLE. That follows from the other facts which moves keep.
   pub takable : (count acknowledged value : ℕ) (wish : List ℕ)
       → carried_at side.frames count ≡ Confirm acknowledged value wish → peer.greatest < count → peer.opened ≤ acknowledged
       → (count < side.opened → side.stand ≡ Stable) → (wish ≡ side.active) × (value ≡ side.value)

@@ -1,5 +1,8 @@
 -- What one step of one side may do to its row and its frames, and which pairs of sides such steps reach (own). The moves
 -- allow more than a row does where that costs nothing: a row opens from any stand, and answers a Change in any.
+--
+-- An empty Confirm is no move: it could settle a row that nobody answered. Nor is a Confirm without a list where a
+-- feature is negotiated by lists. Between our ends they do not occur (`what_rows_say_is_whole`).
 use Rattle.std.specs.Prelude.{◌≡◌, ℕ, ◌+◌, ◌<◌, ◌≤◌, Bool, true, false, Option, None, Some, List, [], ◌∷◌, length, unwrap_or}
 use Rattle.feature_agreement.specs.View.{Carried, FeatureSide, carried_at, with_frame}
 use Rattle.feature_machine.specs.declared.stands.Stand.TheVariants.{Stable, Changing, Unstable}
@@ -57,7 +60,8 @@ pub data Move (rule : Rule) (opens : List ℕ → Bool) (there : List Carried) (
   Sends : Move rule opens there side (sending_side side Nothing)
   Sends_again : (side.stand ≡ Stable → ⊥) → Move rule opens there side (sending_side side (Change side.active))
 
--- what one step of a side does to one feature: some moves after each other
+-- what one step of a side does to one feature: some moves after each other, since one step of an end may take a packet
+-- and open an offer
 pub data Moves (rule : Rule) (opens : List ℕ → Bool) (there : List Carried) : FeatureSide → FeatureSide → Type 0 where
   Done : (side : FeatureSide) → Moves rule opens there side side
   Next : (before middle after : FeatureSide) → Move rule opens there before middle → Moves rule opens there middle after

@@ -1,4 +1,8 @@
 //! The laws on a feature's two sides.
+//!
+//! That sides were reached is said twice. Truncated (`IsReachable`), as a type's ghost field may hold it, agreement
+//! comes out whole, and the origins of values truncated. With the moves themselves (`Reached`), the origins come out
+//! with their frames.
 ghost use Rattle.std.specs.Prelude.{◌≡◌, ℕ, ◌<◌, Bool, List, Some, None, IsTrue};
 ghost use Rattle.feature_agreement.specs.View.{Carried, FeatureSide, carried_at, wish_carried};
 ghost use Rattle.feature_agreement.specs.Moves.{Rule, Pair, Move, Moves, swapped, new_side, IsReachable, at_server, at_client};

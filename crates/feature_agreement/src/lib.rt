@@ -3,6 +3,11 @@
 //!
 //! The crate has no code that runs: its functions have empty bodies, and their contracts are the laws. It says nothing
 //! of packets, phases or windows, and never that a negotiation settles.
+//!
+//! With no code there are no tests and no must-fail edits. In a copy wrong moves and wrong lines of the table were
+//! tried, and the proofs refuse them: a Change that settles the row; a Confirm from before the last opening; a Confirm
+//! whose value is adopted where nothing is shared, or not looked at; frames that are not newest; an opening that keeps
+//! the old opening's mark; the client's order at the server.
 #![tactic(auto)]
 
 mod counts;

@@ -1,4 +1,7 @@
 //! The features and where they stand.
+//!
+//! The features' table is one definition for contracts (`specs/Features`) and these methods for code. No other crate
+//! has a part of it again.
 ghost use Rattle.std.specs.Prelude.{◌≡◌, ℕ, ◌+◌, ◌<◌, ◌≤◌, IsSome, IfSome, ◌↔◌};
 ghost use Rattle.feature_lists.specs.Features.{described, feature_number, feature_numbered, initial_of, is_permitted, usual_values};
 

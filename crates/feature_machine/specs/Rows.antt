@@ -1,4 +1,9 @@
 -- The step of one row (own; the names of the stands, the options and the reconciliation are RFC 4340's, section 6).
+--
+-- An event is judged first, and then one table is applied by cases. Validity comes before the stand, and lateness
+-- before the data. In STABLE and UNSTABLE a Confirm is passed over, whatever it is. On rows that the conditions of
+-- `open_offer` and `sent` exclude, these change nothing. A row of a non-negotiable feature at the peer never leaves
+-- STABLE.
 use Rattle.std.specs.Prelude.{ℕ, ◌==◌, ◌&&◌, ◌||◌, not, Bool, true, false, List, [], ◌∷◌, length, Option, Some, None, if◌then◌else◌}
 use Rattle.byteorder.specs.Endian.{big_number, big_bytes}
 use Rattle.seq_circle.specs.Circle.{is_before}

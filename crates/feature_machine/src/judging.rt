@@ -28,7 +28,9 @@ pub enum Proposal {
 /// What a Confirm is to a row in CHANGING.
 #[derive(Clone, Copy)]
 pub enum Confirmation {
-    /// It has no acknowledgement number, or one from before the row's last opening.
+    /// It has no acknowledgement number, or one from before the row's last opening. "Before" ends at just half the
+    /// circle, as everywhere: a Confirm that acknowledges a number at that very distance is taken. No end meets one,
+    /// since it uses fewer than 2^47 numbers.
     Late,
     /// It holds the feature number alone.
     Empty,
@@ -85,6 +87,7 @@ impl Row {
         }
     }
 
+    // A Change of a server-priority feature: a list.
     fn list_proposal(&self, body: &[u8]) -> Proposal
         ensures { result ≡ list_proposal self.now body.now }
     {
@@ -117,6 +120,7 @@ impl Row {
         }
     }
 
+    // A Confirm with a list behind its value, by what that list and the row's settle on.
     fn listed_confirmation(&self, value: u8, agreed: Option<u8>) -> Confirmation
         ensures { result ≡ listed_confirmation self.now value agreed }
     {
@@ -127,12 +131,14 @@ impl Row {
         }
     }
 
+    // The value stands in the active list, or is the one that the row holds.
     fn is_acceptable(&self, value: u8) -> bool
         ensures { result ≡ is_acceptable self.now value }
     {
         self.entries().contains(&value) || u64::from(value) == self.value
     }
 
+    // A Confirm of a server-priority feature: a value, and a list behind it or none.
     fn list_confirmation(&self, value: u8, list: &[u8]) -> Confirmation
         ensures { result ≡ list_confirmation self.now value list.now }
     {
@@ -148,6 +154,7 @@ impl Row {
         }
     }
 
+    // A Confirm of a non-negotiable feature: a value alone.
     fn number_confirmation(&self, body: &[u8]) -> Confirmation
         ensures { result ≡ number_confirmation self.now body.now }
     {
@@ -162,6 +169,7 @@ impl Row {
         }
     }
 
+    // A Confirm that answers the row's last opening.
     fn timely_confirmation(&self, body: &[u8]) -> Confirmation
         ensures { result ≡ timely_confirmation self.now body.now }
     {

@@ -234,7 +234,8 @@ impl Negotiation {
 
     /// The end wants something else for a feature at a place: a wish that `wish` gives there, which is the condition.
     /// Now means that the row was STABLE and its Change is due in this very step; Later that a Change of the row is
-    /// under way, and the new wish goes out on a later one.
+    /// under way, and the new wish goes out on a later one. An end prefers only once its offers were made; a row whose
+    /// offer was not yet made would keep it.
     pub fn prefer(&mut self, feature: Feature, place: Place, wish: Wanted) -> Opening
         requires { is_wish feature place wish ≡ true }
         ensures rows { self.new ≡ (stepped self.old feature place (Prefers wish)).rows }

@@ -1,4 +1,11 @@
 -- Why the laws hold: what each side knows of its peer's frames, after every move (own). Of the peer it needs the frames alone.
+--
+-- That each frame is processed once, vectors are true, floors are told and reports are heard holds after every step,
+-- but does not by itself survive one. What is needed besides: the marks are just the processed frames from the floor
+-- up, else a frame that comes again could be new; an Ack or DataAck acknowledges a frame that its sender took, else a
+-- record could lift the floor above what comes next; such a frame was processed if it is an Ack or DataAck itself, else
+-- a vector would be told that nobody read; and no frame's count of processed ones is above its sender's, else a later
+-- one would fall under a vector already sent.
 use Rattle.std.specs.Prelude.{◌≡◌, ℕ, ◌+◌, ◌<◌, ◌≤◌, true, false, List, length}
 use Rattle.mark_agreement.specs.View.{Frame, MarkSide, frame_at}
 

@@ -1,5 +1,9 @@
 -- What one step of one side may do to its marks and its frames, and which pairs of sides such steps reach (own). The moves
 -- allow more than an end does where that costs nothing: a side raises its floor, and hears a report, at any time.
+--
+-- While the phase is not CLOSED, the greatest frame taken is processed, or is no Ack and no DataAck. That is false
+-- inside the taking of a packet, so the greatest frame rises and is marked in one move; and it is false of an end that
+-- answered the greatest frame with a Reset, so the fact asks for the phase.
 use Rattle.std.specs.Prelude.{◌≡◌, ℕ, ◌+◌, ◌<◌, ◌≤◌, ◌==◌, ◌&&◌, ◌||◌, ◌⊎◌, max, nat_le, Bool, true, false, List, [], ◌∷◌, ◌++◌, length}
 use Rattle.mark_agreement.specs.View.{Frame, MarkSide, frame_at, frames_with, floor_with, placed_with}
 

@@ -1,5 +1,11 @@
 -- The two ends of a connection as a pair of sides, by what they mark, acknowledge and tell (own; Ack Vectors are RFC 4340's,
 -- section 11.4). A frame goes by its count: a side's first numbered frame has count 1, and 0 is none.
+--
+-- The records of vectors sent are left out: a side may raise its floor for any whole vector among its frames that the
+-- peer acknowledged, and the ring of records only forgets some. So are the number of bytes of a vector and its runs: it
+-- says something of each count from the acknowledged one to the floor, and a side may believe any part of it. The list
+-- of what was processed stands beside the place of each frame in it, so that no fact says that something exists;
+-- `each_frame_is_processed_once` says that they are one.
 use Rattle.std.specs.Prelude.{ℕ, ◌+◌, ◌-◌, ◌==◌, max, Bool, false, List, [], ◌∷◌, ◌++◌, slice_index_or, if◌then◌else◌}
 
 -- one numbered frame

@@ -3,6 +3,9 @@
 //!
 //! The crate has no code that runs: its functions have empty bodies, and their contracts are the laws. It says nothing
 //! of packets, phases or windows.
+//!
+//! two_ends cites the lemma that each move keeps the facts of a pair (`move_keeps` of `proofs/Steps`), and not that the
+//! sides were reached. The facts are the same seen from either side, so it need not say which of the two is the client.
 #![tactic(auto)]
 
 mod laws;

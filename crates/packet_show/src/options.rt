@@ -1,4 +1,7 @@
 //! Options as text (RFC 4340, section 5.8; the text is own).
+//!
+//! An option's text goes by its type alone, whatever its length, but for a Change or Confirm without a feature's
+//! number.
 #![tactic(auto, using(tool_text::proofs::Keeping::keeps_itself, tool_text::proofs::Keeping::keeps_on))]
 
 ghost use Rattle.std.specs.Prelude.{◌≡◌, ◌≤◌, ◌++◌, length, OnOk};

@@ -1,4 +1,8 @@
 -- Runs as they are linked: one chain of nodes from the greatest run down, and one of free nodes. Index 1,024 stands for no node.
+--
+-- That each index is once in one of the chains is said by a count (`times_listed`) and not by a permutation: what an
+-- edit moves from one chain to another is then a sum. From an index one path alone leads along the links to no node, so
+-- the chains that a state has, and the place that a walk found, stand in records as lists of indices.
 use Rattle.std.specs.Prelude.{◌≡◌, ℕ, ◌+◌, ◌<◌, ◌≤◌, ◌==◌, nat_lt, List, [], ◌∷◌, zero, suc, length, slice_index_or, if◌then◌else◌}
 use Rattle.run_list.specs.declared.walking.Stretch.{Stretch}
 use Rattle.run_list.specs.declared.linked.Linked.{Linked}

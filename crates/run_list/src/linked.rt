@@ -1,4 +1,6 @@
 //! The runs as they are linked: where a number goes, what it joins, and what a raised floor leaves.
+//!
+//! The chain is walked from the newest run down to find a number's place: the usual mark is at or near the newest.
 ghost use Rattle.std.specs.Prelude.{◌≡◌, [], ◌+◌, ◌-◌, ◌^◌, ◌<◌, ◌≤◌, filter, true, length, IfOk};
 ghost use Rattle.std.specs.Bool.{OnTrue, OnFalse};
 ghost use Rattle.seq_circle.specs.Circle.{distance, IsBefore};

@@ -1,4 +1,5 @@
-//! The set of marked numbers, and the floor below which nothing is asked.
+//! The set of marked numbers, and the floor below which nothing is asked. The room for runs is a fact of the type's
+//! invariant, and not of the value that contracts see.
 ghost use Rattle.std.specs.Prelude.{◌≡◌, ◌≢◌, IsTrue, ℕ, ◌<◌, ◌↔◌, IfOk, if◌then◌else◌};
 ghost use Rattle.run_list.specs.MarkedSet.{MarkedSet, IsFrom, IsSound, has, empty_from, raised, marked, joined_by, answer_to};
 ghost use Rattle.seq_circle.specs.Circle.{distance};

@@ -1,4 +1,6 @@
 -- What one or two words come to, where nothing is held before them.
+--
+-- `clap` counts an option only at the next one or at the end; here that count is moved in front of the next word.
 use Rattle.std.proofs.Common.{◌≡◌, ◌⊎◌, ◌∙◌, refl, sym, ap, ap₂, ℕ, Bool, true, false, List, [], ◌∷◌, Option, Some, None, inl, inr}
 use Rattle.std.specs.Prelude.{slice_get}
 use Rattle.std.specs.Str.{bytes_eq, chars}

@@ -1,5 +1,7 @@
 -- The settings that words give to a form (own): in any order, each a name and its value, as two words or as one with `=` between them, but
 -- for `--plain`, which has no value.
+--
+-- They are looked up one by one: what words mean is a list and a question to it, and a second time is refused.
 use Rattle.std.specs.Prelude.{ℕ, ◌+◌, ◌-◌, ◌^◌, ◌≤◌, Bool, true, false, ◌==◌, nat_lt, if◌then◌else◌, List, [], ◌∷◌, length, map, codes, Option, Some, None, option_and_then, String, string_bytes}
 use Rattle.std.specs.List.{position_or_len, before_first, after_first}
 use Rattle.std.specs.Str.{bytes_eq}

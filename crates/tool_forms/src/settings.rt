@@ -1,4 +1,7 @@
 //! The settings that words give to a form.
+//!
+//! One table has the settings of `replay` and `campaign`: whose each is, its name, the least and the most of its
+//! number, and `--plain`, which has no value. A further setting is a line in each function of the table.
 ghost use Rattle.std.specs.Prelude.{◌≡◌, ◌≤◌, IfSome};
 ghost use Rattle.std.specs.Str.{bytes_eq};
 ghost use Rattle.tool_forms.specs.Commands.{bare_name};

@@ -79,7 +79,7 @@ with_iss side number play = with_config side (record (config_of play side) { iss
 abbrev pub says_plain : Play → Play
 says_plain play = record play { client = config_without_offers play.client; server = config_without_offers play.server }
 
--- A wish or an offer that an end may not have changes nothing; its line was refused before.
+-- A wish or an offer that an end may not have changes nothing; its line was refused before. So the transcript needs no premise for it.
 abbrev pub wishing : Config → Feature → Place → Result Wanted PreferFault → Config
 wishing config feature place (Ok wish) = record config { lists = with_wish config.lists feature place wish }
 wishing config feature place (Err fault) = config
@@ -98,7 +98,8 @@ with_set side feature place values play =
 abbrev pub with_offered : Side → Feature → Place → Bool → Play → Play
 with_offered side feature place mandatory play = with_config side (offering (config_of play side) feature place mandatory) play
 
--- An event that takes place, or the fault of its line: it names no frame. (No schedule comes to a world without room for it.)
+-- An event that takes place, or the fault of its line: it names no frame. (No schedule comes to a world without room for it. Some fault
+-- has to be named for that, which the code does not have.)
 abbrev pub by_step : ℕ → Controlled Both → Event → Result (ControlledStep Both) WorldFault → Result Scene LineFault
 by_step number before event (Ok step) = Ok (record { number = number; before = before; event = event; step = step })
 by_step number before event (Err fault.NoSuchFrame) = Err no_such_frame

@@ -1,4 +1,7 @@
 -- Data that the ends deliver, frame by frame (RFC 4340, section 8.5, step 16).
+--
+-- A step that delivers data is told by its outcome: the place there is tied to the frame's bytes, and the number to the
+-- world's list. A law over schedules names frames by sender and index, as events do.
 use Rattle.std.specs.Prelude.{◌≡◌, ℕ, ◌≤◌, true, List, [], ◌∷◌, ◌++◌, length, drop, slice_get, Option, Some, None, Result, Ok, Err}
 use Rattle.congestion_trait.specs.Control.{Control}
 use Rattle.dccp_endpoint.specs.Reporting.{carries_data}

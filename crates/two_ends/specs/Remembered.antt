@@ -23,11 +23,12 @@ pub record MarksWhatItProcessed (half : Half) : Type 0 where
       → (has half.end.received.set.numbers n ≡ true) ↔ Contains half.processed n
   -- the end counts them
   pub counted : marked_of half.end ≡ length half.processed
-  -- the floor lies from ISR up to the number after GSR
+  -- the floor lies from ISR up to the number after GSR, also before a first number was heard, when the floor, ISR and GSR are 0
   pub floor : IsWithin (floor_of half.end) half.end.marks.isr (residue (half.end.marks.gsr + 1))
 
 -- In a phase in which a first number was received, GSR is a number that the side processed, if its frame is an Ack or a DataAck. A
--- packet of another type may have raised it and be out of place in the phase.
+-- packet of another type may have raised it and be out of place in the phase, and then it is never processed; no list of such numbers
+-- is kept. Of an end that is CLOSED this is not claimed, since a Reset 5, 6 or 8 answers a packet that was not processed.
 abbrev pub NewestIsProcessed : WorldState → Side → Type 0
 NewestIsProcessed w side = (index : ℕ) (frame : SentFrame) (packet : Parts) → is_live (half_of w side).end.phase ≡ true
     → slice_get (half_of w (other side)).frames index ≡ Some frame → packet_of frame.bytes ≡ Some packet

@@ -64,7 +64,8 @@ as_sent marks processed floor (Some bytes) =
       floor = floor;
     } ∷ []
 
--- A step processes the number of the frame that arrives, if one does, where the end's count of numbers that were taken rises.
+-- A step processes the number of the frame that arrives, if one does, where the end's count of numbers that were taken rises. An end
+-- hands out no list of them. A side is full long before that count could stop at 2^64 - 1.
 abbrev pub number_if : Bool → Option ℕ → List ℕ
 number_if true (Some number) = number ∷ []
 number_if true None = []

@@ -1,4 +1,8 @@
 //! The world: two ends and every frame that either ever sent, with what holds after every schedule.
+//!
+//! Both ends have one kind of congestion control, `C`. A kind that is a choice (`Kinds` of ccid_two) lets them differ
+//! while they run. That the world was reached by some schedule is the invariant of its type, so that `safe` is owed in
+//! one place.
 ghost use Rattle.std.specs.Prelude.{◌≡◌, ◌<◌, ◌^◌, List};
 ghost use Rattle.dccp_endpoint.specs.Drafts.{Fits};
 ghost use Rattle.two_ends.specs.Controlled.{begins_with, plays};
@@ -164,7 +168,8 @@ fn service_fits(service: u32)
 {}
 
 /// The world is safe after every list of events, with any congestion control, from any configurations of a client and a
-/// server whose fields fit their widths.
+/// server whose fields fit their widths: as numbers of the logic they may be of any size, while those of a `Config`
+/// always fit.
 pub fn every_run_is_safe<C: Congestion>()
     ensures { (client server : Config) (for_client for_server : C) (events : List Event) → client.role ≡ role.Client → server.role ≡ role.Server
         → Fits client → Fits server → Safe C.control (plays C.control (begins_with C.control client server for_client for_server) events) }

@@ -1,6 +1,8 @@
 -- Marks as whole numbers, whose residues an end keeps, and what is valid by their plain order (RFC 4340, sections 7.5.1
 -- and 7.5.3; own). Each number of a packet is the residue of just one whole number in ISR to ISR + 2^48 - 1, and each
 -- acknowledgement number that of just one in ISS to ISS + 2^48 - 1.
+--
+-- The marks themselves lie within the first half of that turn.
 use Rattle.std.specs.Prelude.{ℕ, ◌+◌, ◌-◌, ◌*◌, ◌/◌, ◌^◌, ◌<◌, ◌≤◌, max, Option, Some, None}
 use Rattle.seq_circle.specs.Circle.{residue, distance}
 use Rattle.dccp_packets.specs.declared.header.PacketType.{PacketType}

@@ -1,4 +1,5 @@
-//! The frames that an end sends, in which form of numbers, and what they say of features.
+//! The frames that an end sends, in which form of numbers, and what they say of features. One test, the value of Send
+//! Ack Vector, decides on the Ack Vector of an Ack or DataAck and on its record, so neither is without the other.
 ghost use Rattle.std.specs.Prelude.{◌≡◌, ◌≤◌, ◌||◌, Some, None, true, false, if◌then◌else◌, length, map};
 ghost use Rattle.dccp_endpoint.specs.Calling.{has_keys};
 ghost use Rattle.dccp_endpoint.specs.Heeding.{due_of};
