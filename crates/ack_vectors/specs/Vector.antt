@@ -33,6 +33,7 @@ pub record Group : Type 0 where
   pub state : ℕ
   pub count : ℕ
 
+-- a run of so many numbers of one state
 abbrev pub group : ℕ → ℕ → Group
 group state count = record { state = state; count = count }
 
@@ -88,8 +89,10 @@ option_room = 253
 abbrev pub vector : (ℕ → Bool) → ℕ → ℕ → List ℕ
 vector has floor ack = vector_within option_room (set_states has) floor ack
 
+-- the vector of a set in one option is whole
 abbrev pub is_whole : (ℕ → Bool) → ℕ → ℕ → Bool
 is_whole has floor ack = is_whole_within option_room (set_states has) floor ack
 
+-- how many numbers that vector reaches
 abbrev pub numbers_told : (ℕ → Bool) → ℕ → ℕ → ℕ
 numbers_told has floor ack = numbers_told_within option_room (set_states has) floor ack

@@ -8,9 +8,11 @@ pub record Held : Type 0 where
   pub claims : TableId
   pub view : View
 
+-- a claimer of these claims that knows this
 abbrev pub held : TableId → View → Held
 held claims view = record { claims = claims; view = view }
 
+-- a view of these numbers, claims made, share and limit
 abbrev pub knows : List ℕ → ℕ → ℕ → ℕ → View
 knows numbers drawn share limit = record { numbers = numbers; drawn = drawn; share = share; limit = limit }
 
@@ -38,6 +40,7 @@ half_left v = (v.share - v.drawn) / 2
 abbrev pub kept : View → View
 kept v = knows v.numbers v.drawn (v.share - half_left v) v.limit
 
+-- what is given at a split: half of the claims that are left, and no number
 abbrev pub given : View → View
 given v = knows [] 0 (half_left v) v.limit
 
@@ -45,5 +48,6 @@ given v = knows [] 0 (half_left v) v.limit
 abbrev pub both : View → View → View
 both v w = knows (v.numbers ++ w.numbers) (v.drawn + w.drawn) (v.share + w.share) v.limit
 
+-- what is left of a claimer that was joined to another: nothing
 abbrev pub spent : View
 spent = knows [] 0 0 0

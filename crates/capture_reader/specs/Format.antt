@@ -16,9 +16,11 @@ ordered_number_at Little place count bytes = little_number count (drop place byt
 abbrev pub microseconds : ℕ
 microseconds = 2712847316
 
+-- a1b23c4d: fractions are nanoseconds
 abbrev pub nanoseconds : ℕ
 nanoseconds = 2712812621
 
+-- the magic number, in the first four bytes
 abbrev pub magic_in : Order → List ℕ → ℕ
 magic_in order bytes = ordered_number_at order 0 4 bytes
 

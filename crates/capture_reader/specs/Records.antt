@@ -18,6 +18,7 @@ pub record RecordParts : Type 0 where
   pub original : ℕ
   pub bytes : List ℕ
 
+-- what a lent record says
 abbrev pub entry_of : Record → RecordParts
 entry_of r = record {
   number = r.number;
@@ -66,6 +67,7 @@ header_in order room bytes =
 abbrev pub body_fault : ℕ → ℕ → ℕ → Option CaptureFault
 body_fault captured room size = if nat_lt most_captured captured then Some RecordTooLong else missing captured room size
 
+-- the header of a whole record, once its own bytes were judged
 abbrev pub found_by : ℕ → Result (Option RecordHeader) CaptureFault → List ℕ → Result (Option RecordHeader) CaptureFault
 found_by room (Err why) bytes = Err why
 found_by room (Ok None) bytes = Ok None
@@ -102,6 +104,7 @@ entry_with format number header bytes = record {
   bytes = bytes;
 }
 
+-- the record of a header that was found, under its number
 abbrev pub next_by : Format → ℕ → Result (Option RecordHeader) CaptureFault → List ℕ → Result (Option RecordParts) CaptureFault
 next_by format number (Err why) bytes = Err why
 next_by format number (Ok None) bytes = Ok None
@@ -133,6 +136,7 @@ records_from format (suc skip) number given (byte ∷ bytes) = records_from form
 records_from format zero number given (byte ∷ bytes) =
     onward (next_of format number given (byte ∷ bytes)) (λ used. records_from format (used - 1) (number + 1) (given + used) bytes)
 
+-- the records behind a file header that was read, or its fault
 abbrev pub captured_by : Result Format CaptureFault → List ℕ → Captured
 captured_by (Err why) bytes = record { records = []; end = Some why }
 captured_by (Ok format) bytes = records_from format 0 0 24 (drop 24 bytes)

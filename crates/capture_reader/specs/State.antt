@@ -75,6 +75,7 @@ pub record Refuses {S : Type 0} (left : S → Option (List ℕ)) (faults : S →
   pub counted : new.number ≡ old.number
   pub cause : ((old.fault ≡ Some why) × (new ≡ old)) ⊎ ((old.fault ≡ None) × Blames left faults old new why)
 
+-- a record was asked for: one is given, the input has ended, or the capture is refused
 abbrev pub Reads : {S : Type 0} → (S → Option (List ℕ)) → (S → ℕ) → CapturesState S → CapturesState S → Result (Option RecordParts) CaptureFault → Type 0
 Reads left faults old new (Ok (Some entry)) = Gives left old new entry
 Reads left faults old new (Ok None) = Ends left old new

@@ -13,10 +13,12 @@ pub record Both : Type 0 where
   pub ccid_two : two.State
   pub fixed : List Entry
 
+-- the flight list of the kind in force
 abbrev pub flight_by : Kind → Both → List Entry
 flight_by CcidTwo both = both.ccid_two.flight
 flight_by Fixed both = both.fixed
 
+-- its window
 abbrev pub window_by : Kind → Both → ℕ
 window_by CcidTwo both = both.ccid_two.window
 window_by Fixed both = 8
@@ -28,18 +30,22 @@ kind_started both ccid =
     then record both { kind = Fixed; fixed = [] }
     else record both { kind = CcidTwo; ccid_two = two.first_state }
 
+-- a data packet was sent: the kind in force counts it
 abbrev pub sent_by : Kind → Both → ℕ → Both
 sent_by CcidTwo both number = record both { ccid_two = two.with_sent both.ccid_two number }
 sent_by Fixed both number = record both { fixed = sent both.fixed number }
 
+-- a report came to the kind in force
 abbrev pub reported_by : Kind → Both → States → ℕ → Both
 reported_by CcidTwo both states ratio = record both { ccid_two = two.with_report both.ccid_two states ratio }
 reported_by Fixed both states ratio = record both { fixed = after_report states both.fixed }
 
+-- the timer rto of the kind in force ran out
 abbrev pub timed_out_by : Kind → Both → Both
 timed_out_by CcidTwo both = record both { ccid_two = two.timed_out both.ccid_two }
 timed_out_by Fixed both = record both { fixed = [] }
 
+-- the congestion control that both kinds are
 abbrev pub kinds_control : Control Both
 kinds_control = record {
   flight = λ both. flight_by both.kind both;

@@ -32,6 +32,7 @@ timeout_empties : (kind : Kind) (ccid_two : two.State) (fixed : List Entry)
 timeout_empties CcidTwo ccid_two fixed = refl
 timeout_empties Fixed ccid_two fixed = refl
 
+-- whichever kind is in force, each call changes the flight list as the list's own rules say
 pub kinds_lawful : IsLawful kinds_control
 kinds_lawful = record {
   start_empties = λ both ccid. started_empty (ccid == 248) both;

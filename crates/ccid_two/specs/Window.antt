@@ -18,6 +18,7 @@ pub record State : Type 0 where
 abbrev pub first_state : State
 first_state = record { flight = []; window = 4; threshold = 1024; credit = 0; mark = None; last = None }
 
+-- a data packet was sent
 abbrev pub with_sent : State → ℕ → State
 with_sent state number = record state { flight = sent state.flight number; last = Some number }
 
@@ -51,6 +52,7 @@ adjusted true acked ratio state = halved state
 adjusted false acked ratio state =
     if nat_lt state.window state.threshold then grown_in_slow_start state acked ratio else grown_in_avoidance state acked
 
+-- a report came
 abbrev pub with_report : State → States → ℕ → State
 with_report state states ratio =
     let congested = is_congested states state.mark state.flight in
@@ -61,6 +63,7 @@ with_report state states ratio =
 abbrev pub timed_out : State → State
 timed_out state = record state { flight = []; window = 1; threshold = max 2 (state.window / 2); credit = 0; mark = state.last }
 
+-- the congestion control CCID 2 (RFC 4341)
 abbrev pub ccid_control : Control State
 ccid_control = record {
   flight = λ state. state.flight;

@@ -11,6 +11,7 @@ pub data Call : Type 0 where
   Reports : (states : States) → (ratio : ℕ) → Call
   TimesOut : Call
 
+-- the state after a call
 abbrev pub after_call : {S : Type 0} → Control S → S → Call → S
 after_call control state (Starts ccid) = control.started state ccid
 after_call control state (Sends number) = control.with_sent state number

@@ -12,11 +12,13 @@ use Rattle.congestion_trait.specs.declared.flight.Standing.TheVariants.{Out, Rep
 abbrev pub States : Type 0
 States = ℕ → Option ℕ
 
+-- nothing is known of the packet
 abbrev pub is_out : Standing → Bool
 is_out Out = true
 is_out Reported = false
 is_out Lost = false
 
+-- a report said that it was received
 abbrev pub is_reported : Standing → Bool
 is_reported Out = false
 is_reported Reported = true

@@ -22,6 +22,7 @@ pub record Rules (R : Type 0) : Type 0 where
   pub with_report : R → List Entry → States → ℕ → R
   pub timed_out : R → R
 
+-- the congestion control of these rules, with a flight list beside what they keep
 abbrev pub control_by_rules : {R : Type 0} → Rules R → Control (Flying R)
 control_by_rules rules = record {
   flight = λ state. state.flight;

@@ -61,6 +61,7 @@ is_untouched told entry = is_reported entry.standing || not (is_out entry.standi
 abbrev pub AllUntouched : States → List Entry → Type 0
 AllUntouched told entries = IsTrue (list_all (λ entry. is_untouched told entry) entries)
 
+-- the numbers of entries
 abbrev pub numbers : List Entry → List ℕ
 numbers entries = map (λ entry. entry.number) entries
 

@@ -87,10 +87,12 @@ abbrev pub end_if_known : {Name Answer : Type 0} → (Name → CEnd → EndStep 
 end_if_known doing None held = held
 end_if_known doing (Some name) held = kept_after (doing name) held
 
+-- the bytes that such a call leaves
 abbrev pub frame_if_known : {Name Answer : Type 0} → (Name → CEnd → EndStep Both Answer) → Option Name → Option CEnd → List ℕ
 frame_if_known doing None held = []
 frame_if_known doing (Some name) held = frame_after (doing name) held
 
+-- its code
 abbrev pub code_if_known : {Name Answer : Type 0} → (Answer → ℕ) → (Name → CEnd → EndStep Both Answer) → Option Name → Option CEnd → ℕ
 code_if_known code doing None held = 11
 code_if_known code doing (Some name) held = code_after code (doing name) held

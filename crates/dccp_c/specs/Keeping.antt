@@ -13,6 +13,7 @@ use Rattle.dccp_c.specs.contracts.held.Held.{the_row}
 abbrev pub Inner : Type 0
 Inner = the_row.Denot
 
+-- the code by which a ghost field holds an end, or none
 abbrev pub inner_coded : Coded (Option Inner)
 inner_coded = coded_option the_row.coded
 

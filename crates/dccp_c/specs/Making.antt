@@ -97,6 +97,7 @@ made_from true (Ok config) = Some (begins kinds_control config at_first)
 made_from true (Err code) = None
 made_from false _ = None
 
+-- what the handle holds once making was answered by this code
 abbrev pub made_of : ℕ → Result Config ℕ → Option CEnd
 made_of code config = made_from (code == 0) config
 

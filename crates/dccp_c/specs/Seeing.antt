@@ -44,6 +44,7 @@ abbrev pub feature_after : Option Feature → Place → Option CEnd → FeatureS
 feature_after None place held old = old
 feature_after (Some feature) place held old = seen_after (seen_feature feature place) held old
 
+-- the code of reading a feature
 abbrev pub feature_code : Option Feature → Option CEnd → ℕ
 feature_code None held = 11
 feature_code (Some feature) held = look_code held

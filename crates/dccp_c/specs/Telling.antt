@@ -49,11 +49,14 @@ is_short bytes = nat_le (length bytes) 2044
 abbrev pub hears_if_short : List ℕ → Option CEnd → Option CEnd
 hears_if_short bytes held = if is_short bytes then kept_after (c_receives bytes) held else held
 
+-- the bytes that answer a datagram
 abbrev pub hear_frame : List ℕ → Option CEnd → List ℕ
 hear_frame bytes held = if is_short bytes then frame_after (c_receives bytes) held else []
 
+-- the code of handing one in
 abbrev pub hear_code : List ℕ → Option CEnd → ℕ
 hear_code bytes held = if is_short bytes then code_after (λ _. 0) (c_receives bytes) held else 5
 
+-- what C is told of it
 abbrev pub hear_told : List ℕ → Option CEnd → Told → Told
 hear_told bytes held old = if is_short bytes then told_after bytes held old else old

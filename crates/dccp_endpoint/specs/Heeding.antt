@@ -51,7 +51,7 @@ abbrev pub place_in_used : Bool → ℕ → ℕ
 place_in_used true number = 2 * number + 1
 place_in_used false number = 2 * number
 
--- Change L and Confirm L
+-- of the four types of the negotiation, Change L and Confirm L
 abbrev pub is_left : ℕ → Bool
 is_left kind = nat_le kind options.confirm_l
 

@@ -47,7 +47,7 @@ fn place_in_used(left: bool, number: u8) -> usize
     if left { even + 1 } else { even }
 }
 
-// Change L and Confirm L.
+// Of the four types of the negotiation, Change L and Confirm L.
 fn is_left(kind: u8) -> bool
     ensures { result ≡ is_left kind }
 {

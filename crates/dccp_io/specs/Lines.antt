@@ -49,6 +49,7 @@ pub data Next : Type 0 where
   Long : (front : List ℕ) → Next
   Much : Next
 
+-- A first line whose text has so many bytes: it stands next, or its front where it is too long.
 abbrev pub by_length : List ℕ → ℕ → Next
 by_length bytes n = if nat_le one_too_many n then Long (take one_too_many bytes) else Line (first_line bytes)
 
@@ -63,6 +64,7 @@ abbrev pub before_line : ℕ → List (List ℕ) → List (List ℕ)
 before_line byte [] = (byte ∷ []) ∷ []
 before_line byte (line ∷ lines) = (byte ∷ line) ∷ lines
 
+-- all lines of these bytes
 abbrev pub lines_of : List ℕ → List (List ℕ)
 lines_of [] = []
 lines_of (byte ∷ rest) = if byte == newline then (newline ∷ []) ∷ lines_of rest else before_line byte (lines_of rest)
@@ -150,6 +152,7 @@ pub record Stops {S : Type 0} (left : S → Option (List ℕ)) (faults : S → �
   pub same_rest : rest_of_input left new ≡ rest_of_input left old
   pub cause : ((old.stop ≡ Some why) × (new ≡ old)) ⊎ ((old.stop ≡ None) × CausesStop left faults old new why)
 
+-- what `find` answered: a line is given, the input has ended, or no further line comes
 abbrev pub AnswersNextLine : {S : Type 0} → (S → Option (List ℕ)) → (S → ℕ) → LinesState S → LinesState S → Result Bool Stop → Type 0
 AnswersNextLine left faults old new (Ok true) = GivesLine left old new
 AnswersNextLine left faults old new (Ok false) = EndsInput left old new

@@ -36,9 +36,11 @@ pub record MemoryBytes : Type 0 where
 abbrev pub given_count : MemoryBytes → ℕ → ℕ
 given_count source room = min source.most (min room (length source.left))
 
+-- what a call of the source answers
 abbrev pub read_answer : MemoryBytes → ℕ → Result ℕ Failed
 read_answer source room = if next_fails source.calls then Err (record {}) else Ok (given_count source room)
 
+-- the source after it
 abbrev pub after_read : MemoryBytes → ℕ → MemoryBytes
 after_read source room = record {
   left = if next_fails source.calls then source.left else drop (given_count source room) source.left;
@@ -59,6 +61,7 @@ pub record MemoryTaken : Type 0 where
 abbrev pub accepted : MemoryTaken → List ℕ → ℕ
 accepted sink piece = min sink.most (min (length piece) sink.room)
 
+-- what a call of the sink answers
 abbrev pub write_answer : MemoryTaken → List ℕ → Result ℕ Failed
 write_answer sink piece = if next_fails sink.calls then Err (record {}) else Ok (accepted sink piece)
 
@@ -72,5 +75,6 @@ after_taking sink piece = record {
   empty_takes = if accepted sink piece == 0 && nat_lt 0 (length piece) then one_more sink.empty_takes else sink.empty_takes;
 }
 
+-- the sink after it
 abbrev pub after_write : MemoryTaken → List ℕ → MemoryTaken
 after_write sink piece = if next_fails sink.calls then record sink { calls = counted_call sink.calls } else after_taking sink piece

@@ -66,6 +66,7 @@ has_form long types.Reset = long
 has_form long types.Sync = long
 has_form long types.SyncAck = long
 
+-- the type of a packet with these fields
 abbrev pub packet_type : Kind → PacketType
 packet_type (Request service) = types.Request
 packet_type (Response ack service) = types.Response
@@ -101,6 +102,7 @@ abbrev pub NumberFits : Number → Type 0
 NumberFits (Long n) = n < 2 ^ 48
 NumberFits (Short n) = n < 2 ^ 24
 
+-- the same of what a type alone carries
 abbrev pub KindFits : Kind → Type 0
 KindFits (Request service) = service < 2 ^ 32
 KindFits (Response ack service) = (ack < 2 ^ 48) × (service < 2 ^ 32)
@@ -113,6 +115,7 @@ KindFits (Reset ack code detail) = (ack < 2 ^ 48) × (code < 2 ^ 8) × (length d
 KindFits (Sync ack) = ack < 2 ^ 48
 KindFits (SyncAck ack) = ack < 2 ^ 48
 
+-- the same of a whole header
 pub record HeaderFits (h : Header) : Type 0 where
   pub from : h.from < 2 ^ 16
   pub to : h.to < 2 ^ 16
@@ -132,6 +135,7 @@ data_offset_bytes bytes = 4 * slice_index bytes 4
 abbrev pub type_code : List ℕ → ℕ
 type_code bytes = slice_index bytes 8 / 2 % 16
 
+-- X is 1: numbers have 48 bits (RFC 4340, section 5.1)
 abbrev pub has_long_numbers : List ℕ → Bool
 has_long_numbers bytes = slice_index bytes 8 % 2 == 1
 
@@ -143,6 +147,7 @@ number_in long bytes = if long then Long (number_at 10 6 bytes) else Short (numb
 abbrev pub long_ack : List ℕ → ℕ
 long_ack bytes = number_at 18 6 bytes
 
+-- the acknowledgement number of an Ack or a DataAck, in either form
 abbrev pub ack_in : Bool → List ℕ → Number
 ack_in long bytes = if long then Long (long_ack bytes) else Short (number_at 13 3 bytes)
 
@@ -159,6 +164,7 @@ kind_of types.Reset long bytes = Reset (long_ack bytes) (slice_index bytes 24) (
 kind_of types.Sync long bytes = Sync (long_ack bytes)
 kind_of types.SyncAck long bytes = SyncAck (long_ack bytes)
 
+-- the header that bytes of a type have
 abbrev pub header_of : PacketType → Bool → List ℕ → Header
 header_of kind long bytes = record {
   from = number_at 0 2 bytes;
@@ -176,6 +182,7 @@ pub record Parts : Type 0 where
   pub options : List ℕ
   pub payload : List ℕ
 
+-- the packet that they are: behind the fixed part the options up to the Data Offset, and then the data
 abbrev pub parts_of : PacketType → Bool → List ℕ → Parts
 parts_of kind long bytes = record {
   header = header_of kind long bytes;
@@ -191,6 +198,7 @@ decoded_as kind long bytes =
     else if not (has_form long kind) then Err faults.ShortNumbers
     else Ok (parts_of kind long bytes)
 
+-- a packet by its type, unless that is reserved
 abbrev pub decoded_by : Option PacketType → List ℕ → Result Parts Malformed
 decoded_by None bytes = Err faults.ReservedType
 decoded_by (Some kind) bytes = decoded_as kind (has_long_numbers bytes) bytes
@@ -218,13 +226,16 @@ abbrev pub number_bytes : Number → List ℕ
 number_bytes (Long n) = 0 ∷ big_bytes 6 n
 number_bytes (Short n) = big_bytes 3 n
 
+-- an acknowledgement number of 48 bits behind its two
 abbrev pub long_ack_bytes : ℕ → List ℕ
 long_ack_bytes ack = 0 ∷ 0 ∷ big_bytes 6 ack
 
+-- an acknowledgement number in either form
 abbrev pub ack_bytes : Number → List ℕ
 ack_bytes (Long ack) = long_ack_bytes ack
 ack_bytes (Short ack) = 0 ∷ big_bytes 3 ack
 
+-- what stands behind the sequence number in the fixed part, a line a type (RFC 4340, sections 5.2 to 5.7)
 abbrev pub kind_bytes : Kind → List ℕ
 kind_bytes (Request service) = big_bytes 4 service
 kind_bytes (Response ack service) = long_ack_bytes ack ++ big_bytes 4 service

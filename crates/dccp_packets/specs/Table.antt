@@ -62,9 +62,11 @@ abbrev pub NumberHasZeros : Number → List ℕ → Type 0
 NumberHasZeros (Long n) b = slice_index b 9 ≡ 0
 NumberHasZeros (Short n) b = Unit {0}
 
+-- the two bytes before a long acknowledgement
 abbrev pub LongAckHasZeros : List ℕ → Type 0
 LongAckHasZeros b = (slice_index b 16 ≡ 0) × (slice_index b 17 ≡ 0)
 
+-- the bytes before the acknowledgement, a line a type
 abbrev pub KindHasZeros : Kind → List ℕ → Type 0
 KindHasZeros (Request service) b = Unit {0}
 KindHasZeros (Response ack service) b = LongAckHasZeros b
@@ -79,6 +81,7 @@ KindHasZeros (Reset ack code detail) b = LongAckHasZeros b
 KindHasZeros (Sync ack) b = LongAckHasZeros b
 KindHasZeros (SyncAck ack) b = LongAckHasZeros b
 
+-- all reserved bits of a packet
 pub record HasZeros (h : Header) (bytes : List ℕ) : Type 0 where
   pub types : slice_index bytes 8 < 32
   pub number : NumberHasZeros h.number bytes

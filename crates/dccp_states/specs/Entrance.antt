@@ -6,6 +6,7 @@ use Rattle.dccp_states.specs.declared.phase.Phase.TheVariants as phases
 use Rattle.dccp_states.specs.declared.entrance.Entrance.{Entrance}
 use Rattle.dccp_states.specs.declared.entrance.Entrance.TheVariants.{NoConnection, Stray, Accept, InRequest, PacketError, Check}
 
+-- the table: what a type means in a phase
 abbrev pub gate : Phase → PacketType → Entrance
 -- step 2
 gate phases.Closed types.Reset = Stray

@@ -6,6 +6,7 @@ use Rattle.dccp_states.specs.declared.phase.Phase.TheVariants as phases
 use Rattle.dccp_states.specs.declared.reply.Reply.{Reply}
 use Rattle.dccp_states.specs.declared.reply.Reply.TheVariants as replies
 
+-- the table: the phase after a packet of a type, and the reply
 abbrev pub after : Phase → PacketType → Phase × Reply
 -- step 9
 after _ types.Reset = (phases.TimeWait, replies.Torn)

@@ -34,6 +34,7 @@ stated bytes = big_number 2 (drop 6 bytes)
 abbrev pub is_zero : ℕ → Bool
 is_zero sum = sum == 0 || sum == 65535
 
+-- two checksums are one number in ones' complement
 abbrev pub same_checksum : ℕ → ℕ → Bool
 same_checksum a b = a == b || (is_zero a && is_zero b)
 
@@ -43,6 +44,7 @@ checked_over pseudo bytes None = Err CoverageTooLarge
 checked_over pseudo bytes (Some count) =
     if same_checksum (stated bytes) (checksum pseudo bytes count) then Ok tt else Err Wrong
 
+-- the verdict on a packet, by the coverage that it states
 abbrev pub checked : Pseudo → List ℕ → Result (Unit {0}) SumFault
 checked pseudo bytes = checked_over pseudo bytes (covered bytes)
 
@@ -51,5 +53,6 @@ abbrev pub sealed_over : Pseudo → List ℕ → Option ℕ → List ℕ
 sealed_over pseudo bytes None = bytes
 sealed_over pseudo bytes (Some count) = with_checksum (checksum pseudo bytes count) bytes
 
+-- the packet with its checksum, by the coverage that it states
 abbrev pub sealed : Pseudo → List ℕ → List ℕ
 sealed pseudo bytes = sealed_over pseudo bytes (covered bytes)

@@ -14,6 +14,7 @@ agree_by true location server client = SidesAgree reconciled server client
 agree_by false end.Server server client = AgreeByLocation server client
 agree_by false end.Client server client = AgreeByLocation client server
 
+-- both values were given: by lists of the two ends for a server-priority feature, by its location for any other
 abbrev pub given_by : Bool → ℕ → Role2 → FeatureSide → FeatureSide → Type 0
 given_by true initial location server client = SidesAreGiven initial reconciled server client
 given_by false initial end.Server server client = GivenByLocation initial server client

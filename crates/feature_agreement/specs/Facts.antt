@@ -5,6 +5,7 @@ use Rattle.feature_agreement.specs.View.{FeatureSide, carried_at, carries_change
 use Rattle.feature_agreement.specs.View.Carried.{Change, Confirm}
 use Rattle.feature_agreement.specs.Moves.{Rule}
 
+-- what the frames of a side say of its row, towards its peer
 pub record SpeaksForItsRow (rule : Rule) (side peer : FeatureSide) : Type 0 where
   -- from its last opening on, its Changes carry its active wish, and its Confirms after that do; if it never opened, all do
   pub changes_active : (count : ℕ) (wish : List ℕ) → carried_at side.frames count ≡ Change wish → side.opened ≤ count

@@ -92,12 +92,15 @@ pub data Reached (pair : Pair) : FeatureSide → FeatureSide → Type 0 where
 abbrev pub IsReachable : Pair → FeatureSide → FeatureSide → Type 0
 IsReachable pair server client = ∥ Reached pair server client ∥₁
 
+-- a row that may open with any wish
 abbrev pub any_wish : List ℕ → Bool
 any_wish wish = true
 
+-- one that never opens
 abbrev pub no_wish : List ℕ → Bool
 no_wish wish = false
 
+-- one that opens with a single value
 abbrev pub one_value : List ℕ → Bool
 one_value [] = false
 one_value (value ∷ []) = true

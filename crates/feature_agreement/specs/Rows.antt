@@ -109,6 +109,7 @@ is_valid_by false feature place.Here body =
     length body == (described feature).width && is_permitted feature place.Here (big_number (described feature).width body)
 is_valid_by false feature place.There body = false
 
+-- the same by the feature
 abbrev pub is_valid_change : Feature → Place → List ℕ → Bool
 is_valid_change feature at body = is_valid_by (described feature).is_server_priority feature at body
 
@@ -120,6 +121,7 @@ is_whole_by true (value ∷ (first ∷ list)) = true
 is_whole_by false [] = false
 is_whole_by false (byte ∷ bytes) = true
 
+-- the same by the feature
 abbrev pub is_whole_confirm : Feature → List ℕ → Bool
 is_whole_confirm feature body = is_whole_by (described feature).is_server_priority body
 

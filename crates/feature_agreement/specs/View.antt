@@ -34,6 +34,7 @@ carried_at frames count = slice_index_or (Nothing ∷ frames) count Nothing
 abbrev pub with_frame : List Carried → Carried → List Carried
 with_frame frames frame = frames ++ frame ∷ []
 
+-- the frame carries a Change
 abbrev pub carries_change : Carried → Bool
 carries_change Nothing = false
 carries_change (Change wish) = true
@@ -73,6 +74,7 @@ is_listed (Change wish) = true
 is_listed (Confirm acknowledged value []) = false
 is_listed (Confirm acknowledged value (entry ∷ entries)) = true
 
+-- every Confirm of these frames has a list
 abbrev pub are_listed : List Carried → Bool
 are_listed frames = list_all is_listed frames
 

@@ -5,9 +5,11 @@ use Rattle.std.proofs.lemmas.List.{length-take-le}
 use Rattle.feature_lists.specs.Preferences.{filled_to_eight, PrefsInvariant}
 use Rattle.feature_lists.specs.declared.prefs.Prefs.TheInside.{Inside}
 
+-- what is kept of a list: these bytes, of which so many are its entries
 abbrev pub kept_as : List ℕ → ℕ → Inside
 kept_as entries len = record { entries = entries; len = len }
 
+-- a list's entries, filled up with zeros, are what is kept of it
 pub kept_back : (a : Inside) → PrefsInvariant a.entries a.len → kept_as (filled_to_eight (take a.len a.entries)) (length (take a.len a.entries)) ≡ a
 kept_back a h =
     let inside : a.len ≤ length a.entries = subst (λ n. a.len ≤ n) (sym h.size) h.few in

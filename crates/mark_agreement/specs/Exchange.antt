@@ -11,6 +11,7 @@ client_requesting = with_sent_frame unmoved_side (other_frame unmoved_side 0)
 abbrev pub server_requested : MarkSide
 server_requested = with_first_frame unmoved_side 1
 
+-- and sends the Response
 abbrev pub server_answering : MarkSide
 server_answering = with_sent_frame server_requested (other_frame server_requested 1)
 
@@ -18,6 +19,7 @@ server_answering = with_sent_frame server_requested (other_frame server_requeste
 abbrev pub client_answered : MarkSide
 client_answered = with_first_frame client_requesting 1
 
+-- and sends the Ack
 abbrev pub client_acking : MarkSide
 client_acking = with_sent_frame client_answered (ack_frame client_answered true true)
 
@@ -25,6 +27,7 @@ client_acking = with_sent_frame client_answered (ack_frame client_answered true 
 abbrev pub server_acked : MarkSide
 server_acked = with_processed server_answering 2
 
+-- and sends its own Ack, with its vector
 abbrev pub server_telling : MarkSide
 server_telling = with_sent_frame server_acked (ack_frame server_acked true true)
 
@@ -32,9 +35,11 @@ server_telling = with_sent_frame server_acked (ack_frame server_acked true true)
 abbrev pub client_told : MarkSide
 client_told = with_processed client_acking 2
 
+-- and learns that its Ack was received
 abbrev pub client_learning : MarkSide
 client_learning = told client_told (λ n. n == 2)
 
+-- and acknowledges the vector
 abbrev pub client_exchanged : MarkSide
 client_exchanged = with_sent_frame client_learning (ack_frame client_learning true true)
 
@@ -42,5 +47,6 @@ client_exchanged = with_sent_frame client_learning (ack_frame client_learning tr
 abbrev pub server_heard : MarkSide
 server_heard = with_processed server_telling 3
 
+-- and raises its floor above the two
 abbrev pub server_exchanged : MarkSide
 server_exchanged = with_floor server_heard 3

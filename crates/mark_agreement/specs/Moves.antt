@@ -43,6 +43,7 @@ passed side count = record side { greatest = max side.greatest count }
 abbrev pub shut : MarkSide → ℕ → MarkSide
 shut side count = record side { greatest = max side.greatest count; closed = true }
 
+-- the phase is CLOSED
 abbrev pub closed_side : MarkSide → MarkSide
 closed_side side = record side { closed = true }
 
@@ -81,6 +82,7 @@ other_frame side acknowledged =
       says = λ n. false;
     }
 
+-- a frame is sent
 abbrev pub with_sent_frame : MarkSide → Frame → MarkSide
 with_sent_frame side frame = record side { frames = frames_with side.frames frame }
 

@@ -44,6 +44,7 @@ pub record MarkSide : Type 0 where
   -- which of its own frames it believes received
   pub reported : ℕ → Bool
 
+-- what is read at a count that no frame has
 abbrev pub no_frame : Frame
 no_frame =
     record { is_ack = false; acknowledged = 0; has_vector = false; is_whole = false; floor = 0; processed = 0; says = λ n. false }

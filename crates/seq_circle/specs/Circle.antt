@@ -49,6 +49,7 @@ is_within n low high = nat_le (distance low n) (distance low high)
 abbrev pub short_distance : ℕ → ℕ → ℕ
 short_distance from to = (to + 2 ^ 24 - from) % 2 ^ 24
 
+-- the order of short forms: the other lies ahead by 1 to 2^23 - 1
 abbrev pub is_short_before : ℕ → ℕ → Bool
 is_short_before a b = nat_lt 0 (short_distance a b) && nat_lt (short_distance a b) (2 ^ 23)
 

@@ -54,6 +54,7 @@ with_side command = with_rule (with_rule command (option_rule (codes "side"))) (
 unfoldable pub campaign_command : App
 campaign_command = with_figures bare_command
 
+-- that of `replay`
 unfoldable pub replay_command : App
 replay_command = with_side bare_command
 

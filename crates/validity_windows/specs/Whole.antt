@@ -44,9 +44,11 @@ unrolled m = record m {
 abbrev pub whole_sequence_low : Marks → ℕ
 whole_sequence_low w = max (w.gsr + 1 - w.peer_w / 4) w.isr
 
+-- SWH
 abbrev pub whole_sequence_high : Marks → ℕ
 whole_sequence_high w = w.gsr + (3 * w.peer_w + 3) / 4
 
+-- AWL
 abbrev pub whole_ack_low : Marks → ℕ
 whole_ack_low w = max (w.gss + 1 - w.own_w) w.iss
 
@@ -55,6 +57,7 @@ abbrev pub AckLies : ℕ → ℕ → Option ℕ → Type 0
 AckLies low high None = Unit {0}
 AckLies low high (Some ack) = (low ≤ ack) × (ack ≤ high)
 
+-- the acknowledgement number on the circle, where there is one
 abbrev pub residue_of : Option ℕ → Option ℕ
 residue_of None = None
 residue_of (Some ack) = Some (residue ack)
@@ -64,9 +67,11 @@ abbrev pub LiesInWindow : Marks → ℕ → Option ℕ → Type 0
 LiesInWindow w n ack =
     (whole_sequence_low w ≤ n) × (n ≤ whole_sequence_high w) × AckLies (whole_ack_low w) w.gss ack
 
+-- after GSR, and acknowledging from GAR on
 abbrev pub LiesAfterGreatest : Marks → ℕ → Option ℕ → Type 0
 LiesAfterGreatest w n ack = (w.gsr < n) × (n ≤ whole_sequence_high w) × AckLies w.gar w.gss ack
 
+-- from SWL on, fewer than 2^47 numbers of them
 abbrev pub LiesFromLowEnd : Marks → ℕ → Option ℕ → Type 0
 LiesFromLowEnd w n ack =
     (whole_sequence_low w ≤ n) × (n < whole_sequence_low w + 2 ^ 47) × AckLies (whole_ack_low w) w.gss ack
@@ -108,6 +113,7 @@ whole_gar_after gar types.Sync ack = gar
 whole_gar_after gar kind None = gar
 whole_gar_after gar kind (Some ack) = max gar ack
 
+-- what a valid packet other than Reset raises
 abbrev pub whole_taken : Marks → PacketType → ℕ → Option ℕ → Marks
 whole_taken w kind n ack = record w { gsr = max w.gsr n; gar = whole_gar_after w.gar kind ack }
 

@@ -30,5 +30,6 @@ ack_low m = later_of (down (residue (m.gss + 1)) m.own_w) m.iss
 abbrev pub ack_high : Marks → ℕ
 ack_high m = m.gss
 
+-- the four ends
 abbrev pub windows : Marks → Windows
 windows m = record { swl = sequence_low m; swh = sequence_high m; awl = ack_low m; awh = ack_high m }
