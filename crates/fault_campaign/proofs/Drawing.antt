@@ -1,5 +1,5 @@
--- Drawn events can happen: a delivery's index is below the number of frames, and no side has sent all that it may.
-use Rattle.std.proofs.Common.{◌≡◌, refl, sym, subst, ℕ, ◌+◌, ◌-◌, ◌/◌, ◌%◌, ◌^◌, ◌≤◌, ◌<◌, ◌==◌, min, nat_le, Bool, true, false, if◌then◌else◌, length, Option, Some, None, Result, Ok, Err, ◌⊎◌, inl, inr, arith}
+-- Drawn events can happen: a delivery's index is below the number of frames, no side has sent all that it may, and no frame is far.
+use Rattle.std.proofs.Common.{◌≡◌, refl, sym, ap, subst, ℕ, ◌+◌, ◌-◌, ◌/◌, ◌%◌, ◌^◌, ◌≤◌, ◌<◌, ◌==◌, min, nat_le, Bool, true, false, if◌then◌else◌, length, Option, Some, None, Result, Ok, Err, ◌⊎◌, inl, inr, arith}
 use Rattle.std.specs.Prelude.{get_or, slice_get, IsOk}
 use Rattle.std.proofs.lemmas.Bool.{leb-true}
 use Rattle.std.proofs.lemmas.Bool.Decides.{nat_tests}
@@ -7,8 +7,8 @@ use Rattle.std.proofs.lemmas.Nat.{mod_below}
 use Rattle.std.proofs.lemmas.Option.{slice_get_cases}
 use Rattle.ccid_two.specs.Kinds.{Both, kinds_control}
 use Rattle.end_answers.specs.declared.calls.Timer.TheVariants as timer
-use Rattle.two_ends.specs.Controlled.{Controlled, congestion_of, controls, happens_to, said_by}
-use Rattle.two_ends.specs.World.{HalfStep, WorldState, WorldStep, Happening, Calls, Delivers, Said, delivers_frame, half_of, half_steps, happening_of, is_full, takes_place, unless_full, with_half}
+use Rattle.two_ends.specs.Controlled.{Controlled, ControlledStep, congestion_of, controls, happens_to, said_by}
+use Rattle.two_ends.specs.World.{HalfStep, WorldState, WorldStep, Happening, Calls, Delivers, Said, delivers_frame, half_of, half_steps, happening_of, is_far_frame, is_full, in_world, takes_place, unless_far, unless_full, with_half}
 use Rattle.world_events.specs.Actors.{actor, other}
 use Rattle.world_events.specs.declared.event.Event.{Event}
 use Rattle.world_events.specs.declared.event.Event.TheVariants as event
@@ -19,6 +19,7 @@ use Rattle.world_events.specs.declared.event.WorldFault.TheVariants as fault
 use Rattle.two_ends.specs.declared.frames.SentFrame.{SentFrame}
 use Rattle.fault_campaign.specs.Draws.{behind_word, drawn, drawn_delivery, drawn_index, ending, event_numbered, generator, preference, word}
 use Rattle.fault_campaign.specs.Seeded.{Running, begun_run, next_event, seeded}
+use Rattle.fault_campaign.proofs.Schedules.{NeverFar, seeded-near}
 use Rattle.fault_campaign.proofs.Short.{IsShort, after-so-many}
 
 abbrev IsRoomy : WorldState → Type 0
@@ -28,17 +29,29 @@ abbrev HasFrame : WorldState → Happening → Type 0
 HasFrame w (Calls side given) = Unit {0}
 HasFrame w (Delivers from index) = index < length (half_of w from).frames
 
+-- it happens, or the frame is far
 abbrev Happens : Result WorldStep WorldFault → Type 0
-Happens result = IsOk result
+Happens result = (result ≡ Err fault.FarShort) ⊎ IsOk result
 
-unless_full-happens : (w : WorldState) (acting : Side) (step : HalfStep) → IsRoomy w → Happens (unless_full w acting step)
-unless_full-happens w acting step room = by (is_full (half_of w acting)) refl where
+not-full : (w : WorldState) (acting : Side) → IsRoomy w → is_full (half_of w acting) ≡ true → ⊥
+not-full w acting room full =
+    let all = leb-true (2 ^ 47 - 1) (length (half_of w acting).frames) full in
+    omega (arith, all, room acting)
+
+call-happens : (w : WorldState) (acting : Side) (step : HalfStep) → IsRoomy w → Happens (unless_full w acting (Ok step))
+call-happens w acting step room = by (is_full (half_of w acting)) refl where
   by : (full : Bool) → is_full (half_of w acting) ≡ full
       → Happens (if full then Err fault.Full else Ok (record { world = with_half w acting step.half; calls = step.calls; seen = step.seen }))
-  by true full =
-      let all = leb-true _ _ full in
-      absurd (omega (arith, all, room acting))
-  by false full = refl
+  by true full = absurd (not-full w acting room full)
+  by false full = inr refl
+
+delivery-happens : (w : WorldState) (from : Side) (frame : SentFrame) → IsRoomy w → Happens (delivers_frame w from (Some frame))
+delivery-happens w from frame room = by (is_full (half_of w (other from))) (is_far_frame (half_of w (other from)).end frame) refl where
+  by : (full far : Bool) → is_full (half_of w (other from)) ≡ full
+      → Happens (if full then Err fault.Full else in_world w (other from) (unless_far (half_of w (other from)) frame far))
+  by true far full = absurd (not-full w (other from) room full)
+  by false true full = inl refl
+  by false false full = inr refl
 
 arrives-happens : (w : WorldState) (from : Side) (index : ℕ) → IsRoomy w → index < length (half_of w from).frames
     → Happens (delivers_frame w from (slice_get (half_of w from).frames index))
@@ -48,16 +61,22 @@ arrives-happens w from index room below = by (slice_get_cases (half_of w from).f
       → Happens (delivers_frame w from (slice_get (half_of w from).frames index))
   by (inl there) =
       subst (λ (found : Option SentFrame). Happens (delivers_frame w from found)) (sym there.2)
-      (unless_full-happens w (other from) _ room)
+      (delivery-happens w from there.0 room)
   by (inr past) = absurd (omega (arith, past.0))
 
 takes-place : (w : WorldState) (happening : Happening) → IsRoomy w → HasFrame w happening → Happens (takes_place w happening)
-takes-place w (Calls side given) room has = unless_full-happens w side (half_steps (half_of w side) None given) room
+takes-place w (Calls side given) room has = call-happens w side (half_steps (half_of w side) None given) room
 takes-place w (Delivers from index) room has = arrives-happens w from index room has
 
-controls-happens : (w : Controlled Both) (acting : Side) (result : Result WorldStep WorldFault) → IsOk result → IsOk (controls kinds_control w acting result)
-controls-happens w acting (Ok step) ok = refl
-controls-happens w acting (Err fault) ok = ok
+abbrev IsOkOrFar : Result (ControlledStep Both) WorldFault → Type 0
+IsOkOrFar result = (result ≡ Err fault.FarShort) ⊎ IsOk result
+
+controls-happens : (w : Controlled Both) (acting : Side) (result : Result WorldStep WorldFault) → Happens result → IsOkOrFar (controls kinds_control w acting result)
+controls-happens w acting (Ok step) happened = inr refl
+controls-happens w acting (Err why) (inl far) =
+    let same : why ≡ fault.FarShort = cc far in
+    inl (ap Err same)
+controls-happens w acting (Err why) (inr ok) = inr ok
 
 minus-below : (n m : ℕ) → 0 < n → n - 1 - m < n
 minus-below n m some = omega arith
@@ -110,7 +129,7 @@ module _ (w : WorldState) (said : Said) where
   drawn-can a b = event_of-can (a % 32) b
 
 happens : (w : Controlled Both) (event : Event) → IsRoomy w.world → HasFrame w.world (happening_of event (said_by kinds_control (congestion_of w (actor event))))
-    → IsOk (happens_to kinds_control w event)
+    → IsOkOrFar (happens_to kinds_control w event)
 happens w event room has =
     controls-happens w (actor event) (takes_place w.world (happening_of event (said_by kinds_control (congestion_of w (actor event)))))
     (takes-place w.world (happening_of event (said_by kinds_control (congestion_of w (actor event)))) room has)
@@ -123,9 +142,20 @@ pub open-happens : (seed : ℕ) → IsOk (happens_to kinds_control (begun_run (g
 unfolding begun_run
 open-happens seed = refl
 
-pub next-happens : (seed events : ℕ) → events < 2 ^ 47 - 1 → IsOk (happens_to kinds_control (seeded seed events).world (next_event (seeded seed events)))
-next-happens seed events few =
+pub next-or-far : (seed events : ℕ) → events < 2 ^ 47 - 1 → IsOkOrFar (happens_to kinds_control (seeded seed events).world (next_event (seeded seed events)))
+next-or-far seed events few =
     let run = seeded seed events in
     let short : IsShort (events - 1 + 1) run = after-so-many seed events in
     happens run.world (next_event run) (roomy (events - 1 + 1) run (omega arith) short)
     (drawn-can run.world.world (said_by kinds_control (congestion_of run.world (actor (next_event run)))) (word run.words) (word (behind_word run.words)))
+
+-- The events of a run are too few for a frame to be far.
+pub next-happens : NeverFar → (seed events : ℕ) → events < 2 ^ 23
+    → IsOk (happens_to kinds_control (seeded seed events).world (next_event (seeded seed events)))
+next-happens never seed events few =
+    let run = seeded seed events in
+    let short : IsShort (events - 1 + 1) run = after-so-many seed events in
+    elim (next-or-far seed events (omega (arith, few))) [
+      | inl far ↦ absurd (seeded-near never seed events (next_event run) (omega (arith, few, short.clients)) (omega (arith, few, short.servers)) far)
+      | inr ok ↦ ok
+    ]

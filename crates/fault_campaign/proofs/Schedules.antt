@@ -1,5 +1,5 @@
 -- The run of a seed as that of a schedule, from a client and a server whose fields fit.
-use Rattle.std.proofs.Common.{◌≡◌, refl, sym, ap, subst, ◌∙◌, ℕ, zero, suc, ◌+◌, ◌-◌, ◌*◌, ◌/◌, ◌%◌, ◌^◌, ◌≤◌, ◌<◌, List, length, Result, Ok, Err, bit_xor, arith}
+use Rattle.std.proofs.Common.{◌≡◌, ◌≢◌, refl, sym, ap, subst, ◌∙◌, ℕ, zero, suc, ◌+◌, ◌-◌, ◌*◌, ◌/◌, ◌%◌, ◌^◌, ◌≤◌, ◌<◌, List, length, Result, Ok, Err, bit_xor, arith}
 use Rattle.std.proofs.Math.Dec.{lit<}
 use Rattle.std.proofs.Math.Nat.{div-le_self}
 use Rattle.std.proofs.lemmas.Nat.{mod_below, or_lt}
@@ -14,12 +14,13 @@ use Rattle.two_ends.specs.Safe.{Safe}
 use Rattle.world_events.specs.declared.event.Event.{Event}
 use Rattle.world_events.specs.declared.event.Event.TheVariants.{Open}
 use Rattle.world_events.specs.declared.event.WorldFault.{WorldFault}
+use Rattle.world_events.specs.declared.event.WorldFault.TheVariants as fault
 use Rattle.fault_campaign.specs.Draws.{behind_two, behind_word, generator, initial_number, word}
 use Rattle.fault_campaign.specs.Seeded.{Running, after_event, begun_run, goes_on, goes_on_for, next_event, next_events, opened_run, played, seeded, seeded_events, usual_from}
 
 after-world : (run : Running) (result : Result (ControlledStep Both) WorldFault) → (after_event run result).world ≡ controlled_after run.world result
 after-world run (Ok step) = refl
-after-world run (Err fault) = refl
+after-world run (Err why) = refl
 
 played-world : (run : Running) (event : Event) → (played run event).world ≡ controlled_after run.world (happens_to kinds_control run.world event)
 unfolding played
@@ -79,3 +80,24 @@ begun-safe always g events =
 pub safe : AlwaysSafe → (seed events : ℕ) → Safe kinds_control (seeded seed events).world
 safe always seed events =
     subst (Safe kinds_control) (sym (schedule seed events)) (begun-safe always (generator seed) (seeded_events seed events))
+
+abbrev pub NeverFar : Type 0
+NeverFar =
+    (client server : Config) (for_client for_server : Both) (events : List Event) (next : Event) → Fits client → Fits server
+    → length (plays kinds_control (begins_with kinds_control client server for_client for_server) events).world.client.frames < 2 ^ 23
+    → length (plays kinds_control (begins_with kinds_control client server for_client for_server) events).world.server.frames < 2 ^ 23
+    → happens_to kinds_control (plays kinds_control (begins_with kinds_control client server for_client for_server) events) next ≢ Err fault.FarShort
+
+abbrev IsNear : Controlled Both → Event → Type 0
+IsNear w next =
+    length w.world.client.frames < 2 ^ 23 → length w.world.server.frames < 2 ^ 23 → happens_to kinds_control w next ≢ Err fault.FarShort
+
+begun-near : NeverFar → (g : Lcg) (events : List Event) (next : Event) → IsNear (plays kinds_control (begun_run g).world events) next
+unfolding begun_run
+begun-near never g events next =
+    never (usual_from role.Client (initial_number g)) (usual_from role.Server (initial_number (behind_two g))) at_first at_first events next
+    (client-fits _ (number-fits g)) (server-fits _ (number-fits (behind_two g)))
+
+pub seeded-near : NeverFar → (seed events : ℕ) (next : Event) → IsNear (seeded seed events).world next
+seeded-near never seed events next =
+    subst (λ (w : Controlled Both). IsNear w next) (sym (schedule seed events)) (begun-near never (generator seed) (seeded_events seed events) next)

@@ -10,7 +10,7 @@ use Rattle.end_answers.specs.declared.outcome.Outcome.{Outcome}
 use Rattle.end_answers.specs.declared.outcome.Outcome.TheVariants.{Took, Dropped, Synced, WasReset, SentReset}
 use Rattle.two_ends.proofs.Numbering.{sent-few}
 use Rattle.two_ends.specs.Controlled.{congestion_of, controls, said_by}
-use Rattle.two_ends.specs.World.{Half, HalfStep, WorldState, WorldStep, Happening, Calls, Delivers, delivers_frame, as_sent, half_of, half_steps, happens, happening_of, is_full, takes_place, unless_full, with_half, world_after}
+use Rattle.two_ends.specs.World.{Half, HalfStep, WorldState, WorldStep, Happening, Calls, Delivers, delivers_frame, as_sent, half_of, half_steps, happens, happening_of, is_far_frame, is_full, takes_place, unless_far, unless_full, with_half, world_after}
 use Rattle.world_events.specs.Actors.{actor, other}
 use Rattle.world_events.specs.declared.event.Event.{Event}
 use Rattle.world_events.specs.declared.event.Event.TheVariants.{Open}
@@ -67,7 +67,7 @@ half-grows w Server half few Client = omega arith
 half-grows w Server half few Server = few
 
 unless_full-grows : (w : WorldState) (acting : Side) (step : HalfStep) → length step.half.frames ≤ length (half_of w acting).frames + 1
-    → Grows w (unless_full w acting step)
+    → Grows w (unless_full w acting (Ok step))
 unless_full-grows w acting step few = by (is_full (half_of w acting)) where
   by : (full : Bool) → Grows w (if full then Err fault.Full else Ok (record { world = with_half w acting step.half; calls = step.calls; seen = step.seen }))
   by true side = omega arith
@@ -75,9 +75,19 @@ unless_full-grows w acting step few = by (is_full (half_of w acting)) where
 
 arrives-grows : (w : WorldState) (from : Side) (frame : Option SentFrame) → Grows w (delivers_frame w from frame)
 arrives-grows w from None side = omega arith
-arrives-grows w from (Some frame) side =
-    unless_full-grows w (other from) (half_steps (half_of w (other from)) (Some frame.number) (input.Arrives frame.bytes))
-    (one-frame (half_of w (other from)) (Some frame.number) (input.Arrives frame.bytes)) side
+arrives-grows w from (Some frame) side = by (is_far_frame (half_of w (other from)).end frame) where
+  refused : (full : Bool)
+      → length (half_of (world_after w (if full then Err fault.Full else Err fault.FarShort)) side).frames ≤ length (half_of w side).frames + 1
+  refused true = omega arith
+  refused false = omega arith
+
+  by : (far : Bool)
+      → length (half_of (world_after w (unless_full w (other from) (unless_far (half_of w (other from)) frame far))) side).frames
+      ≤ length (half_of w side).frames + 1
+  by true = refused (is_full (half_of w (other from)))
+  by false =
+      unless_full-grows w (other from) (half_steps (half_of w (other from)) (Some frame.number) (input.Arrives frame.bytes))
+      (one-frame (half_of w (other from)) (Some frame.number) (input.Arrives frame.bytes)) side
 
 happening-grows : (w : WorldState) (happening : Happening) → Grows w (takes_place w happening)
 happening-grows w (Calls side given) = unless_full-grows w side (half_steps (half_of w side) None given) (one-frame (half_of w side) None given)

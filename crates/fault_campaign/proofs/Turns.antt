@@ -31,13 +31,16 @@ failed why = Err why
 pub refuses : (words : Lcg) (world after : Controlled Both) (report : Report) (event : Event) (why : WorldFault) → (why ≡ fault.NoMemory → ⊥)
     → (failed why ≡ failed fault.NoSuchFrame → happens_to kinds_control world event ≡ Err fault.NoSuchFrame)
     → (failed why ≡ failed fault.Full → happens_to kinds_control world event ≡ Err fault.Full)
+    → (failed why ≡ failed fault.FarShort → happens_to kinds_control world event ≡ Err fault.FarShort)
     → after ≡ world → made words after report ≡ played (made words world report) event
 unfolding played
-refuses words world after report event fault.NoSuchFrame some lacks full same =
+refuses words world after report event fault.NoSuchFrame some lacks full far same =
     ap (λ (w : Controlled Both). made words w report) same ∙ sym (ap (after_event (made words world report)) (lacks refl))
-refuses words world after report event fault.Full some lacks full same =
+refuses words world after report event fault.Full some lacks full far same =
     ap (λ (w : Controlled Both). made words w report) same ∙ sym (ap (after_event (made words world report)) (full refl))
-refuses words world after report event fault.NoMemory some lacks full same = absurd (some refl)
+refuses words world after report event fault.FarShort some lacks full far same =
+    ap (λ (w : Controlled Both). made words w report) same ∙ sym (ap (after_event (made words world report)) (far refl))
+refuses words world after report event fault.NoMemory some lacks full far same = absurd (some refl)
 
 -- after so many of all further events
 pub record IsUnderWay (all done : ℕ) (first run : Running) : Type 0 where

@@ -4,7 +4,7 @@ use Rattle.ccid_two.specs.Kinds.{Both, kinds_control}
 use Rattle.dccp_endpoint.specs.Calling.{aborts, closes, opens, prefers, sends_payload}
 use Rattle.dccp_endpoint.specs.Inputs as input
 use Rattle.two_ends.specs.Controlled.{Controlled, ControlledStep, congestion_of, controlled, controls, happens_to, said_by}
-use Rattle.two_ends.specs.World.{Half, HalfStep, Said, WorldState, WorldStep, delivers_frame as arrives_at, half_of, half_steps, happens, is_full, refusal_of, seen_of_call, send_refusal_of, with_half}
+use Rattle.two_ends.specs.World.{Half, HalfStep, Said, WorldState, WorldStep, delivers_frame as arrives_at, half_of, half_steps, happens, is_far_frame, is_full, in_world, refusal_of, seen_of_call, send_refusal_of, unless_far, with_half}
 use Rattle.world_events.specs.Actors.{actor, other}
 use Rattle.world_events.specs.declared.event.Event.{Event}
 use Rattle.world_events.specs.declared.event.Event.TheVariants as event
@@ -58,12 +58,23 @@ frame-told w from index frame half false step found is told =
     ∙ ap (λ (x : WorldState). sent_bytes (slice_get (half_of x from).frames index)) (ap (world-or w) is) in
     subst (λ (bytes : List ℕ). IsSeenOf bytes step.seen) stands (subst (IsSeenOf frame.bytes) (ap (seen-or half.seen) is) told)
 
+-- a frame that is refused tells nothing
+arrival-told : (w : WorldState) (from : Side) (index : ℕ) (frame : SentFrame) (full far : Bool) (step : WorldStep)
+    → slice_get (half_of w from).frames index ≡ Some frame
+    → (if full then Err fault.Full else in_world w (other from) (unless_far (half_of w (other from)) frame far)) ≡ Ok step
+    → IsSeenOf frame.bytes (half_steps (half_of w (other from)) (Some frame.number) (input.Arrives frame.bytes)).seen
+    → IsSeenOf (arrived step.world (event.Deliver from index)) step.seen
+arrival-told w from index frame true far step found is told = cc is
+arrival-told w from index frame false true step found is told = cc is
+arrival-told w from index frame false false step found is told =
+    frame-told w from index frame (half_steps (half_of w (other from)) (Some frame.number) (input.Arrives frame.bytes)) false step found is told
+
 delivery-told : (w : WorldState) (from : Side) (index : ℕ) (frame : Option SentFrame) (step : WorldStep) → slice_get (half_of w from).frames index ≡ frame
     → arrives_at w from frame ≡ Ok step → IsSeenOf (arrived step.world (event.Deliver from index)) step.seen
 delivery-told w from index None step found is = cc is
 delivery-told w from index (Some frame) step found is =
     let half = half_of w (other from) in
-    frame-told w from index frame (half_steps half (Some frame.number) (input.Arrives frame.bytes)) (is_full half) step found is (data-in-frame half.end frame.bytes)
+    arrival-told w from index frame (is_full half) (is_far_frame half.end frame) step found is (data-in-frame half.end frame.bytes)
 
 event-told : (w : WorldState) (given : Event) (said : Said) (step : WorldStep) → happens w given said ≡ Ok step → IsSeenOf (arrived step.world given) step.seen
 event-told w event.Open said step is =

@@ -1,4 +1,5 @@
 pub mod Configuring
 pub mod EventTelling
 pub mod Room
+pub mod Judging
 pub mod Running

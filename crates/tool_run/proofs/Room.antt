@@ -2,7 +2,7 @@
 use Rattle.std.proofs.Common.{◌≡◌, ◌≢◌, arith, refl, sym, ◌∙◌, subst, ℕ, ◌+◌, ◌-◌, ◌^◌, ◌≤◌, ◌<◌, Bool, true, false, if◌then◌else◌, List, [], ◌∷◌, ◌++◌, length, length-append, Option, Some, None, Result, Ok, Err, IfSome}
 use Rattle.std.proofs.lemmas.Bool.{leb-true}
 use Rattle.std.specs.Prelude.{⊤, slice_get}
-use Rattle.ccid_two.specs.Kinds.{Both, kinds_control}
+use Rattle.ccid_two.specs.Kinds.{Both, at_first, kinds_control}
 use Rattle.dccp_endpoint.specs.End.{floor_of}
 use Rattle.dccp_endpoint.specs.Inputs.{Input, end_stepped}
 use Rattle.dccp_endpoint.specs.Inputs as input
@@ -10,13 +10,14 @@ use Rattle.dccp_endpoint.specs.declared.config.Config.{Config}
 use Rattle.dccp_io.specs.Lines.{lines_of, next_in_lines}
 use Rattle.tool_lines.specs.Jobs.{Gone, Verdict, Accepted, Refused, by_next, gone_by, gone_from}
 use Rattle.tool_words.specs.declared.faults.LineFault.{LineFault}
-use Rattle.tool_run.proofs.Running.{Turns, next-turns}
-use Rattle.tool_run.specs.Scenes.{Scene}
-use Rattle.tool_run.specs.Transcript.{IsPlayable, SentFew, ShowsEvent, by_step, event_shown, first_play, performed, run_job, world_of, world_or_start}
+use Rattle.dccp_endpoint.specs.Drafts.{Fits}
+use Rattle.tool_run.proofs.Running.{Turns, every-run, next-turns, run-last}
+use Rattle.tool_run.specs.Scenes.{Scene, scene_events}
+use Rattle.tool_run.specs.Transcript.{ArePeers, IsPlayable, SentFew, ShowsEvent, by_step, event_shown, first_play, most_events, performed, run_job, world_at_first, world_of, world_or_start}
 use Rattle.tool_run.specs.declared.play.Play.{Play}
 use Rattle.two_ends.proofs.Numbering.{sent-few}
-use Rattle.two_ends.specs.Controlled.{Controlled, ControlledStep, congestion_of, controlled, controls, happens_to, said_by}
-use Rattle.two_ends.specs.World.{Half, Happening, WorldState, WorldStep, Calls, Delivers, as_sent, delivers_frame, half_of, half_steps, happening_of, is_full, takes_place, unless_full, with_half}
+use Rattle.two_ends.specs.Controlled.{Controlled, ControlledStep, begins_with, congestion_of, controlled, controls, happens_to, plays, said_by}
+use Rattle.two_ends.specs.World.{Half, Happening, WorldState, WorldStep, Calls, Delivers, as_sent, delivers_frame, half_of, half_steps, happening_of, is_far_frame, is_full, takes_place, unless_far, unless_full, with_half}
 use Rattle.two_ends.specs.declared.frames.SentFrame.{SentFrame}
 use Rattle.world_events.specs.Actors.{actor, other}
 use Rattle.world_events.specs.declared.event.Event.{Event}
@@ -49,8 +50,14 @@ with-grown w Client half n few more Server = omega (arith, few Server)
 with-grown w Server half n few more Client = omega (arith, few Client)
 with-grown w Server half n few more Server = more
 
+full-not : (w : WorldState) (side : Side) (n : ℕ) → Few w n → is_full (half_of w side) ≡ true → Grows w n (Err fault.Full)
+full-not w side n few is =
+    λ room _.
+    let filled : 2 ^ 47 - 1 ≤ length (half_of w side).frames = leb-true (2 ^ 47 - 1) (length (half_of w side).frames) is in
+    absurd (omega (arith, room, filled, few side))
+
 step-grows : (w : WorldState) (side : Side) (number : Option ℕ) (given : Input) (n : ℕ) → Few w n
-    → Grows w n (unless_full w side (half_steps (half_of w side) number given))
+    → Grows w n (unless_full w side (Ok (half_steps (half_of w side) number given)))
 step-grows w side number given n few = by (is_full (half_of w side)) refl where
   by : (full : Bool) → is_full (half_of w side) ≡ full
       → Grows w n (if full then Err fault.Full else Ok (record {
@@ -58,12 +65,21 @@ step-grows w side number given n few = by (is_full (half_of w side)) refl where
         calls = (half_steps (half_of w side) number given).calls;
         seen = (half_steps (half_of w side) number given).seen;
       }))
-  by true is = λ room _. let filled : 2 ^ 47 - 1 ≤ length (half_of w side).frames = leb-true (2 ^ 47 - 1) (length (half_of w side).frames) is in absurd (omega (arith, few side))
+  by true is = full-not w side n few is
   by false is = with-grown w side (half_steps (half_of w side) number given).half n few (half-grows (half_of w side) number given n (few side))
+
+far-grows : (w : WorldState) (side : Side) (n : ℕ) → Few w n → Grows w n (unless_full w side (Err fault.FarShort))
+far-grows w side n few = by (is_full (half_of w side)) refl where
+  by : (full : Bool) → is_full (half_of w side) ≡ full → Grows w n (if full then Err fault.Full else Err fault.FarShort)
+  by true is = full-not w side n few is
+  by false is = λ room same. cc same
 
 arrival-grows : (w : WorldState) (from : Side) (frame : Option SentFrame) (n : ℕ) → Few w n → Grows w n (delivers_frame w from frame)
 arrival-grows w from None n few = λ _ is. cc is
-arrival-grows w from (Some frame) n few = step-grows w (other from) (Some frame.number) (input.Arrives frame.bytes) n few
+arrival-grows w from (Some frame) n few = by (is_far_frame (half_of w (other from)).end frame) where
+  by : (far : Bool) → Grows w n (unless_full w (other from) (unless_far (half_of w (other from)) frame far))
+  by true = far-grows w (other from) n few
+  by false = step-grows w (other from) (Some frame.number) (input.Arrives frame.bytes) n few
 
 happening-grows : (w : WorldState) (happening : Happening) (n : ℕ) → Few w n → Grows w n (takes_place w happening)
 happening-grows w (Calls side given) n few = step-grows w side None given n few
@@ -104,6 +120,7 @@ shown-few number before after event old new answer n shows fine few = by (happen
   by (Ok step) is shown = subst (λ (w : Controlled Both). SentFew w (n + 1)) (sym shown.1) (one-more-frame before event step n few is)
   by (Err fault.NoSuchFrame) is shown = absurd (cc (sym fine ∙ shown.1))
   by (Err fault.Full) is shown = absurd (cc (sym fine ∙ shown.1))
+  by (Err fault.FarShort) is shown = absurd (cc (sym fine ∙ shown.1))
   by (Err fault.NoMemory) is shown = absurd (cc (sym fine ∙ shown.1))
 
 pub few-at : (client server : Config) (world : Option (Controlled Both)) (n : ℕ) → IfSome world (λ w. SentFew w n) → SentFew (world_or_start client server world) n
@@ -158,3 +175,31 @@ never-full input event =
     let last = (performed input).last in
     let room = room-last (lines_of input) 1 0 first_play (record { few = tt; events = omega arith }) in
     has-room (world_of last) event last.events (few-at last.client last.server last.world last.events room.few) (omega (arith, room.events))
+
+-- While the events are so few, each side has sent fewer than 2^23 frames.
+pub few_clients : (w : Controlled Both) → SentFew w most_events → length w.world.client.frames < 2 ^ 23
+few_clients w few = omega (arith, few Client)
+
+pub few_servers : (w : Controlled Both) → SentFew w most_events → length w.world.server.frames < 2 ^ 23
+few_servers w few = omega (arith, few Server)
+
+abbrev NeverFar : Type 0
+NeverFar =
+    (client server : Config) (for_client for_server : Both) (events : List Event) (next : Event) → Fits client → Fits server
+    → length (plays kinds_control (begins_with kinds_control client server for_client for_server) events).world.client.frames < 2 ^ 23
+    → length (plays kinds_control (begins_with kinds_control client server for_client for_server) events).world.server.frames < 2 ^ 23
+    → happens_to kinds_control (plays kinds_control (begins_with kinds_control client server for_client for_server) events) next ≢ Err fault.FarShort
+
+pub never-far : NeverFar → (input : List ℕ) (event : Event) → ArePeers (performed input).last.client (performed input).last.server
+    → happens_to kinds_control (world_of (performed input).last) event ≢ Err fault.FarShort
+never-far never input event peers =
+    let last = (performed input).last in
+    let room = room-last (lines_of input) 1 0 first_play (record { few = tt; events = omega arith }) in
+    let few = few-at last.client last.server last.world last.events room.few in
+    subst
+    (λ (w : Controlled Both).
+    length w.world.client.frames < 2 ^ 23 → length w.world.server.frames < 2 ^ 23 → happens_to kinds_control w event ≢ Err fault.FarShort)
+    (sym (run-last (world_at_first (performed input)) (performed input).deeds (world_of last) (every-run input)))
+    (λ clients servers.
+    never last.client last.server at_first at_first (scene_events (performed input).deeds) event peers.client_fits peers.server_fits clients servers)
+    (omega (arith, few Client, room.events)) (omega (arith, few Server, room.events))

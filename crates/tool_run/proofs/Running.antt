@@ -71,6 +71,7 @@ scene-turns play number event (Ok step) few is =
     record { before = refl; takes_place = is; world = refl; few = few; events = refl; configured = (refl, refl) }
 scene-turns play number event (Err fault.NoSuchFrame) few is = tt
 scene-turns play number event (Err fault.Full) few is = tt
+scene-turns play number event (Err fault.FarShort) few is = tt
 scene-turns play number event (Err fault.NoMemory) few is = tt
 
 event-turns : (play : Play) (number : ℕ) (event : Event) → Turns play (says_event play number event)

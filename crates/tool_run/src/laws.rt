@@ -3,10 +3,11 @@ ghost use Rattle.std.specs.Prelude.{◌≡◌, ◌≢◌, ◌++◌, ℕ, List, S
 ghost use Rattle.ccid_two.specs.Kinds.{kinds_control};
 ghost use Rattle.two_ends.specs.Controlled.{happens_to, plays};
 ghost use Rattle.tool_run.specs.Scenes.{Scene, IsRun, scene_events, scene_text};
-ghost use Rattle.tool_run.specs.Transcript.{is_refused, performed, transcript, world_at_first, world_of};
+ghost use Rattle.tool_run.specs.Transcript.{ArePeers, is_refused, performed, transcript, world_at_first, world_of};
 ghost use Rattle.tool_run.specs.WorldLines.{end_lines};
 
-use two_ends::{Event, WorldFault};
+use ccid_two::Kinds;
+use two_ends::{Event, WorldFault, few_frames_are_never_far};
 
 /// The events of which a schedule's text tells are one run (own): each took place in the world that the one before it
 /// left, the first in that of the two ends as they are configured at last, and the end lines are of the world that the
@@ -28,3 +29,12 @@ pub fn every_schedule_is_a_run()
 pub fn no_schedule_fills_a_world()
     ensures { (input : List ℕ) (event : Event) → happens_to kinds_control (world_of (performed input).last) event ≢ Err WorldFault.Full }
 {}
+
+/// No line of a schedule names a frame whose short numbers could not be told where it arrives (own): the sides have sent
+/// too few. The two ends are configured as a client and a server whose fields fit, as they are before each line.
+pub fn no_schedule_meets_a_far_frame()
+    ensures { (input : List ℕ) (event : Event) → ArePeers (performed input).last.client (performed input).last.server
+        → happens_to kinds_control (world_of (performed input).last) event ≢ Err WorldFault.FarShort }
+{
+    few_frames_are_never_far::<Kinds>();
+}

@@ -6,5 +6,7 @@ mod play;
 mod transcript;
 mod world_lines;
 
-pub use crate::laws::{every_schedule_is_a_run, no_schedule_fills_a_world};
+pub use crate::laws::{
+    every_schedule_is_a_run, no_schedule_fills_a_world, no_schedule_meets_a_far_frame,
+};
 pub use crate::transcript::run_schedule;

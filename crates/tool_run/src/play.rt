@@ -279,7 +279,7 @@ fn first_world(alloc: Global, client: Config, server: Config) -> Result<World<Ki
 }
 
 // Lets an event happen and puts its lines, or answers why its line is refused.
-#[tactic(auto, using(crate::proofs::EventTelling::event_is_told))]
+#[tactic(auto, using(crate::proofs::EventTelling::event_is_told, crate::proofs::Room::few_clients, crate::proofs::Room::few_servers))]
 fn show_event(
     world: &mut World<Kinds>,
     number: u64,
@@ -301,6 +301,7 @@ fn show_event(
         Err(WorldFault::NoSuchFrame) => Ok(Err(no_such_frame())),
         // An event sends one frame at most, and the events are few.
         Err(WorldFault::Full) => unreachable!(),
+        Err(WorldFault::FarShort) => unreachable!(),
         Err(WorldFault::NoMemory) => Err(NoMemory),
     }
 }

@@ -17,10 +17,10 @@ use Rattle.world_events.specs.declared.event.WorldFault.{WorldFault}
 use Rattle.world_events.specs.declared.event.WorldFault.TheVariants as fault
 use Rattle.two_ends.specs.declared.frames.SentFrame.{SentFrame}
 use Rattle.dccp_endpoint.specs.Drafts.{Fits}
-use Rattle.two_ends.specs.World.{Half, WorldState, WorldStep, Happening, Calls, Delivers, Said, Occurrence, happening_of, as_sent, acting_side, half_with, moved, newly_processed, half_of, half_at_start, half_steps, with_half, happens, delivers_frame, takes_place, unless_full, is_full, world_after, world_after_all, at_start}
+use Rattle.two_ends.specs.World.{Half, WorldState, WorldStep, Happening, Calls, Delivers, Said, Occurrence, happening_of, as_sent, acting_side, half_with, moved, newly_processed, half_of, half_at_start, half_steps, with_half, happens, delivers_frame, is_far_frame, in_world, takes_place, unless_far, unless_full, is_full, world_after, world_after_all, at_start}
 use Rattle.world_events.specs.Actors.{actor, other}
 use Rattle.two_ends.proofs.Logged.{Logged}
-use Rattle.two_ends.proofs.ReadBack.{IsFromPeer}
+use Rattle.two_ends.proofs.ReadBack.{AreNumbers, IsFromPeer}
 
 -- a side, with what its numbered frames carry
 pub record Party : Type 0 where
@@ -57,7 +57,7 @@ half_after half arrived f = half_with half.frames (end_after half.end f) (proces
 abbrev pub at_beginning : Config → Party
 at_beginning config = record { half = half_at_start config; log = [] }
 
--- A step of a side, with its effect. What arrives, if anything, is a frame of its peer, with its number.
+-- A step of a side, with its effect. What arrives, if anything, is a frame of its peer, with its number, and is not far there.
 pub record Act : Type 0 where
   pub side : Party
   pub peer : Party
@@ -65,7 +65,8 @@ pub record Act : Type 0 where
   pub given : Input
   pub effect : Effect
   pub room : length side.half.frames < 2 ^ 47 - 1
-  pub from_peer : IsFromPeer peer.half.frames arrived given
+  pub from_peer : IsFromPeer side.half.end peer.half.frames arrived given
+  pub numbers : AreNumbers side.half.end
   pub because : IsCaused side.half.end given effect
 
 abbrev pub acted : Act → Party
@@ -131,46 +132,49 @@ is-call : (e : Event) (said : Said) → IsCall (happening_of e said)
 is-call (event.Deliver from index) said = tt
 is-call _ said = tt
 
-call-given : (side : Side) (given : Input) (frames : List SentFrame) → IsCall (Calls side given) → IsFromPeer frames None given
-call-given side (Arrives bytes) frames is = absurd is
-call-given side _ frames is = tt
+call-given : (e : EndState) (side : Side) (given : Input) (frames : List SentFrame) → IsCall (Calls side given) → IsFromPeer e frames None given
+call-given e side (Arrives bytes) frames is = absurd is
+call-given e side _ frames is = tt
 
 frame-given : (w : WorldState) (from : Side) (index : ℕ) (frame : SentFrame) → slice_get (half_of w from).frames index ≡ Some frame
-    → IsFromPeer (half_of w (other (other from))).frames (Some frame.number) (Arrives frame.bytes)
-frame-given w Client index frame there = record { index = index; frame = frame; is_there = there; same = refl; numbered = refl }
-frame-given w Server index frame there = record { index = index; frame = frame; is_there = there; same = refl; numbered = refl }
+    → is_far_frame (half_of w (other from)).end frame ≡ false
+    → IsFromPeer (half_of w (other from)).end (half_of w (other (other from))).frames (Some frame.number) (Arrives frame.bytes)
+frame-given w Client index frame there near =
+    record { index = index; frame = frame; is_there = there; same = refl; numbered = refl; not_far = near }
+frame-given w Server index frame there near =
+    record { index = index; frame = frame; is_there = there; same = refl; numbered = refl; not_far = near }
 
 -- What an event comes to: nothing, or a step of the side that acts, at which nothing arrives but a frame of the other side.
 pub data Takes (w : WorldState) (side : Side) : Result WorldStep WorldFault → Type 0 where
   Refused : (why : WorldFault) → Takes w side (Err why)
-  Steps : (arrived : Option ℕ) (given : Input) → is_full (half_of w side) ≡ false → IsFromPeer (half_of w (other side)).frames arrived given
+  Steps : (arrived : Option ℕ) (given : Input) → is_full (half_of w side) ≡ false
+      → IsFromPeer (half_of w side).end (half_of w (other side)).frames arrived given
       → Takes w side (Ok (record {
         world = with_half w side (half_steps (half_of w side) arrived given).half;
         calls = (half_steps (half_of w side) arrived given).calls;
         seen = (half_steps (half_of w side) arrived given).seen;
       }))
 
-full-taken : (w : WorldState) (side : Side) (arrived : Option ℕ) (given : Input) → IsFromPeer (half_of w (other side)).frames arrived given
-    → Takes w side (unless_full w side (half_steps (half_of w side) arrived given))
-full-taken w side arrived given from = by (is_full (half_of w side)) refl where
+call-taken : (w : WorldState) (side : Side) (given : Input) → IsFromPeer (half_of w side).end (half_of w (other side)).frames None given
+    → Takes w side (takes_place w (Calls side given))
+call-taken w side given from = by (is_full (half_of w side)) refl where
   by : (full : Bool) → is_full (half_of w side) ≡ full
-      → Takes w side (if full then Err fault.Full
-      else Ok (record {
-        world = with_half w side (half_steps (half_of w side) arrived given).half;
-        calls = (half_steps (half_of w side) arrived given).calls;
-        seen = (half_steps (half_of w side) arrived given).seen;
-      }))
+      → Takes w side (if full then Err fault.Full else in_world w side (Ok (half_steps (half_of w side) None given)))
   by true room = Refused fault.Full
-  by false room = Steps arrived given room from
+  by false room = Steps None given room from
 
 arrives-taken : (w : WorldState) (from : Side) (index : ℕ) (frame : Option SentFrame) → slice_get (half_of w from).frames index ≡ frame
     → Takes w (other from) (delivers_frame w from frame)
 arrives-taken w from index None there = Refused fault.NoSuchFrame
-arrives-taken w from index (Some frame) there =
-    full-taken w (other from) (Some frame.number) (Arrives frame.bytes) (frame-given w from index frame there)
+arrives-taken w from index (Some frame) there = by (is_full (half_of w (other from))) (is_far_frame (half_of w (other from)).end frame) refl refl where
+  by : (full far : Bool) → is_full (half_of w (other from)) ≡ full → is_far_frame (half_of w (other from)).end frame ≡ far
+      → Takes w (other from) (if full then Err fault.Full else in_world w (other from) (unless_far (half_of w (other from)) frame far))
+  by true far room near = Refused fault.Full
+  by false true room near = Refused fault.FarShort
+  by false false room near = Steps (Some frame.number) (Arrives frame.bytes) room (frame-given w from index frame there near)
 
 taken : (w : WorldState) (what : Happening) → IsCall what → Takes w (acting_side what) (takes_place w what)
-taken w (Calls side given) is = full-taken w side None given (call-given side given (half_of w (other side)).frames is)
+taken w (Calls side given) is = call-taken w side given (call-given (half_of w side).end side given (half_of w (other side)).frames is)
 taken w (Delivers from index) is = arrives-taken w from index (slice_get (half_of w from).frames index) refl
 
 acting-actor : (e : Event) (said : Said) → acting_side (happening_of e said) ≡ actor e
@@ -194,9 +198,10 @@ pub record IsKept (This : Party → Party → Type 0) (old new : WorldState) : T
   pub held : IsHeld This new
   pub configs : (side : Side) → (half_of new side).end.config ≡ (half_of old side).end.config
 
-module _ (This : Party → Party → Type 0) (keeps : Keeps NoFact This) (proper : (x y : Party) → This x y → IsProper x.half.end) (effects : EveryStepHasOneEffect) where
+module _ (This : Party → Party → Type 0) (keeps : Keeps NoFact This) (proper : (x y : Party) → This x y → IsProper x.half.end)
+    (numbers : (x y : Party) → This x y → AreNumbers x.half.end) (effects : EveryStepHasOneEffect) where
   side-held : (w : WorldState) (side : Side) (arrived : Option ℕ) (given : Input) → is_full (half_of w side) ≡ false
-      → IsFromPeer (half_of w (other side)).frames arrived given → IsHeld This w
+      → IsFromPeer (half_of w side).end (half_of w (other side)).frames arrived given → IsHeld This w
       → IsKept This w (with_half w side (half_steps (half_of w side) arrived given).half)
   side-held w side arrived given room from h =
       let x : Party = party_of w h.logs side in
@@ -204,7 +209,17 @@ module _ (This : Party → Party → Type 0) (keeps : Keeps NoFact This) (proper
       let now : Both This x y = held_by This w h side in
       let has = effects x.half.end given (proper x y now.0) in
       let act : Act =
-      record { side = x; peer = y; arrived = arrived; given = given; effect = has.effect; room = not-full x.half room; from_peer = from; because = has.because } in
+      record {
+        side = x;
+        peer = y;
+        arrived = arrived;
+        given = given;
+        effect = has.effect;
+        room = not-full x.half room;
+        from_peer = from;
+        numbers = numbers x y now.0;
+        because = has.because;
+      } in
       record {
         held =
             subst (λ (half : Half). IsHeld This (with_half w side half)) (sym (moved-after x.half arrived (end_stepped x.half.end given) has.effect has.after_is has.frame_is))

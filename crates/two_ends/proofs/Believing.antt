@@ -48,13 +48,13 @@ none-listed n standing has_it = omega (arith, has_it.1)
 
 -- What a packet that arrives tells received, the side had processed that sent it.
 arrived-processed : (w : WorldState) (h : IsHeld SideInvariant w) (side : Side) (arrived : Option ℕ) (given : Input) (f : Effect) (n : ℕ)
-    → IsFromPeer (half_of w (other side)).frames arrived given → IsHeardOf (half_of w side).end given f.hearing f.sending n → n < 2 ^ 48
+    → IsFromPeer (half_of w side).end (half_of w (other side)).frames arrived given → IsHeardOf (half_of w side).end given f.hearing f.sending n → n < 2 ^ 48
     → Contains (half_of w (other side)).processed n
 arrived-processed w h side arrived given f n from heard small =
     let a : Incoming = heard.packet in
     let came = heard.taken.came in
-    let sent : IsSentFrame (half_of w (other side)).frames arrived came.bytes =
-    subst (IsFromPeer (half_of w (other side)).frames arrived) came.is_given from in
+    let sent : IsSentFrame (half_of w side).end (half_of w (other side)).frames arrived came.bytes =
+    subst (IsFromPeer (half_of w side).end (half_of w (other side)).frames arrived) came.is_given from in
     let is_packet : packet_of sent.frame.bytes ≡ Some came.packet = ap packet_of (sym sent.same) ∙ ap result_ok came.is_packet in
     let options : options_in sent.frame.bytes ≡ a.options = ap packet_options is_packet ∙ sym (ap (λ (x : Incoming). x.options) came.same) in
     let carries : CarriesVector sent.frame heard.told.number heard.told.bytes =
@@ -99,7 +99,7 @@ module _ {C : Type 0} (control : Control C) (lawful : IsLawful control) where
   module _ (effects : EveryStepHasOneEffect) where
     -- a step of the side whose congestion control it is
     acting-honest : (w : WorldState) → IsHeld SideInvariant w → (side : Side) (arrived : Option ℕ) (given : Input)
-        → IsFromPeer (half_of w (other side)).frames arrived given
+        → IsFromPeer (half_of w side).end (half_of w (other side)).frames arrived given
         → (congestion : C) → IsHonest congestion (half_of w (other side)).processed
         → IsHonest (after_calls control congestion (half_steps (half_of w side) arrived given).calls) (half_of w (other side)).processed
     acting-honest w held side arrived given from congestion h =

@@ -44,7 +44,7 @@ use Rattle.two_ends.specs.Controlled.{Controlled, ControlledStep, congestion_of,
 use Rattle.two_ends.specs.Delivered.{DeliversFrame, DeliversIn, DeliversItsData, IsDeliveredOnce, delivered_by, frame_delivered, frames_delivered, named_if, place_delivered}
 use Rattle.two_ends.specs.Reported.{IsOnce}
 use Rattle.two_ends.specs.Frames.{packet_of}
-use Rattle.two_ends.specs.World.{Half, HalfStep, Said, WorldState, WorldStep, delivers_frame, half_of, half_steps, happens, is_full, newly_processed, number_if, seen_of, seen_of_call, unless_full, with_half, world_after}
+use Rattle.two_ends.specs.World.{Half, HalfStep, Said, WorldState, WorldStep, delivers_frame, half_of, half_steps, happens, is_far_frame, is_full, newly_processed, number_if, in_world, seen_of, seen_of_call, unless_far, unless_full, with_half, world_after}
 use Rattle.two_ends.proofs.Acting.{IsHeld, Refused, Steps, Takes, event-taken}
 use Rattle.two_ends.proofs.Keeping.{SideInvariant, held-once, kept-proper, marked-few, step-kept}
 use Rattle.two_ends.proofs.Reaching.{world-after}
@@ -221,11 +221,21 @@ unless-by w side step false after same =
     (sym (ap (λ (s : WorldStep). s.world) is), sym (ap (λ (s : WorldStep). s.seen) is))
 
 no-delivery : (w : WorldState) (side : Side) (given : Input) → IsAsked given → (after : WorldStep)
-    → unless_full w side (half_steps (half_of w side) None given) ≡ Ok after → (place : ℕ × ℕ) → place_delivered after.seen ≡ Some place → ⊥
+    → unless_full w side (Ok (half_steps (half_of w side) None given)) ≡ Ok after → (place : ℕ × ℕ) → place_delivered after.seen ≡ Some place → ⊥
 no-delivery w side given is after same place some =
     let so = unless-by w side (half_steps (half_of w side) None given) (is_full (half_of w side)) after same in
     let none : place_delivered after.seen ≡ None = ap place_delivered so.1 ∙ silent-call (half_of w side).end given is in
     cc (none, some)
+
+-- a frame that arrives is not far
+arrives-by : (w : WorldState) (side : Side) (frame : SentFrame) (full far : Bool) (after : WorldStep)
+    → (if full then Err fault.Full else in_world w side (unless_far (half_of w side) frame far)) ≡ Ok after
+    → (after.world ≡ with_half w side (half_steps (half_of w side) (Some frame.number) (Arrives frame.bytes)).half)
+    × (after.seen ≡ (half_steps (half_of w side) (Some frame.number) (Arrives frame.bytes)).seen)
+arrives-by w side frame true far after same = cc same
+arrives-by w side frame false true after same = cc same
+arrives-by w side frame false false after same =
+    unless-by w side (half_steps (half_of w side) (Some frame.number) (Arrives frame.bytes)) false after same
 
 -- a side has the state that it takes
 half-with : (w : WorldState) (side : Side) (half : Half) → half_of (with_half w side half) side ≡ half
@@ -238,7 +248,7 @@ arrived : (w : WorldState) → IsHeld SideInvariant w → (from : Side) (index :
 arrived w h from index None there after same place is = cc same
 arrived w h from index (Some frame) there after same place is =
     let half : Half = half_of w (other from) in
-    let so = unless-by w (other from) (half_steps half (Some frame.number) (Arrives frame.bytes)) (is_full half) after same in
+    let so = arrives-by w (other from) frame (is_full half) (is_far_frame half.end frame) after same in
     let took : (receives half.end frame.bytes).answer ≡ Took (Some place) = answer-took _ place (sym (ap place_delivered so.1) ∙ is) in
     let d = delivering w h (other from) frame.bytes place took in
     record {

@@ -178,10 +178,10 @@ module _ (w : WorldState) (h : IsHeld SideInvariant w) where
 
   -- What arrives has the numbers that are kept of its frame.
   pub kept-told : (side : Side) (given : Input) (a : Incoming) (came : Came (half_of w side).end given a) (arrived : Option ℕ)
-      → (sent : IsSentFrame (half_of w (other side)).frames arrived came.bytes) → IsToldBy sent.frame a
+      → (sent : IsSentFrame (half_of w side).end (half_of w (other side)).frames arrived came.bytes) → IsToldBy sent.frame a
   kept-told side given a came arrived sent =
-      told-by-sender (half_of w side).end given a came (half_of w (other side)).end.config (half_of w (other side)).frames (h.logs (other side)) arrived sent
-      (ordered-there side).logged
+      told-by-sender (half_of w side).end given a came (half_of w (other side)).end.config (holds side).ordered.numbers (half_of w (other side)).frames
+      (h.logs (other side)) arrived sent (ordered-there side).logged
 
   -- What a side's Ack Vector tells received, it had processed.
   pub kept-received : (side : Side) (index : ℕ) (frame : SentFrame) (ack : ℕ) (bytes : List ℕ) (n : ℕ) → slice_get (half_of w side).frames index ≡ Some frame
@@ -236,17 +236,18 @@ kept-safe control w h roles heard =
 module _ (effects : EveryStepHasOneEffect) where
   pub run-kept : (client server : Config) (events : List Occurrence) → Fits client → Fits server → IsHeld SideInvariant (world_after_all (at_start client server) events)
   run-kept client server events client_fits server_fits =
-      run-held SideInvariant keeping (λ x y k. k.ordered.proper) effects client server events client_fits server_fits
+      run-held SideInvariant keeping (λ x y k. k.ordered.proper) (λ x y k. k.ordered.numbers) effects client server events client_fits server_fits
 
   -- one step
   pub step-kept : (w : WorldState) (side : Side) (r : Result WorldStep WorldFault) → Takes w side r → IsHeld SideInvariant w
       → IsHeld SideInvariant (world_after w r)
-  step-kept w side r takes h = (taken-held SideInvariant keeping (λ x y k. k.ordered.proper) effects w side r takes h).held
+  step-kept w side r takes h =
+      (taken-held SideInvariant keeping (λ x y k. k.ordered.proper) (λ x y k. k.ordered.numbers) effects w side r takes h).held
 
   pub run-roles : (client server : Config) (events : List Occurrence) → client.role ≡ role.Client → server.role ≡ role.Server → Fits client → Fits server
       → HasRoles (world_after_all (at_start client server) events)
   run-roles client server events is_client is_server client_fits server_fits =
-      let same = run-configs SideInvariant keeping (λ x y k. k.ordered.proper) effects client server events client_fits server_fits in
+      let same = run-configs SideInvariant keeping (λ x y k. k.ordered.proper) (λ x y k. k.ordered.numbers) effects client server events client_fits server_fits in
       record {
         is_client = ap (λ (config : Config). config.role) (same Client) ∙ is_client;
         is_server = ap (λ (config : Config). config.role) (same Server) ∙ is_server;

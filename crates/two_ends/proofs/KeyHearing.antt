@@ -1,5 +1,5 @@
 -- What a row hears of a packet that arrives: what the peer said to it, where the packet is newest, and nothing else.
-use Rattle.std.proofs.Common.{◌≡◌, refl, ap, sym, ◌∙◌, subst, ℕ, suc, ◌+◌, ◌^◌, ◌<◌, ◌≤◌, ◌&&◌, Bool, true, false, List, [], ◌∷◌, Option, Some, None, Result, Ok, Err, if◌then◌else◌, length, map, arith}
+use Rattle.std.proofs.Common.{◌≡◌, refl, ap, sym, ◌∙◌, subst, ℕ, suc, ◌+◌, ◌<◌, ◌≤◌, ◌&&◌, Bool, true, false, List, [], ◌∷◌, Option, Some, None, Result, Ok, Err, if◌then◌else◌, length, map, arith}
 use Rattle.std.specs.Prelude.{slice_index_or, drop}
 use Rattle.std.specs.List.{All}
 use Rattle.std.proofs.lemmas.List.{get_or-map, length-map}
@@ -11,8 +11,6 @@ use Rattle.dccp_packets.specs.Grammar.{Parts, has_forms}
 use Rattle.dccp_packets.specs.Kinds.{ack_of}
 use Rattle.dccp_packets.specs.Widths.{kind_in_widths}
 use Rattle.dccp_packets.specs.declared.header.Kind.{Kind}
-use Rattle.dccp_packets.specs.declared.header.Kind.TheVariants as kind
-use Rattle.dccp_packets.specs.declared.header.Number.TheVariants.{Long, Short}
 use Rattle.dccp_endpoint.specs.Causes.{AreHeard, Came, Deaf, Heeds, counts_in, turns_in}
 use Rattle.dccp_endpoint.specs.Effects.{Hearing, Heard, Taken}
 use Rattle.dccp_endpoint.specs.End.{EndState, phase_entered}
@@ -41,7 +39,7 @@ use Rattle.two_ends.proofs.FewOptions.{changes-as-read, changes_in, changes_read
 use Rattle.two_ends.proofs.HeardTo.{HeardSo, NothingNew, Old, Newest}
 use Rattle.two_ends.proofs.Logged.{Logged, at-place}
 use Rattle.two_ends.proofs.Moving.{Hears, HearsNothing, HearsNewest}
-use Rattle.two_ends.proofs.ReadBack.{IsFromLog}
+use Rattle.two_ends.proofs.ReadBack.{IsFromLog, ack-kept}
 use Rattle.two_ends.proofs.Viewing.{IsWellSaid, carried_by, carried_of, said_by}
 
 -- one packet comes in a step
@@ -58,21 +56,6 @@ came-one e given a b one two =
     one.same ∙ ap (λ (bs : List ℕ). incoming e bs one.packet one.number) bytes
     ∙ ap (λ (p : Parts). incoming e two.bytes p one.number) packet
     ∙ ap (incoming e two.bytes two.packet) number ∙ sym two.same
-
--- an acknowledgement that fits its field is read as it was meant
-pub ack-kept : (k : Kind) (n : ℕ) → has_forms true k ≡ true → ack_of k ≡ Some n → n < 2 ^ 48 → ack_of (kind_in_widths k) ≡ Some n
-ack-kept (kind.Request service) n long is fits = cc is
-ack-kept kind.Data n long is fits = cc is
-ack-kept (kind.Response ack service) n long is fits = (let same : ack ≡ n = cc is in ap Some (omega (arith, same, fits)))
-ack-kept (kind.Ack (Long ack)) n long is fits = (let same : ack ≡ n = cc is in ap Some (omega (arith, same, fits)))
-ack-kept (kind.Ack (Short ack)) n long is fits = cc long
-ack-kept (kind.DataAck (Long ack)) n long is fits = (let same : ack ≡ n = cc is in ap Some (omega (arith, same, fits)))
-ack-kept (kind.DataAck (Short ack)) n long is fits = cc long
-ack-kept (kind.CloseReq ack) n long is fits = (let same : ack ≡ n = cc is in ap Some (omega (arith, same, fits)))
-ack-kept (kind.Close ack) n long is fits = (let same : ack ≡ n = cc is in ap Some (omega (arith, same, fits)))
-ack-kept (kind.Reset ack code detail) n long is fits = (let same : ack ≡ n = cc is in ap Some (omega (arith, same, fits)))
-ack-kept (kind.Sync ack) n long is fits = (let same : ack ≡ n = cc is in ap Some (omega (arith, same, fits)))
-ack-kept (kind.SyncAck ack) n long is fits = (let same : ack ≡ n = cc is in ap Some (omega (arith, same, fits)))
 
 -- The same options on a packet with another acknowledgement number.
 abbrev with_ack : Option ℕ → RowEvent → RowEvent

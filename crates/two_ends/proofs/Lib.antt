@@ -1,5 +1,4 @@
 pub mod Processing
-pub mod LongAlone
 pub mod Logged
 pub mod ReadBack
 pub mod Acting
@@ -39,4 +38,7 @@ pub mod Believing
 pub mod Consequences
 pub mod Spelling
 pub mod Preferring
+pub mod Nearing
+pub mod RowsFar
+pub mod Refusing
 pub mod Sharing

@@ -1,9 +1,11 @@
 -- What the numbered frames of a side carry is one list: the n-th of them, from 0, stands at place n.
-use Rattle.std.proofs.Common.{◌≡◌, refl, subst, ℕ, ◌+◌, zero, suc, ◌≤◌, ◌%◌, ◌^◌, List, [], ◌∷◌, ◌++◌, Some, slice_get, length, true, false, arith}
+use Rattle.std.proofs.Common.{◌≡◌, refl, subst, ℕ, ◌+◌, zero, suc, ◌≤◌, ◌%◌, ◌^◌, Bool, List, [], ◌∷◌, ◌++◌, Some, slice_get, length, true, false, arith}
 use Rattle.std.proofs.lemmas.List.Elements.{All-get_or}
 use Rattle.std.proofs.lemmas.Option.{get_or_from_slice_get, same_Some, slice_get_within}
 use Rattle.std.specs.List.{All}
 use Rattle.seq_circle.specs.Circle.{residue}
+use Rattle.dccp_packets.specs.Forms.{may_be_short}
+use Rattle.dccp_packets.specs.Grammar.{packet_type}
 use Rattle.dccp_packets.specs.Kinds.{ack_of}
 use Rattle.dccp_packets.specs.Widths.{kind_in_widths}
 use Rattle.dccp_packets.specs.declared.header.Kind.{Kind}
@@ -18,20 +20,22 @@ pub record Logged : Type 0 where
   pub processed : ℕ
   pub floor : ℕ
 
--- The frame is this packet's, under this number.
+-- The frame is this packet's, under this number, in one of the two forms.
 pub record IsLogged (config : Config) (number : ℕ) (frame : SentFrame) (l : Logged) : Type 0 where
   pub sendable : IsSendable l.draft
   pub of_connection : is_without_connection config.role l.draft.kind ≡ false
+  pub short : Bool
+  pub form : short ≡ true → may_be_short (packet_type l.draft.kind) ≡ true
   pub same : frame
       ≡ record {
-        bytes = frame_of config false number l.draft;
+        bytes = frame_of config short number l.draft;
         number = number % 2 ^ 48;
         ack = ack_of (kind_in_widths l.draft.kind);
         processed = l.processed;
         floor = l.floor;
       }
 
--- The frame is a Reset without a connection.
+-- The frame is a Reset without a connection, whose numbers are long.
 pub record IsUnlogged (config : Config) (frame : SentFrame) : Type 0 where
   pub number : ℕ
   pub kind : Kind

@@ -40,7 +40,7 @@ use Rattle.seq_circle.specs.Counts.{number_of}
 use Rattle.two_ends.specs.World.{newly_processed}
 use Rattle.two_ends.proofs.Acting.{Act, acted, config_of, end_of, logged_by, processed_by}
 use Rattle.two_ends.proofs.FewOptions.{written-kinds}
-use Rattle.two_ends.proofs.KeyHearing.{ack-kept}
+use Rattle.two_ends.proofs.ReadBack.{ack-kept}
 use Rattle.two_ends.proofs.Logged.{Logged}
 use Rattle.two_ends.proofs.MarkHearing.{IsTaking}
 use Rattle.two_ends.proofs.Numbering.{IsOrdered, came-logged, few-logged}

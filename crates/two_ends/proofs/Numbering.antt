@@ -1,19 +1,26 @@
--- A side's numbered frames carry ISS, ISS + 1, and so on up to GSS, and its end is proper.
-use Rattle.std.proofs.Common.{◌≡◌, ◌≢◌, refl, ap, sym, ◌∙◌, subst, ℕ, ◌+◌, ◌-◌, ◌^◌, ◌<◌, ◌≤◌, Bool, List, Option, Some, None, true, false, [], ◌∷◌, length, length-append, arith}
-use Rattle.seq_circle.specs.Circle.{residue}
-use Rattle.dccp_packets.specs.Grammar.{packet_type}
+-- A side's numbered frames carry ISS, ISS + 1, and so on up to GSS; its end is proper, and its GSR and GSS are numbers.
+use Rattle.std.proofs.Common.{◌≡◌, ◌≢◌, refl, ap, sym, ◌∙◌, subst, ℕ, ◌+◌, ◌-◌, ◌%◌, ◌^◌, ◌<◌, ◌≤◌, ◌&&◌, not, Bool, if◌then◌else◌, List, Option, Some, None, true, false, [], ◌∷◌, length, length-append, arith}
+use Rattle.std.specs.List.{list_any}
+use Rattle.std.proofs.lemmas.Bool.{and_parts}
+use Rattle.seq_circle.proofs.NotFar.{self-near}
+use Rattle.seq_circle.specs.Circle.{is_ack_far, is_before, is_far, later_of, residue}
+use Rattle.dccp_packets.specs.Forms.{may_be_short}
+use Rattle.dccp_packets.specs.Grammar.{has_forms, packet_type}
+use Rattle.dccp_packets.specs.Kinds.{ack_of}
+use Rattle.dccp_packets.specs.Widths.{kind_in_widths}
 use Rattle.dccp_packets.specs.declared.header.Kind.{Kind}
 use Rattle.dccp_packets.specs.declared.header.Kind.TheVariants as kind
 use Rattle.dccp_packets.specs.declared.header.PacketType.TheVariants as types
 use Rattle.dccp_states.specs.declared.phase.Role.{Role}
 use Rattle.validity_windows.specs.declared.marks.Marks.{Marks}
-use Rattle.dccp_endpoint.specs.Causes.{Came, HasFrame, IsSending, Rests, Acks, Others, Refuses, is_without_connection}
+use Rattle.dccp_endpoint.specs.Causes.{Came, HasFrame, IsHearing, IsSending, Keeps as KeepsHeard, Starts, Raises, Rests, Acks, Others, Refuses, is_without_connection}
 use Rattle.dccp_endpoint.specs.Reporting.{is_acking}
 use Rattle.dccp_endpoint.specs.Drafts.{Draft, Fits, IsSendable, alone, frame_of}
-use Rattle.dccp_endpoint.specs.Effects.{Effect, Sending, Silent, Next, WithoutConnection, end_after, frame_by, gss_by}
+use Rattle.dccp_endpoint.specs.Effects.{Effect, Hearing, Sending, Silent, Next, WithoutConnection, end_after, frame_by, greatest_by, gss_by}
 use Rattle.dccp_endpoint.specs.End.{EndState, IsProper, floor_of}
 use Rattle.dccp_endpoint.specs.Incoming.{Incoming}
-use Rattle.dccp_endpoint.specs.ShortForm.{goes_short}
+use Rattle.dccp_endpoint.specs.ShortForm.{allows_short, goes_short, is_negotiating}
+use Rattle.dccp_states.specs.declared.phase.Phase.{Phase}
 use Rattle.dccp_endpoint.specs.Inputs.{Input}
 use Rattle.dccp_endpoint.specs.Steps.{next_number}
 use Rattle.dccp_endpoint.proofs.Staying.{first-proper, proper-after}
@@ -21,9 +28,8 @@ use Rattle.two_ends.specs.Numbered.{IsNumberOf}
 use Rattle.two_ends.specs.declared.frames.SentFrame.{SentFrame}
 use Rattle.two_ends.specs.World.{as_sent}
 use Rattle.two_ends.proofs.Acting.{Act, Keeps, NoFact, Party, acted, config_of, drafted_by, end_of, logged_by, processed_by, sent_by}
-use Rattle.two_ends.proofs.LongAlone.{goes-long}
 use Rattle.two_ends.proofs.Logged.{AreLogged, Logged, NoFrames, Numbered, Unnumbered, logged-append, logged-few}
-use Rattle.two_ends.proofs.ReadBack.{IsFromLog, arrived-so, from-log, kept-frame}
+use Rattle.two_ends.proofs.ReadBack.{AreNear, AreNumbers, IsFromLog, ack-kept, arrived-so, from-log, kept-frame}
 
 pub record IsOrdered (x : Party) : Type 0 where
   pub proper : IsProper (end_of x)
@@ -32,6 +38,7 @@ pub record IsOrdered (x : Party) : Type 0 where
   pub logged : AreLogged (config_of x) (config_of x).iss x.half.frames x.log
   pub greatest : (end_of x).marks.gss ≡ residue ((config_of x).iss + length x.log + (2 ^ 48 - 1))
   pub few : length x.half.frames < 2 ^ 47
+  pub numbers : AreNumbers (end_of x)
 
 -- fewer than half the circle's numbers are used
 pub few-logged : (x : Party) → IsOrdered x → length x.log < 2 ^ 47
@@ -44,44 +51,90 @@ more-sent iss count more number above s = record { place = s.place; was_sent = o
 pub came-logged : (act : Act) → IsOrdered act.peer → (a : Incoming) → Came (end_of act.side) act.given a → a.kind ≢ types.Reset
     → IsFromLog (config_of act.peer).iss act.peer.log a
 came-logged act peer a came other =
-    from-log (end_of act.side) act.given a came (config_of act.peer) act.peer.half.frames act.peer.log act.arrived act.from_peer other peer.logged
+    from-log (end_of act.side) act.given a came (config_of act.peer) act.numbers act.peer.half.frames act.peer.log act.arrived act.from_peer other peer.logged
 
 -- The number that comes with a packet is the one that its sender gave it.
 pub came-arrived : (act : Act) → IsOrdered act.peer → (a : Incoming) → Came (end_of act.side) act.given a → act.arrived ≡ Some a.number
 came-arrived act peer a came =
-    arrived-so (end_of act.side) act.given a came (config_of act.peer) act.peer.half.frames act.peer.log act.arrived act.from_peer peer.logged
+    arrived-so (end_of act.side) act.given a came (config_of act.peer) act.numbers act.peer.half.frames act.peer.log act.arrived act.from_peer peer.logged
 
 -- An Ack and a DataAck have a connection.
 acking-connected : (r : Role) (k : Kind) → is_acking (packet_type k) ≡ true → is_without_connection r k ≡ false
 acking-connected r (kind.Reset ack code detail) is = cc is
 acking-connected r _ is = refl
 
--- a packet under the next number is logged
-next-logged : (e : EndState) (draft : Draft) (short : Bool) (marks : Marks) (processed floor first : ℕ) → short ≡ false → next_number e ≡ residue first
-    → is_without_connection e.config.role draft.kind ≡ false → IsSendable draft
-    → AreLogged e.config first (as_sent marks processed floor (Some (frame_of e.config short (next_number e) draft)))
-    (record { draft = draft; processed = processed; floor = floor } ∷ [])
-next-logged e draft short marks processed floor first long same connected sendable =
-    let kept = kept-frame e.config (next_number e) draft marks processed floor sendable in
-    let log : List Logged = record { draft = draft; processed = processed; floor = floor } ∷ [] in
-    subst (λ (form : Bool). AreLogged e.config first (as_sent marks processed floor (Some (frame_of e.config form (next_number e) draft))) log) (sym long)
-    (subst (λ (frames : List SentFrame). AreLogged e.config first frames log) (sym kept)
-    (Numbered (next_number e) same (record { sendable = sendable; of_connection = connected; same = refl }) NoFrames))
+-- What goes short is of a type that may.
+goes-may : (e : EndState) (draft : Draft) → goes_short e draft ≡ true → may_be_short (packet_type draft.kind) ≡ true
+goes-may e draft short =
+    (and_parts (may_be_short (packet_type draft.kind)) (allows_short e && not (list_any is_negotiating draft.options)) short).0
 
--- what goes out is logged under the next number, or not at all
-sent-logged : (e : EndState) (given : Input) (f : Effect) (s : Sending) (marks : Marks) (processed floor first : ℕ) → IsProper (end_after e f)
-    → next_number e ≡ residue first → IsSending e given f s
-    → HasFrame s → AreLogged e.config first (as_sent marks processed floor (frame_by e f s)) (logged_by processed floor s)
-sent-logged e given f Silent marks processed floor first proper same Rests framed = NoFrames
-sent-logged e given f (Next draft) marks processed floor first proper same (Acks _ acking ack connected owed unacked) framed =
-    next-logged e draft (goes_short (end_after e f) draft) marks processed floor first (goes-long (end_after e f) draft proper) same
-    (acking-connected e.config.role draft.kind acking) framed
-sent-logged e given f (Next draft) marks processed floor first proper same (Others _ acking ack connected) framed =
-    next-logged e draft (goes_short (end_after e f) draft) marks processed floor first (goes-long (end_after e f) draft proper) same connected framed
-sent-logged e given f (WithoutConnection number k) marks processed floor first proper same (Refuses a code came is unheard turns unmoved) framed =
-    let kept = kept-frame e.config number (alone k) marks processed floor framed in
-    subst (λ (frames : List SentFrame). AreLogged e.config first frames []) (sym kept)
-    (Unnumbered (record { number = number; kind = k; sendable = framed; without_connection = is; same = refl; numbered = refl; acks = refl }) NoFrames)
+-- of these types the one that is no Ack and no DataAck acknowledges nothing
+others-none : (k : Kind) → is_acking (packet_type k) ≡ false → may_be_short (packet_type k) ≡ true → ack_of (kind_in_widths k) ≡ None
+others-none kind.Data other may = refl
+others-none (kind.Request service) other may = cc may
+others-none (kind.Response ack service) other may = cc may
+others-none (kind.Ack ack) other may = cc other
+others-none (kind.DataAck ack) other may = cc other
+others-none (kind.CloseReq ack) other may = cc may
+others-none (kind.Close ack) other may = cc may
+others-none (kind.Reset ack code detail) other may = cc may
+others-none (kind.Sync ack) other may = cc may
+others-none (kind.SyncAck ack) other may = cc may
+
+-- what a short packet acknowledges is GSR, or nothing
+acking-near : (k : Kind) (gsr : ℕ) → gsr < 2 ^ 48 → has_forms true k ≡ true → ack_of k ≡ Some gsr → is_ack_far (ack_of (kind_in_widths k)) gsr ≡ false
+acking-near k gsr fits long is = ap (λ (ack : Option ℕ). is_ack_far ack gsr) (ack-kept k gsr long is fits) ∙ self-near gsr fits
+
+pub others-near : (k : Kind) (gsr : ℕ) → is_acking (packet_type k) ≡ false → may_be_short (packet_type k) ≡ true
+    → is_ack_far (ack_of (kind_in_widths k)) gsr ≡ false
+others-near k gsr other may = ap (λ (ack : Option ℕ). is_ack_far ack gsr) (others-none k other may)
+
+-- the number that a packet goes out under is GSS after it
+next-near : (e : EndState) (gss : ℕ) → gss ≡ next_number e → is_far (next_number e % 2 ^ 48) gss ≡ false
+next-near e gss is =
+    let same : next_number e % 2 ^ 48 ≡ next_number e = omega arith in
+    ap (λ (n : ℕ). is_far n gss) same ∙ ap (is_far (next_number e)) is ∙ self-near (next_number e) (omega arith)
+
+module _ (e : EndState) (f : Effect) (numbers : AreNumbers (end_after e f)) (processed floor first : ℕ) where
+  -- the end as the step leaves it
+  abbrev left : EndState
+  left = end_after e f
+
+  -- a packet under the next number is logged
+  next-logged : (draft : Draft) → f.sending ≡ Next draft → next_number e ≡ residue first → is_without_connection e.config.role draft.kind ≡ false
+      → IsSendable draft → (goes_short left draft ≡ true → is_ack_far (ack_of (kind_in_widths draft.kind)) left.marks.gsr ≡ false)
+      → AreLogged e.config first (as_sent left.marks processed floor (Some (frame_of e.config (goes_short left draft) (next_number e) draft)))
+      (record { draft = draft; processed = processed; floor = floor } ∷ [])
+  next-logged draft is same connected sendable acks =
+      let short : Bool = goes_short left draft in
+      let may : (short ≡ true → may_be_short (packet_type draft.kind) ≡ true) = goes-may left draft in
+      let kept =
+      kept-frame e.config short (next_number e) draft left.marks processed floor sendable may
+      (λ goes.
+      record {
+        gss_fits = numbers.gss;
+        gsr_fits = numbers.gsr;
+        number_is_near = next-near e left.marks.gss (ap (gss_by e) is);
+        ack_is_near = acks goes;
+      }) in
+      let log : List Logged = record { draft = draft; processed = processed; floor = floor } ∷ [] in
+      subst (λ (frames : List SentFrame). AreLogged e.config first frames log) (sym kept)
+      (Numbered (next_number e) same (record { sendable = sendable; of_connection = connected; short = short; form = may; same = refl }) NoFrames)
+
+  -- what goes out is logged under the next number, or not at all
+  sent-logged : (given : Input) (s : Sending) → f.sending ≡ s → next_number e ≡ residue first → IsSending e given f s → HasFrame s
+      → AreLogged e.config first (as_sent left.marks processed floor (frame_by e f s)) (logged_by processed floor s)
+  sent-logged given Silent is same Rests framed = NoFrames
+  sent-logged given (Next draft) is same (Acks _ acking ack connected owed unacked) framed =
+      let sendable : IsSendable draft = framed in
+      next-logged draft is same (acking-connected e.config.role draft.kind acking) sendable
+      (λ goes. acking-near draft.kind left.marks.gsr numbers.gsr sendable.is_long ack)
+  sent-logged given (Next draft) is same (Others _ acking ack connected) framed =
+      next-logged draft is same connected framed (λ goes. others-near draft.kind left.marks.gsr acking (goes-may left draft goes))
+  sent-logged given (WithoutConnection number k) is same (Refuses a code came without unheard turns unmoved) framed =
+      let kept = kept-frame e.config false number (alone k) left.marks processed floor framed (λ short. cc short) (λ short. cc short) in
+      subst (λ (frames : List SentFrame). AreLogged e.config first frames []) (sym kept)
+      (Unnumbered (record { number = number; kind = k; sendable = framed; without_connection = without; same = refl; numbered = refl; acks = refl }) NoFrames)
 
 sent-greatest : (e : EndState) (s : Sending) (processed floor count : ℕ) → e.marks.gss ≡ residue (e.config.iss + count + (2 ^ 48 - 1))
     → gss_by e s ≡ residue (e.config.iss + (count + length (logged_by processed floor s)) + (2 ^ 48 - 1))
@@ -94,24 +147,45 @@ pub sent-few : (marks : Marks) (processed floor : ℕ) (frame : Option (List ℕ
 sent-few marks processed floor None = omega arith
 sent-few marks processed floor (Some bytes) = omega arith
 
-acting : (act : Act) → IsOrdered act.side → IsOrdered (acted act)
-acting act o =
+later-fits : (gsr number : ℕ) → gsr < 2 ^ 48 → number < 2 ^ 48 → later_of gsr number < 2 ^ 48
+later-fits gsr number old new = by (is_before gsr number) where
+  by : (later : Bool) → (if later then number else gsr) < 2 ^ 48
+  by true = new
+  by false = old
+
+-- GSR stays a number: what raises it is a number of the peer's
+heard-fits : (act : Act) → IsOrdered act.peer → (phase : Phase) (h : Hearing) → IsHearing (end_of act.side) act.given phase h
+    → greatest_by (end_of act.side).marks.gsr h < 2 ^ 48
+heard-fits act peer phase _ (KeepsHeard live) = act.numbers.gsr
+heard-fits act peer phase _ (Starts a how came other entrance taken passes) =
+    let from = came-logged act peer a came other in
+    omega (arith, from.read.number)
+heard-fits act peer phase _ (Raises a how came other entrance valid passes) =
+    let from = came-logged act peer a came other in
+    later-fits (end_of act.side).marks.gsr a.number act.numbers.gsr (omega (arith, from.read.number))
+
+acting : (act : Act) → IsOrdered act.side → IsOrdered act.peer → IsOrdered (acted act)
+acting act o peer =
     let e : EndState = end_of act.side in
     let processed : ℕ = length (processed_by act.side.half act.arrived act.effect) in
-    let marks : Marks = (end_after e act.effect).marks in
-    let floor : ℕ = floor_of (end_after e act.effect) in
+    let after : EndState = end_after e act.effect in
+    let floor : ℕ = floor_of after in
     let next : next_number e ≡ residue (e.config.iss + length act.side.log) = omega (arith, o.greatest) in
+    let greatest : after.marks.gss ≡ residue (e.config.iss + length (acted act).log + (2 ^ 48 - 1)) =
+    sent-greatest e act.effect.sending processed floor (length act.side.log) o.greatest
+    ∙ ap (λ (n : ℕ). residue (e.config.iss + n + (2 ^ 48 - 1))) (sym (length-append act.side.log (drafted_by act.side.half act.arrived act.effect))) in
+    let numbers : AreNumbers after =
+    record { gsr = heard-fits act peer act.effect.phase act.effect.hearing act.because.hears; gss = omega (arith, greatest) } in
     record {
       proper = proper-after o.proper act.because;
       fits = o.fits;
       first = o.first;
       logged =
           logged-append e.config _ (sent_by act.side.half act.arrived act.effect) (drafted_by act.side.half act.arrived act.effect) refl o.logged
-          (sent-logged e act.given act.effect act.effect.sending marks processed floor _ (proper-after o.proper act.because) next act.because.sends act.because.framed);
-      greatest =
-          sent-greatest e act.effect.sending processed floor (length act.side.log) o.greatest
-          ∙ ap (λ (n : ℕ). residue (e.config.iss + n + (2 ^ 48 - 1))) (sym (length-append act.side.log (drafted_by act.side.half act.arrived act.effect)));
-      few = omega (arith, act.room, sent-few marks processed floor (frame_by e act.effect act.effect.sending), length-append act.side.half.frames (sent_by act.side.half act.arrived act.effect));
+          (sent-logged e act.effect numbers processed floor _ act.given act.effect.sending refl next act.because.sends act.because.framed);
+      greatest = greatest;
+      few = omega (arith, act.room, sent-few after.marks processed floor (frame_by e act.effect act.effect.sending), length-append act.side.half.frames (sent_by act.side.half act.arrived act.effect));
+      numbers = numbers;
     }
 
 pub numbering : Keeps NoFact (λ x y. IsOrdered x)
@@ -126,6 +200,7 @@ numbering =
             logged = NoFrames;
             greatest = omega arith;
             few = omega arith;
+            numbers = record { gsr = omega arith; gss = omega arith };
           };
-      acts = λ act none (here, there). (acting act here, there);
+      acts = λ act none (here, there). (acting act here there, there);
     }

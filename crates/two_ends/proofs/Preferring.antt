@@ -52,7 +52,7 @@ use Rattle.world_events.specs.declared.event.WorldFault.{WorldFault}
 use Rattle.world_events.specs.declared.event.WorldFault.TheVariants as fault
 use Rattle.two_ends.specs.Controlled.{Controlled, ControlledStep, begins_with, congestion_of, controlled, controlled_after, controls, happens_to, plays, said_by}
 use Rattle.two_ends.specs.Preferred.{AsksFor, AsksNothing, IsAccepted, IsLastAsked, WantsValues, row_of, values_configured}
-use Rattle.two_ends.specs.World.{Half, HalfStep, Said, WorldState, WorldStep, delivers_frame, half_of, half_steps, happens, is_full, refusal_of, seen_of_call, unless_full, with_half, world_after}
+use Rattle.two_ends.specs.World.{Half, HalfStep, Said, WorldState, WorldStep, delivers_frame, half_of, half_steps, happens, is_far_frame, is_full, refusal_of, seen_of_call, unless_far, unless_full, with_half, world_after}
 use Rattle.two_ends.specs.declared.frames.SentFrame.{SentFrame}
 use Rattle.two_ends.proofs.Acting.{IsHeld, event-taken}
 use Rattle.two_ends.proofs.Asking.{none-pending}
@@ -401,7 +401,7 @@ call-accepted (Err why) is = cc is
 
 module _ (effects : EveryStepHasOneEffect) (w : WorldState) (held : IsHeld SideInvariant w) where
   call-keeps : (acting : Side) (arrived : Option ℕ) (given : Input) → IsCalmInput given → (side : Side) (k : Key)
-      → latest (row_of (world_after w (unless_full w acting (half_steps (half_of w acting) arrived given))) side k.0 k.1)
+      → latest (row_of (world_after w (unless_full w acting (Ok (half_steps (half_of w acting) arrived given)))) side k.0 k.1)
       ≡ latest (row_of w side k.0 k.1)
   call-keeps acting arrived given calm side k = by (is_full (half_of w acting)) where
     own : acting ≡ side → latest (row_at (end_stepped (half_of w acting).end given).after.rows k.0 k.1) ≡ latest (row_of w side k.0 k.1)
@@ -417,11 +417,20 @@ module _ (effects : EveryStepHasOneEffect) (w : WorldState) (held : IsHeld SideI
   delivery-keeps : (from : Side) (frame : Option SentFrame) (side : Side) (k : Key)
       → latest (row_of (world_after w (delivers_frame w from frame)) side k.0 k.1) ≡ latest (row_of w side k.0 k.1)
   delivery-keeps from None side k = refl
-  delivery-keeps from (Some frame) side k = call-keeps (other from) (Some frame.number) (input.Arrives frame.bytes) tt side k
+  delivery-keeps from (Some frame) side k = by (is_far_frame (half_of w (other from)).end frame) where
+    refused : (full : Bool) → latest (row_of (world_after w (if full then Err fault.Full else Err fault.FarShort)) side k.0 k.1)
+        ≡ latest (row_of w side k.0 k.1)
+    refused true = refl
+    refused false = refl
+
+    by : (far : Bool) → latest (row_of (world_after w (unless_full w (other from) (unless_far (half_of w (other from)) frame far))) side k.0 k.1)
+        ≡ latest (row_of w side k.0 k.1)
+    by true = refused (is_full (half_of w (other from)))
+    by false = call-keeps (other from) (Some frame.number) (input.Arrives frame.bytes) tt side k
 
   preference-keeps : (acting : Side) (key : Key) (values : List ℕ) (side : Side) (k : Key)
       → (acting ≡ side → k ≡ key → is_full (half_of w acting) ≡ false → (prefers (half_of w acting).end key values).answer ≡ Ok tt → ⊥)
-      → latest (row_of (world_after w (unless_full w acting (half_steps (half_of w acting) None (input.Prefers key values)))) side k.0 k.1)
+      → latest (row_of (world_after w (unless_full w acting (Ok (half_steps (half_of w acting) None (input.Prefers key values))))) side k.0 k.1)
       ≡ latest (row_of w side k.0 k.1)
   preference-keeps acting key values side k none = by (is_full (half_of w acting)) refl where
     own : is_full (half_of w acting) ≡ false → acting ≡ side

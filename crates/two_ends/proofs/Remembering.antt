@@ -4,7 +4,6 @@ use Rattle.std.proofs.lemmas.List.{length-map}
 use Rattle.std.proofs.lemmas.Option.{same_Some, slice_get_within}
 use Rattle.std.specs.List.{Contains}
 use Rattle.ack_vectors.specs.Vector.{is_whole}
-use Rattle.dccp_endpoint.proofs.OwnFrames.{type-kept}
 use Rattle.dccp_endpoint.specs.End.{floor_of, is_live}
 use Rattle.dccp_endpoint.specs.Reporting.{is_acking}
 use Rattle.dccp_packets.specs.Grammar.{Parts, packet_type}
@@ -182,7 +181,7 @@ module _ (w : WorldState) (logs : Side → List Logged) (side : Side) where
         let packet_is : packet ≡ its.packet = same_Some packet its.packet (sym read ∙ its.is_packet) in
         let ours : IsFrame _ l (frame_at m.peer.frames (suc place)) = frame-of place l m.there.frames there in
         let type : packet_type packet.header.kind ≡ packet_type l.draft.kind =
-        ap (λ (p : Parts). packet_type p.header.kind) packet_is ∙ ap packet_type its.kind_is ∙ type-kept l.draft.kind in
+        ap (λ (p : Parts). packet_type p.header.kind) packet_is ∙ its.type_is in
         let some : 1 ≤ m.view.greatest = m.here.heard.lives live in
         let number_is : number % 2 ^ 48 ≡ (half_of w side).end.marks.gsr =
         sym its.number_is ∙ same in
@@ -229,7 +228,7 @@ module _ (w : WorldState) (logs : Side → List Logged) (side : Side) where
           is_there = at.is_there;
           is_packet = read.is_packet;
           is_ack =
-              ap is_acking (ap packet_type read.kind_is ∙ type-kept l.draft.kind) ∙ sym ours.acks ∙ ours.vector_acks it.has_vector;
+              ap is_acking read.type_is ∙ sym ours.acks ∙ ours.vector_acks it.has_vector;
           is_numbered = omega (arith, read.number_is, at.is_numbered, it.number);
           acknowledges =
               acknowledges w logs side own others m it.place at.number l at.frame entry.1 at.is_logged it.has_vector

@@ -4,7 +4,7 @@ use Rattle.std.proofs.lemmas.List.{append-nil}
 use Rattle.std.proofs.lemmas.List.Elements.{All-get_or}
 use Rattle.std.proofs.lemmas.Option.{same_Some}
 use Rattle.std.specs.List.{Contains, concat}
-use Rattle.std.specs.Prelude.{slice_index, take}
+use Rattle.std.specs.Prelude.{is_some, slice_index, take}
 use Rattle.ack_vectors.proofs.Telling.{heard-member}
 use Rattle.ack_vectors.specs.Vector.{is_whole, vector as vector_of}
 use Rattle.dccp_endpoint.specs.End.{floor_of}
@@ -21,17 +21,16 @@ use Rattle.seq_circle.specs.Circle.{IsBefore, IsWithin, distance}
 use Rattle.seq_circle.specs.Counts.{number_of}
 use Rattle.world_events.specs.declared.event.Side.{Side}
 use Rattle.two_ends.specs.declared.frames.SentFrame.{SentFrame}
-use Rattle.two_ends.specs.Frames.{is_reset, options_in, packet_of}
+use Rattle.two_ends.specs.Frames.{options_in, packet_of}
 use Rattle.two_ends.specs.Reported.{CarriesVector, Far, HasSentNumber, IsOnce, NeedsNoReport, TellsTruth, ToldIn, WasTold, processed_by}
 use Rattle.two_ends.specs.World.{WorldState, half_of}
 use Rattle.world_events.specs.Actors.{other}
 use Rattle.two_ends.proofs.Acting.{Party, config_of, end_of, party_of}
-use Rattle.two_ends.proofs.KeyHearing.{ack-kept}
 use Rattle.two_ends.proofs.Logged.{AtPlace, Found, IsLogged, Logged, Nowhere, found}
 use Rattle.two_ends.proofs.Marking.{IsMarking, from-there}
 use Rattle.two_ends.proofs.Numbering.{IsOrdered, few-logged}
 use Rattle.two_ends.proofs.Processed.{distinct, early-contains, floor-is, none-after, same-vector, was-processed}
-use Rattle.two_ends.proofs.ReadBack.{FitsAck, ack-fits, logged-options, unlogged-options}
+use Rattle.two_ends.proofs.ReadBack.{FitsAck, ack-fits, ack-kept, logged-options, unlogged-options}
 use Rattle.two_ends.proofs.SentAt.{no-reset, read-in, sent-at}
 use Rattle.two_ends.proofs.Shown.{IsPacketOf}
 use Rattle.two_ends.proofs.Vectors.{IsFrame, frame-of, frames-length, one_vector}
@@ -87,7 +86,7 @@ module _ (w : WorldState) (logs : Side → List Logged) (side : Side) (own : IsO
         is_there = at.is_there;
         is_packet = read.is_packet;
         is_numbered = omega (arith, read.number_is, at.is_numbered, p.is_numbered);
-        is_no_reset = ap is_reset read.kind_is ∙ no-reset p.logged.draft.kind p.is_no_reset;
+        is_no_reset = no-reset read.packet.header.kind (λ reset. p.is_no_reset (sym read.type_is ∙ reset));
       }
 
   pub once : IsOnce w side
@@ -216,9 +215,11 @@ module _ (w : WorldState) (logs : Side → List Logged) (side : Side) (own : IsO
       by true vector =
           let kept = read-in (config_of x) number frame l is in
           let same : packet ≡ kept.packet = same_Some packet kept.packet (sym read ∙ kept.is_packet) in
-          let acks : ack_of packet.header.kind ≡ Some ack =
-          ap (λ (p : Parts). ack_of p.header.kind) same ∙ ap ack_of kept.kind_is ∙ sym kept.ack_is ∙ acknowledges place number l frame there is vector in
-          cc (none, acks)
+          let some : is_some (ack_of packet.header.kind) ≡ true =
+          ap (λ (p : Parts). is_some (ack_of p.header.kind)) same ∙ kept.some_is
+          ∙ ap is_some (sym kept.ack_is ∙ acknowledges place number l frame there is vector) in
+          let silent : is_some (ack_of packet.header.kind) ≡ false = ap is_some none in
+          cc (some, silent)
 
   pub unacknowledged : (index : ℕ) (frame : SentFrame) → slice_get (half_of w side).frames index ≡ Some frame → (packet : Parts)
       → packet_of frame.bytes ≡ Some packet → ack_of packet.header.kind ≡ None → ack_vectors (options_in frame.bytes) ≡ []

@@ -350,7 +350,7 @@ module _ (effects : EveryStepHasOneEffect) (w : WorldState) (h : IsHeld SideInva
         }
 
     own-step : (side : Side) (arrived : Option ℕ) (given : Input) → is_full (half_of w side) ≡ false
-        → IsFromPeer (half_of w (other side)).frames arrived given
+        → IsFromPeer (half_of w side).end (half_of w (other side)).frames arrived given
         → (new : WorldState) → (held_at new pair side).value ≡ (row_at (end_stepped (half_of w side).end given).after.rows pair.feature (place_at side pair.location)).value
         → ((held_at new pair side).value ≡ (held_at w pair side).value) ⊎ IsShared w new pair side
     own-step side arrived given room from new is =
@@ -359,7 +359,17 @@ module _ (effects : EveryStepHasOneEffect) (w : WorldState) (h : IsHeld SideInva
         let now = both side in
         let has = effects x.half.end given now.0.ordered.proper in
         let act : Act =
-        record { side = x; peer = y; arrived = arrived; given = given; effect = has.effect; room = not-full x.half room; from_peer = from; because = has.because } in
+        record {
+          side = x;
+          peer = y;
+          arrived = arrived;
+          given = given;
+          effect = has.effect;
+          room = not-full x.half room;
+          from_peer = from;
+          numbers = now.0.ordered.numbers;
+          because = has.because;
+        } in
         let on : HearsOn act now.0.negotiated.greatest = hears-on act now.1.ordered now.0.negotiated.greatest now.0.negotiated.hears in
         let known : KnownStep =
         record {

@@ -1,7 +1,7 @@
--- The numbers that are kept of a frame are those that its bytes spell.
-use Rattle.std.proofs.Common.{◌≡◌, inl, inr, ap, sym, ◌∙◌, subst, ℕ, ◌+◌, zero, suc, Bool, List, [], ◌∷◌, Some, slice_get}
+-- The bytes of a frame spell the numbers that are kept of it.
+use Rattle.std.proofs.Common.{◌≡◌, inl, inr, sym, ◌∙◌, subst, ℕ, ◌+◌, zero, suc, List, [], ◌∷◌, Some, slice_get}
 use Rattle.std.proofs.lemmas.Option.{same_Some}
-use Rattle.dccp_packets.specs.Grammar.{Parts}
+use Rattle.dccp_packets.specs.Grammar.{Parts, is_long}
 use Rattle.dccp_packets.specs.Kinds.{ack_of, value_of}
 use Rattle.dccp_states.specs.declared.phase.Role.{Role}
 use Rattle.world_events.specs.declared.event.Side.{Side}
@@ -9,7 +9,6 @@ use Rattle.two_ends.specs.declared.frames.SentFrame.{SentFrame}
 use Rattle.two_ends.specs.Frames.{SpellsItsNumbers, ack_in_width, in_width, packet_of}
 use Rattle.two_ends.specs.Numbered.{AreNumbered, Facts}
 use Rattle.two_ends.specs.World.{WorldState, half_of}
-use Rattle.two_ends.proofs.ReadBack.{width-kept}
 
 spelled : (role : Role) (iss before count : ℕ) (frames : List SentFrame) (index : ℕ) (frame : SentFrame) → AreNumbered role iss before frames count
     → slice_get frames index ≡ Some frame → SpellsItsNumbers frame
@@ -24,14 +23,11 @@ pub frame-spelled : (w : WorldState) → Facts w → (side : Side) (index : ℕ)
 frame-spelled w facts side index frame there = spelled _ _ 0 _ (half_of w side).frames index frame (facts.numbered side).in_order there
 
 module _ (frame : SentFrame) (spells : SpellsItsNumbers frame) (packet : Parts) (read : packet_of frame.bytes ≡ Some packet) where
-  same : packet ≡ spells.packet
-  same = same_Some packet spells.packet (sym read ∙ spells.is_packet)
+  same : spells.packet ≡ packet
+  same = same_Some spells.packet packet (sym spells.is_packet ∙ read)
 
-  pub number-spelled : frame.number ≡ value_of packet.header.number
-  number-spelled =
-      sym (ap (λ (p : Parts). value_of p.header.number) same ∙ spells.number ∙ ap (λ (long : Bool). in_width long frame.number) spells.in_long_form)
+  pub number-spelled : value_of packet.header.number ≡ in_width (is_long packet.header.number) frame.number
+  number-spelled = subst (λ (p : Parts). value_of p.header.number ≡ in_width (is_long p.header.number) frame.number) same spells.number
 
-  pub ack-spelled : frame.ack ≡ ack_of packet.header.kind
-  ack-spelled =
-      width-kept frame.ack
-      ∙ sym (ap (λ (p : Parts). ack_of p.header.kind) same ∙ spells.ack ∙ ap (λ (long : Bool). ack_in_width long frame.ack) spells.in_long_form)
+  pub ack-spelled : ack_of packet.header.kind ≡ ack_in_width (is_long packet.header.number) frame.ack
+  ack-spelled = subst (λ (p : Parts). ack_of p.header.kind ≡ ack_in_width (is_long p.header.number) frame.ack) same spells.ack

@@ -1,5 +1,5 @@
 -- What a frame is, read from its bytes (RFC 4340, sections 5 and 5.8), and its numbers in full (section 7.6).
-use Rattle.std.specs.Prelude.{◌≡◌, ℕ, ◌%◌, ◌^◌, Bool, true, false, List, [], Option, Some, None, Result, if◌then◌else◌}
+use Rattle.std.specs.Prelude.{◌≡◌, ℕ, ◌%◌, ◌^◌, Bool, true, false, not, List, [], Option, Some, None, Result, if◌then◌else◌}
 use Rattle.std.specs.Result.{result_ok}
 use Rattle.dccp_packets.specs.Forms.{ack_near, near}
 use Rattle.dccp_packets.specs.Grammar.{Parts, decoded, is_long, packet_type}
@@ -35,11 +35,15 @@ abbrev pub ack_in_width : Bool → Option ℕ → Option ℕ
 ack_in_width long None = None
 ack_in_width long (Some ack) = Some (in_width long ack)
 
--- A frame's bytes are a packet that spells the frame's numbers, in the long form, the only one in which ends write.
+-- the packet has short numbers
+abbrev pub is_short_packet : Option Parts → Bool
+is_short_packet None = false
+is_short_packet (Some p) = not (is_long p.header.number)
+
+-- A frame's bytes are a packet that spells the frame's numbers, in the width of its form.
 pub record SpellsItsNumbers (frame : SentFrame) : Type 0 where
   pub packet : Parts
   pub is_packet : packet_of frame.bytes ≡ Some packet
-  pub in_long_form : is_long packet.header.number ≡ true
   pub number : value_of packet.header.number ≡ in_width (is_long packet.header.number) frame.number
   pub ack : ack_of packet.header.kind ≡ ack_in_width (is_long packet.header.number) frame.ack
 

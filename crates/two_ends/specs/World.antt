@@ -1,9 +1,10 @@
 -- Two ends, all frames that they ever sent, and what happens to them (own). Losing, repeating and reordering frames is the
 -- choice of deliveries.
-use Rattle.std.specs.Prelude.{ℕ, ◌-◌, ◌^◌, ◌≤◌, Bool, true, false, nat_le, nat_lt, if◌then◌else◌, List, [], ◌∷◌, ◌++◌, length, Option, Some, None, Result, Ok, Err, slice_get}
+use Rattle.std.specs.Prelude.{◌≡◌, ℕ, ◌-◌, ◌^◌, ◌≤◌, ◌&&◌, ◌||◌, Bool, true, false, nat_le, nat_lt, if◌then◌else◌, List, [], ◌∷◌, ◌++◌, length, Option, Some, None, Result, Ok, Err, slice_get}
 use Rattle.dccp_endpoint.specs.End.{EndState, new_end, floor_of, marked_of}
 use Rattle.dccp_endpoint.specs.Inputs.{Input, Answer, end_stepped}
 use Rattle.dccp_endpoint.specs.Inputs as input
+use Rattle.dccp_endpoint.specs.Receiving.{takes_short}
 use Rattle.dccp_endpoint.specs.Steps.{Step}
 use Rattle.congestion_trait.specs.Calls.{Call}
 use Rattle.end_answers.specs.declared.calls.SendFault.{SendFault}
@@ -12,7 +13,8 @@ use Rattle.dccp_endpoint.specs.declared.config.Config.{Config}
 use Rattle.feature_lists.specs.declared.wishes.PreferFault.{PreferFault}
 use Rattle.feature_lists.specs.declared.wishes.PreferFault.TheVariants as prefer
 use Rattle.world_events.specs.Actors.{actor, other}
-use Rattle.two_ends.specs.Frames.{ack_in_full, number_in_full, packet_of}
+use Rattle.seq_circle.specs.Circle.{is_ack_far, is_far}
+use Rattle.two_ends.specs.Frames.{ack_in_full, is_short_packet, number_in_full, packet_of}
 use Rattle.validity_windows.specs.declared.marks.Marks.{Marks}
 use Rattle.two_ends.specs.declared.frames.SentFrame.{SentFrame}
 use Rattle.two_ends.specs.declared.half.Asked.{Asked}
@@ -135,17 +137,34 @@ with_half w Server half = record w { server = half }
 abbrev pub is_full : Half → Bool
 is_full half = nat_le (2 ^ 47 - 1) (length half.frames)
 
+-- the world that a side's step leaves, if it takes one
+abbrev pub in_world : WorldState → Side → Result HalfStep WorldFault → Result WorldStep WorldFault
+in_world w side (Ok step) = Ok (record { world = with_half w side step.half; calls = step.calls; seen = step.seen })
+in_world w side (Err why) = Err why
+
 -- a side that is full takes no step at all
-abbrev pub unless_full : WorldState → Side → HalfStep → Result WorldStep WorldFault
-unless_full w side step =
-    if is_full (half_of w side) then Err fault.Full
-    else Ok (record { world = with_half w side step.half; calls = step.calls; seen = step.seen })
+abbrev pub unless_full : WorldState → Side → Result HalfStep WorldFault → Result WorldStep WorldFault
+unless_full w side step = if is_full (half_of w side) then Err fault.Full else in_world w side step
+
+-- A frame with short numbers, at an end that takes these, lies so far from what the end sent and received that the numbers cannot be told:
+-- its number is 2^23 or more from GSR, or the one that it acknowledges from GSS, up and down the circle (RFC 4340, section 7.6).
+abbrev pub is_far_frame : EndState → SentFrame → Bool
+is_far_frame e frame =
+    takes_short e && (is_short_packet (packet_of frame.bytes) && (is_far frame.number e.marks.gsr || is_ack_far frame.ack e.marks.gss))
+
+-- the world delivers no such frame (own)
+abbrev pub unless_far : Half → SentFrame → Bool → Result HalfStep WorldFault
+unless_far half frame true = Err fault.FarShort
+unless_far half frame false = Ok (half_steps half (Some frame.number) (input.Arrives frame.bytes))
+
+-- a frame arrives at a side, if its numbers can be told there
+abbrev pub arrives_at : Half → SentFrame → Result HalfStep WorldFault
+arrives_at half frame = unless_far half frame (is_far_frame half.end frame)
 
 -- a frame of one side arrives at the other
 abbrev pub delivers_frame : WorldState → Side → Option SentFrame → Result WorldStep WorldFault
 delivers_frame w from None = Err fault.NoSuchFrame
-delivers_frame w from (Some frame) =
-    unless_full w (other from) (half_steps (half_of w (other from)) (Some frame.number) (input.Arrives frame.bytes))
+delivers_frame w from (Some frame) = unless_full w (other from) (arrives_at (half_of w (other from)) frame)
 
 -- What an event is: a call of a side, or the delivery of a frame of one side to the other.
 pub data Happening : Type 0 where
@@ -178,7 +197,7 @@ happening_of (event.Abort side) said = Calls side input.Aborts
 
 -- a call of an end, or a delivery, for which the frame must exist
 abbrev pub takes_place : WorldState → Happening → Result WorldStep WorldFault
-takes_place w (Calls side given) = unless_full w side (half_steps (half_of w side) None given)
+takes_place w (Calls side given) = unless_full w side (Ok (half_steps (half_of w side) None given))
 takes_place w (Delivers from index) = delivers_frame w from (slice_get (half_of w from).frames index)
 
 -- one event, with what the congestion control of the side that acts says
@@ -203,6 +222,21 @@ LacksFrame w (event.Abort side) = ⊥
 -- The side that would act has sent 2^47 - 1 frames.
 abbrev pub ActorIsFull : WorldState → Event → Type 0
 ActorIsFull w event = 2 ^ 47 - 1 ≤ length (half_of w (actor event)).frames
+
+-- the frame, if there is one, has short numbers that the end that takes them could not tell
+abbrev pub is_far_at : EndState → Option SentFrame → Bool
+is_far_at e None = false
+is_far_at e (Some frame) = is_far_frame e frame
+
+-- a delivery of such a frame
+abbrev pub DeliversFar : WorldState → Event → Type 0
+DeliversFar w event.Open = ⊥
+DeliversFar w (event.Deliver from index) = is_far_at (half_of w (other from)).end (slice_get (half_of w from).frames index) ≡ true
+DeliversFar w (event.Send side payload) = ⊥
+DeliversFar w (event.Prefer side feature place values) = ⊥
+DeliversFar w (event.Timer side timer) = ⊥
+DeliversFar w (event.Close side) = ⊥
+DeliversFar w (event.Abort side) = ⊥
 
 -- the world after an event; one that cannot happen changes nothing
 abbrev pub world_after : WorldState → Result WorldStep WorldFault → WorldState

@@ -2,7 +2,7 @@
 //!
 //! Each part of `Safe` has a function whose clauses follow from it and from no weaker one. They are what a reader may
 //! hold against the definitions, by plain counts where numbers are in them.
-ghost use Rattle.std.specs.Prelude.{◌≡◌, ℕ, ◌+◌, ◌^◌, ◌<◌, ◌≤◌, List, [], ◌∷◌, ◌++◌, Some, None, IsTrue, IsSome, Contains, take, drop, slice_get};
+ghost use Rattle.std.specs.Prelude.{◌≡◌, ◌≢◌, ℕ, ◌+◌, ◌^◌, ◌<◌, ◌≤◌, List, [], ◌∷◌, ◌++◌, length, Some, None, Err, IsTrue, IsSome, Contains, take, drop, slice_get};
 ghost use Rattle.ack_vectors.specs.Vector.{is_whole};
 ghost use Rattle.congestion_trait.specs.Flight.{Has};
 ghost use Rattle.congestion_trait.specs.declared.flight.Standing.TheVariants as standing;
@@ -10,7 +10,7 @@ ghost use Rattle.dccp_endpoint.specs.Drafts.{Fits};
 ghost use Rattle.dccp_endpoint.specs.End.{floor_of, held_of};
 ghost use Rattle.dccp_endpoint.specs.declared.config.Config.{Config};
 ghost use Rattle.dccp_options.specs.Vectors.{is_received, state_at};
-ghost use Rattle.dccp_packets.specs.Grammar.{Parts};
+ghost use Rattle.dccp_packets.specs.Grammar.{Parts, is_long};
 ghost use Rattle.dccp_packets.specs.Kinds.{ack_of, value_of};
 ghost use Rattle.dccp_states.specs.declared.phase.Role.TheVariants as role;
 ghost use Rattle.feature_lists.specs.Features.{initial_of};
@@ -28,9 +28,9 @@ ghost use Rattle.world_events.specs.declared.event.Side.{Side};
 ghost use Rattle.world_events.specs.declared.event.Side.TheVariants.{Client, Server};
 ghost use Rattle.two_ends.specs.declared.frames.SentFrame.{SentFrame};
 ghost use Rattle.two_ends.specs.Asked.{AllIsAsked, KeepsInitialValues};
-ghost use Rattle.two_ends.specs.Controlled.{Controlled, begins_with, congestion_of, plays};
+ghost use Rattle.two_ends.specs.Controlled.{Controlled, begins_with, congestion_of, happens_to, plays};
 ghost use Rattle.two_ends.specs.Counted.{AreAmongFirst, AreResets};
-ghost use Rattle.two_ends.specs.Frames.{packet_of};
+ghost use Rattle.two_ends.specs.Frames.{ack_in_width, in_width, packet_of};
 ghost use Rattle.two_ends.specs.Negotiated.{HasSent, IsNotNegotiable, IsServerPriority, IsSettled, last_list_sent, last_value, list_said, pair_was_negotiated, value_said};
 ghost use Rattle.two_ends.specs.Numbered.{Facts};
 ghost use Rattle.two_ends.specs.Pairs.{FeatureAt, held_at, said_by};
@@ -40,6 +40,7 @@ ghost use Rattle.two_ends.specs.Safe.{Safe};
 ghost use Rattle.two_ends.specs.Shared.{ChangesByLists};
 ghost use Rattle.two_ends.specs.World.{WorldState, half_of};
 
+use crate::WorldFault;
 use congestion_trait::Congestion;
 use dccp_endpoint::every_step_has_one_effect;
 
@@ -109,15 +110,28 @@ pub fn what_none_told_is_far_behind<C: Congestion>()
 {}
 
 /// What the numbers that are kept of a frame come to, wherever the facts of a world hold: each frame is a packet, whose
-/// sequence number and acknowledgement number they are.
+/// sequence number and acknowledgement number they are, whole where it is long, and their low 24 bits where it is short.
 pub fn frames_spell_their_numbers()
     ensures packet { (w : WorldState) → Facts w → (side : Side) (index : ℕ) (frame : SentFrame) → slice_get (half_of w side).frames index ≡ Some frame
         → IsSome (packet_of frame.bytes) }
     ensures number { (w : WorldState) → Facts w → (side : Side) (index : ℕ) (frame : SentFrame) (packet : Parts)
-        → slice_get (half_of w side).frames index ≡ Some frame → packet_of frame.bytes ≡ Some packet → frame.number ≡ value_of packet.header.number }
+        → slice_get (half_of w side).frames index ≡ Some frame → packet_of frame.bytes ≡ Some packet
+        → value_of packet.header.number ≡ in_width (is_long packet.header.number) frame.number }
     ensures ack { (w : WorldState) → Facts w → (side : Side) (index : ℕ) (frame : SentFrame) (packet : Parts)
-        → slice_get (half_of w side).frames index ≡ Some frame → packet_of frame.bytes ≡ Some packet → frame.ack ≡ ack_of packet.header.kind }
+        → slice_get (half_of w side).frames index ≡ Some frame → packet_of frame.bytes ≡ Some packet
+        → ack_of packet.header.kind ≡ ack_in_width (is_long packet.header.number) frame.ack }
 {}
+
+/// After every list of events no further event is refused as `FarShort`, as long as each side has sent fewer than 2^23
+/// frames (own). An event sends one frame at most.
+pub fn few_frames_are_never_far<C: Congestion>()
+    ensures { (client server : Config) (for_client for_server : C) (events : List Event) (next : Event) → Fits client → Fits server
+        → length (plays C.control (begins_with C.control client server for_client for_server) events).world.client.frames < 2 ^ 23
+        → length (plays C.control (begins_with C.control client server for_client for_server) events).world.server.frames < 2 ^ 23
+        → happens_to C.control (plays C.control (begins_with C.control client server for_client for_server) events) next ≢ Err WorldFault.FarShort }
+{
+    every_step_has_one_effect();
+}
 
 /// What *once* comes to. A number that a side processed early it does not process later. A number that the other side
 /// has sent in no packet but Resets, or not at all, it has not processed.

@@ -8,6 +8,7 @@
 //! frame is altered on its way.
 #![tactic(auto)]
 
+mod far;
 mod frames;
 mod half;
 mod laws;
@@ -16,10 +17,10 @@ mod world;
 
 pub use crate::frames::{FrameBytes, SentFrame};
 pub use crate::laws::{
-    frames_spell_their_numbers, last_lists_are_active, no_number_is_processed_again,
-    settled_features_are_alike, values_change_by_shared_lists, values_come_from_both_sides,
-    vectors_tell_what_was_processed, what_is_reported_arrived, what_none_asked_for_stays,
-    what_none_told_is_far_behind, what_was_asked_last_is_wanted,
+    few_frames_are_never_far, frames_spell_their_numbers, last_lists_are_active,
+    no_number_is_processed_again, settled_features_are_alike, values_change_by_shared_lists,
+    values_come_from_both_sides, vectors_tell_what_was_processed, what_is_reported_arrived,
+    what_none_asked_for_stays, what_none_told_is_far_behind, what_was_asked_last_is_wanted,
 };
 pub use crate::world::{
     World, data_are_delivered_once, every_run_is_safe, every_run_numbers_its_frames,

@@ -1,14 +1,15 @@
 //! The two sides together, and exactly what an event makes of them.
-ghost use Rattle.std.specs.Prelude.{◌≡◌, ◌≢◌, ◌≤◌, ◌↔◌, length, Ok, Err, Some, None, IfOk, IfSome, IsSome, OnErr, true, false, slice_get};
+ghost use Rattle.std.specs.Prelude.{◌≡◌, ◌≢◌, ◌↔◌, Ok, Err, Some, None, IfOk, IfSome, OnErr, true, false, is_some, slice_get};
 ghost use Rattle.dccp_endpoint.specs.Inputs.{Arrives};
 ghost use Rattle.two_ends.specs.Controlled.{controlled_half_steps, said_by};
-ghost use Rattle.two_ends.specs.World.{is_full, input_of};
+ghost use Rattle.two_ends.specs.World.{is_far_at, is_far_frame, is_full, input_of};
 
+use crate::far::is_far_frame;
 use crate::half::{Asked, HalfWorld};
 use crate::{Event, Seen, SentFrame, Side, WorldFault};
 use congestion_trait::Congestion;
 use dccp_endpoint::{Config, Endpoint};
-use seq_circle::{NoMemory, Seq48};
+use seq_circle::NoMemory;
 use std::alloc::Global;
 use std::marker::Model;
 
@@ -50,9 +51,10 @@ impl<C: Congestion + Drop> Sides<C> {
 }
 
 impl<C: Congestion> Sides<C> {
-    ghost use Rattle.std.specs.Prelude.{◌≡◌, ◌≢◌, ◌↔◌, ◌⊎◌, true, IfOk, IfErr, OnErr, Ok, Err, slice_get, Option, Some, None};
+    ghost use Rattle.std.specs.Prelude.{◌≡◌, ◌≢◌, ◌↔◌, true, false, is_some, IfOk, OnErr, Ok, Err, slice_get, None};
     ghost use Rattle.two_ends.specs.Controlled.{congestion_of, controls, happens_to, said_by};
-    ghost use Rattle.two_ends.specs.World.{half_of, input_of, is_full, takes_place, Calls, LacksFrame, ActorIsFull};
+    ghost use Rattle.two_ends.specs.World.{half_of, input_of, is_far_at, is_full, takes_place, Calls, Delivers, LacksFrame, ActorIsFull, DeliversFar};
+    ghost use Rattle.world_events.specs.Actors.{other};
 
     pub(crate) fn half(&self, side: Side) -> &HalfWorld<C>
         ensures half { result.now.half ≡ half_of self.now.world side }
@@ -69,8 +71,10 @@ impl<C: Congestion> Sides<C> {
         ensures ok { IfOk result (λ seen. happens_to C.control self.old event.now ≡ Ok (record { after = self.new; seen = seen })) }
         ensures no_such_frame { (result ≡ Err WorldFault.NoSuchFrame) ↔ (happens_to C.control self.old event.now ≡ Err WorldFault.NoSuchFrame) }
         ensures full { (result ≡ Err WorldFault.Full) ↔ (happens_to C.control self.old event.now ≡ Err WorldFault.Full) }
+        ensures far_short { (result ≡ Err WorldFault.FarShort) ↔ (happens_to C.control self.old event.now ≡ Err WorldFault.FarShort) }
         ensures lacks { (result ≡ Err WorldFault.NoSuchFrame) ↔ LacksFrame self.old.world event.now }
         ensures filled { (result ≡ Err WorldFault.Full) ↔ ((LacksFrame self.old.world event.now → ⊥) × ActorIsFull self.old.world event.now) }
+        ensures far { (result ≡ Err WorldFault.FarShort) ↔ ((LacksFrame self.old.world event.now → ⊥) × (ActorIsFull self.old.world event.now → ⊥) × DeliversFar self.old.world event.now) }
         ensures err { OnErr result (self.new ≡ self.old) }
     {
         match event {
@@ -92,14 +96,21 @@ impl<C: Congestion> Sides<C> {
             Event::Timer { side, timer } => self.call(*side, Asked::Fire(*timer)),
             Event::Close { side } => self.call(*side, Asked::Close),
             Event::Abort { side } => self.call(*side, Asked::Abort),
-            Event::Deliver {
-                from: Side::Client,
-                index,
-            } => deliver(self.client.frames(), *index, &mut self.server),
-            Event::Deliver {
-                from: Side::Server,
-                index,
-            } => deliver(self.server.frames(), *index, &mut self.client),
+            Event::Deliver { from, index } => self.deliver(*from, *index),
+        }
+    }
+
+    // A frame of one side arrives at the other.
+    fn deliver(&mut self, from: Side, index: u64) -> Result<Seen, WorldFault>
+        ensures ok { IfOk result (λ seen. controls C.control self.old (other from) (takes_place self.old.world (Delivers from index)) ≡ Ok (record { after = self.new; seen = seen })) }
+        ensures no_such_frame { (result ≡ Err WorldFault.NoSuchFrame) ↔ (slice_get (half_of self.old.world from).frames index ≡ None) }
+        ensures full { (result ≡ Err WorldFault.Full) ↔ ((is_some (slice_get (half_of self.old.world from).frames index) ≡ true) × (is_full (half_of self.old.world (other from)) ≡ true)) }
+        ensures far_short { (result ≡ Err WorldFault.FarShort) ↔ ((is_full (half_of self.old.world (other from)) ≡ false) × (is_far_at (half_of self.old.world (other from)).end (slice_get (half_of self.old.world from).frames index) ≡ true)) }
+        ensures err { OnErr result (self.new ≡ self.old) }
+    {
+        match from {
+            Side::Client => deliver(self.client.frames(), index, &mut self.server),
+            Side::Server => deliver(self.server.frames(), index, &mut self.client),
         }
     }
 
@@ -107,6 +118,7 @@ impl<C: Congestion> Sides<C> {
         ensures ok { IfOk result (λ seen. controls C.control self.old side (takes_place self.old.world (Calls side (input_of asked.entry (said_by C.control (congestion_of self.old side))))) ≡ Ok (record { after = self.new; seen = seen })) }
         ensures there { result ≢ Err WorldFault.NoSuchFrame }
         ensures full { (result ≡ Err WorldFault.Full) ↔ (is_full (half_of self.old.world side) ≡ true) }
+        ensures near { result ≢ Err WorldFault.FarShort }
         ensures err { OnErr result (self.new ≡ self.old) }
     {
         match side {
@@ -127,6 +139,7 @@ fn call_half<C: Congestion>(half: &mut HalfWorld<C>, asked: Asked<'_>) -> Result
     ensures ok { IfOk result (λ seen. (is_full half.old.half ≡ false) × (record { after = half.new; seen = seen } ≡ controlled_half_steps C.control half.old None (input_of asked.entry (said_by C.control half.old.congestion)))) }
     ensures full { (result ≡ Err WorldFault.Full) ↔ (is_full half.old.half ≡ true) }
     ensures there { result ≢ Err WorldFault.NoSuchFrame }
+    ensures near { result ≢ Err WorldFault.FarShort }
     ensures err { OnErr result (half.new ≡ half.old) }
 {
     if is_full(half) {
@@ -143,32 +156,35 @@ fn deliver<C: Congestion>(
     index: u64,
     half: &mut HalfWorld<C>,
 ) -> Result<Seen, WorldFault>
-    ensures ok { IfOk result (λ seen. IfSome (slice_get frames.now index) (λ frame. (is_full half.old.half ≡ false) × (record { after = half.new; seen = seen } ≡ controlled_half_steps C.control half.old (Some frame.number) (Arrives frame.bytes)))) }
+    ensures ok { IfOk result (λ seen. IfSome (slice_get frames.now index) (λ frame. (is_full half.old.half ≡ false) × (is_far_frame half.old.half.end frame ≡ false) × (record { after = half.new; seen = seen } ≡ controlled_half_steps C.control half.old (Some frame.number) (Arrives frame.bytes)))) }
     ensures no_such_frame { (result ≡ Err WorldFault.NoSuchFrame) ↔ (slice_get frames.now index ≡ None) }
-    ensures full { (result ≡ Err WorldFault.Full) ↔ (IsSome (slice_get frames.now index) × (is_full half.old.half ≡ true)) }
+    ensures full { (result ≡ Err WorldFault.Full) ↔ ((is_some (slice_get frames.now index) ≡ true) × (is_full half.old.half ≡ true)) }
+    ensures far_short { (result ≡ Err WorldFault.FarShort) ↔ ((is_full half.old.half ≡ false) × (is_far_at half.old.half.end (slice_get frames.now index) ≡ true)) }
     ensures err { OnErr result (half.new ≡ half.old) }
 {
     match frames.get(index as usize) {
-        Some(frame) => receive_half(half, frame.bytes.as_slice(), frame.number),
+        Some(frame) => receive_half(half, frame),
         None => Err(WorldFault::NoSuchFrame),
     }
 }
 
 fn receive_half<C: Congestion>(
     half: &mut HalfWorld<C>,
-    bytes: &[u8],
-    number: Seq48,
+    frame: &SentFrame,
 ) -> Result<Seen, WorldFault>
-    requires { length bytes.now ≤ 2044 }
-    ensures ok { IfOk result (λ seen. (is_full half.old.half ≡ false) × (record { after = half.new; seen = seen } ≡ controlled_half_steps C.control half.old (Some number) (Arrives bytes.now))) }
+    ensures ok { IfOk result (λ seen. (is_full half.old.half ≡ false) × (is_far_frame half.old.half.end frame.now ≡ false) × (record { after = half.new; seen = seen } ≡ controlled_half_steps C.control half.old (Some frame.now.number) (Arrives frame.now.bytes))) }
     ensures full { (result ≡ Err WorldFault.Full) ↔ (is_full half.old.half ≡ true) }
+    ensures far_short { (result ≡ Err WorldFault.FarShort) ↔ ((is_full half.old.half ≡ false) × (is_far_frame half.old.half.end frame.now ≡ true)) }
     ensures there { result ≢ Err WorldFault.NoSuchFrame }
     ensures err { OnErr result (half.new ≡ half.old) }
 {
     if is_full(half) {
         return Err(WorldFault::Full);
     }
-    match half.receive(bytes, number) {
+    if is_far_frame(half.end(), frame) {
+        return Err(WorldFault::FarShort);
+    }
+    match half.receive(frame.bytes.as_slice(), frame.number) {
         Ok(seen) => Ok(seen),
         Err(NoMemory) => Err(WorldFault::NoMemory),
     }

@@ -33,7 +33,7 @@ use std::marker::Model;
 ///
 /// The facts: a side's frames, but for Resets without a connection, carry its first number, the next, and so on up to
 /// its greatest number sent, in this order (RFC 4340, section 7.1); there are fewer than 2^47. The bytes of each frame
-/// spell the numbers that are kept of it, whole. A Reset without a connection, whose code is 3 or a server's 8, carries
+/// spell the numbers that are kept of it, whole or their low 24 bits. A Reset without a connection, whose code is 3 or a server's 8, carries
 /// no option. Once an end has received a first number (in CLOSED and TIMEWAIT numbers that are 0 may mean none), that
 /// and its greatest number received are numbers of such frames of the other side, and the first is not the later one.
 /// Once it has sent such a frame, GAR, the greatest acknowledgement number that it received or its first number, is the
@@ -94,8 +94,8 @@ impl<C: Congestion + Drop> World<C> {
 }
 
 impl<C: Congestion> World<C> {
-    ghost use Rattle.std.specs.Prelude.{◌≡◌, ◌↔◌, IfOk, OnErr, Ok, Err};
-    ghost use Rattle.two_ends.specs.World.{half_of, LacksFrame, ActorIsFull};
+    ghost use Rattle.std.specs.Prelude.{◌≡◌, ◌≢◌, ◌↔◌, ◌<◌, ◌^◌, length, IfOk, OnErr, Ok, Err};
+    ghost use Rattle.two_ends.specs.World.{half_of, LacksFrame, ActorIsFull, DeliversFar};
     ghost use Rattle.two_ends.specs.Controlled.{end_of_side, happens_to};
     ghost use Rattle.two_ends.specs.Delivered.{DeliversItsData};
     ghost use Rattle.two_ends.specs.Safe.{Safe};
@@ -103,8 +103,11 @@ impl<C: Congestion> World<C> {
 
     /// Lets one event happen: exactly what `happens_to` says of it. Refusals, in this order: `NoSuchFrame` exactly
     /// where a delivery's index is not below the number of frames of its sender, `Full` exactly where otherwise the
-    /// side that would act has sent 2^47 - 1 frames, `NoMemory`. Each leaves the world unchanged: all memory that the
-    /// step may need is taken before it.
+    /// side that would act has sent 2^47 - 1 frames, `FarShort` exactly where otherwise a frame with short numbers
+    /// arrives at an end that takes these, and its number lies 2^23 or more from that end's greatest number received, or
+    /// the one that it acknowledges from the greatest number sent, up and down the circle; `NoMemory`. Each leaves the
+    /// world unchanged: all memory that the step may need is taken before it. While both sides have sent fewer than 2^23
+    /// frames, `FarShort` never comes.
     ///
     /// Data that it delivers are those of the frame that arrives: `place`, as the outcome has it, is where the payload
     /// of the frame's bytes lies, and the receiving side has processed the frame's number by that step
@@ -115,8 +118,11 @@ impl<C: Congestion> World<C> {
         ensures ok { IfOk result (λ seen. happens_to C.control self.old event.now ≡ Ok (record { after = self.new; seen = seen })) }
         ensures no_such_frame { (result ≡ Err WorldFault.NoSuchFrame) ↔ (happens_to C.control self.old event.now ≡ Err WorldFault.NoSuchFrame) }
         ensures full { (result ≡ Err WorldFault.Full) ↔ (happens_to C.control self.old event.now ≡ Err WorldFault.Full) }
+        ensures far_short { (result ≡ Err WorldFault.FarShort) ↔ (happens_to C.control self.old event.now ≡ Err WorldFault.FarShort) }
         ensures lacks { (result ≡ Err WorldFault.NoSuchFrame) ↔ LacksFrame self.old.world event.now }
         ensures filled { (result ≡ Err WorldFault.Full) ↔ ((LacksFrame self.old.world event.now → ⊥) × ActorIsFull self.old.world event.now) }
+        ensures far { (result ≡ Err WorldFault.FarShort) ↔ ((LacksFrame self.old.world event.now → ⊥) × (ActorIsFull self.old.world event.now → ⊥) × DeliversFar self.old.world event.now) }
+        ensures near { length self.old.world.client.frames < 2 ^ 23 → length self.old.world.server.frames < 2 ^ 23 → result ≢ Err WorldFault.FarShort }
         ensures err { OnErr result (self.new ≡ self.old) }
         ensures delivers { IfOk result (λ seen. DeliversItsData self.old.world event.now self.new.world seen) }
         ensures safe { Safe C.control self.new }

@@ -185,6 +185,10 @@ pub enum WorldFault {
     NoSuchFrame,
     /// The side that would act has sent 2^47 - 1 frames.
     Full,
+    /// The frame has short numbers, which the end that takes them could not tell: its number lies 2^23 or more from that
+    /// end's greatest number received, or the one that it acknowledges from the greatest number sent, up and down the
+    /// circle (RFC 4340, section 7.6).
+    FarShort,
     /// No memory was left for what the step may have to keep.
     NoMemory,
 }

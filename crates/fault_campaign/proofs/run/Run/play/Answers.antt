@@ -13,5 +13,6 @@ returns-in-Ok c =
 pub returns-in-Err : goal.returns-in-Err
 returns-in-Err c =
     refuses c.self.inside.words c.self.inside.world c.step.new.self c.self.inside.report c.args.event.now c.in-Err.field-0
-    (λ none. c.in-Err.in-Err-own'.refused-1.1 (ap (tag_of fault.the_type) none)) c.in-Err.ensures.no_such_frame.0 c.in-Err.ensures.full.0 c.in-Err.ensures.err
+    (λ none. c.in-Err.in-Err-own'.refused-1.1 (ap (tag_of fault.the_type) none)) c.in-Err.ensures.no_such_frame.0 c.in-Err.ensures.full.0
+    c.in-Err.ensures.far_short.0 c.in-Err.ensures.err
     ∙ ap (λ (run : Running). played run c.args.event.now) c.self.view_is

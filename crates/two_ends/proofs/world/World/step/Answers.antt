@@ -1,5 +1,6 @@
 -- One more event, or none.
-use Rattle.two_ends.proofs.Believing.{reached-delivers, reached-facts, reached-safe}
+use Rattle.two_ends.proofs.Believing.{reached-delivers, reached-facts, reached-held, reached-safe}
+use Rattle.two_ends.proofs.Nearing.{held-near}
 use Rattle.two_ends.proofs.Reaching.{step-reached, leaves}
 use Rattle.two_ends.proofs.world.World.step.Goals as goal
 
@@ -21,3 +22,11 @@ returns-clause-delivers g c =
     rw (← c.self.view_is)
     (reached-delivers g.C.Congestion.control g.met.C.Congestion.lawful c.every_step_has_one_effect.ensures _ c.self.invariant c.args.event.now _
     c.step.result c.step.ensures.ok)
+
+pub returns-clause-near : goal.returns-clause-near
+returns-clause-near g c =
+    rw (← c.self.view_is)
+    (λ clients servers is.
+    held-near g.C.Congestion.control _
+    (reached-held g.C.Congestion.control g.met.C.Congestion.lawful c.every_step_has_one_effect.ensures _ c.self.invariant) clients servers c.args.event.now
+    (c.step.ensures.far_short.0 is))

@@ -1,0 +1,181 @@
+-- Why a delivery is refused: from what the code tells of a frame and of the side at which it arrives to what `happens_to` says.
+use Rattle.std.proofs.Common.{◌≡◌, ◌↔◌, refl, ap, sym, ◌∙◌, subst, ℕ, ◌-◌, ◌^◌, ◌<◌, ◌≤◌, nat_le, Bool, true, false, if◌then◌else◌, List, Option, Some, None, Result, Ok, Err, slice_get, length, arith, ◌⊎◌, inl, inr, IfOk, IfSome}
+use Rattle.std.specs.Prelude.{get_or, is_some}
+use Rattle.std.proofs.lemmas.Bool.{le-leb, leb-true}
+use Rattle.std.proofs.lemmas.Option.{slice_get_cases}
+use Rattle.congestion_trait.specs.Control.{Control}
+use Rattle.dccp_endpoint.specs.End.{EndState}
+use Rattle.dccp_endpoint.specs.Inputs.{Arrives}
+use Rattle.world_events.specs.Actors.{other}
+use Rattle.world_events.specs.declared.event.Event.TheVariants as event
+use Rattle.world_events.specs.declared.event.Seen.{Seen}
+use Rattle.world_events.specs.declared.event.Side.{Side}
+use Rattle.world_events.specs.declared.event.Side.TheVariants.{Client, Server}
+use Rattle.world_events.specs.declared.event.WorldFault.{WorldFault}
+use Rattle.world_events.specs.declared.event.WorldFault.TheVariants as fault
+use Rattle.two_ends.specs.declared.frames.SentFrame.{SentFrame}
+use Rattle.two_ends.specs.Controlled.{Controlled, ControlledHalf, ControlledHalfStep, ControlledStep, controlled_half_steps, controls, happens_to}
+use Rattle.two_ends.specs.World.{ActorIsFull, DeliversFar, Half, LacksFrame, WorldState, delivers_frame, half_of, is_far_at, is_far_frame, is_full, in_world, unless_far}
+
+-- where a list has nothing
+past-end : {A : Type 0} (xs : List A) (index : ℕ) → slice_get xs index ≡ None → length xs ≤ index
+past-end {A} xs index none = by (slice_get_cases xs index).1 where
+  by : ((x : A) × (index < length xs) × (slice_get xs index ≡ Some x) × (get_or xs index x ≡ x)) ⊎ ((length xs ≤ index) × (slice_get xs index ≡ None))
+      → length xs ≤ index
+  by (inl there) = (let some = there.2 in cc (none, some))
+  by (inr past) = past.0
+
+none-past : {A : Type 0} (xs : List A) (index : ℕ) → length xs ≤ index → slice_get xs index ≡ None
+none-past {A} xs index past = by (slice_get_cases xs index).1 where
+  by : ((x : A) × (index < length xs) × (slice_get xs index ≡ Some x) × (get_or xs index x ≡ x)) ⊎ ((length xs ≤ index) × (slice_get xs index ≡ None))
+      → slice_get xs index ≡ None
+  by (inl there) = (let below = there.1 in absurd (omega (arith, past, below)))
+  by (inr none) = none.1
+
+some-from : {A : Type 0} (o : Option A) → (o ≡ None → ⊥) → is_some o ≡ true
+some-from None other = absurd (other refl)
+some-from (Some x) other = refl
+
+none-not : {A : Type 0} (o : Option A) → is_some o ≡ true → o ≡ None → ⊥
+none-not None some is = cc some
+none-not (Some x) some is = cc is
+
+roomy : (half : Half) → (2 ^ 47 - 1 ≤ length half.frames → ⊥) → is_full half ≡ false
+roomy half room = by (is_full half) refl where
+  by : (full : Bool) → is_full half ≡ full → full ≡ false
+  by true full = absurd (room (leb-true (2 ^ 47 - 1) (length half.frames) full))
+  by false full = refl
+
+module _ {C : Type 0} (control : Control C) (w : Controlled C) (from : Side) where
+  abbrev to : Half
+  to = half_of w.world (other from)
+
+  abbrev outcome : Option SentFrame → Result (ControlledStep C) WorldFault
+  outcome frame = controls control w (other from) (delivers_frame w.world from frame)
+
+  -- what becomes of a frame that is there
+  abbrev arrival : SentFrame → Bool → Bool → Result (ControlledStep C) WorldFault
+  arrival frame full far = controls control w (other from) (if full then Err fault.Full else in_world w.world (other from) (unless_far to frame far))
+
+  there-not : (frame : SentFrame) (full far : Bool) → arrival frame full far ≡ Err fault.NoSuchFrame → ⊥
+  there-not frame true far is = cc is
+  there-not frame false true is = cc is
+  there-not frame false false is = cc is
+
+  none-so : (frame : Option SentFrame) → (frame ≡ None) ↔ (outcome frame ≡ Err fault.NoSuchFrame)
+  none-so None = (λ is. refl, λ is. refl)
+  none-so (Some frame) = (λ is. cc is, λ is. absurd (there-not frame (is_full to) (is_far_frame to.end frame) is))
+
+  full-by : (frame : SentFrame) (full far : Bool) → arrival frame full far ≡ Err fault.Full → full ≡ true
+  full-by frame true far is = refl
+  full-by frame false true is = cc is
+  full-by frame false false is = cc is
+
+  full-so : (frame : Option SentFrame) → ((is_some frame ≡ true) × (is_full to ≡ true)) ↔ (outcome frame ≡ Err fault.Full)
+  full-so None = (λ both. (let some = both.0 in cc some), λ is. cc is)
+  full-so (Some frame) = (
+    λ both. ap (λ (full : Bool). arrival frame full (is_far_frame to.end frame)) both.1,
+    λ is. (refl, full-by frame (is_full to) (is_far_frame to.end frame) is),
+  )
+
+  far-by : (frame : SentFrame) (full far : Bool) → arrival frame full far ≡ Err fault.FarShort → (full ≡ false) × (far ≡ true)
+  far-by frame true far is = cc is
+  far-by frame false true is = (refl, refl)
+  far-by frame false false is = cc is
+
+  far-so : (frame : Option SentFrame) → ((is_full to ≡ false) × (is_far_at to.end frame ≡ true)) ↔ (outcome frame ≡ Err fault.FarShort)
+  far-so None = (λ both. (let far = both.1 in cc far), λ is. cc is)
+  far-so (Some frame) = (
+    λ both.
+        ap (λ (full : Bool). arrival frame full (is_far_frame to.end frame)) both.0 ∙ ap (λ (far : Bool). arrival frame false far) both.1,
+    λ is. far-by frame (is_full to) (is_far_frame to.end frame) is,
+  )
+
+  -- what `step` tells of a delivery that is refused
+  pub record IsTold (index : ℕ) (result : Result Seen WorldFault) : Type 0 where
+    pub no_such_frame : (result ≡ Err fault.NoSuchFrame) ↔ (happens_to control w (event.Deliver from index) ≡ Err fault.NoSuchFrame)
+    pub full : (result ≡ Err fault.Full) ↔ (happens_to control w (event.Deliver from index) ≡ Err fault.Full)
+    pub far_short : (result ≡ Err fault.FarShort) ↔ (happens_to control w (event.Deliver from index) ≡ Err fault.FarShort)
+    pub lacks : (result ≡ Err fault.NoSuchFrame) ↔ LacksFrame w.world (event.Deliver from index)
+    pub filled : (result ≡ Err fault.Full)
+        ↔ ((LacksFrame w.world (event.Deliver from index) → ⊥) × ActorIsFull w.world (event.Deliver from index))
+    pub far : (result ≡ Err fault.FarShort)
+        ↔ ((LacksFrame w.world (event.Deliver from index) → ⊥)
+        × (ActorIsFull w.world (event.Deliver from index) → ⊥) × DeliversFar w.world (event.Deliver from index))
+
+  module _ (index : ℕ) (result : Result Seen WorldFault) where
+    abbrev frames : List SentFrame
+    frames = (half_of w.world from).frames
+
+    abbrev at : Option SentFrame
+    at = slice_get frames index
+
+    module _ (none : (result ≡ Err fault.NoSuchFrame) ↔ (at ≡ None)) (full : (result ≡ Err fault.Full) ↔ ((is_some at ≡ true) × (is_full to ≡ true)))
+        (far : (result ≡ Err fault.FarShort) ↔ ((is_full to ≡ false) × (is_far_at to.end at ≡ true))) where
+      far-there : is_far_at to.end at ≡ true → length frames ≤ index → ⊥
+      far-there is past =
+          let nothing : false ≡ true = subst (λ (o : Option SentFrame). is_far_at to.end o ≡ true) (none-past frames index past) is in
+          cc nothing
+
+      far-roomy : is_full to ≡ false → 2 ^ 47 - 1 ≤ length to.frames → ⊥
+      far-roomy room most =
+          let filled : is_full to ≡ true = le-leb (2 ^ 47 - 1) (length to.frames) most in
+          cc (room, filled)
+
+      pub told-so : IsTold index result
+      told-so =
+          record {
+            no_such_frame = (λ is. (none-so at).0 (none.0 is), λ is. none.1 ((none-so at).1 is));
+            full = (λ is. (full-so at).0 (full.0 is), λ is. full.1 ((full-so at).1 is));
+            far_short = (λ is. (far-so at).0 (far.0 is), λ is. far.1 ((far-so at).1 is));
+            lacks = (λ is. past-end frames index (none.0 is), λ past. none.1 (none-past frames index past));
+            filled = (
+              λ is. (λ past. none-not at (full.0 is).0 (none-past frames index past), leb-true (2 ^ 47 - 1) (length to.frames) (full.0 is).1),
+              λ both. full.1 (some-from at (λ is. both.0 (past-end frames index is)), le-leb (2 ^ 47 - 1) (length to.frames) both.1),
+            );
+            far = (
+              λ is. (far-there (far.0 is).1, far-roomy (far.0 is).0, (far.0 is).1),
+              λ all. far.1 (roomy to all.1, all.2),
+            );
+          }
+
+-- the world with what a step makes of one side
+abbrev server-made : {C : Type 0} → Controlled C → ControlledHalfStep C → Result (ControlledStep C) WorldFault
+server-made w s = Ok (record { after = record w { world = record w.world { server = s.after.half }; for_server = s.after.congestion }; seen = s.seen })
+
+abbrev client-made : {C : Type 0} → Controlled C → ControlledHalfStep C → Result (ControlledStep C) WorldFault
+client-made w s = Ok (record { after = record w { world = record w.world { client = s.after.half }; for_client = s.after.congestion }; seen = s.seen })
+
+-- what the code tells of a frame that arrives at one side, as a step of the world
+module _ {C : Type 0} (control : Control C) (w : Controlled C) where
+  abbrev Arrived : Half → C → Option SentFrame → ControlledHalf C → Seen → Type 0
+  Arrived half congestion frame new seen =
+      IfSome frame
+      (λ f.
+      (is_full half ≡ false) × (is_far_frame half.end f ≡ false)
+      × (record { after = new; seen = seen }
+      ≡ controlled_half_steps control (record { half = half; congestion = congestion }) (Some f.number) (Arrives f.bytes)))
+
+  pub arrived-server : (frame : Option SentFrame) (new : ControlledHalf C) (result : Result Seen WorldFault)
+      → ((result ≡ Err fault.NoSuchFrame) ↔ (frame ≡ None))
+      → IfOk result (λ seen. Arrived w.world.server w.for_server frame new seen)
+      → IfOk result (λ seen. controls control w Server (delivers_frame w.world Client frame)
+      ≡ Ok (record { after = record w { world = record w.world { server = new.half }; for_server = new.congestion }; seen = seen }))
+  arrived-server frame new (Err why) none ok = tt
+  arrived-server None new (Ok seen) none ok = (let lacks = none.1 refl in cc lacks)
+  arrived-server (Some f) new (Ok seen) none ok =
+      ap (λ (full : Bool). arrival control w Client f full (is_far_frame w.world.server.end f)) ok.0
+      ∙ ap (λ (far : Bool). arrival control w Client f false far) ok.1
+      ∙ sym (ap (server-made w) ok.2)
+
+  pub arrived-client : (frame : Option SentFrame) (new : ControlledHalf C) (result : Result Seen WorldFault)
+      → ((result ≡ Err fault.NoSuchFrame) ↔ (frame ≡ None))
+      → IfOk result (λ seen. Arrived w.world.client w.for_client frame new seen)
+      → IfOk result (λ seen. controls control w Client (delivers_frame w.world Server frame)
+      ≡ Ok (record { after = record w { world = record w.world { client = new.half }; for_client = new.congestion }; seen = seen }))
+  arrived-client frame new (Err why) none ok = tt
+  arrived-client None new (Ok seen) none ok = (let lacks = none.1 refl in cc lacks)
+  arrived-client (Some f) new (Ok seen) none ok =
+      ap (λ (full : Bool). arrival control w Server f full (is_far_frame w.world.client.end f)) ok.0
+      ∙ ap (λ (far : Bool). arrival control w Server f false far) ok.1
+      ∙ sym (ap (client-made w) ok.2)

@@ -1,0 +1,69 @@
+//! Which frames with short numbers are too far from what their receiver sent and received for it to tell these numbers
+//! (RFC 4340, section 7.6).
+ghost use Rattle.std.specs.Prelude.{◌≡◌, ◌||◌};
+ghost use Rattle.dccp_endpoint.specs.End.{is_live};
+ghost use Rattle.dccp_endpoint.specs.Receiving.{takes_short};
+ghost use Rattle.seq_circle.specs.Circle.{is_ack_far, is_far};
+ghost use Rattle.two_ends.specs.Frames.{is_short_packet, packet_of};
+ghost use Rattle.two_ends.specs.World.{is_far_frame};
+
+use crate::SentFrame;
+use congestion_trait::Congestion;
+use dccp_endpoint::{Endpoint, Phase};
+use dccp_packets::{Number, decode};
+use feature_lists::{Feature, Place};
+use seq_circle::Seq48;
+use validity_windows::Marks;
+
+// The end is asked first: most ends take no short numbers, and then no frame is looked at.
+pub(crate) fn is_far_frame<C: Congestion>(end: &Endpoint<C>, frame: &SentFrame) -> bool
+    ensures { result ≡ is_far_frame end.now.state frame.now }
+{
+    if !takes_short(end) {
+        return false;
+    }
+    is_short_packet(frame.bytes.as_slice()) && has_far_numbers(frame, &end.marks())
+}
+
+// Packets with short numbers are taken.
+fn takes_short<C: Congestion>(end: &Endpoint<C>) -> bool
+    ensures { result ≡ takes_short end.now.state }
+{
+    is_live(end.phase()) && end.held(Feature::ShortSeqnos, Place::There).value == 1
+}
+
+// The phases in which a first number was received.
+fn is_live(phase: Phase) -> bool
+    ensures { result ≡ is_live phase }
+{
+    matches!(
+        phase,
+        Phase::Respond | Phase::PartOpen | Phase::Open | Phase::CloseReq | Phase::Closing
+    )
+}
+
+// The bytes are a packet with short numbers.
+fn is_short_packet(bytes: &[u8]) -> bool
+    ensures { result ≡ is_short_packet (packet_of bytes.now) }
+{
+    match decode(bytes) {
+        Ok(packet) => matches!(packet.header.number, Number::Short(_)),
+        Err(_) => false,
+    }
+}
+
+// A number of the frame is far from the one that it would be read by.
+fn has_far_numbers(frame: &SentFrame, marks: &Marks) -> bool
+    ensures { result ≡ (is_far frame.now.number marks.now.gsr || is_ack_far frame.now.ack marks.now.gss) }
+{
+    frame.number.is_far(marks.gsr) || is_ack_far(frame.ack, marks.gss)
+}
+
+fn is_ack_far(ack: Option<Seq48>, reference: Seq48) -> bool
+    ensures { result ≡ is_ack_far ack reference }
+{
+    match ack {
+        Some(ack) => ack.is_far(reference),
+        None => false,
+    }
+}
