@@ -25,7 +25,7 @@ use Rattle.end_answers.specs.declared.calls.Timer.TheVariants as timers
 use Rattle.end_answers.specs.declared.outcome.Outcome.{Outcome}
 use Rattle.end_answers.specs.declared.outcome.Outcome.TheVariants.{Synced, Took}
 
--- A client that offers to send short numbers, and a server that lets it; no list of ours may have this yet.
+-- A client that offers to send short numbers, and a server that lets it.
 abbrev asking_client : Called OpenFault
 asking_client = opens (new_end (offering (wishing (plain Client) ShortSeqnos Here (wanted.List (1 ∷ []))) ShortSeqnos Here false))
 

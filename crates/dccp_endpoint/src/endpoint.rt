@@ -60,6 +60,8 @@ const FIRST_CCID: u8 = 2;
 /// - Initial sequence numbers that nobody can guess (section 7.2).
 /// - Limits: how many Syncs and Resets go out in a second, and for how many peers ends are made.
 /// - Giving up: `abort` after minutes without an answer to the Request, or in PARTOPEN (sections 8.1.1 and 8.1.5).
+/// - Whether short numbers are asked for ([`Feature::ShortSeqnos`]). A packet with short numbers that comes 2^23 packets late or more may be
+///   taken for another (section 7.6); what is proved of two ends supposes that none does.
 /// - Data that `send` refuses with `WindowFull`: to be offered again, or dropped.
 ///
 /// # Sizes
@@ -308,10 +310,12 @@ impl<C: Congestion> Endpoint<C> {
 
     /// Takes bytes that arrived, as RFC 4340, section 8.5 says under this profile, at most 2,044 of them. Bytes that
     /// are no packet, whose checksum does not fit, whose ports are not those of the connection or whose numbers are
-    /// short are dropped, in this order. The phase decides whether the packet may enter, the windows whether its
-    /// numbers are valid, its type whether it is unexpected; then its options are read, its number is marked, what it
-    /// acknowledges is looked up among the Ack Vectors that were sent, and it moves the phase and is answered. Options
-    /// of the negotiation count on newest packets alone, in RESPOND, PARTOPEN and OPEN and on the Response in REQUEST.
+    /// short where no short ones are taken are dropped, in this order. Where they are taken, the peer's Allow Short
+    /// Sequence Numbers being 1, they are read near the greatest number received and the greatest sent. The phase decides
+    /// whether the packet may enter, the windows whether its numbers are valid, its type whether it is unexpected; then
+    /// its options are read, its number is marked, what it acknowledges is looked up among the Ack Vectors that were
+    /// sent, and it moves the phase and is answered. Options of the negotiation count on newest packets alone, in RESPOND,
+    /// PARTOPEN and OPEN and on the Response in REQUEST.
     ///
     /// Once the options are read without a fault, the congestion control hears of them: first of the Ack Vectors, on
     /// every packet with an acknowledgement number but a Sync, with the Ack Ratio here after the packet; and then it is

@@ -29,9 +29,11 @@ const EDGES: &str = "\
     here/1/249: not BadList\n\
     there/1/247: not BadList\n\
     here/2/0: permitted [0]\n\
-    here/2/1: not BadList\n\
+    here/2/1: permitted [1]\n\
+    here/2/2: not BadList\n\
     there/2/0: permitted [0]\n\
-    there/2/1: not BadList\n\
+    there/2/1: permitted [1]\n\
+    there/2/2: not BadList\n\
     here/3/32: permitted 32\n\
     here/3/31: not BadList\n\
     here/3/70368744177663: permitted 70368744177663\n\

@@ -64,7 +64,7 @@ non_negotiable number width initial permitted usual is_required =
 abbrev pub described : Feature → Described
 described f.Ccid =
     server_priority 1 2 (one_of (2 ∷ 248 ∷ [])) (one_of (2 ∷ 248 ∷ [])) (2 ∷ 248 ∷ []) (2 ∷ 248 ∷ []) true
-described f.ShortSeqnos = server_priority 2 0 (one_of (0 ∷ [])) (one_of (0 ∷ [])) (0 ∷ []) (0 ∷ []) true
+described f.ShortSeqnos = server_priority 2 0 (from_to 0 1) (from_to 0 1) (0 ∷ []) (0 ∷ []) true
 described f.SequenceWindow = non_negotiable 3 6 100 (from_to 32 (2 ^ 46 - 1)) 100 true
 described f.EcnIncapable = server_priority 4 0 (one_of (1 ∷ [])) (from_to 0 1) (1 ∷ []) (1 ∷ 0 ∷ []) false
 described f.AckRatio = non_negotiable 5 2 2 (from_to 0 65535) 2 false

@@ -131,7 +131,7 @@ impl Feature {
     {
         match (self, place) {
             (Feature::Ccid, _) => value == 2 || value == 248,
-            (Feature::ShortSeqnos, _) => value == 0,
+            (Feature::ShortSeqnos, _) => value <= 1,
             (Feature::SequenceWindow, _) => { NARROWEST_WINDOW <= value && value <= WIDEST_WINDOW }
             (Feature::EcnIncapable, Place::Here) => value == 1,
             (Feature::EcnIncapable, Place::There) => value <= 1,
