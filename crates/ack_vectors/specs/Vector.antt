@@ -2,9 +2,11 @@
 --
 -- It takes the state of each number and the number of bytes, so packets marked by ECN and a second option change
 -- arguments alone. A set is a test on numbers, so any list's membership can stand there.
-use Rattle.std.specs.Prelude.{ℕ, ◌+◌, ◌-◌, ◌*◌, ◌/◌, ◌%◌, ◌==◌, nat_le, Bool, true, false, List, [], ◌∷◌, ◌++◌, zero, suc, length, take, replicate, if◌then◌else◌}
+use Rattle.std.specs.Prelude.{ℕ, ◌+◌, ◌-◌, ◌*◌, ◌/◌, ◌%◌, ◌==◌, nat_le, Bool, true, false, List, [], ◌∷◌, ◌++◌, zero, suc, length, take, drop, replicate, if◌then◌else◌}
 use Rattle.seq_circle.specs.Circle.{distance, down, is_from}
 use Rattle.dccp_options.specs.Vectors.{states}
+use Rattle.ack_vectors.specs.declared.room.Vectors.{Vectors}
+use Rattle.ack_vectors.specs.declared.room.Vectors.TheVariants.{One, Two}
 
 -- the state of a number: 0 received, 3 not yet received (RFC 4340, section 11.4)
 abbrev pub state_told : Bool → ℕ
@@ -85,14 +87,35 @@ numbers_told_within room state floor ack = length (states (vector_within room st
 abbrev pub option_room : ℕ
 option_room = 253
 
--- the vector of a set of numbers in one option, whether it is whole, and how many numbers it reaches
+-- how many options a vector takes up at most (own)
+abbrev pub most_options : Vectors → ℕ
+most_options One = 1
+most_options Two = 2
+
+-- the bytes that so many options have room for
+abbrev pub room_of : Vectors → ℕ
+room_of vectors = option_room * most_options vectors
+
+-- the vector of a set of numbers in so many options, whether it is whole, and how many numbers it reaches
+abbrev pub vector_under : (ℕ → Bool) → ℕ → ℕ → Vectors → List ℕ
+vector_under has floor ack vectors = vector_within (room_of vectors) (set_states has) floor ack
+
+abbrev pub is_whole_under : (ℕ → Bool) → ℕ → ℕ → Vectors → Bool
+is_whole_under has floor ack vectors = is_whole_within (room_of vectors) (set_states has) floor ack
+
+abbrev pub numbers_told_under : (ℕ → Bool) → ℕ → ℕ → Vectors → ℕ
+numbers_told_under has floor ack vectors = numbers_told_within (room_of vectors) (set_states has) floor ack
+
+-- the same in one option
 abbrev pub vector : (ℕ → Bool) → ℕ → ℕ → List ℕ
-vector has floor ack = vector_within option_room (set_states has) floor ack
+vector has floor ack = vector_under has floor ack One
 
 -- the vector of a set in one option is whole
 abbrev pub is_whole : (ℕ → Bool) → ℕ → ℕ → Bool
-is_whole has floor ack = is_whole_within option_room (set_states has) floor ack
+is_whole has floor ack = is_whole_under has floor ack One
 
--- how many numbers that vector reaches
-abbrev pub numbers_told : (ℕ → Bool) → ℕ → ℕ → ℕ
-numbers_told has floor ack = numbers_told_within option_room (set_states has) floor ack
+-- The data of the options that carry a vector, in their order: one option where it has room for all bytes, the empty
+-- vector's too, and otherwise a full one and a second with what is left (own).
+abbrev pub option_data : List ℕ → List (List ℕ)
+option_data bytes =
+    if nat_le (length bytes) option_room then bytes ∷ [] else take option_room bytes ∷ drop option_room bytes ∷ []

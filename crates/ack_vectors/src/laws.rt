@@ -1,22 +1,26 @@
 //! What the definitions say of a vector, number by number, and of the records of vectors sent.
-ghost use Rattle.std.specs.Prelude.{◌≡◌, ℕ, ◌+◌, ◌^◌, ◌<◌, ◌≤◌, ◌↔◌, ◌⊎◌, ◌∷◌, ◌++◌, [], List, length, Bool, true, false, ◌==◌, nat_lt, IsTrue, Option, Some, None, is_some, if◌then◌else◌};
-ghost use Rattle.std.specs.List.{list_any, All, Contains};
+ghost use Rattle.std.specs.Prelude.{◌≡◌, ℕ, ◌+◌, ◌-◌, ◌*◌, ◌^◌, ◌<◌, ◌≤◌, ◌↔◌, ◌⊎◌, ◌∷◌, ◌++◌, [], List, length, take, map, Bool, true, false, ◌==◌, nat_lt, IsTrue, IsFalse, Option, Some, None, is_some, if◌then◌else◌};
+ghost use Rattle.std.specs.List.{list_any, concat, All, Contains};
 ghost use Rattle.seq_circle.specs.Circle.{residue, distance, IsFrom, IsWithin};
-ghost use Rattle.dccp_options.specs.Vectors.{state_at, is_received};
+ghost use Rattle.dccp_options.specs.Vectors.{state_at, is_received, joined_report};
 ghost use Rattle.run_list.specs.MarkedSet.{IsSound, raised};
-ghost use Rattle.ack_vectors.specs.Vector.{vector, is_whole, state_told, numbers_between, numbers_told, vector_within, is_whole_within, numbers_told_within};
+ghost use Rattle.ack_vectors.specs.Vector.{vector_under, is_whole_under, numbers_told_under, most_options, option_data, state_told, numbers_between, vector_within, is_whole_within, numbers_told_within};
+ghost use Rattle.ack_vectors.specs.declared.room.Vectors.{Vectors};
+ghost use Rattle.ack_vectors.specs.declared.room.Vectors.TheVariants.{One, Two};
 ghost use Rattle.ack_vectors.specs.Kept.{Kept, fresh, marked_by, recorded, acked, is_whole_at, newest_whole};
 ghost use Rattle.ack_vectors.specs.declared.received.Record.{Record};
 
 /// What a vector tells is read back, number by number from the acknowledgement down: state 0 exactly for the numbers of
 /// the set and 3 for the others, and nothing past its bytes. They reach no number below the floor, and reach the floor
-/// exactly where the vector is whole (RFC 4340, section 11.4). The same holds of any states but the reserved one, and
-/// of any room (`any_states`, `any_reach`, `any_whole`).
+/// exactly where the vector is whole (RFC 4340, section 11.4), whether one option carries it or two. The same holds of
+/// any states but the reserved one, and of any room (`any_states`, `any_reach`, `any_whole`).
 pub fn a_vector_reads_back()
-    ensures states { (has : ℕ → Bool) (floor ack n : ℕ) → ack < 2 ^ 48 → n < 2 ^ 48
-        → state_at ack (vector has floor ack) n ≡ (if nat_lt (distance n ack) (numbers_told has floor ack) then Some (state_told (has n)) else None) }
-    ensures reach { (has : ℕ → Bool) (floor ack : ℕ) → numbers_told has floor ack ≤ numbers_between floor ack }
-    ensures whole { (has : ℕ → Bool) (floor ack : ℕ) → IsTrue (is_whole has floor ack) ↔ (numbers_told has floor ack ≡ numbers_between floor ack) }
+    ensures states { (vectors : Vectors) (has : ℕ → Bool) (floor ack n : ℕ) → ack < 2 ^ 48 → n < 2 ^ 48
+        → state_at ack (vector_under has floor ack vectors) n
+        ≡ (if nat_lt (distance n ack) (numbers_told_under has floor ack vectors) then Some (state_told (has n)) else None) }
+    ensures reach { (vectors : Vectors) (has : ℕ → Bool) (floor ack : ℕ) → numbers_told_under has floor ack vectors ≤ numbers_between floor ack }
+    ensures whole { (vectors : Vectors) (has : ℕ → Bool) (floor ack : ℕ)
+        → IsTrue (is_whole_under has floor ack vectors) ↔ (numbers_told_under has floor ack vectors ≡ numbers_between floor ack) }
     ensures any_states { (room : ℕ) (state : ℕ → ℕ) (floor ack n : ℕ) → ((m : ℕ) → (state m == 2) ≡ false) → ack < 2 ^ 48 → n < 2 ^ 48
         → state_at ack (vector_within room state floor ack) n ≡ (if nat_lt (distance n ack) (numbers_told_within room state floor ack) then Some (state n) else None) }
     ensures any_reach { (room : ℕ) (state : ℕ → ℕ) (floor ack : ℕ) → ((m : ℕ) → (state m == 2) ≡ false)
@@ -28,10 +32,12 @@ pub fn a_vector_reads_back()
 /// A vector looks at nothing but the numbers from its floor up to its acknowledgement: two sets that agree there have
 /// one vector, whole or cut alike, and so have any two kinds of states, whatever the room (`any_bytes`, `any_whole`).
 pub fn a_vector_looks_between_floor_and_acknowledgement()
-    ensures bytes { (one other : ℕ → Bool) (floor ack : ℕ) → floor < 2 ^ 48 → ack < 2 ^ 48
-        → ((n : ℕ) → n < 2 ^ 48 → IsFrom floor n → distance floor n ≤ distance floor ack → one n ≡ other n) → vector one floor ack ≡ vector other floor ack }
-    ensures whole { (one other : ℕ → Bool) (floor ack : ℕ) → floor < 2 ^ 48 → ack < 2 ^ 48
-        → ((n : ℕ) → n < 2 ^ 48 → IsFrom floor n → distance floor n ≤ distance floor ack → one n ≡ other n) → is_whole one floor ack ≡ is_whole other floor ack }
+    ensures bytes { (vectors : Vectors) (one other : ℕ → Bool) (floor ack : ℕ) → floor < 2 ^ 48 → ack < 2 ^ 48
+        → ((n : ℕ) → n < 2 ^ 48 → IsFrom floor n → distance floor n ≤ distance floor ack → one n ≡ other n)
+        → vector_under one floor ack vectors ≡ vector_under other floor ack vectors }
+    ensures whole { (vectors : Vectors) (one other : ℕ → Bool) (floor ack : ℕ) → floor < 2 ^ 48 → ack < 2 ^ 48
+        → ((n : ℕ) → n < 2 ^ 48 → IsFrom floor n → distance floor n ≤ distance floor ack → one n ≡ other n)
+        → is_whole_under one floor ack vectors ≡ is_whole_under other floor ack vectors }
     ensures any_bytes { (room : ℕ) (one other : ℕ → ℕ) (floor ack : ℕ) → floor < 2 ^ 48 → ack < 2 ^ 48
         → ((n : ℕ) → n < 2 ^ 48 → IsFrom floor n → distance floor n ≤ distance floor ack → one n ≡ other n)
         → vector_within room one floor ack ≡ vector_within room other floor ack }
@@ -43,30 +49,53 @@ pub fn a_vector_looks_between_floor_and_acknowledgement()
 /// A number to which a vector gives a state lies from the floor up to the acknowledgement, which is not below the
 /// floor, and the state is what the set says (RFC 4340, section 11.4).
 pub fn what_is_told_was_there()
-    ensures { (has : ℕ → Bool) (floor ack n state : ℕ) → floor < 2 ^ 48 → ack < 2 ^ 48 → n < 2 ^ 48
-        → state_at ack (vector has floor ack) n ≡ Some state → IsWithin n floor ack × IsFrom floor ack × (state ≡ state_told (has n)) }
+    ensures { (vectors : Vectors) (has : ℕ → Bool) (floor ack n state : ℕ) → floor < 2 ^ 48 → ack < 2 ^ 48 → n < 2 ^ 48
+        → state_at ack (vector_under has floor ack vectors) n ≡ Some state → IsWithin n floor ack × IsFrom floor ack × (state ≡ state_told (has n)) }
 {}
 
 /// A whole vector gives each number from the floor up to the acknowledgement its state (own).
 pub fn a_whole_vector_tells_all()
-    ensures { (has : ℕ → Bool) (floor ack n : ℕ) → floor < 2 ^ 48 → ack < 2 ^ 48 → n < 2 ^ 48
-        → IsTrue (is_whole has floor ack) → IsFrom floor ack → IsWithin n floor ack
-        → state_at ack (vector has floor ack) n ≡ Some (state_told (has n)) }
+    ensures { (vectors : Vectors) (has : ℕ → Bool) (floor ack n : ℕ) → floor < 2 ^ 48 → ack < 2 ^ 48 → n < 2 ^ 48
+        → IsTrue (is_whole_under has floor ack vectors) → IsFrom floor ack → IsWithin n floor ack
+        → state_at ack (vector_under has floor ack vectors) n ≡ Some (state_told (has n)) }
 {}
 
 /// A vector tells of no number that it was received unless the set has it (RFC 4340, section 11.4).
 pub fn only_members_are_heard()
-    ensures { (has : ℕ → Bool) (floor ack n : ℕ) → ack < 2 ^ 48 → n < 2 ^ 48
-        → IsTrue (is_received (state_at ack (vector has floor ack) n)) → IsTrue (has n) }
+    ensures { (vectors : Vectors) (has : ℕ → Bool) (floor ack n : ℕ) → ack < 2 ^ 48 → n < 2 ^ 48
+        → IsTrue (is_received (state_at ack (vector_under has floor ack vectors) n)) → IsTrue (has n) }
 {}
 
-/// A vector is bytes, and one option has room for them (RFC 4340, sections 5.8 and 11.4).
-pub fn a_vector_fits_an_option()
-    ensures fits { (has : ℕ → Bool) (floor ack : ℕ) → length (vector has floor ack) ≤ 253 }
-    ensures bytes { (has : ℕ → Bool) (floor ack : ℕ) → All (λ byte. byte < 256) (vector has floor ack) }
+/// A vector is bytes, and its options have room for them: 253 bytes each (RFC 4340, sections 5.8 and 11.4).
+pub fn a_vector_fits_its_options()
+    ensures fits { (vectors : Vectors) (has : ℕ → Bool) (floor ack : ℕ) → length (vector_under has floor ack vectors) ≤ 253 * most_options vectors }
+    ensures bytes { (vectors : Vectors) (has : ℕ → Bool) (floor ack : ℕ) → All (λ byte. byte < 256) (vector_under has floor ack vectors) }
     ensures any_fits { (room : ℕ) (state : ℕ → ℕ) (floor ack : ℕ) → length (vector_within room state floor ack) ≤ room }
     ensures any_bytes { (room : ℕ) (state : ℕ → ℕ) (floor ack : ℕ) → ((n : ℕ) → state n < 4)
         → All (λ byte. byte < 256) (vector_within room state floor ack) }
+{}
+
+/// The options of a vector hold its bytes in their order, so that a packet with them reports just the vector (RFC 4340,
+/// section 11.4). None holds more than 253 bytes, and they are no more than the setting allows. Up to 253 bytes are
+/// one option, even where they are none; of two the first is full, and the second has a byte (own).
+pub fn the_options_of_a_vector_hold_it()
+    ensures joined { (bytes : List ℕ) → concat (option_data bytes) ≡ bytes }
+    ensures read { (ack : ℕ) (bytes : List ℕ) → joined_report ack (option_data bytes) ≡ Some (record { ack = ack; bytes = bytes }) }
+    ensures each { (vectors : Vectors) (has : ℕ → Bool) (floor ack : ℕ)
+        → All (λ part. length part ≤ 253) (option_data (vector_under has floor ack vectors)) }
+    ensures few { (vectors : Vectors) (has : ℕ → Bool) (floor ack : ℕ) → length (option_data (vector_under has floor ack vectors)) ≤ most_options vectors }
+    ensures one { (bytes : List ℕ) → length bytes ≤ 253 → option_data bytes ≡ bytes ∷ [] }
+    ensures full { (bytes : List ℕ) → 253 < length bytes
+        → map length (option_data bytes) ≡ 253 ∷ (length bytes - 253) ∷ [] }
+{}
+
+/// Two options begin as the one would, and tell more exactly where that is cut (own).
+pub fn two_options_tell_more()
+    ensures front { (has : ℕ → Bool) (floor ack : ℕ) → vector_under has floor ack One ≡ take 253 (vector_under has floor ack Two) }
+    ensures whole { (has : ℕ → Bool) (floor ack : ℕ) → IsTrue (is_whole_under has floor ack One)
+        → IsTrue (is_whole_under has floor ack Two) × (vector_under has floor ack Two ≡ vector_under has floor ack One) }
+    ensures more { (has : ℕ → Bool) (floor ack : ℕ) → IsFalse (is_whole_under has floor ack One)
+        → numbers_told_under has floor ack One < numbers_told_under has floor ack Two }
 {}
 
 /// Of the records of whole vectors under a number the newest counts, and there is one exactly where any record is such.

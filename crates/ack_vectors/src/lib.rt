@@ -7,12 +7,15 @@
 
 mod laws;
 mod received;
+mod room;
 mod writing;
 
 pub use crate::laws::{
-    a_vector_fits_an_option, a_vector_looks_between_floor_and_acknowledgement, a_vector_reads_back,
-    a_whole_vector_tells_all, acknowledging_raises_the_floor, only_members_are_heard,
-    received_stays_sound, records_only_forget, the_newest_whole_record_counts,
+    a_vector_fits_its_options, a_vector_looks_between_floor_and_acknowledgement,
+    a_vector_reads_back, a_whole_vector_tells_all, acknowledging_raises_the_floor,
+    only_members_are_heard, received_stays_sound, records_only_forget,
+    the_newest_whole_record_counts, the_options_of_a_vector_hold_it, two_options_tell_more,
     what_is_told_was_there,
 };
-pub use crate::received::{Received, Record, VectorBytes};
+pub use crate::received::{Received, Record};
+pub use crate::room::{VectorBytes, Vectors};

@@ -1,13 +1,13 @@
 //! What was received, and the records of sent vectors.
-ghost use Rattle.std.specs.Prelude.{◌≡◌, ◌≢◌, IfOk, IsTrue, ◌↔◌, is_some};
+ghost use Rattle.std.specs.Prelude.{◌≡◌, ◌≢◌, ◌≤◌, IfOk, IsTrue, ◌↔◌, is_some, length};
 ghost use Rattle.std.specs.Bool.{OnFalse};
 ghost use Rattle.std.specs.List.{list_any};
 ghost use Rattle.run_list.specs.MarkedSet.{has, answer_to, IsFrom, IsSound};
 ghost use Rattle.ack_vectors.specs.Kept.{Kept, fresh, marked_by, recorded, acked, is_whole_at, newest_whole};
-ghost use Rattle.ack_vectors.specs.Vector.{vector, is_whole};
+ghost use Rattle.ack_vectors.specs.Vector.{vector_under, is_whole_under, room_of};
 
+use crate::room::{VectorBytes, Vectors, room_of};
 use crate::writing::put_runs;
-use arrayvec::ArrayVec;
 use circular_buffer::HeapCircularBuffer;
 use run_list::{Marked, RunList};
 use seq_circle::{NoMemory, Seq48};
@@ -16,12 +16,6 @@ use std::marker::Model;
 
 // How many records are kept (own).
 const RECORDS: usize = 64;
-
-// The bytes of data that one option has room for (RFC 4340, section 5.8).
-const OPTION_ROOM: usize = 253;
-
-/// The bytes of one Ack Vector: an option has room for 253 (RFC 4340, section 5.8).
-pub type VectorBytes = ArrayVec<u8, OPTION_ROOM>;
 
 /// A sent packet with an Ack Vector, as it is remembered (own). No call gives one out; contracts speak of them.
 #[derive(Clone, Copy, Debug, PartialEq, Eq)]
@@ -118,11 +112,13 @@ impl Received {
     }
 
     /// Puts the bytes of the vector from `ack` down to the floor in place of what `out` had: state 0 for what was
-    /// received and 3 for what was not, runs of at most 64, and of these bytes the first 253. True exactly where there
-    /// are no more (RFC 4340, section 11.4). Where `ack` is below the floor the vector has no byte, and is whole.
-    pub fn write(&self, out: &mut VectorBytes, ack: Seq48) -> bool
-        ensures bytes { out.new.items ≡ vector (has self.now.set.numbers) self.now.set.floor ack }
-        ensures whole { result ≡ is_whole (has self.now.set.numbers) self.now.set.floor ack }
+    /// received and 3 for what was not, runs of at most 64, and of these bytes the first 253 for `One` and the first 506
+    /// for `Two`. True exactly where there are no more (RFC 4340, section 11.4). Where `ack` is below the floor the
+    /// vector has no byte, and is whole.
+    pub fn write(&self, out: &mut VectorBytes, ack: Seq48, vectors: Vectors) -> bool
+        ensures bytes { out.new.items ≡ vector_under (has self.now.set.numbers) self.now.set.floor ack vectors }
+        ensures whole { result ≡ is_whole_under (has self.now.set.numbers) self.now.set.floor ack vectors }
+        ensures fits { length out.new.items ≤ room_of vectors }
     {
         out.clear();
         let floor = self.set.floor();
@@ -130,7 +126,7 @@ impl Received {
             return true;
         }
         let count = floor.distance(ack) + 1;
-        put_runs(out, OPTION_ROOM, self.set.walk(), floor, count)
+        put_runs(out, room_of(vectors), self.set.walk(), floor, count)
     }
 
     /// Records a sent packet by its number, the number that it acknowledged and whether its vector was whole. The

@@ -3,10 +3,11 @@ ghost use Rattle.std.specs.Prelude.{◌≡◌, ◌+◌, ◌<◌, ◌≤◌, ◌+
 ghost use Rattle.std.specs.Bool.{OnTrue, OnFalse};
 ghost use Rattle.arrayvec.specs.ArrayVec.{array_vec_len};
 ghost use Rattle.run_list.specs.Runs.{AreLaid};
-ghost use Rattle.ack_vectors.specs.Vector.{pieces, option_room};
+ghost use Rattle.ack_vectors.specs.Vector.{pieces, room_of};
+ghost use Rattle.ack_vectors.specs.declared.room.Vectors.TheVariants.{Two};
 ghost use Rattle.ack_vectors.specs.ByRuns.{bytes_by_runs};
 
-use crate::received::VectorBytes;
+use crate::room::VectorBytes;
 use run_list::Walk;
 use seq_circle::Seq48;
 
@@ -21,7 +22,7 @@ const MOST: u64 = 64;
 // Appends the bytes of a run up to `room` bytes in all; tells whether there was room for all of them.
 fn put_run(out: &mut VectorBytes, room: usize, state: u8, count: u64) -> bool
     requires known { state < 4 }
-    requires within { room ≤ option_room }
+    requires within { room ≤ room_of Two }
     requires begun { length out.old.items ≤ room }
     ensures whole { OnTrue result (out.new.items ≡ out.old.items ++ pieces state count) }
     ensures fits { length out.new.items ≤ room }
@@ -42,7 +43,7 @@ fn put_run(out: &mut VectorBytes, room: usize, state: u8, count: u64) -> bool
 
 // Appends the bytes of missing numbers and of the received ones below them; tells whether there was room for all.
 fn put_both(out: &mut VectorBytes, room: usize, missing: u64, received: u64) -> bool
-    requires within { room ≤ option_room }
+    requires within { room ≤ room_of Two }
     requires begun { length out.old.items ≤ room }
     ensures whole { OnTrue result (out.new.items ≡ out.old.items ++ (pieces 3 missing ++ pieces 0 received)) }
     ensures fits { length out.new.items ≤ room }
@@ -64,10 +65,11 @@ pub(crate) fn put_runs(
     floor: Seq48,
     left: u64,
 ) -> bool
-    requires within { room ≤ option_room }
+    requires within { room ≤ room_of Two }
     requires empty { out.old.items ≡ [] }
     requires laid { AreLaid floor 2048 runs }
     ensures bytes { out.new.items ≡ take room (bytes_by_runs floor left runs.entry) }
+    ensures fits { length out.new.items ≤ room }
     ensures whole { result ≡ nat_le (length (bytes_by_runs floor left runs.entry)) room }
 {
     let mut left = left;

@@ -4,7 +4,7 @@
 use crate::data::exchange;
 use crate::ends::take;
 use crate::ratios::zero;
-use ack_vectors::{Received, VectorBytes};
+use ack_vectors::{Received, VectorBytes, Vectors};
 use ccid_two::Ccid2;
 use congestion_trait::{Congestion, FixedWindow};
 use dccp_options::{AckReport, options};
@@ -31,7 +31,7 @@ fn mark(received: &mut Received, out: &mut VectorBytes, newest: Seq48, round: u3
     if round % 16 == 3 {
         let _ = received.took(newest.sub(1));
     }
-    let whole = received.write(out, newest);
+    let whole = received.write(out, newest, Vectors::One);
     received.sent(newest, newest, whole);
     if phase < PHASE / 2 && round % 256 == 255 && received.peer_acked(newest) {
         return received.floor().get();

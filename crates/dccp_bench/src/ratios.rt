@@ -1,7 +1,7 @@
 //! Marks in a full window, and the writing of a vector and the taking of a report at some sizes: what is linear takes
 //! four times as long at the second as at the first.
 
-use ack_vectors::{Received, VectorBytes};
+use ack_vectors::{Received, VectorBytes, Vectors};
 use congestion_trait::Flight;
 use dccp_options::{AckReport, OptWriter, options};
 use run_list::Marked;
@@ -92,7 +92,7 @@ fn lists(alloc: Global, count: u32) -> io::Result<Vec<Flight>> {
 fn writes(received: &Received, out: &mut VectorBytes, ack: Seq48, rounds: u32) -> u64 {
     let mut sum = 0u64;
     for _ in 0..rounds {
-        let _ = received.write(out, ack);
+        let _ = received.write(out, ack, Vectors::One);
         sum = sum.wrapping_add(out.len() as u64);
     }
     sum
@@ -165,6 +165,9 @@ pub(crate) fn marks(rt: &HostRuntime, rounds: u32) -> io::Result<()> {
 // Prints the nanoseconds of so many reports of this vector, each by a list of which nothing was reported before: so each
 // changes all that it speaks of.
 fn news(rt: &HostRuntime, runs: u32, vector: &VectorBytes, rounds: u32) -> io::Result<()> {
+    if vector.len() > 253 {
+        return Err(io::Error::other("more than one option"));
+    }
     let mut writer = OptWriter::new();
     let _ = writer.put(false, 38, vector);
     let Some(report) = AckReport::of(newest(runs), options(writer.bytes(), false)) else {
@@ -204,7 +207,7 @@ pub(crate) fn measure(rt: &HostRuntime, runs: u32, rounds: u32) -> io::Result<()
 // Takes the report that a set's vector makes, and gives how many packets it acknowledged.
 fn take_report(flight: &mut Flight, received: &Received, ack: Seq48) -> io::Result<u32> {
     let mut out = VectorBytes::new();
-    let _ = received.write(&mut out, ack);
+    let _ = received.write(&mut out, ack, Vectors::One);
     let mut writer = OptWriter::new();
     let _ = writer.put(false, 38, &out);
     let Some(report) = AckReport::of(ack, options(writer.bytes(), false)) else {

@@ -1,6 +1,6 @@
 //! Cases as lists of calls, each with its answer. One helper makes all calls: a proof follows each value that a function
 //! holds through each of its steps.
-use ack_vectors::{Received, VectorBytes};
+use ack_vectors::{Received, VectorBytes, Vectors};
 use run_list::Marked;
 use seq_circle::Seq48;
 use std::alloc::Global;
@@ -20,8 +20,13 @@ enum Call {
     TakeEach(u64, u64, usize),
     // Writes these bytes at this number, and whether they are the whole vector.
     Write(u64, &'static [u8], bool),
-    // Writes as many bytes as there is room for at this number: 0x00 and 0xc0 in turn.
-    WriteInTurn(u64),
+    // Writes so many bytes at this number, 0x00 and 0xc0 in turn, and whether they are the whole vector: first where one
+    // option has room for them, and then where two have.
+    WriteInTurn(u64, (usize, bool), (usize, bool)),
+    // Writes for this number where two options have room, and what bytes come last, and whether it is whole.
+    WriteEnd(u64, &'static [u8], bool),
+    // Writes for this number, and records that under the first.
+    SendWritten(u64, u64, Vectors),
     // Records a packet by its number and what it acknowledges, and whether its vector is whole.
     Send(u64, u64, bool),
     // Records so many packets from 0 on, each with a whole vector at this number.
@@ -52,7 +57,7 @@ fn take_each(received: &mut Received, first: u64, past: u64, step: usize) -> Opt
 
 fn write(received: &Received, number: u64, bytes: &[u8], whole: bool) -> Option<bool> {
     let mut out = VectorBytes::new();
-    let is_whole = received.write(&mut out, Seq48::new(number)?);
+    let is_whole = received.write(&mut out, Seq48::new(number)?, Vectors::One);
     Some(is_whole == whole && out.as_slice() == bytes)
 }
 
@@ -65,10 +70,35 @@ fn are_in_turn(bytes: &[u8]) -> bool {
     true
 }
 
-fn write_in_turn(received: &Received, number: u64) -> Option<bool> {
+fn is_in_turn(received: &Received, number: Seq48, vectors: Vectors, told: (usize, bool)) -> bool {
     let mut out = VectorBytes::new();
-    let is_whole = received.write(&mut out, Seq48::new(number)?);
-    Some(!is_whole && out.len() == 253 && are_in_turn(out.as_slice()))
+    let is_whole = received.write(&mut out, number, vectors);
+    (out.len(), is_whole) == told && are_in_turn(out.as_slice())
+}
+
+fn write_in_turn(
+    received: &Received,
+    number: u64,
+    one: (usize, bool),
+    two: (usize, bool),
+) -> Option<bool> {
+    let number = Seq48::new(number)?;
+    Some(
+        is_in_turn(received, number, Vectors::One, one)
+            && is_in_turn(received, number, Vectors::Two, two),
+    )
+}
+
+fn write_end(received: &Received, number: u64, bytes: &[u8], whole: bool) -> Option<bool> {
+    let mut out = VectorBytes::new();
+    let is_whole = received.write(&mut out, Seq48::new(number)?, Vectors::Two);
+    Some(is_whole == whole && out.len() == 506 && out.as_slice().ends_with(bytes))
+}
+
+fn send_written(received: &mut Received, number: u64, ack: u64, vectors: Vectors) -> Option<bool> {
+    let mut out = VectorBytes::new();
+    let whole = received.write(&mut out, Seq48::new(ack)?, vectors);
+    send(received, number, ack, whole)
 }
 
 fn send(received: &mut Received, number: u64, ack: u64, whole: bool) -> Option<bool> {
@@ -94,7 +124,9 @@ fn holds(received: &mut Received, call: Call) -> Option<bool> {
         Call::Take(number, answer) => take(received, number, answer),
         Call::TakeEach(first, past, step) => take_each(received, first, past, step),
         Call::Write(number, bytes, whole) => write(received, number, bytes, whole),
-        Call::WriteInTurn(number) => write_in_turn(received, number),
+        Call::WriteInTurn(number, one, two) => write_in_turn(received, number, one, two),
+        Call::WriteEnd(number, bytes, whole) => write_end(received, number, bytes, whole),
+        Call::SendWritten(number, ack, vectors) => send_written(received, number, ack, vectors),
         Call::Send(number, ack, whole) => send(received, number, ack, whole),
         Call::SendEach(count, ack) => send_each(received, count, ack),
         Call::Ack(number, answer) => ack(received, number, answer),
@@ -171,7 +203,7 @@ const VECTOR_CUT_AT_253: [Call; 9] = [
     Call::Start(0),
     Call::TakeEach(0, 4_096, 2),
     Call::Floor(2_047),
-    Call::WriteInTurn(4_094),
+    Call::WriteInTurn(4_094, (253, false), (506, false)),
     Call::Send(9, 4_094, false),
     Call::Ack(9, false),
     Call::Floor(2_047),
@@ -182,6 +214,64 @@ const VECTOR_CUT_AT_253: [Call; 9] = [
 #[test]
 fn vector_cut_at_253(rt: HostRuntime) -> Result<(), Fail> {
     play(rt.alloc(), &VECTOR_CUT_AT_253)
+}
+
+// Every second number received, so that each byte is one number's. One option has room for 253 of them, and two for 506.
+const VECTORS_AT_THE_EDGES: [Call; 14] = [
+    Call::Start(0),
+    Call::TakeEach(0, 254, 2),
+    Call::WriteInTurn(252, (253, true), (253, true)),
+    Call::Start(0),
+    Call::TakeEach(1, 254, 2),
+    Call::WriteInTurn(253, (253, false), (254, true)),
+    Call::TakeEach(255, 504, 2),
+    Call::WriteInTurn(503, (253, false), (504, true)),
+    Call::Take(505, Marked::New),
+    Call::WriteInTurn(505, (253, false), (506, true)),
+    Call::Start(0),
+    Call::TakeEach(0, 507, 2),
+    Call::WriteInTurn(504, (253, false), (505, true)),
+    Call::WriteInTurn(506, (253, false), (506, false)),
+];
+
+#[test]
+fn vectors_at_the_edges(rt: HostRuntime) -> Result<(), Fail> {
+    play(rt.alloc(), &VECTORS_AT_THE_EDGES)
+}
+
+// A run of 128 has two bytes. Below 504 others both have room, below 505 the first, and below 506 neither.
+const RUN_CUT_AT_506: [Call; 8] = [
+    Call::Start(0),
+    Call::TakeEach(0, 128, 1),
+    Call::TakeEach(129, 632, 2),
+    Call::WriteEnd(631, &[0x00, 0xc0, 0x3f, 0x3f], true),
+    Call::WriteEnd(632, &[0x00, 0xc0, 0x3f], false),
+    Call::Take(633, Marked::New),
+    Call::WriteEnd(633, &[0x00, 0xc0], false),
+    Call::Floor(0),
+];
+
+#[test]
+fn run_cut_at_506(rt: HostRuntime) -> Result<(), Fail> {
+    play(rt.alloc(), &RUN_CUT_AT_506)
+}
+
+// What one option cuts raises no floor, and two options hold it whole.
+const FLOOR_RISES_BY_TWO_OPTIONS: [Call; 9] = [
+    Call::Start(0),
+    Call::TakeEach(0, 505, 2),
+    Call::SendWritten(7, 504, Vectors::One),
+    Call::Ack(7, false),
+    Call::Floor(0),
+    Call::SendWritten(8, 504, Vectors::Two),
+    Call::Ack(7, false),
+    Call::Ack(8, true),
+    Call::Floor(505),
+];
+
+#[test]
+fn floor_rises_by_two_options(rt: HostRuntime) -> Result<(), Fail> {
+    play(rt.alloc(), &FLOOR_RISES_BY_TWO_OPTIONS)
 }
 
 // Records over the wrap of numbers: a 65th drops the oldest, of two under one number the newer counts, and no record is

@@ -10,7 +10,7 @@ ghost use Rattle.dccp_sum.specs.Checksum.{sealed};
 use super::receiving::is_open;
 use super::{Connection, fit};
 use crate::speaking::{asking, open_offers, put_changes, put_confirms, send_all};
-use ack_vectors::VectorBytes;
+use ack_vectors::{VectorBytes, Vectors};
 use dccp_options::OptWriter;
 use dccp_options::kinds::ACK_VECTOR_0;
 use dccp_packets::{Frame, Header, Kind, Number, Outbox, encode};
@@ -149,7 +149,9 @@ impl Connection {
         ensures whole { result ≡ is_whole (has self.now.received.set.numbers) self.now.received.set.floor self.now.marks.gsr }
     {
         let mut bytes = VectorBytes::new();
-        let whole = self.received.write(&mut bytes, self.marks.gsr);
+        let whole = self
+            .received
+            .write(&mut bytes, self.marks.gsr, Vectors::One);
         let _ = area.put(false, ACK_VECTOR_0, bytes.as_slice());
         whole
     }
