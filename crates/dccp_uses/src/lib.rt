@@ -7,7 +7,7 @@
 //! of a peer that it does not know. There is no socket here and no clock, and no memory is taken once a session is
 //! made. Two kinds of congestion control are its own, [`OneAtATime`] and [`AdditiveWindow`].
 //!
-//! This crate is an example to read whole and to copy from; nothing stands on it.
+//! This crate is an example to read whole and to copy from; a program over it is dccp_greeting.
 #![tactic(auto)]
 
 mod additive_window;

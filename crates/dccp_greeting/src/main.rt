@@ -1,0 +1,151 @@
+//! A client and a server in one process: the client sends a greeting and closes, and what the server got is printed.
+//!
+//! It is the program of docs/USING.md, to be read whole and copied from, and has no contract of its own. Its wires are
+//! in memory, since this repository opens no socket. It takes memory for each frame on them.
+#![tactic(auto)]
+
+use ccid_two::Kinds;
+use dccp_endpoint::{Config, Ports, Pseudo, Seq48};
+use dccp_uses::{Network, News, Session, accept};
+use std::alloc::Global;
+use std::process::ExitCode;
+
+// The Service Code that the client asks for.
+const SERVICE: u32 = 42;
+
+// In place of a socket: frames stand here until the other side takes them.
+#[derive(Drop)]
+struct Wire {
+    alloc: Global,
+    frames: Vec<Vec<u8>>,
+}
+
+impl Wire {
+    fn new(alloc: Global) -> Wire {
+        Wire {
+            alloc,
+            frames: Vec::new(alloc),
+        }
+    }
+
+    fn take(&mut self) -> Option<Vec<u8>> {
+        if self.frames.is_empty() {
+            return None;
+        }
+        Some(self.frames.remove(0))
+    }
+}
+
+impl Network for Wire {
+    // What contracts may say of a wire by a frame: nothing.
+    ghost sends = { λ _ _ _. Unit {0} };
+
+    fn send(&mut self, frame: &[u8]) {
+        let mut datagram = Vec::new(self.alloc);
+        if datagram.extend_from_slice(frame).is_ok() {
+            // A frame that finds no memory is a lost one.
+            let _ = self.frames.push(datagram);
+        }
+    }
+}
+
+// The server's side: at most one connection, and what came over it.
+#[derive(Drop)]
+struct Server {
+    alloc: Global,
+    connection: Option<Session<Kinds>>,
+    got: Vec<u8>,
+}
+
+impl Server {
+    // A datagram of a stranger. A real server takes addresses and port from its sender, and draws the number.
+    fn meet(&mut self, datagram: &[u8], now: u64, network: &mut Wire) -> Option<()> {
+        let addresses = Pseudo::V4 {
+            from: [192, 0, 2, 2],
+            to: [192, 0, 2, 1],
+        };
+        let ports = Ports {
+            own: 5_001,
+            peer: 40_000,
+        };
+        let config = Config::server(addresses, ports, SERVICE, Seq48::new(2_000)?);
+        let congestion = Kinds::new(self.alloc).ok()?;
+        self.connection = accept(self.alloc, config, congestion, datagram, now, network).ok()?;
+        Some(())
+    }
+
+    fn arrived(&mut self, datagram: &[u8], now: u64, network: &mut Wire) -> Option<()> {
+        let Some(connection) = &mut self.connection else {
+            return self.meet(datagram, now, network);
+        };
+        match connection.arrived(datagram, now, network) {
+            News::Data { first, past } => self.got.extend_from_slice(&datagram[first..past]).ok(),
+            News::Ended { .. } | News::Quiet | News::TooLong => Some(()),
+        }
+    }
+
+    fn tick(&mut self, now: u64, network: &mut Wire) {
+        if let Some(connection) = &mut self.connection {
+            connection.tick(now, network);
+        }
+    }
+}
+
+// The client's side. A real client draws the number.
+fn client(alloc: Global) -> Option<Session<Kinds>> {
+    let addresses = Pseudo::V4 {
+        from: [192, 0, 2, 1],
+        to: [192, 0, 2, 2],
+    };
+    let ports = Ports {
+        own: 40_000,
+        peer: 5_001,
+    };
+    let config = Config::client(addresses, ports, SERVICE, Seq48::new(1_000)?);
+    Session::new(alloc, config, Kinds::new(alloc).ok()?).ok()
+}
+
+// What the server got, or None where memory ran out or a call was refused.
+fn talk(alloc: Global) -> Option<Vec<u8>> {
+    let mut client = client(alloc)?;
+    let mut server = Server {
+        alloc,
+        connection: None,
+        got: Vec::new(alloc),
+    };
+    let mut to_server = Wire::new(alloc);
+    let mut to_client = Wire::new(alloc);
+    let mut is_sent = false;
+    client.open(0, &mut to_server).ok()?;
+    // A turn takes 10 milliseconds. A real loop sleeps until a datagram comes, or `until_first` has gone by.
+    for turn in 0..1_000 {
+        let now = turn * 10;
+        if let Some(datagram) = to_server.take() {
+            server.arrived(&datagram, now, &mut to_client)?;
+        }
+        if let Some(datagram) = to_client.take() {
+            if let News::Ended { .. } = client.arrived(&datagram, now, &mut to_server) {
+                return Some(server.got);
+            }
+        }
+        if !is_sent {
+            // Refused until the connection is open, and where the window has no room.
+            is_sent = client.send(b"hello", now, &mut to_server).is_ok();
+        } else if client.end().in_flight() == 0 {
+            let _ = client.close(now, &mut to_server);
+        }
+        client.tick(now, &mut to_server);
+        server.tick(now, &mut to_client);
+    }
+    None
+}
+
+fn main(rt: HostRuntime) -> ExitCode {
+    let Some(got) = talk(rt.alloc()) else {
+        return ExitCode::FAILURE;
+    };
+    match println!(rt; "{} bytes: {:?}", got.len(), got) {
+        Ok(()) => ExitCode::SUCCESS,
+        Err(_) => ExitCode::FAILURE,
+    }
+}
