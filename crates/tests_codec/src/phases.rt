@@ -128,15 +128,27 @@ fn place_letter(role: Role, phase: Phase, kind: PacketType) -> char {
     }
 }
 
+fn entrance_is(phase: Phase, kind: PacketType, wanted: char) -> bool {
+    entrance_letter(gate(phase, kind)) == wanted
+}
+
+fn phase_after_is(phase: Phase, kind: PacketType, wanted: char) -> bool {
+    phase_letter(after(phase, kind).0) == wanted
+}
+
+fn reply_is(phase: Phase, kind: PacketType, wanted: char) -> bool {
+    reply_letter(after(phase, kind).1) == wanted
+}
+
+fn place_is(role: Role, phase: Phase, kind: PacketType, wanted: char) -> bool {
+    place_letter(role, phase, kind) == wanted
+}
+
 #[test]
 fn entrances(rt: HostRuntime) {
     for (phase, row) in ENTRANCES {
         for (kind, wanted) in KINDS.into_iter().zip(row.chars()) {
-            assert_eq!(rt;
-                entrance_letter(gate(phase, kind)),
-                wanted,
-                "{kind:?} in {phase:?}"
-            );
+            assert!(rt; entrance_is(phase, kind, wanted), "{kind:?} in {phase:?}");
         }
     }
 }
@@ -145,9 +157,8 @@ fn entrances(rt: HostRuntime) {
 fn phases_after(rt: HostRuntime) {
     for (phase, row) in PHASES_AFTER {
         for (kind, wanted) in KINDS.into_iter().zip(row.chars()) {
-            assert_eq!(rt;
-                phase_letter(after(phase, kind).0),
-                wanted,
+            assert!(rt;
+                phase_after_is(phase, kind, wanted),
                 "{kind:?} in {phase:?}"
             );
         }
@@ -158,33 +169,24 @@ fn phases_after(rt: HostRuntime) {
 fn replies(rt: HostRuntime) {
     for (phase, row) in REPLIES {
         for (kind, wanted) in KINDS.into_iter().zip(row.chars()) {
-            assert_eq!(rt;
-                reply_letter(after(phase, kind).1),
-                wanted,
-                "{kind:?} in {phase:?}"
-            );
+            assert!(rt; reply_is(phase, kind, wanted), "{kind:?} in {phase:?}");
         }
     }
 }
 
 #[test]
 fn types_out_of_place(rt: HostRuntime) {
-    for (phase, row) in OUT_OF_PLACE_AT_CLIENT {
-        for (kind, wanted) in KINDS.into_iter().zip(row.chars()) {
-            assert_eq!(rt;
-                place_letter(Role::Client, phase, kind),
-                wanted,
-                "{kind:?} in {phase:?}"
-            );
-        }
-    }
-    for (phase, row) in OUT_OF_PLACE_AT_SERVER {
-        for (kind, wanted) in KINDS.into_iter().zip(row.chars()) {
-            assert_eq!(rt;
-                place_letter(Role::Server, phase, kind),
-                wanted,
-                "{kind:?} in {phase:?}"
-            );
+    for (role, rows) in [
+        (Role::Client, OUT_OF_PLACE_AT_CLIENT),
+        (Role::Server, OUT_OF_PLACE_AT_SERVER),
+    ] {
+        for (phase, row) in rows {
+            for (kind, wanted) in KINDS.into_iter().zip(row.chars()) {
+                assert!(rt;
+                    place_is(role, phase, kind, wanted),
+                    "{kind:?} in {phase:?}"
+                );
+            }
         }
     }
 }

@@ -83,42 +83,46 @@ fn partial_coverage(rt: HostRuntime) -> Result<(), Fail> {
     Ok(())
 }
 
-// The same packet, sealed for each coverage: what lies outside may change, and what lies inside may not.
-#[test]
-fn partly_covered_packets_are_accepted(rt: HostRuntime) {
-    let ack = [
+// The packet, sealed with the coverage.
+fn sealed_with(coverage: u8) -> [u8; 29] {
+    let mut packet = [
         0x9c, 0x40, 0x13, 0x89, 0x06, 0x00, 0x00, 0x00, 0x07, 0x00, 0x00, 0x00, 0x00, 0x00, 0x03,
         0xe9, 0x00, 0x00, 0x00, 0x00, 0x00, 0x00, 0x07, 0xd0, 0xaa, 0xbb, 0xcc, 0xdd, 0xee,
     ];
-    let last = ack.len() - 1;
+    packet[5] = coverage;
+    let _ = seal(&TO_SERVER, &mut packet);
+    packet
+}
+
+fn accepts(packet: &[u8; 29]) -> bool {
+    check(&TO_SERVER, packet).is_ok()
+}
+
+// Whether it is accepted with the byte at that place changed.
+fn accepts_changed(mut packet: [u8; 29], place: usize, byte: u8) -> bool {
+    packet[place.min(28)] = byte;
+    accepts(&packet)
+}
+
+// The same packet, sealed for each coverage: what lies outside may change, and what lies inside may not.
+#[test]
+fn partly_covered_packets_are_accepted(rt: HostRuntime) {
     for (coverage, high, low, last_is_covered) in [
         (0, 0xbd, 0xa1, true),
         (1, 0x23, 0x3b, false),
         (2, 0xab, 0xa0, false),
     ] {
-        let mut sealed = ack;
-        sealed[5] = coverage;
-        assert!(rt; seal(&TO_SERVER, &mut sealed));
-        assert_eq!(rt;
-            (sealed[6], sealed[7]),
-            (high, low),
+        let sealed = sealed_with(coverage);
+        assert!(rt;
+            sealed[6] == high && sealed[7] == low,
             "with CsCov {coverage}"
         );
-        assert_eq!(rt; check(&TO_SERVER, &sealed), Ok(()), "with CsCov {coverage}");
-        let mut changed = sealed;
-        changed[last] = 0;
-        assert_eq!(rt;
-            check(&TO_SERVER, &changed).is_ok(),
-            !last_is_covered,
+        assert!(rt; accepts(&sealed), "with CsCov {coverage}");
+        assert!(rt;
+            accepts_changed(sealed, 28, 0) != last_is_covered,
             "with CsCov {coverage}"
         );
-        let mut changed = sealed;
-        changed[23] = 0xd1;
-        assert_eq!(rt;
-            check(&TO_SERVER, &changed),
-            Err(SumFault::Wrong),
-            "with CsCov {coverage}"
-        );
+        assert!(rt; !accepts_changed(sealed, 23, 0xd1), "with CsCov {coverage}");
     }
 }
 
