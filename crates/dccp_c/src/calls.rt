@@ -72,16 +72,16 @@ pub extern "C" fn dccp_open(end: &mut End, alloc: Global, frame: &mut Frame) -> 
 
 /// `Endpoint::send`.
 #[unsafe(no_mangle)]
-pub extern "C" fn dccp_send(end: &mut End, alloc: Global, data: &[u8], frame: &mut Frame) -> u32
-    ensures end { end_in end.new.kept.value ≡ kept_after (c_sends data.now) (end_in end.old.kept.value) }
-    ensures frame { bytes_in frame.new ≡ frame_after (c_sends data.now) (end_in end.old.kept.value) }
-    ensures code { result ≡ code_after send_code (c_sends data.now) (end_in end.old.kept.value) }
+pub extern "C" fn dccp_send(end: &mut End, alloc: Global, payload: &[u8], frame: &mut Frame) -> u32
+    ensures end { end_in end.new.kept.value ≡ kept_after (c_sends payload.now) (end_in end.old.kept.value) }
+    ensures frame { bytes_in frame.new ≡ frame_after (c_sends payload.now) (end_in end.old.kept.value) }
+    ensures code { result ≡ code_after send_code (c_sends payload.now) (end_in end.old.kept.value) }
 {
     let Some(mut held) = end.take(alloc) else {
         frame.clear();
         return NOT_MADE;
     };
-    let answer = held.send(data);
+    let answer = held.send(payload);
     frame.fill(&held.out);
     end.put(held);
     send_code(&answer)

@@ -2,8 +2,7 @@
 use Rattle.std.specs.Prelude.{ℕ, ◌+◌, ◌&&◌, Bool, true, false, Ok, Err, Some, None}
 use Rattle.feature_lists.specs.declared.features.Feature.{Feature}
 use Rattle.feature_lists.specs.declared.features.Feature.TheVariants as feature
-use Rattle.feature_machine.specs.declared.stands.Stand.{Stand}
-use Rattle.feature_machine.specs.declared.stands.Stand.TheVariants.{Stable, Changing, Unstable}
+use Rattle.dccp_endpoint.specs.ShortForm.{is_stable}
 use Rattle.end_answers.specs.declared.outcome.Outcome.{Outcome}
 use Rattle.end_answers.specs.declared.outcome.Outcome.TheVariants.{Took, Dropped, Synced, WasReset, SentReset}
 use Rattle.world_events.specs.declared.event.Seen.{Seen}
@@ -61,12 +60,6 @@ with_seen r (Called (Ok _)) = r
 with_seen r (Called (Err refusal)) = record r { refused = r.refused + 1 }
 with_seen r (Fired applies) = r
 with_seen r (Received outcome) = with_outcome r outcome
-
--- both ends call the feature settled
-abbrev pub is_stable : Stand → Bool
-is_stable Stable = true
-is_stable Changing = false
-is_stable Unstable = false
 
 -- a feature that is settled at both ends, the client and the server
 abbrev pub is_settled : WorldState → FeatureAt → Bool

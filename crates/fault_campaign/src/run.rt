@@ -1,6 +1,7 @@
 //! The run of a seed.
 ghost use Rattle.std.specs.Prelude.{◌≡◌, ℕ, ◌+◌, ◌*◌, ◌^◌, ◌<◌, ◌≤◌, IfOk, OnOk};
-ghost use Rattle.fault_campaign.specs.Reports.{is_settled, is_stable, settled_at, settles, size};
+ghost use Rattle.dccp_endpoint.specs.ShortForm.{is_stable};
+ghost use Rattle.fault_campaign.specs.Reports.{is_settled, settled_at, settles, size};
 ghost use Rattle.fault_campaign.specs.Draws.{behind_two, behind_word, drawn, drawn_delivery, ending, generator, preference, sending, word};
 ghost use Rattle.fault_campaign.specs.Seeded.{begun_run, frames_of, goes_on, goes_on_for, played, run_report, seeded_report, usual_from};
 ghost use Rattle.two_ends.specs.Pairs.{place_at};

@@ -102,7 +102,7 @@ unsafe extern "C" {
     ) -> u32;
     pub fn dccp_free(end: *mut End);
     pub fn dccp_open(end: *mut End, frame: *mut Frame) -> u32;
-    pub fn dccp_send(end: *mut End, data: *const u8, data_count: usize, frame: *mut Frame) -> u32;
+    pub fn dccp_send(end: *mut End, payload: *const u8, payload_count: usize, frame: *mut Frame) -> u32;
     pub fn dccp_close(end: *mut End, frame: *mut Frame) -> u32;
     pub fn dccp_abort(end: *mut End, frame: *mut Frame) -> u32;
     pub fn dccp_prefer(
