@@ -1,5 +1,5 @@
 -- Reports that are added field by field.
-use Rattle.std.proofs.Common.{◌≡◌, refl, sym, ℕ, ◌+◌, ◌*◌, ◌≤◌, List, [], ◌∷◌, ◌++◌, length, sum_by, arith}
+use Rattle.std.proofs.Common.{◌≡◌, refl, sym, ap, ℕ, zero, suc, ◌+◌, ◌*◌, ◌≤◌, List, [], ◌∷◌, ◌++◌, length, sum_by, arith}
 use Rattle.std.proofs.lemmas.List.Sums.{sum_by-cons, sum_by_push}
 use Rattle.campaign_claims.specs.Numbers.{sum_below}
 use Rattle.fault_campaign.specs.Reports.{nothing, of_fields, plus, size}
@@ -38,6 +38,30 @@ module _ (first events : ℕ) where
   pub all-once : (numbers : List ℕ) (m : ℕ) → ((f : ℕ → ℕ) → sum_by f numbers ≡ sum_below f m) → claimed_report first events numbers ≡ totals first m events
   all-once numbers m sums =
       same (λ field. sum_by (field_at first events field) numbers) (λ field. sum_below (field_at first events field) m) (λ field. sums (field_at first events field))
+
+  -- one field, of seeds in two parts
+  sum-of-parts : (field : Report → ℕ) (some more : ℕ) → sum_below (field_at first events field) (some + more)
+      ≡ sum_below (field_at first events field) some + sum_below (field_at (first + some) events field) more
+  sum-of-parts field some zero =
+      let none : some + 0 ≡ some = omega arith in
+      let whole : sum_below (field_at first events field) (some + 0) ≡ sum_below (field_at first events field) some =
+      ap (sum_below (field_at first events field)) none in
+      omega (arith, whole)
+  sum-of-parts field some (suc more) =
+      let next : some + suc more ≡ suc (some + more) = omega arith in
+      let whole : sum_below (field_at first events field) (some + suc more)
+      ≡ sum_below (field_at first events field) (some + more) + field (seeded_report (first + (some + more)) events) =
+      ap (sum_below (field_at first events field)) next in
+      let seed : first + (some + more) ≡ first + some + more = omega arith in
+      let last : field (seeded_report (first + (some + more)) events) ≡ field (seeded_report (first + some + more) events) =
+      ap (λ (n : ℕ). field (seeded_report n events)) seed in
+      let rest = sum-of-parts field some more in
+      omega (arith, whole, last, rest)
+
+  pub parts-add : (some more : ℕ) → plus (totals first some events) (totals (first + some) more events) ≡ totals first (some + more) events
+  parts-add some more =
+      same (λ field. sum_below (field_at first events field) some + sum_below (field_at (first + some) events field) more)
+      (λ field. sum_below (field_at first events field) (some + more)) (λ field. sym (sum-of-parts field some more))
 
   pub size-of : ((seed : ℕ) → size (seeded_report seed events) ≤ 20499) → (numbers : List ℕ) → size (claimed_report first events numbers) ≤ length numbers * 20499
   size-of each [] = omega arith

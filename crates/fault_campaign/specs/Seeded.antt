@@ -1,7 +1,7 @@
 -- The run of a seed (own): two usual ends, initial numbers and events drawn from the seed, and what is counted of it.
 -- An event is drawn by how many frames there are, so the events are defined together with their run. An event that
 -- cannot happen is passed over, and none is drawn (`drawn_events_happen`): an index is below the number of frames, and
--- 4,096 events send far fewer frames than 2^47.
+-- 4,096 events send so few frames that no side is full and no frame is far.
 use Rattle.std.specs.Prelude.{ℕ, zero, suc, ◌-◌, List, [], ◌∷◌, length, Result, Ok, Err}
 use Rattle.rand_pcg.specs.Lcg.{Lcg}
 use Rattle.ccid_two.specs.Kinds.{Both, at_first, kinds_control}

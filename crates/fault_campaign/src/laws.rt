@@ -1,4 +1,4 @@
-//! What holds of the run of every seed.
+//! What holds of the run of every seed, and of the totals of many.
 ghost use Rattle.std.specs.Prelude.{◌≡◌, ◌⊎◌, ℕ, ◌+◌, ◌-◌, ◌*◌, ◌^◌, ◌<◌, ◌≤◌, ◌∷◌, [], length, Err, IsOk};
 ghost use Rattle.ccid_two.specs.Kinds.{kinds_control};
 ghost use Rattle.two_ends.specs.Controlled.{happens_to, plays};
@@ -10,8 +10,9 @@ ghost use Rattle.world_events.specs.declared.event.Event.TheVariants.{Open, Pref
 ghost use Rattle.world_events.specs.declared.event.Side.TheVariants.{Client, Server};
 ghost use Rattle.fault_campaign.specs.Draws.{behind_two, behind_word, drawn, generator, word};
 ghost use Rattle.rand_pcg.specs.Lcg.{Lcg};
-ghost use Rattle.fault_campaign.specs.Reports.{size};
+ghost use Rattle.fault_campaign.specs.Reports.{plus, size};
 ghost use Rattle.fault_campaign.specs.Seeded.{begun_run, next_event, seeded, seeded_events, seeded_report};
+ghost use Rattle.fault_campaign.specs.Totals.{totals};
 
 use ccid_two::Kinds;
 use two_ends::{WorldFault, every_run_is_safe, few_frames_are_never_far};
@@ -46,6 +47,12 @@ pub fn seeded_runs_are_safe()
 {
     every_run_is_safe::<Kinds>();
 }
+
+/// The totals of seeds, and those of the seeds behind them, are the totals of all of them, count by count (own). So a
+/// campaign may be run in parts, on as many machines as there are.
+pub fn parts_of_a_campaign_add_up()
+    ensures { (first some more events : ℕ) → plus (totals first some events) (totals (first + some) more events) ≡ totals first (some + more) events }
+{}
 
 /// The draws on which no count of a report depends (own), by values that were worked out apart. The first words of seed 1
 /// are 33a70be6, 7dbcf3ee, cadf4751 and 11ac71c0. Of the first the last 16 bits stand before the 32 of the second, and that

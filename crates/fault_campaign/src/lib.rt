@@ -16,7 +16,8 @@ mod workers;
 
 pub use crate::gate::{Gate, OpenGate};
 pub use crate::laws::{
-    drawn_events_happen, draws_that_no_count_shows, reports_count_little, seeded_runs_are_safe,
+    drawn_events_happen, draws_that_no_count_shows, parts_of_a_campaign_add_up,
+    reports_count_little, seeded_runs_are_safe,
 };
 pub use crate::report::Report;
 pub use crate::run::run_seed;

@@ -1,6 +1,10 @@
 -- Flows: the two ends between which packets go, in either direction (own).
-use Rattle.std.specs.Prelude.{ℕ, ◌+◌, Bool, ◌&&◌, ◌||◌, ◌==◌, nat_lt, if◌then◌else◌, List, [], ◌∷◌, ◌++◌, length, position, Option, Some, None}
-use Rattle.std.specs.List.{list_any}
+use Rattle.std.specs.Prelude.{◌≡◌, ℕ, ◌+◌, Bool, ◌&&◌, ◌||◌, ◌==◌, nat_lt, if◌then◌else◌, List, [], ◌∷◌, ◌++◌, length, position, Option, Some, None}
+use Rattle.std.specs.BTreeMap.{is_at}
+use Rattle.std.specs.List.{list_any, position_from}
+use Rattle.std.specs.Map.{lookup}
+use Rattle.std.specs.Ordering.{nat_cmp, ordering_then}
+use Rattle.std.specs.declared.cmp.Ordering.{Ordering}
 use Rattle.byteorder.specs.Endian.{big_number}
 use Rattle.dccp_sum.specs.declared.pseudo_header.Pseudo.{Pseudo}
 use Rattle.dccp_sum.specs.declared.pseudo_header.Pseudo.TheVariants.{V4, V6}
@@ -60,3 +64,19 @@ flow_number flow seen = flow_number_at (position (same_flow flow) seen) seen
 -- the flows that were seen once this one was seen too
 abbrev pub with_flow : Flow → List Flow → List Flow
 with_flow flow seen = if list_any (same_flow flow) seen then seen else seen ++ flow ∷ []
+
+-- the order of ends: by address, then by port
+abbrev pub end_cmp : AddressAndPort → AddressAndPort → Ordering
+end_cmp a b = ordering_then (nat_cmp a.0 b.0) (nat_cmp a.1 b.1)
+
+-- the order of flows, by which they are found: by version, then by the lesser end, then by the other
+abbrev pub flow_cmp : Flow → Flow → Ordering
+flow_cmp a b = ordering_then (ordering_then (nat_cmp a.0 b.0) (end_cmp a.1 b.1)) (end_cmp a.2 b.2)
+
+-- the number of a flow that was seen, from 1 in the order in which they were
+abbrev pub number_if_seen : Flow → List Flow → Option ℕ
+number_if_seen flow seen = position_from (same_flow flow) 1 seen
+
+-- A map in that order has each flow that was seen under its number, and no other flow.
+abbrev pub HasNumbers : List (Flow × ℕ) → List Flow → Type 0
+HasNumbers numbers seen = (flow : Flow) → lookup (is_at (flow_cmp flow)) numbers ≡ number_if_seen flow seen

@@ -1,9 +1,9 @@
 //! Flows, and the lines of their packets.
-ghost use Rattle.std.specs.Prelude.{◌≡◌, ◌≤◌, length, [], IfOk, OnOk, OnErr, true};
+ghost use Rattle.std.specs.Prelude.{◌≡◌, ◌≤◌, length, [], None, IfOk, OnOk, OnErr, true};
 ghost use Rattle.byteorder.specs.Endian.{big_number};
 ghost use Rattle.capture_reader.specs.Records.{entry_of};
 ghost use Rattle.packet_show.specs.Network.{carried_by};
-ghost use Rattle.packet_show.specs.Flows.{version_of, from_end, to_end, is_lesser_end, flow_between, flow_of, flow_number, with_flow};
+ghost use Rattle.packet_show.specs.Flows.{version_of, from_end, to_end, is_lesser_end, flow_between, flow_of, flow_number, number_if_seen, with_flow};
 ghost use Rattle.packet_show.specs.Lines.{shows, shows_packet, shows_malformed, parts_by, Shows};
 
 use crate::network::{Datagram, carried};
@@ -12,9 +12,9 @@ use byteorder::{BigEndian, ByteOrder};
 use capture_reader::Record;
 use dccp_packets::{Malformed, Packet, decode};
 use dccp_sum::Pseudo;
-use indexmap::IndexSet;
 use seq_circle::NoMemory;
 use std::alloc::Global;
+use std::collections::BTreeMap;
 use std::marker::Model;
 
 /// Whether a record has a line.
@@ -34,18 +34,24 @@ type Flow = (u8, End, End);
 
 /// The flows that were seen, in the order in which they were first seen (own). A flow is the pair of both ends, in
 /// either direction. Contracts see the list of flows.
+///
+/// A flow is found by comparing with others, as many as the logarithm of how many there are. So whoever chose the ends
+/// cannot make that slow, as they could in a table that hashes them by a rule which they know.
 #[derive(Drop)]
 pub struct Flows {
-    seen: IndexSet<Flow>,
+    seen: Vec<Flow>,
+    numbers: BTreeMap<Flow, u64>,
 }
 
 impl Model for Flows {
     ghost use Rattle.std.specs.Prelude.{List};
-    ghost use Rattle.packet_show.specs.Flows.{Flow};
+    ghost use Rattle.packet_show.specs.Flows.{Flow, HasNumbers};
 
     ghost Value = { List Flow };
 
-    ghost view = { λ f. f.seen.keys };
+    ghost view = { λ f. f.seen.items };
+
+    ghost invariant = { λ f. HasNumbers f.numbers.entries f.seen.items };
 }
 
 fn v4_number(address: [u8; 4]) -> u128
@@ -119,7 +125,8 @@ impl Flows {
         ensures { result ≡ [] }
     {
         Flows {
-            seen: IndexSet::new(alloc),
+            seen: Vec::new(alloc),
+            numbers: BTreeMap::new(alloc),
         }
     }
 
@@ -130,25 +137,57 @@ impl Flows {
         self.seen.len() as u64
     }
 
-    // The number of a flow, also of one that was not seen yet.
-    fn flow_number(&self, flow: &Flow) -> u64
-        ensures { result ≡ flow_number flow.now self.now }
+    // The number of a flow that was seen.
+    fn number_if_seen(&self, flow: &Flow) -> Option<u64>
+        ensures { result ≡ number_if_seen flow.now self.now }
     {
-        let count = self.seen.len();
-        match self.seen.get_index_of(flow) {
-            Some(index) => index as u64 + 1,
-            None => count as u64 + 1,
+        match self.numbers.get(flow) {
+            Some(number) => Some(*number),
+            None => None,
         }
     }
 
-    // Notes that a flow was seen.
-    fn note(&mut self, flow: Flow) -> Result<(), NoMemory>
+    // The number of a flow, if it was seen, and that which its next packet has, also where it was not.
+    #[tactic(auto, using(crate::proofs::Numbered::numbered_so, crate::proofs::Numbered::next_so))]
+    fn look_up(&self, flow: &Flow) -> (Option<u64>, u64)
+        ensures known { result.0 ≡ number_if_seen flow.now self.now }
+        ensures number { result.1 ≡ flow_number flow.now self.now }
+    {
+        match self.number_if_seen(flow) {
+            Some(number) => (Some(number), number),
+            None => (None, self.seen.len() as u64 + 1),
+        }
+    }
+
+    // Notes that a flow was seen, which had this number if it was seen before.
+    #[tactic(auto, using(crate::proofs::Numbered::noted_before))]
+    fn note(&mut self, flow: Flow, known: Option<u64>) -> Result<(), NoMemory>
+        requires { known ≡ number_if_seen flow self.old }
         ensures ok { OnOk result (self.new ≡ with_flow flow self.old) }
         ensures unchanged { OnErr result (self.new ≡ self.old) }
     {
-        match self.seen.insert_full(flow) {
-            Ok(_) => Ok(()),
-            Err(_) => Err(NoMemory),
+        match known {
+            Some(_) => Ok(()),
+            None => self.add(flow),
+        }
+    }
+
+    // Notes a flow that was not seen before.
+    #[tactic(auto, using(crate::proofs::Numbered::noted_now))]
+    fn add(&mut self, flow: Flow) -> Result<(), NoMemory>
+        requires { number_if_seen flow self.old ≡ None }
+        ensures ok { OnOk result (self.new ≡ with_flow flow self.old) }
+        ensures unchanged { OnErr result (self.new ≡ self.old) }
+    {
+        let number = self.seen.len() as u64 + 1;
+        self.seen.reserve(1)?;
+        match self.numbers.insert(flow, number) {
+            Ok(_) => {}
+            Err(_) => return Err(NoMemory),
+        }
+        match self.seen.push(flow) {
+            Ok(()) => Ok(()),
+            Err(_) => unreachable!(),
         }
     }
 
@@ -169,9 +208,9 @@ impl Flows {
         ensures text_unchanged { OnErr result (to.new.items ≡ to.old.items) }
     {
         let flow = flow_of(&there.pseudo, packet.header.from, packet.header.to);
-        let number = self.flow_number(&flow);
+        let (known, number) = self.look_up(&flow);
         let start = to.len();
-        if put_packet(to, item, there, packet, number).is_err() || self.note(flow).is_err() {
+        if put_packet(to, item, there, packet, number).is_err() || self.note(flow, known).is_err() {
             to.truncate(start);
             return Err(NoMemory);
         }

@@ -11,9 +11,10 @@ use Rattle.dccp_io.specs.Lines.{lines_of, next_in_lines}
 use Rattle.tool_lines.specs.Jobs.{Gone, Verdict, Accepted, Refused, by_next, gone_by, gone_from}
 use Rattle.tool_words.specs.declared.faults.LineFault.{LineFault}
 use Rattle.dccp_endpoint.specs.Drafts.{Fits}
+use Rattle.tool_run.proofs.Peers.{peers-last}
 use Rattle.tool_run.proofs.Running.{Turns, every-run, next-turns, run-last}
 use Rattle.tool_run.specs.Scenes.{Scene, scene_events}
-use Rattle.tool_run.specs.Transcript.{ArePeers, IsPlayable, SentFew, ShowsEvent, by_step, event_shown, first_play, most_events, performed, run_job, world_at_first, world_of, world_or_start}
+use Rattle.tool_run.specs.Transcript.{IsPlayable, SentFew, ShowsEvent, by_step, event_shown, first_play, most_events, performed, run_job, world_at_first, world_of, world_or_start}
 use Rattle.tool_run.specs.declared.play.Play.{Play}
 use Rattle.two_ends.proofs.Numbering.{sent-few}
 use Rattle.two_ends.specs.Controlled.{Controlled, ControlledStep, begins_with, congestion_of, controlled, controls, happens_to, plays, said_by}
@@ -190,10 +191,10 @@ NeverFar =
     → length (plays kinds_control (begins_with kinds_control client server for_client for_server) events).world.server.frames < 2 ^ 23
     → happens_to kinds_control (plays kinds_control (begins_with kinds_control client server for_client for_server) events) next ≢ Err fault.FarShort
 
-pub never-far : NeverFar → (input : List ℕ) (event : Event) → ArePeers (performed input).last.client (performed input).last.server
-    → happens_to kinds_control (world_of (performed input).last) event ≢ Err fault.FarShort
-never-far never input event peers =
+pub never-far : NeverFar → (input : List ℕ) (event : Event) → happens_to kinds_control (world_of (performed input).last) event ≢ Err fault.FarShort
+never-far never input event =
     let last = (performed input).last in
+    let peers = peers-last input in
     let room = room-last (lines_of input) 1 0 first_play (record { few = tt; events = omega arith }) in
     let few = few-at last.client last.server last.world last.events room.few in
     subst

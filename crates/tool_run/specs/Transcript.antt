@@ -98,8 +98,8 @@ with_set side feature place values play =
 abbrev pub with_offered : Side → Feature → Place → Bool → Play → Play
 with_offered side feature place mandatory play = with_config side (offering (config_of play side) feature place mandatory) play
 
--- An event that takes place, or the fault of its line: it names no frame. (No schedule comes to a world without room for it. Some fault
--- has to be named for that, which the code does not have.)
+-- An event that takes place, or the fault of its line: it names no frame. (No schedule comes to a world without room for it, or to a frame
+-- that is far. Some fault has to be named for these, which the code does not have.)
 abbrev pub by_step : ℕ → Controlled Both → Event → Result (ControlledStep Both) WorldFault → Result Scene LineFault
 by_step number before event (Ok step) = Ok (record { number = number; before = before; event = event; step = step })
 by_step number before event (Err fault.NoSuchFrame) = Err no_such_frame

@@ -3,7 +3,7 @@ ghost use Rattle.std.specs.Prelude.{◌≡◌, ◌≢◌, ◌++◌, ℕ, List, S
 ghost use Rattle.ccid_two.specs.Kinds.{kinds_control};
 ghost use Rattle.two_ends.specs.Controlled.{happens_to, plays};
 ghost use Rattle.tool_run.specs.Scenes.{Scene, IsRun, scene_events, scene_text};
-ghost use Rattle.tool_run.specs.Transcript.{ArePeers, is_refused, performed, transcript, world_at_first, world_of};
+ghost use Rattle.tool_run.specs.Transcript.{is_refused, performed, transcript, world_at_first, world_of};
 ghost use Rattle.tool_run.specs.WorldLines.{end_lines};
 
 use ccid_two::Kinds;
@@ -31,10 +31,9 @@ pub fn no_schedule_fills_a_world()
 {}
 
 /// No line of a schedule names a frame whose short numbers could not be told where it arrives (own): the sides have sent
-/// too few. The two ends are configured as a client and a server whose fields fit, as they are before each line.
+/// too few. Lines before a line are an input too, so this is said of every event that is judged.
 pub fn no_schedule_meets_a_far_frame()
-    ensures { (input : List ℕ) (event : Event) → ArePeers (performed input).last.client (performed input).last.server
-        → happens_to kinds_control (world_of (performed input).last) event ≢ Err WorldFault.FarShort }
+    ensures { (input : List ℕ) (event : Event) → happens_to kinds_control (world_of (performed input).last) event ≢ Err WorldFault.FarShort }
 {
     few_frames_are_never_far::<Kinds>();
 }

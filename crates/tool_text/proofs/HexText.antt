@@ -1,7 +1,8 @@
--- Bytes in hexadecimal, block by block.
-use Rattle.std.proofs.Common.{◌≡◌, refl, sym, ap, ◌∙◌, ℕ, List, [], ◌∷◌, ◌++◌, ◌/◌, ◌%◌, length, append_assoc, arith}
-use Rattle.std.proofs.lemmas.List.{append-nil}
-use Rattle.std.specs.Prelude.{slice_index}
+-- Bytes in hexadecimal, byte by byte and block by block.
+use Rattle.std.proofs.Common.{◌≡◌, refl, sym, ap, ◌∙◌, ℕ, zero, suc, ◌+◌, ◌-◌, ◌*◌, ◌<◌, ◌≤◌, List, [], ◌∷◌, ◌++◌, ◌/◌, ◌%◌, length, take, get_or, append_assoc, arith}
+use Rattle.std.proofs.lemmas.Grind.{common_steps}
+use Rattle.std.proofs.lemmas.List.{append-nil, take_more, take_more_set}
+use Rattle.std.specs.Prelude.{slice_index, slice_set}
 use Rattle.hex.specs.Hex.{encode_with, encode_lower, lower_digits}
 
 pub encode-append : (first rest : List ℕ) → encode_lower (first ++ rest) ≡ encode_lower first ++ encode_lower rest
@@ -10,7 +11,7 @@ encode-append [] rest = refl
 encode-append (byte ∷ first) rest =
     ap (λ (digits : List ℕ). slice_index lower_digits (byte / 16) ∷ slice_index lower_digits (byte % 16) ∷ digits) (encode-append first rest)
 
-encode-none : encode_lower [] ≡ []
+pub encode-none : encode_lower [] ≡ []
 unfolding encode_with
 encode-none = refl
 
@@ -27,3 +28,68 @@ block-put before after all block rest digits whole parts put is same =
 pub all-put : (before rest whole : List ℕ) → length rest ≡ 0 → before ++ encode_lower rest ≡ whole → before ≡ whole
 all-put before [] whole none same = sym (append-nil before) ∙ ap (λ (more : List ℕ). before ++ more) (sym encode-none) ∙ same
 all-put before (byte ∷ rest) whole none same = absurd (omega arith)
+
+-- the ten figures, and the six letters
+
+pub figure : (value : ℕ) → value < 10 → value + 48 ≡ slice_index lower_digits value
+figure zero small = refl
+figure (suc zero) small = refl
+figure (suc (suc zero)) small = refl
+figure (suc (suc (suc zero))) small = refl
+figure (suc (suc (suc (suc zero)))) small = refl
+figure (suc (suc (suc (suc (suc zero))))) small = refl
+figure (suc (suc (suc (suc (suc (suc zero)))))) small = refl
+figure (suc (suc (suc (suc (suc (suc (suc zero))))))) small = refl
+figure (suc (suc (suc (suc (suc (suc (suc (suc zero)))))))) small = refl
+figure (suc (suc (suc (suc (suc (suc (suc (suc (suc zero))))))))) small = refl
+figure (suc (suc (suc (suc (suc (suc (suc (suc (suc (suc value)))))))))) small = absurd (omega arith)
+
+letter-by : (over : ℕ) → over < 6 → over + 97 ≡ slice_index lower_digits (over + 10)
+letter-by zero small = refl
+letter-by (suc zero) small = refl
+letter-by (suc (suc zero)) small = refl
+letter-by (suc (suc (suc zero))) small = refl
+letter-by (suc (suc (suc (suc zero)))) small = refl
+letter-by (suc (suc (suc (suc (suc zero))))) small = refl
+letter-by (suc (suc (suc (suc (suc (suc over)))))) small = absurd (omega arith)
+
+pub letter : (value : ℕ) → value < 16 → 10 ≤ value → value + 87 ≡ slice_index lower_digits value
+letter value small large =
+    let over : value ≡ value - 10 + 10 = omega arith in
+    let same : value + 87 ≡ value - 10 + 97 = omega arith in
+    same ∙ letter-by (value - 10) (omega arith) ∙ ap (λ (n : ℕ). slice_index lower_digits n) (sym over)
+
+-- one byte further
+encode-one : (byte : ℕ) → encode_lower (byte ∷ []) ≡ slice_index lower_digits (byte / 16) ∷ slice_index lower_digits (byte % 16) ∷ []
+unfolding encode_with
+encode-one byte = refl
+
+pub one_encoded : (bytes room : List ℕ) (place high low : ℕ) → length room ≡ 2 * length bytes → place < length bytes
+    → take (2 * place) room ≡ encode_lower (take place bytes) → high ≡ slice_index lower_digits (get_or bytes place 0 / 16)
+    → low ≡ slice_index lower_digits (get_or bytes place 0 % 16)
+    → take (2 * (place + 1)) (slice_set (slice_set room (2 * place) high) (2 * place + 1) low) ≡ encode_lower (take (place + 1) bytes)
+one_encoded bytes room place high low sized within done first second =
+    let byte : ℕ = get_or bytes place 0 in
+    let some : List ℕ = slice_set room (2 * place) high in
+    let same : length some ≡ length room = grind (arith, common_steps) in
+    let front : List ℕ = encode_lower (take place bytes) in
+    let count : 2 * (place + 1) ≡ 2 * place + 1 + 1 = omega arith in
+    ap (λ (n : ℕ). take n (slice_set some (2 * place + 1) low)) count
+    ∙ take_more_set some (2 * place + 1) low (omega arith)
+    ∙ ap (λ (text : List ℕ). text ++ (low ∷ [])) (take_more_set room (2 * place) high (omega arith))
+    ∙ ap (λ (text : List ℕ). (text ++ (high ∷ [])) ++ (low ∷ [])) done
+    ∙ append_assoc front (high ∷ []) (low ∷ [])
+    ∙ ap (λ (n : ℕ). front ++ (n ∷ (low ∷ []))) first
+    ∙ ap (λ (n : ℕ). front ++ (slice_index lower_digits (byte / 16) ∷ (n ∷ []))) second
+    ∙ ap (λ (text : List ℕ). front ++ text) (sym (encode-one byte))
+    ∙ sym (encode-append (take place bytes) (byte ∷ []))
+    ∙ ap encode_lower (sym (take_more bytes place 0 within))
+
+take-whole : (xs : List ℕ) (count : ℕ) → length xs ≤ count → take count xs ≡ xs
+take-whole xs count many = grind (arith, common_steps)
+
+-- no byte is left
+pub all_encoded : (bytes room : List ℕ) (place : ℕ) → length room ≡ 2 * length bytes → length bytes ≤ place
+    → take (2 * place) room ≡ encode_lower (take place bytes) → room ≡ encode_lower bytes
+all_encoded bytes room place sized over done =
+    sym (take-whole room (2 * place) (omega arith)) ∙ done ∙ ap encode_lower (take-whole bytes place over)

@@ -4,6 +4,7 @@
 //! a whole line cuts the text there again.
 #![tactic(auto)]
 
+mod hexadecimal;
 mod names;
 mod numbers;
 mod text;

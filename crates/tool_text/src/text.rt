@@ -5,6 +5,7 @@ ghost use Rattle.std.specs.Prelude.{◌≡◌, ◌++◌, decimal, OnOk, OnErr};
 ghost use Rattle.hex.specs.Hex.{encode_lower};
 ghost use Rattle.tool_text.specs.Text.{Keeps, labelled_number, hex_or_dash, v4_text};
 
+use crate::hexadecimal::encode;
 use itoa::Buffer;
 use seq_circle::NoMemory;
 
@@ -60,10 +61,8 @@ pub fn put_hex(text: &mut Vec<u8>, bytes: &[u8]) -> Result<(), NoMemory>
     let mut digits = [0u8; 2 * BLOCK];
     for block in bytes.chunks(BLOCK) {
         let room = &mut digits[..2 * block.len()];
-        match hex::encode_to_slice(block, room) {
-            Ok(()) => put(text, room)?,
-            Err(_) => unreachable!(),
-        }
+        encode(block, room);
+        put(text, room)?;
     }
     Ok(())
 }

@@ -29,7 +29,7 @@ use std::marker::Model;
 /// settled, and each value was given to them; each number is processed once, each Ack Vector that was ever sent tells
 /// just what its sender had processed, and a floor passes a number only where the other side was told of it or it lies
 /// more than 2,047 below one that was processed; and what an end believes received, by its congestion control, the
-/// other one processed.
+/// other one processed. A frame with short numbers arrives only while these can be told, and is refused otherwise.
 ///
 /// The facts: a side's frames, but for Resets without a connection, carry its first number, the next, and so on up to
 /// its greatest number sent, in this order (RFC 4340, section 7.1); there are fewer than 2^47. The bytes of each frame

@@ -12,9 +12,9 @@ loop-block-preserved c =
       tt,
       steps.0 ∙ c.loop-block.invariant.2,
       keeps_through c.args.text.now.items c.loop-block.text.items c.put.new.text.items c.loop-block.invariant.3
-          (keeps_more c.loop-block.text.items c.encode_to_slice.new.output c.put.new.text.items c.in_ok-put-in-Ok.ensures.ok),
+          (keeps_more c.loop-block.text.items c.encode.new.room c.put.new.text.items c.in_ok-put.ensures.ok),
       block-put c.loop-block.text.items c.put.new.text.items (chunks_rest c.loop-block.block-iterator) c.in-Some.block.now (chunks_rest c.next.new.self)
-          c.encode_to_slice.new.output (c.args.text.now.items ++ encode_lower c.args.bytes.now) steps.1.0 c.in_ok-put-in-Ok.ensures.ok c.in-Ok.ensures.written
+          c.encode.new.room (c.args.text.now.items ++ encode_lower c.args.bytes.now) steps.1.0 c.in_ok-put.ensures.ok c.encode.ensures
           c.loop-block.invariant.4,
     )
 

@@ -1,0 +1,150 @@
+-- A map that is ordered by flows has the number of each that was seen: one that is the same to the order is the same flow, and one more is
+-- found under the next number, and all others as before.
+use Rattle.std.proofs.Common.{◌≡◌, refl, sym, ap, ◌∙◌, subst, arith, ℕ, suc, ◌+◌, ◌==◌, Bool, true, false, ◌&&◌, ◌||◌, cond, if◌then◌else◌, List, [], ◌∷◌, ◌++◌, length, Option, Some, None, eqb-true, eq-eqb}
+use Rattle.std.proofs.lemmas.Bool.{and_parts}
+use Rattle.std.proofs.lemmas.Iterator.Adapters.{position_from-zero}
+use Rattle.std.specs.Prelude.{is_some, position}
+use Rattle.std.specs.BTreeMap.{is_at}
+use Rattle.std.specs.Cmp.{both_tied, unsigned_ties}
+use Rattle.std.specs.List.{list_any, position_from}
+use Rattle.std.specs.Map.{lookup}
+use Rattle.std.specs.Option.{option_map}
+use Rattle.std.specs.Ordering.{is_eq, nat_cmp, ordering_then}
+use Rattle.packet_show.specs.Flows.{AddressAndPort, Flow, HasNumbers, end_cmp, flow_cmp, flow_number, flow_number_at, number_if_seen, same_end, same_flow, with_flow}
+
+-- what the order calls the same is the same flow
+
+and-assoc : (a b c : Bool) → ((a && b) && c) ≡ (a && (b && c))
+and-assoc true b c = refl
+and-assoc false b c = refl
+
+end-tied : (a b : AddressAndPort) → same_end a b ≡ is_eq (end_cmp a b)
+end-tied a b =
+    both_tied (a.0 == b.0) (a.1 == b.1) (nat_cmp a.0 b.0) (nat_cmp a.1 b.1) (unsigned_ties a.0 b.0) (unsigned_ties a.1 b.1)
+
+tied : (a b : Flow) → is_at (flow_cmp a) b ≡ same_flow a b
+tied a b =
+    sym (both_tied (a.0 == b.0 && same_end a.1 b.1) (same_end a.2 b.2) (ordering_then (nat_cmp a.0 b.0) (end_cmp a.1 b.1)) (end_cmp a.2 b.2)
+    (both_tied (a.0 == b.0) (same_end a.1 b.1) (nat_cmp a.0 b.0) (end_cmp a.1 b.1) (unsigned_ties a.0 b.0) (end-tied a.1 b.1))
+    (end-tied a.2 b.2))
+    ∙ and-assoc (a.0 == b.0) (same_end a.1 b.1) (same_end a.2 b.2)
+
+one-end : (a b : AddressAndPort) → same_end a b ≡ true → a ≡ b
+one-end a b is =
+    let both = and_parts (a.0 == b.0) (a.1 == b.1) is in
+    let address : a.0 ≡ b.0 = eqb-true a.0 b.0 both.0 in
+    let port : a.1 ≡ b.1 = eqb-true a.1 b.1 both.1 in
+    λ i. (address i, port i)
+
+one-flow : (a b : Flow) → same_flow a b ≡ true → a ≡ b
+one-flow a b is =
+    let all = and_parts (a.0 == b.0) (same_end a.1 b.1 && same_end a.2 b.2) is in
+    let ends = and_parts (same_end a.1 b.1) (same_end a.2 b.2) all.1 in
+    let version : a.0 ≡ b.0 = eqb-true a.0 b.0 all.0 in
+    let lesser : a.1 ≡ b.1 = one-end a.1 b.1 ends.0 in
+    let other : a.2 ≡ b.2 = one-end a.2 b.2 ends.1 in
+    λ i. (version i, lesser i, other i)
+
+and-true : (a b : Bool) → a ≡ true → b ≡ true → (a && b) ≡ true
+and-true true b one other = other
+and-true false b one other = cc one
+
+end-itself : (a : AddressAndPort) → same_end a a ≡ true
+end-itself a = and-true (a.0 == a.0) (a.1 == a.1) (eq-eqb a.0 a.0 refl) (eq-eqb a.1 a.1 refl)
+
+itself : (a : Flow) → same_flow a a ≡ true
+itself a =
+    and-true (a.0 == a.0) (same_end a.1 a.1 && same_end a.2 a.2) (eq-eqb a.0 a.0 refl)
+    (and-true (same_end a.1 a.1) (same_end a.2 a.2) (end-itself a.1) (end-itself a.2))
+
+turned : (a b : Flow) → same_flow a b ≡ false → same_flow b a ≡ false
+turned a b is = by (same_flow b a) refl where
+  by : (same : Bool) → same_flow b a ≡ same → same_flow b a ≡ false
+  by true so =
+      let one : same_flow a b ≡ true = subst (λ (x : Flow). same_flow x b ≡ true) (one-flow b a so) (itself b) in
+      cc (is, one)
+  by false so = so
+
+-- the place of a flow in a list, by a test
+
+pushed : (t : Flow → Bool) (i : ℕ) (xs : List Flow) (y : Flow) → t y ≡ true → position_from t i xs ≡ None
+    → position_from t i (xs ++ y ∷ []) ≡ Some (i + length xs)
+pushed t i [] y same none =
+    let here : i ≡ i + 0 = omega arith in
+    ap (λ (b : Bool). cond b (Some i) None) same ∙ ap Some here
+pushed t i (x ∷ xs) y same none = by (t x) (pushed t (i + 1) xs y same) none where
+  by : (b : Bool) → (position_from t (i + 1) xs ≡ None → position_from t (i + 1) (xs ++ y ∷ []) ≡ Some (i + 1 + length xs))
+      → cond b (Some i) (position_from t (i + 1) xs) ≡ None → cond b (Some i) (position_from t (i + 1) (xs ++ y ∷ [])) ≡ Some (i + suc (length xs))
+  by true more found = cc found
+  by false more later =
+      let further : i + 1 + length xs ≡ i + suc (length xs) = omega arith in
+      more later ∙ ap Some further
+
+passed : (t : Flow → Bool) (i : ℕ) (xs : List Flow) (y : Flow) → t y ≡ false
+    → position_from t i (xs ++ y ∷ []) ≡ position_from t i xs
+passed t i [] y differs = ap (λ (b : Bool). cond b (Some i) None) differs
+passed t i (x ∷ xs) y differs = ap (λ (r : Option ℕ). cond (t x) (Some i) r) (passed t (i + 1) xs y differs)
+
+shifted : (t : Flow → Bool) (i : ℕ) (xs : List Flow) → position_from t (i + 1) xs ≡ option_map (λ n. n + 1) (position_from t i xs)
+shifted t i [] = refl
+shifted t i (x ∷ xs) = by (t x) (shifted t (i + 1) xs) where
+  by : (b : Bool) → position_from t (i + 1 + 1) xs ≡ option_map (λ n. n + 1) (position_from t (i + 1) xs)
+      → cond b (Some (i + 1)) (position_from t (i + 1 + 1) xs) ≡ option_map (λ n. n + 1) (cond b (Some i) (position_from t (i + 1) xs))
+  by true rest = refl
+  by false rest = rest
+
+any-found : (t : Flow → Bool) (i : ℕ) (xs : List Flow) → is_some (position_from t i xs) ≡ list_any t xs
+any-found t i [] = refl
+any-found t i (x ∷ xs) = by (t x) (any-found t (i + 1) xs) where
+  by : (b : Bool) → is_some (position_from t (i + 1) xs) ≡ list_any t xs
+      → is_some (cond b (Some i) (position_from t (i + 1) xs)) ≡ (b || list_any t xs)
+  by true rest = refl
+  by false rest = rest
+
+-- the number of a flow
+
+placed : (flow : Flow) (seen : List Flow) → number_if_seen flow seen ≡ option_map (λ n. n + 1) (position (same_flow flow) seen)
+placed flow seen =
+    shifted (same_flow flow) 0 seen ∙ ap (option_map (λ n. n + 1)) (sym (position_from-zero (same_flow flow) seen))
+
+pub numbered_so : (flow : Flow) (seen : List Flow) (number : ℕ) → number_if_seen flow seen ≡ Some number → number ≡ flow_number flow seen
+numbered_so flow seen number is = by (position (same_flow flow) seen) (sym (placed flow seen) ∙ is) where
+  by : (place : Option ℕ) → option_map (λ n. n + 1) place ≡ Some number → number ≡ flow_number_at place seen
+  by (Some place) found = cc found
+  by None found = cc found
+
+pub next_so : (flow : Flow) (seen : List Flow) → number_if_seen flow seen ≡ None → length seen + 1 ≡ flow_number flow seen
+next_so flow seen is = by (position (same_flow flow) seen) (sym (placed flow seen) ∙ is) where
+  by : (place : Option ℕ) → option_map (λ n. n + 1) place ≡ None → length seen + 1 ≡ flow_number_at place seen
+  by (Some place) found = cc found
+  by None found = refl
+
+-- a flow is noted
+
+pub noted_before : (flow : Flow) (seen : List Flow) (number : ℕ) → number_if_seen flow seen ≡ Some number → seen ≡ with_flow flow seen
+noted_before flow seen number is =
+    sym (ap (λ (b : Bool). if b then seen else seen ++ flow ∷ []) (sym (any-found (same_flow flow) 1 seen) ∙ ap is_some is))
+
+pub noted_now : (flow : Flow) (seen : List Flow) → number_if_seen flow seen ≡ None → seen ++ flow ∷ [] ≡ with_flow flow seen
+noted_now flow seen is =
+    sym (ap (λ (b : Bool). if b then seen else seen ++ flow ∷ []) (sym (any-found (same_flow flow) 1 seen) ∙ ap is_some is))
+
+pub numbers_now : (flow : Flow) (before after : List (Flow × ℕ)) (seen : List Flow) → HasNumbers before seen → number_if_seen flow seen ≡ None
+    → ((q : Flow) → lookup (is_at (flow_cmp q)) after ≡ cond (is_at (flow_cmp flow) q) (Some (length seen + 1)) (lookup (is_at (flow_cmp q)) before))
+    → HasNumbers after (seen ++ flow ∷ [])
+numbers_now flow before after seen has none updates q = by (is_at (flow_cmp flow) q) refl where
+  by : (same : Bool) → is_at (flow_cmp flow) q ≡ same → lookup (is_at (flow_cmp q)) after ≡ number_if_seen q (seen ++ flow ∷ [])
+  by true is =
+      let one : flow ≡ q = one-flow flow q (sym (tied flow q) ∙ is) in
+      let next : length seen + 1 ≡ 1 + length seen = omega arith in
+      updates q
+      ∙ ap (λ (b : Bool). cond b (Some (length seen + 1)) (lookup (is_at (flow_cmp q)) before)) is
+      ∙ ap Some next
+      ∙ sym (subst (λ (x : Flow). number_if_seen x (seen ++ flow ∷ []) ≡ Some (1 + length seen)) one
+      (pushed (same_flow flow) 1 seen flow (itself flow) none))
+  by false is =
+      let apart : same_flow q flow ≡ false = turned flow q (sym (tied flow q) ∙ is) in
+      updates q
+      ∙ ap (λ (b : Bool). cond b (Some (length seen + 1)) (lookup (is_at (flow_cmp q)) before)) is
+      ∙ has q
+      ∙ sym (passed (same_flow q) 1 seen flow apart)
