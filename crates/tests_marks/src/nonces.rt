@@ -342,6 +342,14 @@ fn first_other_event(world: &mut EcnWorld, happenings: &[Happening]) -> Option<u
     None
 }
 
+// The first report has this number, type and bytes.
+fn is_first_report(world: &EcnWorld, ack: u64, kind: u8, bytes: &[u8]) -> bool {
+    let Some((number, its_kind, its_bytes)) = world.report(0) else {
+        return false;
+    };
+    number.get() == ack && its_kind == kind && its_bytes == bytes
+}
+
 // Lets these events happen, and then asks for the first report.
 fn happen(
     alloc: Global,
@@ -354,11 +362,10 @@ fn happen(
     if let Some(place) = first_other_event(&mut world, happenings) {
         return Err(Fail::new(format_args!("event {place}")));
     }
-    match world.report(0) {
-        Some((number, its_kind, its_bytes))
-            if number.get() == ack && its_kind == kind && its_bytes == bytes => { Ok(()) }
-        _ => Err(Fail::new(format_args!("the report"))),
+    if !is_first_report(&world, ack, kind, bytes) {
+        return Err(Fail::new(format_args!("the report")));
     }
+    Ok(())
 }
 
 const NONCES_CHECKED: [Happening; 12] = [
