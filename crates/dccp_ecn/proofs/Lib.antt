@@ -1,0 +1,10 @@
+pub mod ByPieces
+pub mod Checks
+pub mod Kept
+pub mod Ledgers
+pub mod Receipts
+pub mod Refusing
+pub mod Running
+pub mod Sums
+pub mod Taking
+pub mod Zeros
