@@ -3,3 +3,4 @@ pub mod EventTelling
 pub mod Room
 pub mod Judging
 pub mod Running
+pub mod Versions
