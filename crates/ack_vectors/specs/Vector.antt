@@ -106,14 +106,6 @@ is_whole_under has floor ack vectors = is_whole_within (room_of vectors) (set_st
 abbrev pub numbers_told_under : (ℕ → Bool) → ℕ → ℕ → Vectors → ℕ
 numbers_told_under has floor ack vectors = numbers_told_within (room_of vectors) (set_states has) floor ack
 
--- the same in one option
-abbrev pub vector : (ℕ → Bool) → ℕ → ℕ → List ℕ
-vector has floor ack = vector_under has floor ack One
-
--- the vector of a set in one option is whole
-abbrev pub is_whole : (ℕ → Bool) → ℕ → ℕ → Bool
-is_whole has floor ack = is_whole_under has floor ack One
-
 -- The data of the options that carry a vector, in their order: one option where it has room for all bytes, the empty
 -- vector's too, and otherwise a full one and a second with what is left (own).
 abbrev pub option_data : List ℕ → List (List ℕ)

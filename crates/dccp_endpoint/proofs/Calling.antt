@@ -39,11 +39,11 @@ use Rattle.dccp_endpoint.specs.Turns.{Key, offerings, sendings, turn_of}
 use Rattle.end_answers.specs.declared.calls.SendFault.TheVariants as send
 use Rattle.end_answers.specs.declared.calls.Timer.{Timer}
 use Rattle.end_answers.specs.declared.calls.Timer.TheVariants as timers
-use Rattle.dccp_endpoint.proofs.Deriving.{Ready, ack-caused, calling-caused, data-ack-caused, front_of, has-by, left, next-caused, offered_keys, offered_turns, offering, plain-caused, quiet, rest, silent-caused, wide, wide-proper, widened}
+use Rattle.dccp_endpoint.proofs.Deriving.{Ready, ack-caused, calling-caused, data-ack-caused, front_of, front-short, has-by, left, next-caused, offered_keys, offered_turns, offering, plain-caused, quiet, rest, silent-caused, wide, wide-proper, widened}
 use Rattle.dccp_endpoint.proofs.Lawful.{offered-sound, rows-kept}
 use Rattle.dccp_endpoint.proofs.OwnFrames.{alone-sendable}
 use Rattle.dccp_endpoint.proofs.Phases.{open-is}
-use Rattle.dccp_endpoint.proofs.Room.{asking-few, due-few, front-confirming-sendable, front-saying-sendable, no-confirms, saying-sendable, vector-front}
+use Rattle.dccp_endpoint.proofs.Room.{asking-few, due-few, front-confirming-sendable, front-asking-sendable, no-confirms, saying-sendable}
 use Rattle.dccp_endpoint.proofs.Tables.{numbered-code}
 use Rattle.dccp_endpoint.proofs.Walking.{receives-told}
 
@@ -122,7 +122,7 @@ module _ (o : EndState) (given : Input) (proper : IsProper (wide o)) where
 
   ack-has : is_connected e.phase ≡ true → Has e given (sends_ack e (alone (kind.Ack (Long e.marks.gsr))) true)
   ack-has connected = has-by (ack-caused (rest proper) quiet []
-      (front-confirming-sendable (kind.Ack (Long e.marks.gsr)) (front_of (rest {given = given} proper) []) [] refl tt refl (vector-front _ _ _) no-confirms)
+      (front-confirming-sendable (kind.Ack (Long e.marks.gsr)) (front_of (rest {given = given} proper) []) [] refl tt refl (front-short (rest {given = given} proper) []) no-confirms)
       refl (inl refl) connected refl)
 
   -- A Request: all offers come up, and the Changes go out of all rows that ask then.
@@ -151,8 +151,8 @@ module _ (o : EndState) (given : Input) (proper : IsProper (wide o)) where
       let kept = rows-kept proper turns in
       subst (λ (ks : List Key). Has e given (asks_now e ks true)) is
       (has-by (ack-caused (rest proper) (repeating in_flight fired) (change_items rows (due_keys e.rows))
-      (front-saying-sendable (kind.Ack (Long e.marks.gsr)) (front_of (rest {given = given} proper) (sendings (next_number e) (due_keys e.rows))) [] rows
-      (due_keys e.rows) refl tt refl (vector-front _ _ _) no-confirms kept.sound (due-few e.rows proper.rows.sound))
+      (front-asking-sendable (kind.Ack (Long e.marks.gsr)) (front_of (rest {given = given} proper) (sendings (next_number e) (due_keys e.rows))) rows
+      (due_keys e.rows) refl tt refl (front-short (rest {given = given} proper) (sendings (next_number e) (due_keys e.rows))) kept.sound (due-few e.rows proper.rows.sound))
       refl (inl refl) connected refl))
 
   -- prefer
@@ -162,9 +162,9 @@ module _ (o : EndState) (given : Input) (proper : IsProper (wide o)) where
       let rows : List Row = turned e.rows (turn_of k (event.Prefers wish) ∷ sendings (next_number e) (k ∷ [])) in
       let kept = rows-kept proper (preferring-now {e = e} k values wish called is now) in
       has-by (ack-caused (rest proper) (preferring-now k values wish called is now) (change_items rows (k ∷ []))
-      (front-saying-sendable (kind.Ack (Long e.marks.gsr))
-      (front_of (rest {given = given} proper) (turn_of k (event.Prefers wish) ∷ sendings (next_number e) (k ∷ []))) [] rows (k ∷ []) refl tt refl
-      (vector-front _ _ _) no-confirms kept.sound (omega arith)) refl (inl refl) connected refl)
+      (front-asking-sendable (kind.Ack (Long e.marks.gsr))
+      (front_of (rest {given = given} proper) (turn_of k (event.Prefers wish) ∷ sendings (next_number e) (k ∷ []))) rows (k ∷ []) refl tt refl
+      (front-short (rest {given = given} proper) (turn_of k (event.Prefers wish) ∷ sendings (next_number e) (k ∷ []))) kept.sound (omega arith)) refl (inl refl) connected refl)
   preferred-has k values called connected wish is false later =
       has-by (silent-caused (rest proper) e.owed e.unacked (preferring-later k values wish called is later) refl refl refl (λ so. so))
 
@@ -240,7 +240,7 @@ module _ (o : EndState) (given : Input) (proper : IsProper (wide o)) where
       → Has e given (with_calls (call.Sends (next_number e) ∷ []) (sends_data e payload owed))
   data-has payload called in_open fits true =
       let packet : Kind = kind.DataAck (Long e.marks.gsr) in
-      let empty = front-confirming-sendable packet (front_of (rest {given = given} proper) []) [] refl tt refl (vector-front _ _ _) no-confirms in
+      let empty = front-confirming-sendable packet (front_of (rest {given = given} proper) []) [] refl tt refl (front-short (rest {given = given} proper) []) no-confirms in
       has-by (calling-caused (CallsSent payload called in_open refl)
       (data-ack-caused (rest proper) payload
       (record { is_long = empty.is_long; detail = empty.detail; items = empty.items; on_data = empty.on_data; area = empty.area; data_fits = fits })

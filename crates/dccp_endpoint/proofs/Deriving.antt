@@ -33,6 +33,7 @@ use Rattle.dccp_endpoint.specs.Steps.{Step, next_number}
 use Rattle.dccp_endpoint.specs.Turns.{Key, offerings, sendings}
 use Rattle.end_answers.specs.declared.outcome.Outcome.{Outcome}
 use Rattle.dccp_endpoint.proofs.OwnFrames.{alone-sendable}
+use Rattle.dccp_endpoint.proofs.Room.{IsFront, vector-front}
 
 -- the end with windows as wide as its rows say
 abbrev pub wide : EndState → EndState
@@ -170,7 +171,7 @@ effect_with turns h ack opens ph called looked owed unacked s =
 -- A packet that is no Ack and no DataAck has no Ack Vector.
 pub no-vector : (e : EndState) (f : Effect) (k : Kind) → is_acking (packet_type k) ≡ false → [] ≡ vector_of e f k
 no-vector e f k other =
-    ap (λ (acks : Bool). vector_items (acks && sends_vectors (rows_by e.rows f)) (told_by e.received f).set (greatest_by e.marks.gsr f.hearing)) (sym other)
+    ap (λ (acks : Bool). vector_items (acks && sends_vectors (rows_by e.rows f)) e.config.vectors (told_by e.received f).set (greatest_by e.marks.gsr f.hearing)) (sym other)
 
 module _ {e : EndState} {given : Input} {h : Hearing} {ack : Option ℕ} {opens : Bool} {ph : Phase} {called : Bool} {looked : Option ℕ}
     (ready : Ready e given h ack opens ph called looked) where
@@ -220,7 +221,11 @@ module _ {e : EndState} {given : Input} {h : Hearing} {ack : Option ℕ} {opens 
 
   -- the Ack Vector of what was received, and the Ack that goes out
   abbrev pub front_of : List Turn → List Item
-  front_of turns = vector_items (sends_vectors (turned e.rows turns)) (looked_by (heard_by e.received h) looked).set (greatest_by e.marks.gsr h)
+  front_of turns = vector_items (sends_vectors (turned e.rows turns)) e.config.vectors (looked_by (heard_by e.received h) looked).set (greatest_by e.marks.gsr h)
+
+  abbrev pub front-short : (turns : List Turn) → IsFront (front_of turns)
+  front-short turns =
+      vector-front (sends_vectors (turned e.rows turns)) e.config.vectors (looked_by (heard_by e.received h) looked).set (greatest_by e.marks.gsr h)
 
   abbrev pub ack_with : List Turn → List Item → Draft
   ack_with turns options = record { kind = kind.Ack (Long (greatest_by e.marks.gsr h)); options = front_of turns ++ options; payload = [] }

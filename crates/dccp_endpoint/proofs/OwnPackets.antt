@@ -4,9 +4,10 @@ use Rattle.std.proofs.Common.{◌≡◌, ◌==◌, ◌&&◌, ◌||◌, ◌≤◌
 use Rattle.std.specs.Prelude.{if◌then◌else◌}
 use Rattle.std.proofs.lemmas.Bool.{cond-false, cond-true, eq-eqb, eqb-false, ne_eqb}
 use Rattle.std.proofs.Common.{eqb-true}
-use Rattle.ack_vectors.specs.Vector.{vector}
+use Rattle.ack_vectors.specs.Vector.{option_data, vector_under}
+use Rattle.ack_vectors.specs.declared.room.Vectors.{Vectors}
+use Rattle.dccp_endpoint.specs.Reporting.{vector_item, vector_items}
 use Rattle.dccp_options.specs.Grammar.{Entry}
-use Rattle.dccp_options.specs.Kinds as options
 use Rattle.dccp_options.specs.Written.{Item, entries_at, mark, spelled}
 use Rattle.dccp_options.specs.declared.option.OptFault.{OptFault}
 use Rattle.feature_lists.specs.Features.{feature_number}
@@ -141,21 +142,41 @@ module _ (ack : Option ℕ) (rows : List Row) (k : Key) where
           cond-false (speaks_to (theirs k) entry) (event_in ack entry ∷ []) (said_to true ack (theirs k) later) speaks ∙ others
 
 -- where the options behind the Ack Vector stand, if there is one
-abbrev behind_vector : Bool → MarkedSet → ℕ → ℕ
-behind_vector true set greatest = behind 0 (record { mandatory = false; kind = options.ack_vector_0; body = vector (has set.numbers) set.floor greatest })
-behind_vector false set greatest = 0
+abbrev behind_parts : ℕ → List (List ℕ) → ℕ
+behind_parts place [] = place
+behind_parts place (part ∷ parts) = behind_parts (behind place (vector_item part)) parts
+
+-- the data of the options of the Ack Vector, if there is one
+abbrev pub vector_parts : Bool → Vectors → MarkedSet → ℕ → List (List ℕ)
+vector_parts true vectors set greatest = option_data (vector_under (has set.numbers) set.floor greatest vectors)
+vector_parts false vectors set greatest = []
+
+abbrev behind_vector : Bool → Vectors → MarkedSet → ℕ → ℕ
+behind_vector has_vector vectors set greatest = behind_parts 0 (vector_parts has_vector vectors set greatest)
+
+pub parts-are : (has_vector : Bool) (vectors : Vectors) (set : MarkedSet) (greatest : ℕ)
+    → vector_items has_vector vectors set greatest ≡ map vector_item (vector_parts has_vector vectors set greatest)
+parts-are true vectors set greatest = refl
+parts-are false vectors set greatest = refl
 
 -- An Ack Vector speaks to no row.
-vector-says-nothing : (ack : Option ℕ) (has_vector : Bool) (set : MarkedSet) (greatest : ℕ) (confirms : List Due) (rows : List Row) (keys : List Key) (k : Key)
-    → said_to true ack (theirs k) (as_read 0 (own_options has_vector set greatest confirms rows keys))
-    ≡ said_to true ack (theirs k) (as_read (behind_vector has_vector set greatest) (confirm_items confirms ++ change_items rows keys))
-vector-says-nothing ack true set greatest confirms rows keys k = refl
-vector-says-nothing ack false set greatest confirms rows keys k = refl
+parts-say-nothing : (ack : Option ℕ) (place : ℕ) (parts : List (List ℕ)) (items : List Item) (k : Key)
+    → said_to true ack (theirs k) (as_read place (map vector_item parts ++ items)) ≡ said_to true ack (theirs k) (as_read (behind_parts place parts) items)
+parts-say-nothing ack place [] items k = refl
+parts-say-nothing ack place (part ∷ parts) items k = parts-say-nothing ack (behind place (vector_item part)) parts items k
+
+vector-says-nothing : (ack : Option ℕ) (has_vector : Bool) (vectors : Vectors) (set : MarkedSet) (greatest : ℕ) (confirms : List Due) (rows : List Row) (keys : List Key) (k : Key)
+    → said_to true ack (theirs k) (as_read 0 (own_options has_vector vectors set greatest confirms rows keys))
+    ≡ said_to true ack (theirs k) (as_read (behind_vector has_vector vectors set greatest) (confirm_items confirms ++ change_items rows keys))
+vector-says-nothing ack has_vector vectors set greatest confirms rows keys k =
+    ap (λ (front : List Item). said_to true ack (theirs k) (as_read 0 (front ++ (confirm_items confirms ++ change_items rows keys))))
+    (parts-are has_vector vectors set greatest)
+    ∙ parts-say-nothing ack 0 (vector_parts has_vector vectors set greatest) (confirm_items confirms ++ change_items rows keys) k
 
 -- the law on what own packets say
 pub own_packets_say : OwnPacketsSayOfARow
-own_packets_say = λ ack has_vector set greatest confirms rows keys k.
-    vector-says-nothing ack has_vector set greatest confirms rows keys k ∙ all-said ack rows k confirms keys (behind_vector has_vector set greatest)
+own_packets_say = λ ack has_vector vectors set greatest confirms rows keys k.
+    vector-says-nothing ack has_vector vectors set greatest confirms rows keys k ∙ all-said ack rows k confirms keys (behind_vector has_vector vectors set greatest)
 
 module _ (rows : List Row) (k : Key) where
   changes-times : (keys : List Key) (place : ℕ) → AreDistinct keys
@@ -192,18 +213,25 @@ module _ (rows : List Row) (k : Key) where
       let later = all-times rest keys (behind place (confirm_item due)) distinct in
       omega (arith, now, later)
 
-vector-never-speaks : (has_vector : Bool) (set : MarkedSet) (greatest : ℕ) (confirms : List Due) (rows : List Row) (keys : List Key) (k : Key)
-    → times_said_to (theirs k) (as_read 0 (own_options has_vector set greatest confirms rows keys))
-    ≡ times_said_to (theirs k) (as_read (behind_vector has_vector set greatest) (confirm_items confirms ++ change_items rows keys))
-vector-never-speaks true set greatest confirms rows keys k = omega arith
-vector-never-speaks false set greatest confirms rows keys k = refl
+parts-never-speak : (place : ℕ) (parts : List (List ℕ)) (items : List Item) (k : Key)
+    → times_said_to (theirs k) (as_read place (map vector_item parts ++ items)) ≡ times_said_to (theirs k) (as_read (behind_parts place parts) items)
+parts-never-speak place [] items k = refl
+parts-never-speak place (part ∷ parts) items k = let rest = parts-never-speak (behind place (vector_item part)) parts items k in omega (arith, rest)
+
+vector-never-speaks : (has_vector : Bool) (vectors : Vectors) (set : MarkedSet) (greatest : ℕ) (confirms : List Due) (rows : List Row) (keys : List Key) (k : Key)
+    → times_said_to (theirs k) (as_read 0 (own_options has_vector vectors set greatest confirms rows keys))
+    ≡ times_said_to (theirs k) (as_read (behind_vector has_vector vectors set greatest) (confirm_items confirms ++ change_items rows keys))
+vector-never-speaks has_vector vectors set greatest confirms rows keys k =
+    ap (λ (front : List Item). times_said_to (theirs k) (as_read 0 (front ++ (confirm_items confirms ++ change_items rows keys))))
+    (parts-are has_vector vectors set greatest)
+    ∙ parts-never-speak 0 (vector_parts has_vector vectors set greatest) (confirm_items confirms ++ change_items rows keys) k
 
 -- the law that they speak once
 pub own_packets_speak : OwnPacketsSpeakOnce
-own_packets_speak = λ has_vector set greatest confirms rows keys k single distinct apart.
+own_packets_speak = λ has_vector vectors set greatest confirms rows keys k single distinct apart.
     let times =
-    vector-never-speaks has_vector set greatest confirms rows keys k
-    ∙ all-times rows k confirms keys (behind_vector has_vector set greatest) distinct in
+    vector-never-speaks has_vector vectors set greatest confirms rows keys k
+    ∙ all-times rows k confirms keys (behind_vector has_vector vectors set greatest) distinct in
     by confirms keys k single apart (has_key k keys) refl times
   where
     by : (confirms : List Due) (keys : List Key) (k : Key) → times_confirmed k confirms ≤ 1
@@ -238,9 +266,9 @@ confirms-single e given hearing _ _ k sound few (Heeds a h taken heeded) =
 -- So what goes out in one step speaks to a row of the peer once at most, where no packet has more than 64 Changes.
 pub spoken-once : (e : EndState) (given : Input) (hearing : Hearing) (turns : List Turn) (its : AreTurns e given hearing turns) → IsNegotiation e.rows
     → IsNegotiation (turned e.rows (its.heard ++ its.offered)) → ((a : Incoming) → Came e given a → changes_among a.options ≤ 64)
-    → (has_vector : Bool) (set : MarkedSet) (greatest : ℕ) (rows : List Row) (k : Key)
-    → times_said_to (k.0, opposite k.1) (map Ok (entries_at 0 (own_options has_vector set greatest its.confirms rows its.keys))) ≤ 1
-spoken-once e given hearing turns its sound later few has_vector set greatest rows k =
-    own_packets_speak has_vector set greatest its.confirms rows its.keys k (confirms-single e given hearing its.heard its.confirms k sound few its.hears)
+    → (has_vector : Bool) (vectors : Vectors) (set : MarkedSet) (greatest : ℕ) (rows : List Row) (k : Key)
+    → times_said_to (k.0, opposite k.1) (map Ok (entries_at 0 (own_options has_vector vectors set greatest its.confirms rows its.keys))) ≤ 1
+spoken-once e given hearing turns its sound later few has_vector vectors set greatest rows k =
+    own_packets_speak has_vector vectors set greatest its.confirms rows its.keys k (confirms-single e given hearing its.heard its.confirms k sound few its.hears)
     (keys-distinct e given its.heard its.offered its.preferred its.confirms its.keys sound later its.occasion)
     (apart-so its.confirms its.keys k its.apart)

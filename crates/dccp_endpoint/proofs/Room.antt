@@ -1,12 +1,11 @@
 -- What an end says has room on its packets: an Ack Vector of at most 255 bytes, the Confirms for a packet, of at most 354 bytes, and 18
 -- Changes of at most 12 bytes each.
-use Rattle.std.proofs.Common.{◌≡◌, ℕ, ◌+◌, ◌*◌, ◌-◌, ◌%◌, ◌≤◌, ◌<◌, min, nat_lt, ◌==◌, Bool, true, false, not, ◌&&◌, ◌||◌, if◌then◌else◌, List, [], ◌∷◌, ◌++◌, zero, suc, length, replicate, Option, Some, None, Result, Ok, Err, refl, ap, sym, ◌∙◌, subst, arith, eqb-true, get_or-set_same, length-set}
+use Rattle.std.proofs.Common.{◌≡◌, ℕ, ◌+◌, ◌*◌, ◌-◌, ◌%◌, ◌≤◌, ◌<◌, nat_lt, ◌==◌, Bool, true, false, not, ◌&&◌, ◌||◌, if◌then◌else◌, List, [], ◌∷◌, ◌++◌, zero, suc, length, map, replicate, Option, Some, None, Result, Ok, Err, refl, ap, sym, ◌∙◌, subst, arith, eqb-true, get_or-set_same, length-set}
 use Rattle.std.specs.Prelude.{slice_index_or, slice_set, filter}
 use Rattle.std.specs.List.{All}
 use Rattle.std.proofs.lemmas.Bool.{and_parts, false≢true}
 use Rattle.byteorder.specs.Numbers.{length-bytes_high_first}
-use Rattle.std.proofs.lemmas.List.{append-nil, length-append, length-map, length-replicate, length-take, map-append}
-use Rattle.std.proofs.Math.Nat.{min-le_left}
+use Rattle.std.proofs.lemmas.List.{append-nil, length-append, length-map, length-replicate, map-append}
 use Rattle.std.proofs.lemmas.List.Elements.{All-append, All-cons, All-head, All-map, All-nil, All-tail}
 use Rattle.std.proofs.lemmas.List.Sums.{count_by-le-length, length-filter}
 use Rattle.byteorder.specs.Endian.{big_bytes}
@@ -45,14 +44,18 @@ use Rattle.feature_machine.proofs.Steps.{stepped_negotiation}
 use Rattle.dccp_endpoint.specs.Causes.{is_code_without_connection}
 use Rattle.dccp_endpoint.specs.Drafts.{IsSendable}
 use Rattle.dccp_endpoint.specs.Heeding.{Due, Heeding, by_answered, by_settling, counted, fault_of, heeds, heeds_body, heeds_change, heeds_confirm, heeds_feature, heeds_item, heeds_then, is_change, is_left, is_of_negotiation, met, misunderstood, place_in_used, unheeded}
-use Rattle.dccp_endpoint.specs.Reporting.{vector_items}
+use Rattle.dccp_endpoint.specs.Reporting.{vector_item, vector_items}
 use Rattle.dccp_endpoint.specs.Saying.{ConfirmsHaveRoom, once_if}
 use Rattle.dccp_endpoint.specs.Speaking.{HaveRoom, asking, change_item, change_items, change_type, confirm_item, confirm_items, confirm_type, confirming, is_confirmed, saying, wish_bytes}
 use Rattle.dccp_endpoint.specs.Turns.{Key}
 use Rattle.end_answers.specs.declared.outcome.Fault.{Fault}
 use Rattle.dccp_endpoint.proofs.Frames.{fixed_part_is_short}
 use Rattle.dccp_endpoint.proofs.OneRow.{found, letter_to, spot, spot-below}
-use Rattle.ack_vectors.specs.Vector.{all_bytes, option_room, set_states, vector}
+use Rattle.ack_vectors.specs.Vector.{most_options, option_data, room_of, set_states, vector_under}
+use Rattle.ack_vectors.specs.declared.room.Vectors.{Vectors}
+use Rattle.ack_vectors.specs.declared.room.Vectors.TheVariants.{One, Two}
+use Rattle.ack_vectors.proofs.Options.{most-room, options-few, options-fit}
+use Rattle.ack_vectors.proofs.Telling.{room-vector}
 use Rattle.run_list.specs.MarkedSet.{MarkedSet, has}
 
 -- The data of an answer are a value and at most eight more, or one number.
@@ -495,57 +498,79 @@ items-sendable k items long detail other writable room =
       data_fits = omega arith;
     }
 
--- options of at most 255 bytes, as an Ack Vector is one
+-- options of at most 510 bytes, as those of an Ack Vector are
 pub record IsFront (items : List Item) : Type 0 where
   writable : All IsWritable items
-  short : length (written items) ≤ 255
+  short : length (written items) ≤ 510
 
 no-front : IsFront []
 no-front = record { writable = All-nil IsWritable; short = omega arith }
 
-pub vector-front : (has_vector : Bool) (set : MarkedSet) (greatest : ℕ) → IsFront (vector_items has_vector set greatest)
-vector-front false set greatest = no-front
-vector-front true set greatest =
-    let bytes : List ℕ = all_bytes (set_states (has set.numbers)) set.floor greatest in
-    let body : List ℕ = vector (has set.numbers) set.floor greatest in
-    let cut : length body ≡ min option_room (length bytes) = length-take option_room bytes in
-    let most = min-le_left option_room (length bytes) in
-    let few : length body ≤ 253 = omega (arith, cut, most) in
-    let item : Item = record { mandatory = false; kind = options.ack_vector_0; body = body } in
-    let one : length (written (item ∷ [])) ≡ length (spelled false options.ack_vector_0 body) = ap length (append-nil (spelled false options.ack_vector_0 body)) in
-    record {
-      writable = All-cons IsWritable item [] (record { has_length = omega arith; is_byte = omega arith; fits = few }) (All-nil IsWritable);
-      short = omega (arith, one, few);
-    }
+vector-item-writable : (part : List ℕ) → length part ≤ 253 → IsWritable (vector_item part)
+vector-item-writable part fits = record { has_length = omega arith; is_byte = omega arith; fits = fits }
+
+-- at most two options of at most 253 bytes each
+parts-front : (parts : List (List ℕ)) → All (λ part. length part ≤ 253) parts → (length (written (map vector_item parts)) ≤ 255 * length parts) × All IsWritable (map vector_item parts)
+parts-front [] fit = (omega arith, All-nil IsWritable)
+parts-front (part ∷ parts) fit =
+    let here : length part ≤ 253 = All-head (λ (part : List ℕ). length part ≤ 253) part parts fit in
+    let rest = parts-front parts (All-tail (λ (part : List ℕ). length part ≤ 253) part parts fit) in
+    let long = length-append (spelled false options.ack_vector_0 part) (written (map vector_item parts)) in (
+      omega (arith, here, long, rest.0),
+      All-cons IsWritable (vector_item part) (map vector_item parts) (vector-item-writable part here) rest.1,
+    )
+
+pub vector-front : (has_vector : Bool) (vectors : Vectors) (set : MarkedSet) (greatest : ℕ) → IsFront (vector_items has_vector vectors set greatest)
+vector-front false vectors set greatest = no-front
+vector-front true vectors set greatest =
+    let bytes : List ℕ = vector_under (has set.numbers) set.floor greatest vectors in
+    let fits = room-vector (room_of vectors) (set_states (has set.numbers)) set.floor greatest in
+    let most = most-room vectors in
+    let few = options-few vectors bytes fits in
+    let two = most-two vectors in
+    let parts = parts-front (option_data bytes) (options-fit bytes (omega (arith, fits, most))) in
+    record { writable = parts.1; short = omega (arith, parts.0, few, two) }
+  where
+    most-two : (vectors : Vectors) → most_options vectors ≤ 2
+    most-two One = omega arith
+    most-two Two = omega arith
 
 -- such options, and behind them others
 front-sendable : (k : Kind) (front items : List Item) → has_forms true k ≡ true → HasDetail k → is_data (packet_type k) ≡ false → IsFront front
-    → All IsWritable items → length (written items) ≤ 729 → IsSendable (record { kind = k; options = front ++ items; payload = [] })
+    → All IsWritable items → length (written items) ≤ 474 → IsSendable (record { kind = k; options = front ++ items; payload = [] })
 front-sendable k front items long detail other first writable room =
     items-sendable k (front ++ items) long detail other (All-append IsWritable front items first.writable writable)
     (let all = length-written front items in let short = first.short in omega (arith, all, short, room))
 
--- options in front, the Confirms for a packet, and Changes of at most eighteen rows
-pub front-saying-sendable : (k : Kind) (front : List Item) (confirms : List Due) (rows : List Row) (keys : List Key) → has_forms true k ≡ true → HasDetail k
-    → is_data (packet_type k) ≡ false → IsFront front → AreShort confirms → IsNegotiation rows → length keys ≤ 18
-    → IsSendable (record { kind = k; options = front ++ (confirm_items confirms ++ change_items rows keys); payload = [] })
-front-saying-sendable k front confirms rows keys long detail other first short sound few =
+-- the Changes of at most eighteen rows
+changes-fit : (rows : List Row) (keys : List Key) → IsNegotiation rows → length keys ≤ 18 → All IsWritable (change_items rows keys) × (length (written (change_items rows keys)) ≤ 216)
+changes-fit rows keys sound few =
     let changes : List Item = change_items rows keys in
     let small : All IsSmall changes =
     All-map IsSmall (λ (k : Key). change_item k (row_at rows k.0 k.1)) keys
     (all-so (λ (k : Key). IsSmall (change_item k (row_at rows k.0 k.1))) (change-small rows sound) keys) in
-    let writable : All IsWritable (confirm_items confirms ++ changes) =
-    All-append IsWritable (confirm_items confirms) changes (all-writable (confirm_items confirms) (confirms-small confirms short.short)) (all-writable changes small) in
-    let all = length-written (confirm_items confirms) changes in
-    let room = short.room in
     let more = written-room changes small in
     let count = length-map keys (λ (k : Key). change_item k (row_at rows k.0 k.1)) in
-    front-sendable k front (confirm_items confirms ++ changes) long detail other first writable (omega (arith, all, room, more, count, few))
+    (all-writable changes small, omega (arith, more, count, few))
 
+-- options in front, and Changes alone: beside two options of an Ack Vector there is no room for Confirms, too
+pub front-asking-sendable : (k : Kind) (front : List Item) (rows : List Row) (keys : List Key) → has_forms true k ≡ true → HasDetail k
+    → is_data (packet_type k) ≡ false → IsFront front → IsNegotiation rows → length keys ≤ 18
+    → IsSendable (record { kind = k; options = front ++ change_items rows keys; payload = [] })
+front-asking-sendable k front rows keys long detail other first sound few =
+    let changes = changes-fit rows keys sound few in
+    front-sendable k front (change_items rows keys) long detail other first changes.0 (let room = changes.1 in omega (arith, room))
+
+-- Confirms and Changes, and nothing in front
 pub saying-sendable : (k : Kind) (confirms : List Due) (rows : List Row) (keys : List Key) → has_forms true k ≡ true → HasDetail k
     → is_data (packet_type k) ≡ false → AreShort confirms → IsNegotiation rows → length keys ≤ 18 → IsSendable (saying k confirms rows keys)
 saying-sendable k confirms rows keys long detail other short sound few =
-    front-saying-sendable k [] confirms rows keys long detail other no-front short sound few
+    let changes = changes-fit rows keys sound few in
+    let all = length-written (confirm_items confirms) (change_items rows keys) in
+    let room = short.room in
+    items-sendable k (confirm_items confirms ++ change_items rows keys) long detail other
+    (All-append IsWritable (confirm_items confirms) (change_items rows keys) (all-writable (confirm_items confirms) (confirms-small confirms short.short)) changes.0)
+    (let more = changes.1 in omega (arith, all, room, more))
 
 -- options in front, and Confirms alone
 pub front-confirming-sendable : (k : Kind) (front : List Item) (confirms : List Due) → has_forms true k ≡ true → HasDetail k → is_data (packet_type k) ≡ false

@@ -2,7 +2,8 @@
 use Rattle.std.proofs.Common.{◌≡◌, refl, ℕ, ◌+◌, zero, suc, Bool, true, false, List, [], ◌∷◌, ◌++◌, Some, None}
 use Rattle.ack_vectors.specs.Kept.{Kept, acked, marked_by, newest_whole, recorded}
 use Rattle.ack_vectors.specs.Kept as kept
-use Rattle.ack_vectors.specs.Vector.{is_whole, vector}
+use Rattle.ack_vectors.specs.Vector.{is_whole_under, vector_under}
+use Rattle.ack_vectors.specs.declared.room.Vectors.TheVariants.{One}
 use Rattle.dccp_states.specs.declared.phase.Phase.TheVariants as phase
 use Rattle.run_list.specs.MarkedSet.{answer_to, has}
 use Rattle.run_list.specs.declared.answers.Marked.TheVariants.{New, Again, BelowFloor}
@@ -27,9 +28,9 @@ abbrev from : ℕ → ℕ → List ℕ
 from zero number = []
 from (suc count) number = number ∷ from count (1 + number)
 
--- the vector at an acknowledgement, and whether it is whole
+-- the vector in one option at an acknowledgement, and whether it is whole
 abbrev told : Kept → ℕ → List ℕ × Bool
-told old ack = (vector (has old.set.numbers) old.set.floor ack, is_whole (has old.set.numbers) old.set.floor ack)
+told old ack = (vector_under (has old.set.numbers) old.set.floor ack One, is_whole_under (has old.set.numbers) old.set.floor ack One)
 
 -- 88 to 98 and 100 were taken: 0 for 100, 3 for 99, and 0 for eleven numbers
 vector-of-received : told (took (kept.fresh 88) (from 11 88 ++ 100 ∷ [])) 100 ≡ (0 ∷ 192 ∷ 10 ∷ [], true)

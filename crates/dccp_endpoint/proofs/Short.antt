@@ -1,5 +1,5 @@
 -- Which packets go out with short numbers, and that their headers are valid and no longer.
-use Rattle.std.proofs.Common.{◌≡◌, refl, ap, ◌∙◌, ℕ, ◌+◌, ◌≤◌, Bool, true, false, not, ◌&&◌, ◌||◌, List, [], ◌∷◌, ◌++◌, arith}
+use Rattle.std.proofs.Common.{◌≡◌, refl, ap, ◌∙◌, ℕ, ◌+◌, ◌≤◌, Bool, true, false, not, ◌&&◌, ◌||◌, List, [], ◌∷◌, ◌++◌, map, arith}
 use Rattle.std.specs.List.{list_any}
 use Rattle.dccp_options.specs.Written.{Item}
 use Rattle.dccp_packets.specs.Forms.{in_form, may_be_short, number_in_form}
@@ -11,21 +11,27 @@ use Rattle.dccp_packets.proofs.Shortened as shortened
 use Rattle.feature_lists.specs.declared.features.Place.{Place}
 use Rattle.feature_lists.specs.declared.features.Place.TheVariants.{Here, There}
 use Rattle.feature_machine.specs.declared.row.Row.{Row}
-use Rattle.run_list.specs.MarkedSet.{MarkedSet}
+use Rattle.ack_vectors.specs.Vector.{option_data, vector_under}
+use Rattle.ack_vectors.specs.declared.room.Vectors.{Vectors}
+use Rattle.run_list.specs.MarkedSet.{MarkedSet, has}
 use Rattle.dccp_endpoint.specs.Calling.{has_keys}
 use Rattle.dccp_endpoint.specs.Drafts.{carrying}
 use Rattle.dccp_endpoint.specs.End.{EndState}
 use Rattle.dccp_endpoint.specs.Heeding.{Due, is_of_negotiation}
-use Rattle.dccp_endpoint.specs.Reporting.{reporting, sends_vectors, vector_items}
+use Rattle.dccp_endpoint.specs.Reporting.{reporting, sends_vectors, vector_item, vector_items}
 use Rattle.dccp_endpoint.specs.ShortForm.{allows_short, goes_short, is_negotiating}
 use Rattle.dccp_endpoint.specs.Speaking.{change_items, change_type, confirm_items, confirm_type, has_confirms, saying}
 use Rattle.dccp_endpoint.specs.Turns.{Key}
 
 -- an Ack Vector says nothing of features
-front_is_silent : (vectors : Bool) (set : MarkedSet) (ack : ℕ) (items : List Item)
-    → list_any is_negotiating (vector_items vectors set ack ++ items) ≡ list_any is_negotiating items
-front_is_silent true set ack items = refl
-front_is_silent false set ack items = refl
+options_are_silent : (parts : List (List ℕ)) (items : List Item) → list_any is_negotiating (map vector_item parts ++ items) ≡ list_any is_negotiating items
+options_are_silent [] items = refl
+options_are_silent (part ∷ parts) items = options_are_silent parts items
+
+front_is_silent : (has_vector : Bool) (vectors : Vectors) (set : MarkedSet) (ack : ℕ) (items : List Item)
+    → list_any is_negotiating (vector_items has_vector vectors set ack ++ items) ≡ list_any is_negotiating items
+front_is_silent true vectors set ack items = options_are_silent (option_data (vector_under (has set.numbers) set.floor ack vectors)) items
+front_is_silent false vectors set ack items = refl
 
 confirms_negotiate : (left : Bool) → is_of_negotiation (confirm_type left) ≡ true
 confirms_negotiate true = refl
@@ -49,7 +55,7 @@ pub short_ack : (e : EndState) (k : Kind) (confirms : List Due) (rows : List Row
 short_ack e k confirms rows keys may =
     ap (λ (b : Bool). b && (allows_short e && not (list_any is_negotiating (reporting e (saying k confirms rows keys)).options))) may
     ∙ ap (λ (b : Bool). allows_short e && not b)
-    (front_is_silent (sends_vectors e.rows) e.received.set e.marks.gsr (confirm_items confirms ++ change_items rows keys)
+    (front_is_silent (sends_vectors e.rows) e.config.vectors e.received.set e.marks.gsr (confirm_items confirms ++ change_items rows keys)
     ∙ says_negotiate confirms rows keys)
 
 and_true : (b : Bool) → (b && true) ≡ b
@@ -62,7 +68,7 @@ short_data e payload = and_true (allows_short e)
 
 pub short_data_ack : (e : EndState) (ack : Number) (payload : List ℕ) → goes_short e (reporting e (carrying (kind.DataAck ack) payload)) ≡ allows_short e
 short_data_ack e ack payload =
-    ap (λ (b : Bool). allows_short e && not b) (front_is_silent (sends_vectors e.rows) e.received.set e.marks.gsr []) ∙ and_true (allows_short e)
+    ap (λ (b : Bool). allows_short e && not b) (front_is_silent (sends_vectors e.rows) e.config.vectors e.received.set e.marks.gsr []) ∙ and_true (allows_short e)
 
 -- the numbers of a header in the form have a form of the type
 pub is_formed : (short : Bool) (number : ℕ) (k : Kind) → has_forms true k ≡ true → (short ≡ true → may_be_short (packet_type k) ≡ true)

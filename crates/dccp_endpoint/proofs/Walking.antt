@@ -57,12 +57,12 @@ use Rattle.end_answers.specs.declared.outcome.Outcome.{Outcome}
 use Rattle.end_answers.specs.declared.outcome.Outcome.TheVariants.{Dropped, Synced, Took, WasReset}
 use Rattle.end_answers.specs.declared.outcome.Why.{Why}
 use Rattle.end_answers.specs.declared.outcome.Why.TheVariants as why
-use Rattle.dccp_endpoint.proofs.Deriving.{Ready, Told, ack-caused, calling, calling-caused, front_of, caused, effect_with, hearing, left, next-caused, offered_keys, offered_turns, offering, plain-caused, quiet, rest, silent-caused, told-by, wide, wide-proper, widened}
+use Rattle.dccp_endpoint.proofs.Deriving.{Ready, Told, ack-caused, calling, calling-caused, front_of, caused, effect_with, front-short, hearing, left, next-caused, offered_keys, offered_turns, offering, plain-caused, quiet, rest, silent-caused, told-by, wide, wide-proper, widened}
 use Rattle.dccp_endpoint.proofs.Heard.{heeds-turns, uncounted}
 use Rattle.dccp_endpoint.proofs.Lawful.{offered-sound, rows-kept}
 use Rattle.dccp_endpoint.proofs.OwnFrames.{alone-sendable}
 use Rattle.dccp_endpoint.proofs.Phases.{MaySay, accept-so, after-heard, after_fits, answer-so, answers-close, begun-not-closed, check-live, fits-reply, listens-server, live-begun, live-entered, live-heard, may-say, open-is, requests-client}
-use Rattle.dccp_endpoint.proofs.Room.{AreShort, IsBoundedReading, asking-few, confirming-sendable, confirms-short, front-confirming-sendable, reading-bounded, saying-sendable, vector-front}
+use Rattle.dccp_endpoint.proofs.Room.{AreShort, IsBoundedReading, asking-few, confirming-sendable, confirms-short, front-confirming-sendable, reading-bounded, saying-sendable}
 use Rattle.dccp_endpoint.proofs.Tables.{gar-by, no-connection-code, numbered-code, other-service-asked, sync-acknowledges, unexpected-no-ack}
 
 -- a Request acknowledges nothing
@@ -392,7 +392,7 @@ module _ (o : EndState) (bytes : List ℕ) (proper : IsProper (wide o)) where
           takes-by (took new)
           (ack-caused (ready-so to r row) (hearing hears) (confirm_items h.confirms)
           (front-confirming-sendable (kind.Ack (Long end.marks.gsr)) (front_of (ready-so to r row) heard) h.confirms refl tt refl
-          (vector-front _ _ _) short)
+          (front-short (ready-so to r row) heard) short)
           (sym (append-nil (confirm_items h.confirms))) answers-so connected refl)
           refl (was-taken to r new row delivery no_reset) (listening to r new false 0 _ row delivery no_reset unoffered refl refl replied refl)
 

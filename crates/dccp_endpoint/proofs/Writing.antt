@@ -16,8 +16,6 @@ written_alone one = ap written (sym (append-nil one))
 pub written_both : (one other : List Item) → [] ++ written one ++ written other ≡ written (one ++ other)
 written_both one other = sym (written-append one other)
 
--- three lists
-pub written_all : (one other third : List Item) → ([] ++ written one ++ written other) ++ written third ≡ written (one ++ (other ++ third))
-written_all one other third =
-    append_assoc (written one) (written other) (written third)
-    ∙ ap (λ (rest : List ℕ). written one ++ rest) (sym (written-append other third)) ∙ sym (written-append one (other ++ third))
+-- Confirms behind others, and no Change
+pub written_confirms : (one other : List Item) → [] ++ written one ++ written other ≡ written (one ++ (other ++ []))
+written_confirms one other = sym (written-append one other) ∙ ap (λ (rest : List Item). written (one ++ rest)) (sym (append-nil other))

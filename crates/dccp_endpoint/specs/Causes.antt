@@ -249,7 +249,7 @@ AcknowledgesHeard (Heard first number how) ack = ack ≡ Some number
 -- the Ack Vector of a packet that goes out, if it has one, of what was received with this step
 abbrev pub vector_of : EndState → Effect → Kind → List Item
 vector_of e f k =
-    vector_items (is_acking (packet_type k) && sends_vectors (rows_by e.rows f)) (told_by e.received f).set (greatest_by e.marks.gsr f.hearing)
+    vector_items (is_acking (packet_type k) && sends_vectors (rows_by e.rows f)) e.config.vectors (told_by e.received f).set (greatest_by e.marks.gsr f.hearing)
 
 -- What goes out says all that is due: the Ack Vector, the Confirms, on a packet that acknowledges the one that they answer, then the
 -- Changes of the rows as they are after the step.

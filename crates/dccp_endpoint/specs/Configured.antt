@@ -4,6 +4,7 @@ use Rattle.dccp_sum.specs.declared.pseudo_header.Pseudo.{Pseudo}
 use Rattle.dccp_sum.specs.declared.pseudo_header.Pseudo.TheVariants.{V4, V6}
 use Rattle.dccp_states.specs.declared.phase.Role.{Role}
 use Rattle.feature_machine.specs.Lists.{usual_lists}
+use Rattle.ack_vectors.specs.declared.room.Vectors.TheVariants.{One}
 use Rattle.dccp_endpoint.specs.declared.config.Config.{Config}
 use Rattle.dccp_endpoint.specs.declared.config.Ports.{Ports}
 
@@ -24,4 +25,5 @@ configured role addresses ports service iss =
       service = service;
       iss = iss;
       lists = usual_lists;
+      vectors = One;
     }

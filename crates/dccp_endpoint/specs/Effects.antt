@@ -185,7 +185,7 @@ is_acking_sent (WithoutConnection number packet) = false
 -- What is kept of received numbers: the set begins, a number is marked, one is looked up, and the packet's own Ack Vector is recorded.
 abbrev pub received_by : EndState → Effect → Kept
 received_by e f =
-    recorded_by (is_acking_sent f.sending && sends_vectors (rows_by e.rows f)) (told_by e.received f) (next_number e)
+    recorded_by (is_acking_sent f.sending && sends_vectors (rows_by e.rows f)) e.config.vectors (told_by e.received f) (next_number e)
     (greatest_by e.marks.gsr f.hearing)
 
 -- The end after a step.

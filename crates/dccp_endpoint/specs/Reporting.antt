@@ -1,7 +1,8 @@
 -- What an end marks of the packets that it takes, and how it reports them by Ack Vectors (RFC 4340, sections 11.2 to 11.5).
-use Rattle.std.specs.Prelude.{◌==◌, ◌&&◌, not, nat_le, min, if◌then◌else◌, ℕ, ◌+◌, ◌-◌, ◌^◌, Bool, true, false, List, [], ◌∷◌, ◌++◌, Option, Some, None}
+use Rattle.std.specs.Prelude.{map, ◌==◌, ◌&&◌, not, nat_le, min, if◌then◌else◌, ℕ, ◌+◌, ◌-◌, ◌^◌, Bool, true, false, List, [], ◌∷◌, ◌++◌, Option, Some, None}
 use Rattle.ack_vectors.specs.Kept.{Kept, acked, marked_by, recorded}
-use Rattle.ack_vectors.specs.Vector.{is_whole, vector}
+use Rattle.ack_vectors.specs.Vector.{is_whole_under, option_data, vector_under}
+use Rattle.ack_vectors.specs.declared.room.Vectors.{Vectors}
 use Rattle.dccp_options.specs.Kinds as options
 use Rattle.dccp_options.specs.Written.{Item}
 use Rattle.dccp_packets.specs.declared.header.PacketType.{PacketType}
@@ -102,24 +103,28 @@ is_enough rows unacked = not (value_in rows AckRatio There == 0) && nat_le (valu
 abbrev pub sends_vectors : List Row → Bool
 sends_vectors rows = value_in rows SendAckVector Here == 1
 
--- the Ack Vector of an acknowledgement number, if one goes out
-abbrev pub vector_items : Bool → MarkedSet → ℕ → List Item
-vector_items true set ack = record { mandatory = false; kind = options.ack_vector_0; body = vector (has set.numbers) set.floor ack } ∷ []
-vector_items false set ack = []
+-- an Ack Vector option with these bytes
+abbrev pub vector_item : List ℕ → Item
+vector_item part = record { mandatory = false; kind = options.ack_vector_0; body = part }
 
--- the record of it, under the packet's number
-abbrev pub recorded_by : Bool → Kept → ℕ → ℕ → Kept
-recorded_by true kept number ack = recorded kept number ack (is_whole (has kept.set.numbers) kept.set.floor ack)
-recorded_by false kept number ack = kept
+-- The Ack Vector of an acknowledgement number, if one goes out: one option, or two where one has no room for it (own).
+abbrev pub vector_items : Bool → Vectors → MarkedSet → ℕ → List Item
+vector_items true vectors set ack = map vector_item (option_data (vector_under (has set.numbers) set.floor ack vectors))
+vector_items false vectors set ack = []
+
+-- the record of it, under the packet's number: whole where its options hold all of it
+abbrev pub recorded_by : Bool → Vectors → Kept → ℕ → ℕ → Kept
+recorded_by true vectors kept number ack = recorded kept number ack (is_whole_under (has kept.set.numbers) kept.set.floor ack vectors)
+recorded_by false vectors kept number ack = kept
 
 -- The end once an Ack or a DataAck went out: its Ack Vector is recorded, and nothing is owed.
 abbrev pub acknowledged : EndState → EndState
 acknowledged e =
-    record (with_next_number e) { received = recorded_by (sends_vectors e.rows) e.received (next_number e) e.marks.gsr; owed = false; unacked = 0 }
+    record (with_next_number e) { received = recorded_by (sends_vectors e.rows) e.config.vectors e.received (next_number e) e.marks.gsr; owed = false; unacked = 0 }
 
 -- An Ack or a DataAck as it goes out: the Ack Vector stands before all other options (own).
 abbrev pub reporting : EndState → Draft → Draft
-reporting e draft = record draft { options = vector_items (sends_vectors e.rows) e.received.set e.marks.gsr ++ draft.options }
+reporting e draft = record draft { options = vector_items (sends_vectors e.rows) e.config.vectors e.received.set e.marks.gsr ++ draft.options }
 
 -- an Ack or a DataAck goes out under the next number
 abbrev pub sends_ack : {Answer : Type 0} → EndState → Draft → Answer → Step Answer

@@ -12,6 +12,7 @@ use Rattle.feature_machine.specs.Turns.{events_of, reply_due}
 use Rattle.feature_machine.specs.declared.row.Row.{Row}
 use Rattle.run_list.specs.MarkedSet.{MarkedSet}
 use Rattle.dccp_endpoint.specs.Heeding.{Due, Heeding, event_of, heard_turns, heeds, is_change, is_left, is_of_negotiation, unheeded}
+use Rattle.ack_vectors.specs.declared.room.Vectors.{Vectors}
 use Rattle.dccp_endpoint.specs.Reporting.{vector_items}
 use Rattle.dccp_endpoint.specs.Speaking.{HaveRoom, change_items, confirm_items, is_confirmed, is_for, is_of_place, wish_bytes}
 use Rattle.dccp_endpoint.specs.Turns.{Key}
@@ -88,9 +89,9 @@ abbrev pub has_key : Key → List Key → Bool
 has_key k keys = list_any (is_key k) keys
 
 -- the options of an end's own packet: its Ack Vector, if it has one, the Confirms and the Changes
-abbrev pub own_options : Bool → MarkedSet → ℕ → List Due → List Row → List Key → List Item
-own_options has_vector set greatest confirms rows keys =
-    vector_items has_vector set greatest ++ (confirm_items confirms ++ change_items rows keys)
+abbrev pub own_options : Bool → Vectors → MarkedSet → ℕ → List Due → List Row → List Key → List Item
+own_options has_vector vectors set greatest confirms rows keys =
+    vector_items has_vector vectors set greatest ++ (confirm_items confirms ++ change_items rows keys)
 
 -- What an end's own packet says of its row: the Confirm for it, or else its Change, or else nothing.
 abbrev pub change_if : Bool → Key → Row → List RowEvent
@@ -105,8 +106,8 @@ said_of None asks ack k row = change_if asks k row
 -- to the peer's row of the same feature
 abbrev pub OwnPacketsSayOfARow : Type 0
 OwnPacketsSayOfARow =
-    (ack : Option ℕ) (has_vector : Bool) (set : MarkedSet) (greatest : ℕ) (confirms : List Due) (rows : List Row) (keys : List Key) (k : Key)
-    → said_to true ack (k.0, opposite k.1) (map Ok (entries_at 0 (own_options has_vector set greatest confirms rows keys)))
+    (ack : Option ℕ) (has_vector : Bool) (vectors : Vectors) (set : MarkedSet) (greatest : ℕ) (confirms : List Due) (rows : List Row) (keys : List Key) (k : Key)
+    → said_to true ack (k.0, opposite k.1) (map Ok (entries_at 0 (own_options has_vector vectors set greatest confirms rows keys)))
     ≡ said_of (confirm_for k confirms) (has_key k keys) ack k (row_at rows k.0 k.1)
 
 -- How often: once where it is so.
@@ -134,6 +135,6 @@ ConfirmsAreSingle =
 -- So an end's own packet speaks to a row of the peer once at most: no row's Change goes out twice, nor beside a Confirm for it.
 abbrev pub OwnPacketsSpeakOnce : Type 0
 OwnPacketsSpeakOnce =
-    (has_vector : Bool) (set : MarkedSet) (greatest : ℕ) (confirms : List Due) (rows : List Row) (keys : List Key) (k : Key) → times_confirmed k confirms ≤ 1
+    (has_vector : Bool) (vectors : Vectors) (set : MarkedSet) (greatest : ℕ) (confirms : List Due) (rows : List Row) (keys : List Key) (k : Key) → times_confirmed k confirms ≤ 1
     → AllPairs (λ one other. one ≢ other) keys → (has_key k keys ≡ true → is_confirmed confirms k ≡ false)
-    → times_said_to (k.0, opposite k.1) (map Ok (entries_at 0 (own_options has_vector set greatest confirms rows keys))) ≤ 1
+    → times_said_to (k.0, opposite k.1) (map Ok (entries_at 0 (own_options has_vector vectors set greatest confirms rows keys))) ≤ 1

@@ -2,6 +2,7 @@
 ghost use Rattle.std.specs.Prelude.{◌≡◌, ◌<◌, ◌^◌};
 ghost use Rattle.dccp_endpoint.specs.Configured.{reversed};
 
+use ack_vectors::Vectors;
 use dccp_states::Role;
 use dccp_sum::Pseudo;
 use feature_lists::{Feature, Place, PreferFault};
@@ -57,6 +58,8 @@ pub struct Config {
     pub iss: Seq48,
     /// What it wishes for each feature at each place, and what of it it offers by itself (RFC 4340, section 6).
     pub lists: Lists,
+    /// How many Ack Vector options its packets carry at most (own). The usual ends carry one.
+    pub vectors: Vectors,
 }
 
 impl Config {
@@ -100,6 +103,7 @@ impl Config {
             service,
             iss,
             lists: Lists::usual(),
+            vectors: Vectors::One,
         }
     }
 
@@ -126,6 +130,7 @@ impl Config {
                 service: 42,
                 iss: number(1000),
                 lists: Lists::usual(),
+                vectors: Vectors::One,
             },
             Role::Server => Config {
                 role,
@@ -136,6 +141,7 @@ impl Config {
                 service: 42,
                 iss: number(2000),
                 lists: Lists::usual(),
+                vectors: Vectors::One,
             },
         }
     }

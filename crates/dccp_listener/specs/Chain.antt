@@ -13,6 +13,7 @@ use Rattle.dccp_states.specs.declared.phase.Phase.TheVariants as phases
 use Rattle.dccp_states.specs.declared.phase.Role.TheVariants.{Server}
 use Rattle.end_answers.specs.declared.calls.Timer.{Timer}
 use Rattle.feature_machine.specs.Lists.{without_offers}
+use Rattle.dccp_endpoint.specs.Configured.{configured}
 use Rattle.dccp_endpoint.specs.Controlled.{EndStep, begins, has_in_flight, with_control}
 use Rattle.dccp_endpoint.specs.Inputs.{Answer, Input, end_stepped}
 use Rattle.dccp_endpoint.specs.Inputs as input
@@ -74,19 +75,11 @@ abbrev pub service_for : List ℕ → Option ℕ → ℕ
 service_for services None = unwrap_or (slice_get services 0) 0
 service_for services (Some asked) = if list_any (λ one. one == asked) services then asked else unwrap_or (slice_get services 0) 0
 
--- A fresh end stands between the listener's address and port and the peer's. It offers no feature by itself.
+-- A fresh end is a server's, between the listener's address and port and the peer's. It offers no feature by itself.
 abbrev pub config_for : ListenConfig → Peer → ℕ → List ℕ → Config
 config_for config peer iss bytes =
-    record {
-      role = Server;
-      pseudo_out = V4 config.own_address peer.address;
-      pseudo_in = V4 peer.address config.own_address;
-      own_port = config.own_port;
-      peer_port = peer.port;
-      service = service_for config.services.items (asked_service (decoded bytes));
-      iss = iss;
-      lists = without_offers config.lists;
-    }
+    record (configured Server (V4 config.own_address peer.address) (record { own = config.own_port; peer = peer.port })
+    (service_for config.services.items (asked_service (decoded bytes))) iss) { lists = without_offers config.lists }
 
 -- an end for the peer that has sent and received nothing
 abbrev pub fresh_end : ListenConfig → Peer → ℕ → List ℕ → FlowEnd

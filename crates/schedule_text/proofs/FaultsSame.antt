@@ -27,12 +27,12 @@ use Rattle.schedule_text.specs.declared.line.Line.TheVariants as line
 use Rattle.schedule_text.specs.declared.names.Form.{Form}
 use Rattle.schedule_text.specs.declared.names.Form.TheVariants as form
 use Rattle.schedule_text.specs.Names.{form_named, side_named, place_name, place_named, timer_of}
-use Rattle.schedule_text.specs.Numbers.{indices, values_of, feature_of}
+use Rattle.schedule_text.specs.Numbers.{indices, values_of, feature_of, schedule_version}
 use Rattle.schedule_text.specs.Printing.{values_text}
 use Rattle.schedule_text.specs.Range.{AreValues}
-use Rattle.schedule_text.specs.Kinds.{form_kind, side_kind, place_kind, timer_kind, sequence_kind, feature_kind, values_kind, frame_kind, name_flaw}
+use Rattle.schedule_text.specs.Kinds.{form_kind, side_kind, place_kind, timer_kind, sequence_kind, feature_kind, version_kind, values_kind, frame_kind, name_flaw}
 use Rattle.schedule_text.specs.Reading.{wish_cause, set_cause, offer_cause, rows, line_row, read_clean, read_line}
-use Rattle.schedule_text.specs.Faults.{unless, word_fault, a_side, a_place, a_timer, a_number, a_feature, some_values, name_cause, names_frame, a_name, bad_digit, digits_fault, some_bytes, maybe_first, maybe_mandatory, judges_of, words_fault, refused_wish, refused_set, refused_offer, end_fault, form_fault, spoken_fault, line_fault}
+use Rattle.schedule_text.specs.Faults.{unless, word_fault, a_side, a_place, a_timer, a_number, a_feature, a_version, some_values, name_cause, names_frame, a_name, bad_digit, digits_fault, some_bytes, maybe_first, maybe_mandatory, judges_of, words_fault, refused_wish, refused_set, refused_offer, end_fault, form_fault, spoken_fault, line_fault}
 use Rattle.schedule_text.proofs.RowsAre.{place-is, feature-is, values-is, line-is, list-is, offer-is}
 
 -- Words
@@ -66,6 +66,9 @@ number-same left = word-same why.BadNumber (is_some (number_below (2 ^ 48) (firs
 
 feature-same : (left : WordsLeft) → judged_word feature_kind.flaw (first_word left) ≡ a_feature left
 feature-same left = word-same why.BadNumber (is_some (feature_of (first_word left).text)) (first_word left)
+
+version-same : (left : WordsLeft) → judged_word version_kind.flaw (first_word left) ≡ a_version left
+version-same left = word-same why.BadNumber (is_some (schedule_version (first_word left).text)) (first_word left)
 
 values-same : (left : WordsLeft) → judged_word values_kind.flaw (first_word left) ≡ some_values left
 values-same left = word-same why.BadNumber (is_some (values_of (first_word left).text)) (first_word left)
@@ -251,6 +254,10 @@ offered-same left =
     ∙ ap (λ (here : Option LineFault). first_or here (end_fault form.Offer left)) (offer-same left)
 
 row-same : (which : Form) (left : WordsLeft) → (rows which).fault left ≡ form_fault (Some which) left
+row-same form.Version left =
+    let over = nothing_more (later left).words in
+    plain-same (first_or (judged_word version_kind.flaw (first_word left)) over) (words_fault (judges_of form.Version) left)
+    (then-same (judged_word version_kind.flaw (first_word left)) (a_version left) over over (version-same left) refl)
 row-same form.Plain left = plain-same (nothing_more left.words) (nothing_more left.words) refl
 row-same form.Iss left =
     let two = later left in

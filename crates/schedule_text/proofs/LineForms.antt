@@ -33,11 +33,11 @@ use Rattle.schedule_text.specs.declared.names.Form.{Form}
 use Rattle.schedule_text.specs.declared.names.Form.TheVariants as form
 use Rattle.schedule_text.specs.Names.{form_name, side_name, place_name, timer_name}
 use Rattle.schedule_text.specs.Printing.{values_text, frame_name, mandatory_words, line_words, event_text}
-use Rattle.schedule_text.specs.Range.{AreValues, IsPrintable}
+use Rattle.schedule_text.specs.Range.{AreValues, IsPrintable, IsVersion}
 use Rattle.schedule_text.specs.Forms.{IsLine}
-use Rattle.schedule_text.specs.Kinds.{form_kind, side_kind, place_kind, timer_kind, sequence_kind, feature_kind, values_kind, frame_kind}
+use Rattle.schedule_text.specs.Kinds.{form_kind, side_kind, place_kind, timer_kind, sequence_kind, feature_kind, version_kind, values_kind, frame_kind}
 use Rattle.schedule_text.specs.Reading.{wish_cause, rows, line_row, read_clean, read_line}
-use Rattle.schedule_text.proofs.RowsAre.{line-is, side-length, place-length, timer-length, name-length, number-length, feature-length, values-length}
+use Rattle.schedule_text.proofs.RowsAre.{line-is, side-length, place-length, timer-length, name-length, number-length, feature-length, values-length, version-small}
 
 -- From words to what they say
 
@@ -109,6 +109,10 @@ name-are : (rest : List (List ℕ)) (s : (Side × ℕ) × Unit {0}) → AreBoth 
 name-are [] s is = absurd is
 name-are (a ∷ more) s is = let one = is.0.0 in let over = is.1 in (cc (one, over), is.0.1)
 
+version-are : (rest : List (List ℕ)) (s : ℕ × Unit {0}) → AreBoth version_kind.Spells end_row.Spells s rest → (rest ≡ decimal s.0 ∷ []) × IsVersion s.0
+version-are [] s is = absurd is
+version-are (a ∷ more) s is = let one = is.0.0 in let over = is.1 in (cc (one, over), is.0.1)
+
 -- the digits of the data of a line
 record AreSent (rest : List (List ℕ)) (side : Side) (payload : List ℕ) : Type 0 where
   pub digits : List ℕ
@@ -141,6 +145,9 @@ send-line text side payload rest words short are =
 
 form-line : (which : Form) (text : List ℕ) (rest : List (List ℕ)) (said : Line) → text ≡ joined (form_name which ∷ rest) → length text ≤ 4096
     → (rows which).Spells said rest → IsLine text said
+form-line form.Version text rest said words short is =
+    let are = version-are rest is.0 is.2 in
+    subst (λ (s : Line). IsLine text s) is.1 (behind text (codes "version") rest (decimal is.0.0 ∷ []) words are.0, are.1)
 form-line form.Plain text rest said words short is = subst (λ (s : Line). IsLine text s) is.1 (behind text (codes "plain") rest [] words is.2)
 form-line form.Iss text rest said words short is =
     let are = iss-are rest is.0 is.2 in
@@ -241,6 +248,9 @@ offer-read text side place feature false words ours =
 
 pub spelled-line : (text : List ℕ) (said : Line) → IsLine text said → read_line text ≡ Ok said
 spelled-line text line.Nothing is = nothing-read text is.0 is.1 is.2
+spelled-line text (line.Version number) is =
+    let size = number-length number (version-small number is.1) in
+    words-read text form.Version (decimal number ∷ []) (line.Version number) is.0 ((number, tt), refl, ((refl, is.1), refl)) (omega arith) refl
 spelled-line text line.Plain is = words-read text form.Plain [] line.Plain is (tt, refl, refl) (omega arith) refl
 spelled-line text (line.Iss side number) is =
     let one = side-length side in

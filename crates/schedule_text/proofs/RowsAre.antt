@@ -22,7 +22,7 @@ use Rattle.tool_words.specs.declared.faults.LineWhy.TheVariants as why
 use Rattle.tool_words.specs.Words.{parted_by}
 use Rattle.tool_words.specs.Kinds.{Kind, IsExactKind, named_in, flaw_in, flaw_behind, flaw_unless, found_or, is_word_byte, is_whole_word, dash_kind}
 use Rattle.tool_words.specs.Rows.{Row, IsExactRow, ◌▷◌, end_row, judged_row, flag_row}
-use Rattle.tool_words.proofs.Bytes.{and-true, if-true, all-weaker, lacks, same-number, word-bytes, bytes-word, decimal-digits, decimal-word, joined-parts}
+use Rattle.tool_words.proofs.Bytes.{and-true, if-false, if-true, all-weaker, lacks, same-number, word-bytes, bytes-word, decimal-digits, decimal-word, joined-parts}
 use Rattle.tool_words.proofs.Numerals.{number-spelled, number-read}
 use Rattle.tool_words.proofs.Pieces.{has_first}
 use Rattle.tool_words.proofs.KindLaws.{found-is, number-is, names-is, dash-is}
@@ -31,15 +31,16 @@ use Rattle.schedule_text.specs.declared.line.Line.TheVariants as line
 use Rattle.schedule_text.specs.declared.names.Form.{Form}
 use Rattle.schedule_text.specs.declared.names.Form.TheVariants as form
 use Rattle.schedule_text.specs.Names.{form_name, side_name, place_name, timer_name}
-use Rattle.schedule_text.specs.Numbers.{sequence_numbers, indices, number_and_rest, numbers_read, at_most_nine, values_of, feature_of}
+use Rattle.schedule_text.specs.Numbers.{sequence_numbers, indices, number_and_rest, numbers_read, at_most_nine, values_of, feature_of, version_numbered, schedule_version}
 use Rattle.schedule_text.specs.Printing.{values_text, frame_name}
-use Rattle.schedule_text.specs.Range.{AreValues}
-use Rattle.schedule_text.specs.Kinds.{all_forms, form_kind, side_kind, place_kind, all_timers, timer_kind, sequence_kind, feature_kind, values_kind, from_sender, frame_sent_by, frame_named, name_flaw, frame_kind}
+use Rattle.schedule_text.specs.Range.{AreValues, IsVersion}
+use Rattle.schedule_text.specs.Kinds.{all_forms, form_kind, side_kind, place_kind, all_timers, timer_kind, sequence_kind, feature_kind, version_kind, values_kind, from_sender, frame_sent_by, frame_named, name_flaw, frame_kind}
 use Rattle.schedule_text.specs.Reading.{set_cause, offer_cause, rows, line_row}
 
 -- Names
 
 form-found : (which : Form) → named_in form_name all_forms (form_name which) ≡ Some which
+form-found form.Version = refl
 form-found form.Plain = refl
 form-found form.Iss = refl
 form-found form.Set = refl
@@ -53,6 +54,7 @@ form-found form.Close = refl
 form-found form.Abort = refl
 
 form-words : (which : Form) → is_whole_word (form_name which) ≡ true
+form-words form.Version = refl
 form-words form.Plain = refl
 form-words form.Iss = refl
 form-words form.Set = refl
@@ -190,6 +192,37 @@ feature-is =
     found-is why.BadNumber feature_of (λ feature text. text ≡ decimal (feature_number feature)) feature-means
     (λ text feature is. ap feature_of is ∙ feature-text-read feature)
     (λ text feature is. ap is_whole_word is ∙ decimal-word (feature_number feature) (number-of-small feature))
+
+positive : (n : ℕ) → (n == 0) ≡ false → 1 ≤ n
+positive n is = grind (arith, nat_tests)
+
+not-zero : (n : ℕ) → 1 ≤ n → (n == 0) ≡ false
+not-zero n some = grind (arith, nat_tests)
+
+numbered-version : (n number : ℕ) (none : Bool) → (n == 0) ≡ none → (if none then None else Some n) ≡ Some number → (n ≡ number) × (1 ≤ n)
+numbered-version n number true is_zero is = cc is
+numbered-version n number false some is = (cc is, positive n some)
+
+pub version-small : (number : ℕ) → IsVersion number → number < 2 ^ 48
+version-small number is = omega (arith, is.1)
+
+version-means : (text : List ℕ) (number : ℕ) → schedule_version text ≡ Some number → (text ≡ decimal number) × IsVersion number
+version-means text number read =
+    let both = and-then-some (number_below 3 text) version_numbered number read in
+    let digits = number-spelled 3 (omega arith) text both.0 both.1 in
+    let is = numbered-version both.0 number (both.0 == 0) refl both.2 in
+    (digits.0 ∙ ap decimal is.0, (omega (arith, is.0, is.1), omega (arith, is.0, digits.1)))
+
+version-read : (number : ℕ) → IsVersion number → schedule_version (decimal number) ≡ Some number
+version-read number is =
+    ap (option_and_then version_numbered) (number-read 3 (omega arith) number (omega (arith, is.1)))
+    ∙ if-false (number == 0) None (Some number) (not-zero number is.0)
+
+pub version-is : IsExactKind version_kind
+version-is =
+    found-is why.BadNumber schedule_version (λ number text. (text ≡ decimal number) × IsVersion number) version-means
+    (λ text number is. ap schedule_version is.0 ∙ version-read number is.1)
+    (λ text number is. ap is_whole_word is.0 ∙ decimal-word number (let small = version-small number is.1 in omega arith))
 
 -- Lists of numbers
 
@@ -409,6 +442,7 @@ pub offer-is : IsExactRow (side_kind ▷ place_kind ▷ feature_kind ▷ flag_ro
 offer-is = both side-is (both place-is (both feature-is (flag-is (codes "mandatory") refl)))
 
 pub rows-are : (which : Form) → IsExactRow (rows which)
+rows-are form.Version = as-is (λ s. line.Version s.0) (version_kind ▷ end_row) (both version-is end-is)
 rows-are form.Plain = as-is (λ s. line.Plain) end_row end-is
 rows-are form.Iss = as-is (λ s. line.Iss s.0 s.1.0) (side_kind ▷ sequence_kind ▷ end_row) (both side-is (both sequence-is end-is))
 rows-are form.Set =

@@ -12,7 +12,7 @@ use Rattle.tool_words.specs.declared.faults.LineWhy.TheVariants as why
 use Rattle.schedule_text.specs.declared.names.Form.{Form}
 use Rattle.schedule_text.specs.declared.names.Form.TheVariants as form
 use Rattle.schedule_text.specs.Names.{form_named, side_named, place_named, timer_of}
-use Rattle.schedule_text.specs.Numbers.{values_of, feature_of}
+use Rattle.schedule_text.specs.Numbers.{values_of, feature_of, schedule_version}
 use Rattle.tool_text.specs.Numbers.{number_below}
 use Rattle.tool_words.specs.Digits.{digits_flaw}
 use Rattle.tool_words.specs.Words.{WordAt, WordsLeft, first_word, later, word_at, words_of}
@@ -55,6 +55,10 @@ a_number left = word_fault why.BadNumber (is_some (number_below (2 ^ 48) (first_
 -- the number of a feature, from 1 to 9
 abbrev pub a_feature : Judge
 a_feature left = word_fault why.BadNumber (is_some (feature_of (first_word left).text)) (first_word left)
+
+-- the version of a schedule, 1 or 2
+abbrev pub a_version : Judge
+a_version left = word_fault why.BadNumber (is_some (schedule_version (first_word left).text)) (first_word left)
 
 -- one to nine values below 2^48, parted by commas
 abbrev pub some_values : Judge
@@ -99,6 +103,7 @@ maybe_mandatory left = maybe_first left.words
 
 -- The table of forms: what stands behind the first word.
 abbrev pub judges_of : Form → List Judge
+judges_of form.Version = a_version ∷ []
 judges_of form.Plain = []
 judges_of form.Iss = a_side ∷ a_number ∷ []
 judges_of form.Set = a_side ∷ a_place ∷ a_feature ∷ some_values ∷ []
@@ -136,6 +141,7 @@ refused_offer column None feature = None
 
 -- what an end may not have, which only `set` and `offer` can ask for
 abbrev pub end_fault : Form → WordsLeft → Option LineFault
+end_fault form.Version left = None
 end_fault form.Plain left = None
 end_fault form.Iss left = None
 end_fault form.Set left =

@@ -23,6 +23,7 @@ pub record IsSendLine (text : List ℕ) (side : List ℕ) (payload : List ℕ) :
 -- a text is a line that says this: its own words, parted by one space, of which digits may be of either case
 abbrev pub IsLine : List ℕ → Line → Type 0
 IsLine text line.Nothing = (says_nothing text ≡ true) × (length text ≤ 4096) × (list_all is_text text ≡ true)
+IsLine text (line.Version number) = (text ≡ joined (line_words (line.Version number))) × IsSayable (line.Version number)
 IsLine text line.Plain = text ≡ joined (line_words line.Plain)
 IsLine text (line.Iss side number) = (text ≡ joined (line_words (line.Iss side number))) × IsSayable (line.Iss side number)
 IsLine text (line.Set side place feature values) =

@@ -15,15 +15,15 @@ use Rattle.tool_words.specs.Kinds.{Kind, flaw_behind, found_or, flaw_unless, fou
 use Rattle.schedule_text.specs.declared.names.Form.{Form}
 use Rattle.schedule_text.specs.declared.names.Form.TheVariants as form
 use Rattle.schedule_text.specs.Names.{form_name, side_name, place_name, timer_name}
-use Rattle.schedule_text.specs.Numbers.{sequence_numbers, indices, values_of, feature_of}
+use Rattle.schedule_text.specs.Numbers.{sequence_numbers, indices, values_of, feature_of, schedule_version}
 use Rattle.schedule_text.specs.Printing.{frame_name, values_text}
-use Rattle.schedule_text.specs.Range.{AreValues}
+use Rattle.schedule_text.specs.Range.{AreValues, IsVersion}
 
 -- the first words of lines
 abbrev pub all_forms : List Form
 all_forms =
-    form.Plain ∷ form.Iss ∷ form.Set ∷ form.Offer ∷ form.Open ∷ form.Deliver ∷ form.Send ∷ form.Prefer ∷ form.Timer ∷ form.Close
-    ∷ form.Abort ∷ []
+    form.Version ∷ form.Plain ∷ form.Iss ∷ form.Set ∷ form.Offer ∷ form.Open ∷ form.Deliver ∷ form.Send ∷ form.Prefer ∷ form.Timer
+    ∷ form.Close ∷ form.Abort ∷ []
 
 -- a first word, which tells what the line is
 abbrev pub form_kind : Kind Form
@@ -52,6 +52,10 @@ sequence_kind = number_kind sequence_numbers
 -- a feature by its number, for names are not taken
 abbrev pub feature_kind : Kind Feature
 feature_kind = found_kind why.BadNumber feature_of (λ feature text. text ≡ decimal (feature_number feature))
+
+-- a schedule's version, in decimal digits
+abbrev pub version_kind : Kind ℕ
+version_kind = found_kind why.BadNumber schedule_version (λ number text. (text ≡ decimal number) × IsVersion number)
 
 -- the list of values for a feature, all in one word
 abbrev pub values_kind : Kind (List ℕ)

@@ -12,6 +12,7 @@ use Rattle.schedule_text.specs.declared.names.Form.TheVariants as form
 
 -- the first word of a line, which tells what the line is
 abbrev pub form_name : Form → List ℕ
+form_name form.Version = codes "version"
 form_name form.Plain = codes "plain"
 form_name form.Iss = codes "iss"
 form_name form.Set = codes "set"
@@ -46,7 +47,8 @@ timer_name timer.TimeWait = codes "timewait"
 -- what a word names, if it names anything of its kind
 abbrev pub form_named : List ℕ → Option Form
 form_named word =
-    if bytes_eq word (form_name form.Plain) then Some form.Plain
+    if bytes_eq word (form_name form.Version) then Some form.Version
+    else if bytes_eq word (form_name form.Plain) then Some form.Plain
     else if bytes_eq word (form_name form.Iss) then Some form.Iss
     else if bytes_eq word (form_name form.Set) then Some form.Set
     else if bytes_eq word (form_name form.Offer) then Some form.Offer

@@ -1,5 +1,5 @@
 -- Numbers as a line has them (own).
-use Rattle.std.specs.Prelude.{ℕ, ◌^◌, nat_le, if◌then◌else◌, List, [], ◌∷◌, length, Option, Some, None, option_and_then}
+use Rattle.std.specs.Prelude.{ℕ, ◌^◌, ◌==◌, nat_le, if◌then◌else◌, List, [], ◌∷◌, length, Option, Some, None, option_and_then}
 use Rattle.feature_lists.specs.Features.{feature_numbered}
 use Rattle.feature_lists.specs.declared.features.Feature.{Feature}
 use Rattle.tool_text.specs.Numbers.{number_below}
@@ -30,6 +30,14 @@ at_most_nine numbers = if nat_le (length numbers) 9 then Some numbers else None
 -- one to nine numbers below 2^48, parted by commas
 abbrev pub values_of : List ℕ → Option (List ℕ)
 values_of word = option_and_then at_most_nine (numbers_read (parted_by 44 word))
+
+-- the numbers of versions, which begin with 1
+abbrev pub version_numbered : ℕ → Option ℕ
+version_numbered number = if number == 0 then None else Some number
+
+-- a schedule's version: 1 or 2
+abbrev pub schedule_version : List ℕ → Option ℕ
+schedule_version word = option_and_then version_numbered (number_below 3 word)
 
 -- a feature's number
 abbrev pub feature_of : List ℕ → Option Feature

@@ -44,6 +44,7 @@ mandatory_words mandatory = if mandatory then codes "mandatory" ∷ [] else []
 -- what a line that says this has for its words; one that says nothing has none
 abbrev pub line_words : Line → List (List ℕ)
 line_words line.Nothing = []
+line_words (line.Version number) = form_name form.Version ∷ decimal number ∷ []
 line_words line.Plain = form_name form.Plain ∷ []
 line_words (line.Iss side number) = form_name form.Iss ∷ side_name side ∷ decimal number ∷ []
 line_words (line.Set side place feature values) =

@@ -18,6 +18,10 @@ pub record FitsOneLine (payload : List ℕ) : Type 0 where
   pub few : length payload ≤ 2042
   pub bytes : IsBytes payload
 
+-- a version of schedules
+abbrev pub IsVersion : ℕ → Type 0
+IsVersion number = (1 ≤ number) × (number ≤ 2)
+
 -- an event whose index, data or values are such as a line can say
 abbrev pub IsPrintable : Event → Type 0
 IsPrintable event.Open = Unit {0}
@@ -31,6 +35,7 @@ IsPrintable (event.Abort side) = Unit {0}
 -- a configured list or an offer is one that an end may have
 abbrev pub IsSayable : Line → Type 0
 IsSayable line.Nothing = ⊥
+IsSayable (line.Version number) = IsVersion number
 IsSayable line.Plain = Unit {0}
 IsSayable (line.Iss side number) = number < 2 ^ 48
 IsSayable (line.Set side place feature values) = AreValues values × IsOk (wish_of feature place values)

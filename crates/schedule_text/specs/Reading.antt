@@ -19,7 +19,7 @@ use Rattle.schedule_text.specs.declared.line.Line.{Line}
 use Rattle.schedule_text.specs.declared.line.Line.TheVariants as line
 use Rattle.schedule_text.specs.declared.names.Form.{Form}
 use Rattle.schedule_text.specs.declared.names.Form.TheVariants as form
-use Rattle.schedule_text.specs.Kinds.{form_kind, side_kind, place_kind, timer_kind, sequence_kind, feature_kind, values_kind, frame_kind}
+use Rattle.schedule_text.specs.Kinds.{form_kind, side_kind, place_kind, timer_kind, sequence_kind, feature_kind, version_kind, values_kind, frame_kind}
 
 -- what a wish that is refused makes of its line; `wish` refuses for no other cause
 abbrev pub wish_fault : PreferFault → LineWhy
@@ -42,6 +42,7 @@ offer_cause s = if is_ours s.1.1.0 s.1.0 then None else Some why.NotOurs
 
 -- The rows behind the first word, by the form that it names.
 abbrev pub rows : Form → Row Line
+rows form.Version = row_as (λ s. line.Version s.0) (version_kind ▷ end_row)
 rows form.Plain = row_as (λ s. line.Plain) end_row
 rows form.Iss = row_as (λ s. line.Iss s.0 s.1.0) (side_kind ▷ sequence_kind ▷ end_row)
 rows form.Set =

@@ -3,7 +3,7 @@ ghost use Rattle.std.specs.Prelude.{◌≡◌, ◌≤◌, length, IfErr};
 ghost use Rattle.schedule_text.specs.Kinds as spec;
 
 use crate::names::{Form, form_named, place_named, side_named, timer_of};
-use crate::numbers::{feature_of, frame_index, sequence_number_of, values_of};
+use crate::numbers::{feature_of, frame_index, sequence_number_of, values_of, schedule_version};
 use crate::{LineWhy, Timer, Values};
 use feature_lists::{Feature, Place};
 use seq_circle::Seq48;
@@ -85,6 +85,19 @@ impl<'a> WordKind<'a> for AFeature {
 
     fn read(word: &'a [u8]) -> Result<Feature, Flaw> {
         found_or(LineWhy::BadNumber, feature_of(word))
+    }
+}
+
+/// The version of a schedule.
+pub(crate) struct AVersion;
+
+impl<'a> WordKind<'a> for AVersion {
+    type Read = u8;
+
+    ghost reads = { spec.version_kind.reads };
+
+    fn read(word: &'a [u8]) -> Result<u8, Flaw> {
+        found_or(LineWhy::BadNumber, schedule_version(word))
     }
 }
 

@@ -10,6 +10,10 @@ use world_events::Side;
 pub enum Line {
     /// Nothing: it is empty or a comment.
     Nothing,
+    /// Which version the schedule is of: 1 or 2.
+    Version {
+        number: u8,
+    },
     /// The ends offer no feature.
     Plain,
     /// The side's initial sequence number.

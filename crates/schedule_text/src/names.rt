@@ -9,6 +9,7 @@ use world_events::Side;
 /// A line's form, by its first word (own).
 #[derive(Clone, Copy)]
 pub(crate) enum Form {
+    Version,
     Plain,
     Iss,
     Set,
@@ -26,7 +27,9 @@ pub(crate) enum Form {
 pub(crate) fn form_named(word: &[u8]) -> Option<Form>
     ensures { result ≡ form_named word.now }
 {
-    if word == b"plain".as_slice() {
+    if word == b"version".as_slice() {
+        Some(Form::Version)
+    } else if word == b"plain".as_slice() {
         Some(Form::Plain)
     } else if word == b"iss".as_slice() {
         Some(Form::Iss)

@@ -1,6 +1,6 @@
 //! Numbers as a line has them.
 ghost use Rattle.std.specs.Prelude.{◌≡◌, ◌<◌, IfSome};
-ghost use Rattle.schedule_text.specs.Numbers.{sequence_numbers, indices, values_of, feature_of};
+ghost use Rattle.schedule_text.specs.Numbers.{sequence_numbers, indices, values_of, feature_of, schedule_version};
 ghost use Rattle.tool_text.specs.Numbers.{number_below};
 
 use crate::Values;
@@ -17,6 +17,9 @@ const INDICES: u64 = 1 << 47;
 
 /// Features are numbered below this (RFC 4340, section 6.4, without the CCID's own).
 const FEATURES: u64 = 10;
+
+/// Versions of schedules are numbered from 1 and below this (own).
+const VERSIONS: u64 = 3;
 
 // A decimal number below the limit, without sign or leading zero.
 fn number_below(limit: u64, word: &[u8]) -> Option<u64>
@@ -48,6 +51,17 @@ pub(crate) fn feature_of(word: &[u8]) -> Option<Feature>
 {
     let number = number_below(FEATURES, word)?;
     Feature::of(number as u8)
+}
+
+/// The version of this number: 1 or 2.
+pub(crate) fn schedule_version(word: &[u8]) -> Option<u8>
+    ensures { result ≡ schedule_version word.now }
+{
+    let number = number_below(VERSIONS, word)?;
+    if number == 0 {
+        return None;
+    }
+    Some(number as u8)
 }
 
 /// One to nine numbers, parted by commas.

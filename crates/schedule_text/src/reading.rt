@@ -7,7 +7,9 @@ ghost use Rattle.tool_words.specs.declared.faults.LineWhy.TheVariants as why;
 ghost use Rattle.schedule_text.specs.Reading as spec;
 ghost use Rattle.feature_lists.specs.Wishes.{is_ours, wish_of};
 
-use crate::kinds::{AFeature, AForm, AName, ANumber, APlace, ASide, ATimer, Mandatory, SomeValues};
+use crate::kinds::{
+    AFeature, AForm, AName, ANumber, APlace, ASide, ATimer, AVersion, Mandatory, SomeValues,
+};
 use crate::names::Form;
 use crate::{Event, Line, LineFault, LineWhy, Payload, Timer, Values};
 use feature_lists::{Feature, Place, PreferFault, usual, wish};
@@ -57,6 +59,17 @@ fn allow(words: &Words<'_>, place: usize, cause: Option<LineWhy>) -> Result<(), 
             why,
         }),
     }
+}
+
+fn version(words: &mut Words<'_>, said: &mut Line) -> Result<(), LineFault>
+    ensures value { MatchResult result
+        (λ done. (spec.rows Form.Version).said (left_of words.old) ≡ Ok said.new)
+        (λ fault. (spec.rows Form.Version).said (left_of words.old) ≡ Err fault) }
+    ensures kept { OnErr result (said.new ≡ said.old) }
+{
+    let (number, ()) = <(AVersion, ())>::read(words)?;
+    *said = Line::Version { number };
+    Ok(())
 }
 
 fn plain(words: &mut Words<'_>, said: &mut Line) -> Result<(), LineFault>
@@ -345,6 +358,7 @@ pub fn read_line_into(line: &[u8], said: &mut Line) -> Result<(), LineFault>
     }
     let mut words = Words::of(line);
     match read_word::<AForm>(words.next_word())? {
+        Form::Version => version(&mut words, said),
         Form::Plain => plain(&mut words, said),
         Form::Iss => iss(&mut words, said),
         Form::Set => set(&mut words, said),

@@ -69,7 +69,8 @@ fn is_refused<R: Threads + Sync>(
 }
 
 // The faults of a line by itself, some behind a schedule that has begun.
-const LINES: [(&str, &str); 17] = [
+const LINES: [(&str, &str); 18] = [
+    ("version 0\n", "line 1 column 9: BadNumber\n"),
     ("plain\n#\t\n", "line 2 column 2: NotText\n"),
     ("set\x7f", "line 1 column 4: NotText\n"),
     ("send\n", "line 1 column 6: Missing\n"),
@@ -107,7 +108,11 @@ fn faults_of_a_line(rt: HostRuntime) -> Result<(), Fail> {
 }
 
 // The faults that need the lines before, and which of two comes first.
-const PLACES: [(&str, &str); 14] = [
+const PLACES: [(&str, &str); 18] = [
+    ("plain\nversion 2\n", "line 2 column 1: HeaderLate\n"),
+    ("version 1\nversion 2\n", "line 2 column 1: HeaderLate\n"),
+    ("open\nversion 1\n", "line 2 column 1: HeaderLate\n"),
+    ("open\nversion 3\n", "line 2 column 9: BadNumber\n"),
     ("plain\nopen\nplain\n", "line 3 column 1: HeaderLate\n"),
     (
         "plain\nopen\niss client 1\n",

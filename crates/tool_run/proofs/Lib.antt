@@ -4,3 +4,4 @@ pub mod Room
 pub mod Judging
 pub mod Running
 pub mod Peers
+pub mod Versions

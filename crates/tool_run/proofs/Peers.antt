@@ -3,6 +3,7 @@
 use Rattle.std.proofs.Common.{◌≡◌, refl, sym, ◌∙◌, subst, ℕ, ◌+◌, ◌^◌, ◌<◌, ◌==◌, Bool, true, false, if◌then◌else◌, List, [], ◌∷◌, length, length-set, eqb-true, Option, Some, None, Result, Ok, Err}
 use Rattle.std.proofs.lemmas.Bool.{eqb-false}
 use Rattle.std.specs.Prelude.{⊤, is_some, nat_lt}
+use Rattle.ack_vectors.specs.declared.room.Vectors.{Vectors}
 use Rattle.dccp_endpoint.specs.Drafts.{Fits}
 use Rattle.dccp_endpoint.specs.declared.config.Config.{Config}
 use Rattle.dccp_io.specs.Lines.{Next, End, Line, Long, Much, lines_of, next_in_lines, text_of}
@@ -28,7 +29,7 @@ use Rattle.tool_words.specs.declared.faults.LineWhy.TheVariants as why
 use Rattle.tool_run.proofs.Configuring.{role-kept}
 use Rattle.tool_run.proofs.Running.{playable_at_first}
 use Rattle.tool_run.specs.Scenes.{Scene}
-use Rattle.tool_run.specs.Transcript.{ArePeers, by_line, by_scene, config_of, configures, event_shown, first_play, judged_line, most_events, offering, performed, run_job, says_event, says_plain, wishing, with_config, with_iss, with_offered, with_set, world_of}
+use Rattle.tool_run.specs.Transcript.{ArePeers, by_line, by_scene, config_of, configures, event_shown, first_play, judged_line, most_events, offering, performed, run_job, says_event, says_plain, says_version, vectors_of, wishing, with_config, with_header, with_iss, with_offered, with_set, with_vectors, world_of}
 use Rattle.tool_run.specs.declared.play.Play.{Play}
 use Rattle.world_events.specs.declared.event.Event.{Event}
 use Rattle.world_events.specs.declared.event.Side.{Side}
@@ -141,11 +142,29 @@ abbrev PeersBehind : Verdict Scene Play → Type 0
 PeersBehind (Accepted scene next) = HasPeers next
 PeersBehind (Refused fault) = ⊤
 
-configured-peers : (play next : Play) → HasPeers next → PeersBehind (configures play next)
-configured-peers play next peers = by (is_some play.world) where
-  by : (late : Bool) → PeersBehind (if late then Refused (whole_line why.HeaderLate) else Accepted None next)
+configured-peers : (play : Play) (change : Play → Play) → HasPeers (change (with_header play)) → PeersBehind (configures play change)
+configured-peers play change peers = by (is_some play.world) where
+  by : (late : Bool) → PeersBehind (if late then Refused (whole_line why.HeaderLate) else Accepted None (change (with_header play)))
   by true = tt
   by false = peers
+
+-- The version changes no field that has to fit.
+version-peers : (play : Play) (version : ℕ) → HasPeers play → PeersBehind (says_version play version)
+version-peers play version peers = by play.is_configured where
+  fits-by : (config : Config) (vectors : Vectors) → Fits config → Fits (record config { vectors = vectors })
+  fits-by config vectors fits =
+      record { own_port = fits.own_port; peer_port = fits.peer_port; service = fits.service; iss = fits.iss; lists = fits.lists }
+  by : (behind : Bool)
+      → PeersBehind (if behind then Refused (whole_line why.HeaderLate) else configures play (with_vectors (vectors_of version)))
+  by true = tt
+  by false =
+      configured-peers play (with_vectors (vectors_of version))
+      (record {
+        is_client = peers.is_client;
+        is_server = peers.is_server;
+        client_fits = fits-by play.client (vectors_of version) peers.client_fits;
+        server_fits = fits-by play.server (vectors_of version) peers.server_fits;
+      })
 
 scene-peers : (play : Play) (result : Result Scene LineFault) → HasPeers play → PeersBehind (by_scene play result)
 scene-peers play (Ok scene) peers = peers
@@ -163,20 +182,23 @@ said-peers : (play : Play) (number : ℕ) (said : Result words.Line LineFault)
 unfolding with_set
 said-peers play number (Err fault) below peers = tt
 said-peers play number (Ok line.Nothing) below peers = peers
-said-peers play number (Ok line.Plain) below peers = configured-peers play (says_plain play) (plain-peers play peers)
+said-peers play number (Ok (line.Version version)) below peers = version-peers play version peers
+said-peers play number (Ok line.Plain) below peers = configured-peers play says_plain (plain-peers (with_header play) peers)
 said-peers play number (Ok (line.Iss side iss)) below peers =
-    configured-peers play (with_iss side iss play) (iss-peers side iss play (below side iss refl) peers)
+    configured-peers play (with_iss side iss) (iss-peers side iss (with_header play) (below side iss refl) peers)
 said-peers play number (Ok (line.Set side place feature values)) below peers =
-    let config = config_of play side in
+    let begun = with_header play in
+    let config = config_of begun side in
     let wanted = wish_of feature place values in
-    configured-peers play (with_config side (wishing config feature place wanted) play)
-    (peers-with side (wishing config feature place wanted) play peers (wishing-fits config feature place values (side-fits side play peers))
+    configured-peers play (with_set side feature place values)
+    (peers-with side (wishing config feature place wanted) begun peers (wishing-fits config feature place values (side-fits side begun peers))
     (role-kept config feature place wanted))
 said-peers play number (Ok (line.Offer side place feature mandatory)) below peers =
-    let config = config_of play side in
-    configured-peers play (with_offered side feature place mandatory play)
-    (peers-with side (offering config feature place mandatory) play peers
-    (offering-fits config feature place mandatory (side-fits side play peers)) (offering-role config feature place mandatory))
+    let begun = with_header play in
+    let config = config_of begun side in
+    configured-peers play (with_offered side feature place mandatory)
+    (peers-with side (offering config feature place mandatory) begun peers
+    (offering-fits config feature place mandatory (side-fits side begun peers)) (offering-role config feature place mandatory))
 said-peers play number (Ok (line.Event event)) below peers = event-peers play number event peers
 
 line-peers : (play : Play) (number : ℕ) (text : List ℕ) → HasPeers play → PeersBehind (judged_line play number text)

@@ -17,7 +17,7 @@ use Rattle.tool_words.specs.Refusals.{whole_line}
 use Rattle.tool_words.specs.declared.faults.LineFault.{LineFault}
 use Rattle.tool_words.specs.declared.faults.LineWhy.TheVariants as why
 use Rattle.tool_run.specs.Scenes.{Scene, scene_events, scene_text, IsRun}
-use Rattle.tool_run.specs.Transcript.{IsPlayable, SafeThroughout, by_line, by_scene, by_step, configures, event_shown, first_play, is_refused, judged_line, most_events, performed, run_job, says_event, transcript, with_config, with_set, world_at_first, world_of, world_or_start}
+use Rattle.tool_run.specs.Transcript.{IsPlayable, SafeThroughout, with_header, by_line, by_scene, by_step, configures, event_shown, first_play, is_refused, judged_line, most_events, performed, run_job, says_event, says_plain, says_version, transcript, vectors_of, with_config, with_iss, with_offered, with_set, with_vectors, world_at_first, world_of, world_or_start}
 use Rattle.tool_run.specs.WorldLines.{end_lines}
 use Rattle.tool_run.specs.declared.play.Play.{Play}
 use Rattle.two_ends.specs.Controlled.{Controlled, ControlledStep, begins_with, controlled_after, happens_to, plays}
@@ -51,9 +51,10 @@ Turns play (Accepted None next) = Keeps play next
 Turns play (Accepted (Some scene) next) = LeadsOn play scene next
 Turns play (Refused fault) = ⊤
 
-configures-turns : (play next : Play) → next.world ≡ play.world → next.events ≡ play.events → Turns play (configures play next)
-configures-turns play next world events = by (is_some play.world) refl where
-  by : (late : Bool) → is_some play.world ≡ late → Turns play (if late then Refused (whole_line why.HeaderLate) else Accepted None next)
+configures-turns : (play : Play) (change : Play → Play) → (change (with_header play)).world ≡ play.world → (change (with_header play)).events ≡ play.events
+    → Turns play (configures play change)
+configures-turns play change world events = by (is_some play.world) refl where
+  by : (late : Bool) → is_some play.world ≡ late → Turns play (if late then Refused (whole_line why.HeaderLate) else Accepted None (change (with_header play)))
   by true is = tt
   by false is = record { world = world; events = events; configured = λ some. cc (sym some ∙ is) }
 
@@ -64,6 +65,12 @@ config-world Server config play = refl
 config-events : (side : Side) (config : Config) (play : Play) → (with_config side config play).events ≡ play.events
 config-events Client config play = refl
 config-events Server config play = refl
+
+version-turns : (play : Play) (version : ℕ) → Turns play (says_version play version)
+version-turns play version = by play.is_configured where
+  by : (late : Bool) → Turns play (if late then Refused (whole_line why.HeaderLate) else configures play (with_vectors (vectors_of version)))
+  by true = tt
+  by false = configures-turns play (with_vectors (vectors_of version)) refl refl
 
 scene-turns : (play : Play) (number : ℕ) (event : Event) (result : Result (ControlledStep Both) WorldFault) → play.events < most_events
     → happens_to kinds_control (world_of play) event ≡ result → Turns play (by_scene play (by_step number (world_of play) event result))
@@ -85,10 +92,13 @@ said-turns : (play : Play) (number : ℕ) (said : Result words.Line LineFault) �
 unfolding with_set
 said-turns play number (Err fault) = tt
 said-turns play number (Ok line.Nothing) = record { world = refl; events = refl; configured = λ _. (refl, refl) }
-said-turns play number (Ok line.Plain) = configures-turns play _ refl refl
-said-turns play number (Ok (line.Iss side iss)) = configures-turns play _ (config-world side _ _) (config-events side _ _)
-said-turns play number (Ok (line.Set side place feature values)) = configures-turns play _ (config-world side _ _) (config-events side _ _)
-said-turns play number (Ok (line.Offer side place feature mandatory)) = configures-turns play _ (config-world side _ _) (config-events side _ _)
+said-turns play number (Ok (line.Version version)) = version-turns play version
+said-turns play number (Ok line.Plain) = configures-turns play says_plain refl refl
+said-turns play number (Ok (line.Iss side iss)) = configures-turns play (with_iss side iss) (config-world side _ (with_header play)) (config-events side _ (with_header play))
+said-turns play number (Ok (line.Set side place feature values)) =
+    configures-turns play (with_set side feature place values) (config-world side _ (with_header play)) (config-events side _ (with_header play))
+said-turns play number (Ok (line.Offer side place feature mandatory)) =
+    configures-turns play (with_offered side feature place mandatory) (config-world side _ (with_header play)) (config-events side _ (with_header play))
 said-turns play number (Ok (line.Event event)) = event-turns play number event
 
 line-turns : (play : Play) (number : ℕ) (text : List ℕ) → Turns play (judged_line play number text)

@@ -1,3 +1,4 @@
 pub mod WorldLines
 pub mod Scenes
 pub mod Transcript
+pub mod Versions

@@ -1,5 +1,7 @@
 -- What `run` writes of an input: the lines of each event that takes place, then the two end lines or the line of the first refusal (own).
-use Rattle.std.specs.Prelude.{◌≡◌, ℕ, ◌+◌, ◌≤◌, ◌++◌, Bool, true, false, ◌&&◌, nat_lt, if◌then◌else◌, List, length, All, Option, Some, None, is_some, IfSome, Result, Ok, Err}
+use Rattle.std.specs.Prelude.{◌≡◌, ℕ, ◌+◌, ◌≤◌, ◌++◌, Bool, true, false, ◌&&◌, ◌==◌, nat_lt, if◌then◌else◌, List, length, All, Option, Some, None, is_some, IfSome, Result, Ok, Err}
+use Rattle.ack_vectors.specs.declared.room.Vectors.{Vectors}
+use Rattle.ack_vectors.specs.declared.room.Vectors.TheVariants.{One, Two}
 use Rattle.dccp_endpoint.specs.Usual.{usual}
 use Rattle.dccp_endpoint.specs.declared.config.Config.{Config}
 use Rattle.dccp_states.specs.declared.phase.Role.TheVariants as role
@@ -38,7 +40,7 @@ most_events = 16384
 
 -- Where a schedule stands before its first line: the two usual ends are configured.
 abbrev pub first_play : Play
-first_play = record { events = 0; client = usual role.Client; server = usual role.Server; world = None }
+first_play = record { events = 0; is_configured = false; client = usual role.Client; server = usual role.Server; world = None }
 
 -- two ends of these configurations that have sent and received nothing, each with its own congestion control
 abbrev pub starts : Config → Config → Controlled Both
@@ -57,9 +59,13 @@ world_of play = world_or_start play.client play.server play.world
 abbrev pub no_such_frame : LineFault
 no_such_frame = record { column = 9; why = why.NoSuchFrame }
 
+-- a schedule with a line that stands before all events
+abbrev pub with_header : Play → Play
+with_header play = record play { is_configured = true }
+
 -- A line that stands before all events changes the configurations.
-abbrev pub configures : Play → Play → Verdict Scene Play
-configures play next = if is_some play.world then Refused (whole_line why.HeaderLate) else Accepted None next
+abbrev pub configures : Play → (Play → Play) → Verdict Scene Play
+configures play change = if is_some play.world then Refused (whole_line why.HeaderLate) else Accepted None (change (with_header play))
 
 -- the configuration of a side, as the lines so far have it
 abbrev pub config_of : Play → Side → Config
@@ -70,6 +76,20 @@ config_of play Server = play.server
 abbrev pub with_config : Side → Config → Play → Play
 with_config Client config play = record play { client = config }
 with_config Server config play = record play { server = config }
+
+-- how many options the Ack Vectors of a version's packets have at most
+abbrev pub vectors_of : ℕ → Vectors
+vectors_of version = if version == 2 then Two else One
+
+-- the same schedule, with such Ack Vectors of both ends
+abbrev pub with_vectors : Vectors → Play → Play
+with_vectors vectors play =
+    record play { client = record play.client { vectors = vectors }; server = record play.server { vectors = vectors } }
+
+-- The version stands before every other line that says something, and so once.
+abbrev pub says_version : Play → ℕ → Verdict Scene Play
+says_version play version =
+    if play.is_configured then Refused (whole_line why.HeaderLate) else configures play (with_vectors (vectors_of version))
 
 -- a side whose initial sequence number is this one
 abbrev pub with_iss : Side → ℕ → Play → Play
@@ -133,10 +153,11 @@ in_place play fault = if is_some play.world && is_of_wish fault.why then whole_l
 abbrev pub by_line : Play → ℕ → Result Line LineFault → Verdict Scene Play
 by_line play number (Err fault) = Refused (in_place play fault)
 by_line play number (Ok line.Nothing) = Accepted None play
-by_line play number (Ok line.Plain) = configures play (says_plain play)
-by_line play number (Ok (line.Iss side iss)) = configures play (with_iss side iss play)
-by_line play number (Ok (line.Set side place feature values)) = configures play (with_set side feature place values play)
-by_line play number (Ok (line.Offer side place feature mandatory)) = configures play (with_offered side feature place mandatory play)
+by_line play number (Ok (line.Version version)) = says_version play version
+by_line play number (Ok line.Plain) = configures play says_plain
+by_line play number (Ok (line.Iss side iss)) = configures play (with_iss side iss)
+by_line play number (Ok (line.Set side place feature values)) = configures play (with_set side feature place values)
+by_line play number (Ok (line.Offer side place feature mandatory)) = configures play (with_offered side feature place mandatory)
 by_line play number (Ok (line.Event event)) = says_event play number event
 
 -- A line of this number, without its newline. Its faults are judged in this order: the line by itself up to its words, that it stands

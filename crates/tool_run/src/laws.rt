@@ -1,9 +1,11 @@
 //! What a schedule's lines make happen.
 ghost use Rattle.std.specs.Prelude.{◌≡◌, ◌≢◌, ◌++◌, ℕ, List, Some, Err, false, flat_map, slice_get, take};
 ghost use Rattle.ccid_two.specs.Kinds.{kinds_control};
+ghost use Rattle.dccp_io.specs.Lines.{lines_of};
 ghost use Rattle.two_ends.specs.Controlled.{happens_to, plays};
 ghost use Rattle.tool_run.specs.Scenes.{Scene, IsRun, scene_events, scene_text};
 ghost use Rattle.tool_run.specs.Transcript.{is_refused, performed, transcript, world_at_first, world_of};
+ghost use Rattle.tool_run.specs.Versions.{HaveVectors, vectors_said};
 ghost use Rattle.tool_run.specs.WorldLines.{end_lines};
 
 use ccid_two::Kinds;
@@ -37,3 +39,9 @@ pub fn no_schedule_meets_a_far_frame()
 {
     few_frames_are_never_far::<Kinds>();
 }
+
+/// Both ends write Ack Vectors of up to two options exactly where the first line that says something is `version 2`
+/// (own). They are configured so at last, which is how the first event finds them.
+pub fn the_first_line_says_the_version()
+    ensures { (input : List ℕ) → HaveVectors (vectors_said 0 (lines_of input)) (performed input).last }
+{}

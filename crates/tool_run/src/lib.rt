@@ -8,5 +8,6 @@ mod world_lines;
 
 pub use crate::laws::{
     every_schedule_is_a_run, no_schedule_fills_a_world, no_schedule_meets_a_far_frame,
+    the_first_line_says_the_version,
 };
 pub use crate::transcript::run_schedule;

@@ -1,16 +1,17 @@
 //! A schedule while it is played.
-ghost use Rattle.std.specs.Prelude.{◌≡◌, ◌++◌, ℕ, List, is_some, if◌then◌else◌, IfOk, OnOk, Some, Ok, Err};
+ghost use Rattle.std.specs.Prelude.{◌≡◌, ◌++◌, ℕ, List, is_some, if◌then◌else◌, IfOk, OnErr, OnOk, Some, Ok, Err};
 ghost use Rattle.tool_run.specs.WorldLines.{end_lines};
 ghost use Rattle.tool_lines.specs.Jobs.{Judges};
 ghost use Rattle.tool_words.specs.Refusals.{whole_line};
 ghost use Rattle.tool_replay.specs.Replay.{config_without_offers};
 ghost use Rattle.tool_run.specs.Transcript.{first_play, starts, world_of, ArePeers, IsPlayable, SentFew, ShowsEvent, event_shown, most_events, by_line, run_job};
-ghost use Rattle.tool_run.specs.Transcript.{configures, says_plain, with_iss, with_set, with_offered, wishing, offering, in_place, says_event, no_such_frame};
+ghost use Rattle.tool_run.specs.Transcript.{with_header, configures, says_plain, says_version, vectors_of, with_iss, with_set, with_offered, wishing, offering, in_place, says_event, no_such_frame};
 ghost use Rattle.dccp_endpoint.specs.Drafts.{Fits};
 ghost use Rattle.feature_lists.specs.Wishes.{wish_of};
 ghost use Rattle.feature_machine.specs.Lists.{IsLists};
 
 use crate::world_lines::{arrived, put_end_lines, put_sent_line};
+use ack_vectors::Vectors;
 use ccid_two::Kinds;
 use dccp_endpoint::{Config, Role};
 use feature_lists::{Feature, Place};
@@ -27,6 +28,8 @@ const MOST_EVENTS: u32 = 16_384;
 pub(crate) struct Play {
     /// How many events took place.
     pub(crate) events: u32,
+    /// A line that stands before all events was accepted.
+    pub(crate) is_configured: bool,
     /// What the client is made from.
     pub(crate) client: Config,
     /// What the server is made from.
@@ -42,6 +45,7 @@ impl Play {
     {
         Play {
             events: 0,
+            is_configured: false,
             client: Config::usual(Role::Client),
             server: Config::usual(Role::Server),
             world: None,
@@ -64,6 +68,7 @@ impl Play {
     {
         match said {
             Line::Nothing => Ok(Ok(())),
+            Line::Version { number } => Ok(self.say_version(*number)),
             Line::Plain => Ok(self.say_plain()),
             Line::Iss { side, number } => Ok(self.say_iss(*side, *number)),
             Line::Set {
@@ -95,21 +100,48 @@ impl Play {
     }
 
     // A line that stands before all events comes before the first.
-    fn check_header(&self) -> Result<(), LineFault>
-        ensures { result ≡ (if is_some self.now.world then Err (whole_line LineWhy.HeaderLate) else Ok tt) }
+    fn begin_header(&mut self) -> Result<(), LineFault>
+        ensures answer { result ≡ (if is_some self.old.world then Err (whole_line LineWhy.HeaderLate) else Ok tt) }
+        ensures accepted { OnOk result (self.new ≡ with_header self.old) }
+        ensures refused { OnErr result (self.new ≡ self.old) }
     {
         if self.world.is_some() {
             return Err(whole_line(LineWhy::HeaderLate));
         }
+        self.is_configured = true;
+        Ok(())
+    }
+
+    // A version comes before every other line that says something.
+    fn check_first(&self) -> Result<(), LineFault>
+        ensures { result ≡ (if self.now.is_configured then Err (whole_line LineWhy.HeaderLate) else Ok tt) }
+    {
+        if self.is_configured {
+            Err(whole_line(LineWhy::HeaderLate))
+        } else {
+            Ok(())
+        }
+    }
+
+    fn say_version(&mut self, number: u8) -> Result<(), LineFault>
+        requires { IsPlayable self.old }
+        ensures verdict { (text : List ℕ) → Judges run_job (says_version self.old number) text text self.new result }
+        ensures playable { IsPlayable self.new }
+    {
+        self.check_first()?;
+        self.begin_header()?;
+        let vectors = vectors_of(number);
+        self.client.vectors = vectors;
+        self.server.vectors = vectors;
         Ok(())
     }
 
     fn say_plain(&mut self) -> Result<(), LineFault>
         requires { IsPlayable self.old }
-        ensures verdict { (text : List ℕ) → Judges run_job (configures self.old (says_plain self.old)) text text self.new result }
+        ensures verdict { (text : List ℕ) → Judges run_job (configures self.old says_plain) text text self.new result }
         ensures playable { IsPlayable self.new }
     {
-        self.check_header()?;
+        self.begin_header()?;
         offer_nothing(&mut self.client);
         offer_nothing(&mut self.server);
         Ok(())
@@ -117,10 +149,10 @@ impl Play {
 
     fn say_iss(&mut self, side: Side, number: Seq48) -> Result<(), LineFault>
         requires { IsPlayable self.old }
-        ensures verdict { (text : List ℕ) → Judges run_job (configures self.old (with_iss side number self.old)) text text self.new result }
+        ensures verdict { (text : List ℕ) → Judges run_job (configures self.old (with_iss side number)) text text self.new result }
         ensures playable { IsPlayable self.new }
     {
-        self.check_header()?;
+        self.begin_header()?;
         // Contracts learn that a number fits where it is read.
         let _ = number.get();
         match side {
@@ -139,10 +171,10 @@ impl Play {
         values: &[u64],
     ) -> Result<(), LineFault>
         requires { IsPlayable self.old }
-        ensures verdict { (text : List ℕ) → Judges run_job (configures self.old (with_set side feature place values.now self.old)) text text self.new result }
+        ensures verdict { (text : List ℕ) → Judges run_job (configures self.old (with_set side feature place values.now)) text text self.new result }
         ensures playable { IsPlayable self.new }
     {
-        self.check_header()?;
+        self.begin_header()?;
         match side {
             Side::Client => wish_for(&mut self.client, feature, place, values),
             Side::Server => wish_for(&mut self.server, feature, place, values),
@@ -158,10 +190,10 @@ impl Play {
         mandatory: bool,
     ) -> Result<(), LineFault>
         requires { IsPlayable self.old }
-        ensures verdict { (text : List ℕ) → Judges run_job (configures self.old (with_offered side feature place mandatory self.old)) text text self.new result }
+        ensures verdict { (text : List ℕ) → Judges run_job (configures self.old (with_offered side feature place mandatory)) text text self.new result }
         ensures playable { IsPlayable self.new }
     {
-        self.check_header()?;
+        self.begin_header()?;
         match side {
             Side::Client => offer(&mut self.client, feature, place, mandatory),
             Side::Server => offer(&mut self.server, feature, place, mandatory),
@@ -226,6 +258,17 @@ impl Play {
             Some(world) => put_end_lines(text, world),
             None => unreachable!(),
         }
+    }
+}
+
+// How many options the Ack Vectors of a version's packets have at most.
+fn vectors_of(version: u8) -> Vectors
+    ensures { result ≡ vectors_of version }
+{
+    if version == 2 {
+        Vectors::Two
+    } else {
+        Vectors::One
     }
 }
 

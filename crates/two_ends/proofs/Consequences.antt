@@ -6,7 +6,8 @@ use Rattle.std.specs.List.{Contains}
 use Rattle.std.specs.Prelude.{IsSome, IsTrue, drop, slice_index, take}
 use Rattle.ack_vectors.proofs.ReadBack.{plain-set}
 use Rattle.ack_vectors.proofs.Telling.{heard-member, whole-tells}
-use Rattle.ack_vectors.specs.Vector.{is_whole, set_states, state_told}
+use Rattle.ack_vectors.specs.Vector.{is_whole_under, room_of, set_states, state_told}
+use Rattle.ack_vectors.specs.declared.room.Vectors.{Vectors}
 use Rattle.congestion_trait.proofs.Numbers.{numbers_reported-exact}
 use Rattle.congestion_trait.specs.Control.{Control}
 use Rattle.congestion_trait.specs.Flight.{Has}
@@ -126,18 +127,21 @@ module _ (w : WorldState) where
     abbrev early : List ℕ
     early = processed_by (half_of w side) frame
 
+    abbrev setting : Vectors
+    setting = (half_of w side).end.config.vectors
+
     pub told-received : ack < 2 ^ 48 → n < 2 ^ 48 → is_received (state_at ack bytes n) ≡ true → Contains early n
     told-received fits small received =
         has-contains early n
-        (heard-member 253 (has early) frame.floor ack n fits small
+        (heard-member (room_of setting) (has early) frame.floor ack n fits small
         (sym (ap (λ (vector : List ℕ). is_received (state_at ack vector n)) (truthful side index frame ack bytes there carries).is_vector) ∙ received))
 
-    pub all-told : is_whole (has early) frame.floor ack ≡ true → frame.floor < 2 ^ 48 → ack < 2 ^ 48 → n < 2 ^ 48 → IsFrom frame.floor ack
+    pub all-told : is_whole_under (has early) frame.floor ack setting ≡ true → frame.floor < 2 ^ 48 → ack < 2 ^ 48 → n < 2 ^ 48 → IsFrom frame.floor ack
         → IsWithin n frame.floor ack → Contains early n → is_received (state_at ack bytes n) ≡ true
     all-told whole floor_fits fits small from inside has_it =
         ap (λ (vector : List ℕ). is_received (state_at ack vector n)) (truthful side index frame ack bytes there carries).is_vector
         ∙ ap is_received
-        (whole-tells 253 (set_states (has early)) frame.floor ack n (plain-set (has early)) floor_fits fits small whole from inside)
+        (whole-tells (room_of setting) (set_states (has early)) frame.floor ack n (plain-set (has early)) floor_fits fits small whole from inside)
         ∙ ap (λ (b : Bool). is_received (Some (state_told b))) (contains-has early n has_it)
 
     pub after-none : Contains early n → IsBefore ack n → ⊥
@@ -146,7 +150,8 @@ module _ (w : WorldState) where
   pub far-behind : Told w → (side : Side) (iss count n : ℕ) → iss < 2 ^ 48 → 1 ≤ count → count + 2047 ≤ 2 ^ 47 → n ≡ number_of iss count
       → distance (half_of w side).end.marks.isr n < distance (half_of w side).end.marks.isr (half_of w side).end.received.set.floor
       → ((index : ℕ) (frame : SentFrame) (ack : ℕ) (bytes : List ℕ) → slice_get (half_of w side).frames index ≡ Some frame → CarriesVector frame ack bytes
-      → is_whole (has (take frame.processed (half_of w side).processed)) frame.floor ack ≡ true → IsWithin n frame.floor ack
+      → is_whole_under (has (take frame.processed (half_of w side).processed)) frame.floor ack (half_of w side).end.config.vectors ≡ true
+      → IsWithin n frame.floor ack
       → Contains (half_of w (other side)).processed frame.number → ⊥)
       → AreAmongFirst iss (count + 2047) (half_of w side).processed → ⊥
   far-behind told side iss count n fits some early is below none among = by (told side n (number-small iss count n is) below) where

@@ -1,17 +1,20 @@
 -- An end's packets have few options: at most eighteen Changes, and a Confirm for each Change of the packet that they answer.
-use Rattle.std.proofs.Common.{◌≡◌, refl, ap, ◌∙◌, subst, ℕ, ◌+◌, ◌≤◌, ◌&&◌, not, nat_lt, Bool, true, false, List, [], ◌∷◌, ◌++◌, Option, Result, Ok, Err, if◌then◌else◌, length, length-append, map, arith}
+use Rattle.std.proofs.Common.{◌≡◌, refl, ap, ◌∙◌, subst, ℕ, ◌+◌, ◌≤◌, ◌&&◌, not, nat_le, nat_lt, Bool, true, false, List, [], ◌∷◌, ◌++◌, Option, Result, Ok, Err, if◌then◌else◌, length, length-append, take, drop, map, arith}
 use Rattle.std.specs.Prelude.{slice_index_or}
 use Rattle.std.proofs.lemmas.List.{length-map}
 use Rattle.std.proofs.lemmas.List.Elements.{All-cons, All-nil}
 use Rattle.std.specs.List.{All}
+use Rattle.ack_vectors.specs.Vector.{option_data, vector_under}
+use Rattle.ack_vectors.specs.declared.room.Vectors.{Vectors}
 use Rattle.dccp_options.specs.Grammar.{Entry}
 use Rattle.dccp_options.specs.Kinds.{is_understood}
 use Rattle.dccp_options.specs.Written.{Item, entries_at, spelled}
 use Rattle.dccp_options.specs.declared.option.OptFault.{OptFault}
 use Rattle.dccp_packets.specs.declared.reset_code.ResetCode.TheVariants as codes
 use Rattle.dccp_endpoint.proofs.Keys.{due-few, unconfirmed-few}
+use Rattle.dccp_endpoint.proofs.OwnPackets.{parts-are, vector_parts}
 use Rattle.dccp_endpoint.specs.Heeding.{Due, Heeding, by_answered, by_settling, counted, fault_of, heeds, heeds_body, heeds_change, heeds_entry, heeds_feature, heeds_first, heeds_then, is_change, is_left, is_of_negotiation, met, misunderstood, place_in_used}
-use Rattle.dccp_endpoint.specs.Reporting.{vector_items}
+use Rattle.dccp_endpoint.specs.Reporting.{vector_item, vector_items}
 use Rattle.dccp_endpoint.specs.Speaking.{asking, change_item, change_items, change_type, confirm_item, confirm_items, confirm_type}
 use Rattle.dccp_endpoint.specs.Turns.{Key}
 use Rattle.end_answers.specs.declared.outcome.Fault.{Fault}
@@ -22,7 +25,7 @@ use Rattle.feature_machine.specs.Negotiating.{IsNegotiation, changes, confirmed,
 use Rattle.feature_machine.specs.declared.answers.Settling.{Settling}
 use Rattle.feature_machine.specs.declared.answers.Settling.TheVariants as settling
 use Rattle.feature_machine.specs.declared.row.Row.{Row}
-use Rattle.run_list.specs.MarkedSet.{MarkedSet}
+use Rattle.run_list.specs.MarkedSet.{MarkedSet, has}
 
 abbrev pub one_for : Bool → ℕ
 one_for true = 1
@@ -132,14 +135,32 @@ written-changes [] rows (k ∷ keys) =
 written-changes (due ∷ confirms) rows keys =
     omega (arith, ap one_for (confirm-no-change due.left), written-changes confirms rows keys)
 
--- an Ack Vector in front is none, and one option more
-pub vector-changes : (has_vector : Bool) (set : MarkedSet) (ack : ℕ) (rest : List Item) → changes_in (vector_items has_vector set ack ++ rest) ≡ changes_in rest
-vector-changes true set ack rest = omega arith
-vector-changes false set ack rest = refl
+-- an Ack Vector in front is none, and two options more at most
+parts-changes : (parts : List (List ℕ)) (rest : List Item) → changes_in (map vector_item parts ++ rest) ≡ changes_in rest
+parts-changes [] rest = refl
+parts-changes (part ∷ parts) rest =
+    let none = parts-changes parts rest in
+    omega (arith, none)
 
-pub vector-length : (has_vector : Bool) (set : MarkedSet) (ack : ℕ) (rest : List Item) → length (vector_items has_vector set ack ++ rest) ≤ 1 + length rest
-vector-length true set ack rest = omega arith
-vector-length false set ack rest = omega arith
+pub vector-changes : (has_vector : Bool) (setting : Vectors) (set : MarkedSet) (ack : ℕ) (rest : List Item)
+    → changes_in (vector_items has_vector setting set ack ++ rest) ≡ changes_in rest
+vector-changes has_vector setting set ack rest =
+    ap (λ (front : List Item). changes_in (front ++ rest)) (parts-are has_vector setting set ack)
+    ∙ parts-changes (vector_parts has_vector setting set ack) rest
+
+data-few : (bytes : List ℕ) → length (option_data bytes) ≤ 2
+data-few bytes = by (nat_le (length bytes) 253) where
+  by : (one : Bool) → length (if one then bytes ∷ [] else take 253 bytes ∷ drop 253 bytes ∷ []) ≤ 2
+  by true = omega arith
+  by false = omega arith
+
+pub vector-length : (has_vector : Bool) (setting : Vectors) (set : MarkedSet) (ack : ℕ) (rest : List Item)
+    → length (vector_items has_vector setting set ack ++ rest) ≤ 2 + length rest
+vector-length true setting set ack rest =
+    let parts : List (List ℕ) = option_data (vector_under (has set.numbers) set.floor ack setting) in
+    let few = data-few (vector_under (has set.numbers) set.floor ack setting) in
+    omega (arith, length-append (map vector_item parts) rest, length-map {B = Item} parts vector_item, few)
+vector-length false setting set ack rest = omega arith
 
 -- all else that is written is of the negotiation
 confirm-kind : (left : Bool) → is_of_negotiation (confirm_type left) ≡ true

@@ -129,7 +129,7 @@ pub record IsWell (peer_iss : ℕ) (l : Logged) : Type 0 where
   pub each : (k : Key) → IsWellSaid peer_iss k (said_by k l)
   pub once : (k : Key) → times_said_to (across k) (map Ok (entries_at 0 l.draft.options)) ≤ 1
   pub changes : changes_in l.draft.options ≤ 18
-  pub few : length l.draft.options ≤ 37
+  pub few : length l.draft.options ≤ 38
   pub long : has_forms true l.draft.kind ≡ true
 
 carried-next : (frames : List Carried) (place : ℕ) → carried_at frames (place + 1) ≡ slice_index_or frames place Nothing

@@ -311,7 +311,7 @@ module _ (s : KnownStep) where
       → said_by k (record { draft = packet; processed = processed; floor = floor }) ≡ said_of (confirm_for k due) (has_key k keys) (ack_of packet.kind) k (row-after k)
   this-says k packet processed floor is =
       ap (λ (items : List Item). said_to true (ack_of packet.kind) (k.0, opposite k.1) (map Ok (entries_at 0 items))) is
-      ∙ own_packets_say (ack_of packet.kind) (has-vector packet.kind) told acked due (rows_by e.rows f) keys k
+      ∙ own_packets_say (ack_of packet.kind) (has-vector packet.kind) e.config.vectors told acked due (rows_by e.rows f) keys k
 
   well-said : (k : Key) (ack : Option ℕ) → (due ≡ []) ⊎ AcknowledgesHeard f.hearing ack
       → IsWellSaid peer_iss k (said_of (confirm_for k due) (has_key k keys) ack k (row-after k))
@@ -357,7 +357,7 @@ module _ (s : KnownStep) where
   -- What goes out speaks once of each row.
   said-once : (kind : Kind) (k : Key) → times_said_to (across k) (map Ok (entries_at 0 (written-by kind))) ≤ 1
   said-once kind k =
-      own_packets_speak (has-vector kind) told acked due (rows_by e.rows f) keys k ((confirms-few heard due act.because.turns.hears).single k)
+      own_packets_speak (has-vector kind) e.config.vectors told acked due (rows_by e.rows f) keys k ((confirms-few heard due act.because.turns.hears).single k)
       (keys-distinct e act.given rows heard due rows-heard act.because.turns.offered act.because.turns.preferred keys act.because.turns.occasion)
       (λ asks. apart-so due keys k act.because.turns.apart asks)
 
@@ -369,9 +369,9 @@ module _ (s : KnownStep) where
       let keyed = keys-few _ _ keys act.because.turns.occasion in
       let confirmed = confirms-few heard due act.because.turns.hears in
       let changes : changes_in packet.options ≡ length keys =
-      ap changes_in is ∙ vector-changes (has-vector packet.kind) told acked negotiated ∙ written-changes due (rows_by e.rows f) keys in
+      ap changes_in is ∙ vector-changes (has-vector packet.kind) e.config.vectors told acked negotiated ∙ written-changes due (rows_by e.rows f) keys in
       let size : length packet.options ≡ length (written-by packet.kind) = ap length is in
-      let one_more = vector-length (has-vector packet.kind) told acked negotiated in
+      let more = vector-length (has-vector packet.kind) e.config.vectors told acked negotiated in
       let both : length negotiated ≡ length due + length keys = written-length due (rows_by e.rows f) keys in
       All-cons (IsWell peer_iss) l []
       (record {
@@ -379,7 +379,7 @@ module _ (s : KnownStep) where
             λ k. subst (IsWellSaid peer_iss k) (sym (this-says k packet processed floor is)) (well-said k (ack_of packet.kind) answers);
         once = λ k. subst (λ (items : List Item). times_said_to (across k) (map Ok (entries_at 0 items)) ≤ 1) (sym is) (said-once packet.kind k);
         changes = omega (arith, changes, keyed);
-        few = omega (arith, size, one_more, both, keyed, confirmed.few);
+        few = omega (arith, size, more, both, keyed, confirmed.few);
         long = framed.is_long;
       })
       (All-nil (IsWell peer_iss))

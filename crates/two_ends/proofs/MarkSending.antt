@@ -6,8 +6,10 @@ use Rattle.std.proofs.lemmas.Option.{same_Some}
 use Rattle.std.specs.List.{All, Contains}
 use Rattle.ack_vectors.proofs.Records.{newest_whole-there, recorded-there}
 use Rattle.ack_vectors.specs.Kept.{Kept as KeptNumbers, acked, newest_whole, raised_by}
-use Rattle.ack_vectors.specs.Vector.{is_whole}
+use Rattle.ack_vectors.specs.Vector.{is_whole_under}
 use Rattle.ack_vectors.specs.declared.received.Record.{Record}
+use Rattle.ack_vectors.specs.declared.room.Vectors.{Vectors}
+use Rattle.dccp_endpoint.proofs.OwnPackets.{vector_parts}
 use Rattle.dccp_endpoint.specs.Causes.{HasFrame, IsLooking, LooksNowhere, Looks, IsSending, Rests, Acks, Others, Refuses, Says, SaysAll, WasTaken, vector_of}
 use Rattle.dccp_endpoint.specs.Drafts.{Draft}
 use Rattle.dccp_endpoint.specs.Effects.{Effect, Sending, Silent, Next, end_after, greatest_by, heard_by, is_acking_sent, received_by, rows_by, told_by}
@@ -45,7 +47,7 @@ use Rattle.two_ends.proofs.Logged.{Logged}
 use Rattle.two_ends.proofs.MarkHearing.{IsTaking}
 use Rattle.two_ends.proofs.Numbering.{IsOrdered, came-logged, few-logged}
 use Rattle.two_ends.proofs.Shown.{IsPacketOf, IsShown, moves-keep, same-counts, some-first}
-use Rattle.two_ends.proofs.Vectors.{AreFrames, IsFrame, IsRecorded, frame-last, frame-of, frames-append, frames-length, one_vector, recorded-before, vectors_of, vectors-written}
+use Rattle.two_ends.proofs.Vectors.{AreFrames, IsFrame, IsRecorded, frame-last, frame-of, frames-append, frames-length, recorded-before, vectors_of, vectors-written}
 
 acking-no-reset : (t : PacketType) → is_acking t ≡ true → t ≢ types.Reset
 acking-no-reset t is reset =
@@ -63,9 +65,9 @@ number-fits iss n = omega arith
 number-next : (iss n : ℕ) → 1 ≤ n → residue (number_of iss n + 1) ≡ number_of iss (n + 1)
 number-next iss n some = omega arith
 
-recorded-set : (b : Bool) (kept : KeptNumbers) (number ack : ℕ) → (recorded_by b kept number ack).set ≡ kept.set
-recorded-set true kept number ack = refl
-recorded-set false kept number ack = refl
+recorded-set : (b : Bool) (setting : Vectors) (kept : KeptNumbers) (number ack : ℕ) → (recorded_by b setting kept number ack).set ≡ kept.set
+recorded-set true setting kept number ack = refl
+recorded-set false setting kept number ack = refl
 
 module _ (act : Act) (own : IsOrdered act.side) (peer_ordered : IsOrdered act.peer) (view peer : MarkSide) (kept : Kept view peer)
     (here : IsShown act.side act.peer view) (there : IsShown act.peer act.side peer) where
@@ -80,6 +82,9 @@ module _ (act : Act) (own : IsOrdered act.side) (peer_ordered : IsOrdered act.pe
 
   abbrev own_iss : ℕ
   own_iss = (config_of act.side).iss
+
+  abbrev setting : Vectors
+  setting = (config_of act.side).vectors
 
   few : length act.peer.log < 2 ^ 47
   few = few-logged act.peer peer_ordered
@@ -194,21 +199,21 @@ module _ (act : Act) (own : IsOrdered act.side) (peer_ordered : IsOrdered act.pe
 
     floor-kept : floor_of (end_after e f) ≡ kept-numbers.set.floor
     floor-kept =
-        ap (λ (s : MarkedSet). s.floor) (recorded-set (is_acking_sent f.sending && has-vector) kept-numbers (next_number e) greatest)
+        ap (λ (s : MarkedSet). s.floor) (recorded-set (is_acking_sent f.sending && has-vector) setting kept-numbers (next_number e) greatest)
 
     -- the frames then, and the records
     pub record IsSent (s : Sending) : Type 0 where
       pub frames : List Frame
       pub moves : MarkMoves peer.frames t.after (record t.after { frames = frames })
-      are : AreFrames iss (act.side.log ++ logged_by (length (processed_by act.side.half act.arrived f)) (floor_of (end_after e f)) s) frames
-      records : (r : Record) → Contains (recorded_by (is_acking_sent s && has-vector) kept-numbers (next_number e) greatest).records r
+      are : AreFrames iss setting (act.side.log ++ logged_by (length (processed_by act.side.half act.arrived f)) (floor_of (end_after e f)) s) frames
+      records : (r : Record) → Contains (recorded_by (is_acking_sent s && has-vector) setting kept-numbers (next_number e) greatest).records r
           → IsRecorded own_iss iss frames r
 
     records-now : (r : Record) → Contains kept-numbers.records r → IsRecorded own_iss iss t.after.frames r
     records-now r has_it = subst (λ (fs : List Frame). IsRecorded own_iss iss fs r) (sym t.frames) (here.records r (t.records r has_it))
 
-    frames-now : AreFrames iss act.side.log t.after.frames
-    frames-now = subst (λ (fs : List Frame). AreFrames iss act.side.log fs) (sym t.frames) here.frames
+    frames-now : AreFrames iss setting act.side.log t.after.frames
+    frames-now = subst (λ (fs : List Frame). AreFrames iss setting act.side.log fs) (sym t.frames) here.frames
 
     none-sent : (s : Sending) → logged_by (length (processed_by act.side.half act.arrived f)) (floor_of (end_after e f)) s ≡ [] → is_acking_sent s ≡ false
         → IsSent s
@@ -217,11 +222,11 @@ module _ (act : Act) (own : IsOrdered act.side) (peer_ordered : IsOrdered act.pe
           frames = t.after.frames;
           moves = Done t.after;
           are =
-              subst (λ (log : List Logged). AreFrames iss log t.after.frames)
+              subst (λ (log : List Logged). AreFrames iss setting log t.after.frames)
               (sym (ap (λ (more : List Logged). act.side.log ++ more) none ∙ append-nil act.side.log)) frames-now;
           records =
               λ r has_it. records-now r
-              (subst (λ (b : Bool). Contains (recorded_by (b && has-vector) kept-numbers (next_number e) greatest).records r) quiet has_it);
+              (subst (λ (b : Bool). Contains (recorded_by (b && has-vector) setting kept-numbers (next_number e) greatest).records r) quiet has_it);
         }
 
     module _ (packet : Draft) (framed : HasFrame (Next packet))
@@ -229,10 +234,10 @@ module _ (act : Act) (own : IsOrdered act.side) (peer_ordered : IsOrdered act.pe
       abbrev logged : Logged
       logged = record { draft = packet; processed = length (processed_by act.side.half act.arrived f); floor = floor_of (end_after e f) }
 
-      vectors : vectors_of logged ≡ one_vector (is_acking (packet_type packet.kind) && has-vector) kept-numbers.set greatest
+      vectors : vectors_of logged ≡ vector_parts (is_acking (packet_type packet.kind) && has-vector) setting kept-numbers.set greatest
       vectors =
           ap (λ (items : List Item). ack_vectors (map Ok (entries_at 0 items))) options
-          ∙ vectors-written (is_acking (packet_type packet.kind) && has-vector) kept-numbers.set greatest
+          ∙ vectors-written (is_acking (packet_type packet.kind) && has-vector) setting kept-numbers.set greatest
           (confirm_items due ++ change_items (rows_by e.rows f) keys) (written-kinds due (rows_by e.rows f) keys)
 
       -- a packet that is no Ack
@@ -254,14 +259,14 @@ module _ (act : Act) (own : IsOrdered act.side) (peer_ordered : IsOrdered act.pe
                   vector_acks = λ is. cc is;
                   processed = sym processed-length;
                   set = kept-numbers.set;
-                  vectors = vectors ∙ ap (λ (b : Bool). one_vector (b && has-vector) kept-numbers.set greatest) other;
+                  vectors = vectors ∙ ap (λ (b : Bool). vector_parts (b && has-vector) setting kept-numbers.set greatest) other;
                   floor = λ is. cc is;
                   marks = λ is. cc is;
                   whole = λ is. cc is;
                 });
             records =
                 λ r has_it. recorded-before own_iss iss t.after.frames (other_frame t.after 0) r
-                (records-now r (subst (λ (b : Bool). Contains (recorded_by (b && has-vector) kept-numbers (next_number e) greatest).records r) other has_it));
+                (records-now r (subst (λ (b : Bool). Contains (recorded_by (b && has-vector) setting kept-numbers (next_number e) greatest).records r) other has_it));
           }
 
       -- an Ack or a DataAck
@@ -288,12 +293,12 @@ module _ (act : Act) (own : IsOrdered act.side) (peer_ordered : IsOrdered act.pe
           by false is = refl
 
         abbrev whole : Bool
-        whole = is_whole (has kept-numbers.set.numbers) kept-numbers.set.floor (number_of iss t.after.greatest)
+        whole = is_whole_under (has kept-numbers.set.numbers) kept-numbers.set.floor (number_of iss t.after.greatest) setting
 
         abbrev frame : Frame
         frame = ack_frame t.after has-vector whole
 
-        its-frame : IsFrame iss logged frame
+        its-frame : IsFrame iss setting logged frame
         its-frame =
             record {
               long = framed.is_long;
@@ -305,15 +310,15 @@ module _ (act : Act) (own : IsOrdered act.side) (peer_ordered : IsOrdered act.pe
               processed = sym processed-length;
               set = kept-numbers.set;
               vectors =
-                  vectors ∙ ap (λ (b : Bool). one_vector (b && has-vector) kept-numbers.set greatest) acking
-                  ∙ ap (one_vector has-vector kept-numbers.set) greatest-is;
+                  vectors ∙ ap (λ (b : Bool). vector_parts (b && has-vector) setting kept-numbers.set greatest) acking
+                  ∙ ap (vector_parts has-vector setting kept-numbers.set) greatest-is;
               floor = λ is. sym floor-kept;
               marks = λ is. set-is;
               whole = λ is. refl;
             }
 
         its-record : (r : Record) → has-vector ≡ true
-            → r ≡ record { number = next_number e; ack = greatest; whole = is_whole (has kept-numbers.set.numbers) kept-numbers.set.floor greatest }
+            → r ≡ record { number = next_number e; ack = greatest; whole = is_whole_under (has kept-numbers.set.numbers) kept-numbers.set.floor greatest setting }
             → IsRecorded own_iss iss (with_sent_frame t.after frame).frames r
         its-record r vector is =
             let last : frame_at (with_sent_frame t.after frame).frames (suc (length t.after.frames)) ≡ frame = frame-last t.after.frames frame in
@@ -327,18 +332,18 @@ module _ (act : Act) (own : IsOrdered act.side) (peer_ordered : IsOrdered act.pe
               has_vector = ap (λ (g : Frame). g.has_vector) last ∙ vector;
               is_whole =
                   ap (λ (g : Frame). g.is_whole) last
-                  ∙ ap (is_whole (has kept-numbers.set.numbers) kept-numbers.set.floor) (sym greatest-is)
+                  ∙ ap (λ (n : ℕ). is_whole_under (has kept-numbers.set.numbers) kept-numbers.set.floor n setting) (sym greatest-is)
                   ∙ ap (λ (x : Record). x.whole) (sym is);
               ack = ap (λ (x : Record). x.ack) is ∙ greatest-is ∙ ap (λ (g : Frame). number_of iss g.acknowledged) (sym last);
               some = subst (λ (g : Frame). 1 ≤ g.acknowledged) (sym last) some;
               early = subst (λ (g : Frame). g.acknowledged < 2 ^ 47) (sym last) (omega (arith, t.heard.within, few));
             }
 
-        records-by : (b : Bool) → has-vector ≡ b → (r : Record) → Contains (recorded_by b kept-numbers (next_number e) greatest).records r
+        records-by : (b : Bool) → has-vector ≡ b → (r : Record) → Contains (recorded_by b setting kept-numbers (next_number e) greatest).records r
             → IsRecorded own_iss iss (with_sent_frame t.after frame).frames r
         records-by false vector r has_it = recorded-before own_iss iss t.after.frames frame r (records-now r has_it)
         records-by true vector r has_it =
-            elim (recorded-there kept-numbers (next_number e) greatest (is_whole (has kept-numbers.set.numbers) kept-numbers.set.floor greatest) r has_it) [
+            elim (recorded-there kept-numbers (next_number e) greatest (is_whole_under (has kept-numbers.set.numbers) kept-numbers.set.floor greatest setting) r has_it) [
               | inl before ↦ recorded-before own_iss iss t.after.frames frame r (records-now r before)
               | inr new ↦ its-record r vector new
             ]
@@ -351,7 +356,7 @@ module _ (act : Act) (own : IsOrdered act.side) (peer_ordered : IsOrdered act.pe
               are = frames-append frames-now its-frame;
               records =
                   λ r has_it. records-by has-vector refl r
-                  (subst (λ (b : Bool). Contains (recorded_by (b && has-vector) kept-numbers (next_number e) greatest).records r) acking has_it);
+                  (subst (λ (b : Bool). Contains (recorded_by (b && has-vector) setting kept-numbers (next_number e) greatest).records r) acking has_it);
             }
 
     pub sends-by : (s : Sending) → IsSending e act.given f s → Says e f due keys s → HasFrame s → IsSent s
@@ -371,7 +376,7 @@ module _ (act : Act) (own : IsOrdered act.side) (peer_ordered : IsOrdered act.pe
 
     pub shown : IsShown (acted act) act.peer last
     shown =
-        let keeps : (received_by e f).set ≡ kept-numbers.set = recorded-set (is_acking_sent f.sending && has-vector) kept-numbers (next_number e) greatest in
+        let keeps : (received_by e f).set ≡ kept-numbers.set = recorded-set (is_acking_sent f.sending && has-vector) setting kept-numbers (next_number e) greatest in
         record {
           heard = t.heard;
           first = t.first;

@@ -83,7 +83,7 @@ module _ (x y : Party) (own : IsOrdered x) (others : IsOrdered y) (hears : IsHea
   ack-near place l there may = by (is_acking (packet_type l.draft.kind)) refl where
     by : (acking : Bool) → is_acking (packet_type l.draft.kind) ≡ acking → is_ack_far (ack_of (kind_in_widths l.draft.kind)) e.marks.gss ≡ false
     by true acking =
-        let ours : IsFrame (config_of x).iss l (frame_at m.peer.frames (suc place)) = frame-of place l m.there.frames there in
+        let ours : IsFrame (config_of x).iss (config_of y).vectors l (frame_at m.peer.frames (suc place)) = frame-of place l m.there.frames there in
         let is_ack : (frame_at m.peer.frames (suc place)).is_ack ≡ true = ours.acks ∙ acking in
         let k : ℕ = (frame_at m.peer.frames (suc place)).acknowledged in
         let sent : k ≤ length x.log =

@@ -5,7 +5,8 @@ use Rattle.std.proofs.lemmas.List.Folds.{list_any_at}
 use Rattle.std.specs.List.{Contains}
 use Rattle.std.specs.Prelude.{slice_index, slice_index_or, take}
 use Rattle.ack_vectors.proofs.ReadBack.{vector-same}
-use Rattle.ack_vectors.specs.Vector.{bytes_of_groups, groups, is_whole, set_states, state_told, states_between, vector}
+use Rattle.ack_vectors.specs.Vector.{bytes_of_groups, groups, is_whole_under, room_of, set_states, state_told, states_between, vector_under}
+use Rattle.ack_vectors.specs.declared.room.Vectors.{Vectors}
 use Rattle.mark_agreement.proofs.Sets.{from-counts}
 use Rattle.mark_agreement.specs.View.{Frame, MarkSide, frame_at}
 use Rattle.run_list.specs.MarkedSet.{has}
@@ -60,6 +61,9 @@ not-after iss ack count fits some below early before = omega (arith, before)
 module _ (x y : Party) (others : IsOrdered y) (m : IsMarking x y) where
   abbrev iss : ℕ
   iss = (config_of y).iss
+
+  abbrev setting : Vectors
+  setting = (config_of x).vectors
 
   abbrev view : MarkSide
   view = m.view
@@ -135,7 +139,7 @@ module _ (x y : Party) (others : IsOrdered y) (m : IsMarking x y) where
         (place, at.0, or-any x.half.processed place (number_of iss count) 0 at.0 ∙ at.1)
 
   -- a frame of the side, by the place of its packet
-  module _ (place : ℕ) (l : Logged) (its : IsFrame iss l (frame_at view.frames (suc place)))
+  module _ (place : ℕ) (l : Logged) (its : IsFrame iss setting l (frame_at view.frames (suc place)))
       (vector-there : (frame_at view.frames (suc place)).has_vector ≡ true) where
     abbrev g : Frame
     g = frame_at view.frames (suc place)
@@ -226,8 +230,8 @@ module _ (x y : Party) (others : IsOrdered y) (m : IsMarking x y) where
 
     abbrev IsSameVector : Type 0
     IsSameVector =
-        (vector (has its.set.numbers) floor ack ≡ vector (has early-list) floor ack)
-        × (is_whole (has its.set.numbers) floor ack ≡ is_whole (has early-list) floor ack)
+        (vector_under (has its.set.numbers) floor ack setting ≡ vector_under (has early-list) floor ack setting)
+        × (is_whole_under (has its.set.numbers) floor ack setting ≡ is_whole_under (has early-list) floor ack setting)
 
     pub same-vector : IsSameVector
     same-vector = by (is_from floor ack) refl where
@@ -237,8 +241,11 @@ module _ (x y : Party) (others : IsOrdered y) (m : IsMarking x y) where
           let below : g.floor ≤ g.acknowledged =
           le-so g.floor g.acknowledged
           (sym (from-counts iss g.floor g.acknowledged fits are.floor_some are.floor_early (its.some is-ack) (omega (arith, its.early is-ack))) ∙ ahead) in
-          vector-same 253 (set_states (has its.set.numbers)) (set_states (has early-list)) floor ack (omega arith) (omega arith)
+          vector-same (room_of setting) (set_states (has its.set.numbers)) (set_states (has early-list)) floor ack (omega arith) (omega arith)
           (λ n small from inside. states-so n small below inside)
       by false behind =
           let same = states-none (set_states (has its.set.numbers)) (set_states (has early-list)) floor ack behind in
-          (ap (λ (ss : List ℕ). take 253 (bytes_of_groups (groups ss))) same, ap (λ (ss : List ℕ). nat_le (length (bytes_of_groups (groups ss))) 253) same)
+          (
+            ap (λ (ss : List ℕ). take (room_of setting) (bytes_of_groups (groups ss))) same,
+            ap (λ (ss : List ℕ). nat_le (length (bytes_of_groups (groups ss))) (room_of setting)) same,
+          )

@@ -3,7 +3,7 @@ use Rattle.std.proofs.Common.{◌≡◌, ◌↔◌, refl, ap, sym, ◌∙◌, su
 use Rattle.std.proofs.lemmas.List.{length-map}
 use Rattle.std.proofs.lemmas.Option.{same_Some, slice_get_within}
 use Rattle.std.specs.List.{Contains}
-use Rattle.ack_vectors.specs.Vector.{is_whole}
+use Rattle.ack_vectors.specs.Vector.{is_whole_under}
 use Rattle.dccp_endpoint.specs.End.{floor_of, is_live}
 use Rattle.dccp_endpoint.specs.Reporting.{is_acking}
 use Rattle.dccp_packets.specs.Grammar.{Parts, packet_type}
@@ -179,7 +179,7 @@ module _ (w : WorldState) (logs : Side → List Logged) (side : Side) where
         let y : Party = party_of w logs (other side) in
         let its = read-in (config_of y) number frame l is in
         let packet_is : packet ≡ its.packet = same_Some packet its.packet (sym read ∙ its.is_packet) in
-        let ours : IsFrame _ l (frame_at m.peer.frames (suc place)) = frame-of place l m.there.frames there in
+        let ours : IsFrame _ _ l (frame_at m.peer.frames (suc place)) = frame-of place l m.there.frames there in
         let type : packet_type packet.header.kind ≡ packet_type l.draft.kind =
         ap (λ (p : Parts). packet_type p.header.kind) packet_is ∙ its.type_is in
         let some : 1 ≤ m.view.greatest = m.here.heard.lives live in
@@ -219,7 +219,7 @@ module _ (w : WorldState) (logs : Side → List Logged) (side : Side) where
         let l : Logged = entry.0 in
         let at = sent-at (config_of x) it.place l own.logged entry.1 in
         let read = read-in (config_of x) at.number at.frame l at.is_logged in
-        let ours : IsFrame (config_of y).iss l (frame_at m.view.frames (suc it.place)) = frame-of it.place l m.here.frames entry.1 in
+        let ours : IsFrame (config_of y).iss (config_of x).vectors l (frame_at m.view.frames (suc it.place)) = frame-of it.place l m.here.frames entry.1 in
         let heard : 1 ≤ m.view.first = vector-heard it.place it.has_vector in
         record {
           index = at.index;
@@ -236,7 +236,7 @@ module _ (w : WorldState) (logs : Side → List Logged) (side : Side) where
           tells_whole =
               sym it.is_whole ∙ ours.whole it.has_vector
               ∙ whole-is w logs side own others m it.place at.number l at.frame entry.1 at.is_logged it.has_vector
-              ∙ ap (is_whole (has (processed_by (half_of w side) at.frame)) at.frame.floor) (sym it.ack);
+              ∙ ap (λ (n : ℕ). is_whole_under (has (processed_by (half_of w side) at.frame)) at.frame.floor n (config_of x).vectors) (sym it.ack);
           floor_rises =
               λ before.
               floor-rises (config_of y).iss (frame_at m.view.frames (suc it.place)).floor m.view.floor (floor_of (half_of w side).end) others.fits.iss

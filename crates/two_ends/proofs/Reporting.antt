@@ -1,12 +1,14 @@
 -- Each number is processed once, every Ack Vector tells what was processed, and what none tells any more was told or is far behind.
 use Rattle.std.proofs.Common.{◌≡◌, refl, ap, sym, ◌∙◌, subst, ℕ, zero, suc, ◌+◌, ◌^◌, ◌<◌, ◌≤◌, Bool, true, false, List, [], ◌∷◌, Option, Some, None, slice_get, length, arith, inl, inr}
-use Rattle.std.proofs.lemmas.List.{append-nil}
 use Rattle.std.proofs.lemmas.List.Elements.{All-get_or}
 use Rattle.std.proofs.lemmas.Option.{same_Some}
-use Rattle.std.specs.List.{Contains, concat}
+use Rattle.std.specs.List.{Contains}
 use Rattle.std.specs.Prelude.{is_some, slice_index, take}
+use Rattle.ack_vectors.proofs.Options.{options-read}
 use Rattle.ack_vectors.proofs.Telling.{heard-member}
-use Rattle.ack_vectors.specs.Vector.{is_whole, vector as vector_of}
+use Rattle.ack_vectors.specs.Vector.{is_whole_under, room_of, vector_under}
+use Rattle.ack_vectors.specs.declared.room.Vectors.{Vectors}
+use Rattle.dccp_endpoint.proofs.OwnPackets.{vector_parts}
 use Rattle.dccp_endpoint.specs.End.{floor_of}
 use Rattle.dccp_options.specs.Vectors.{Report, ack_vectors, is_received, joined_report, report_of, state_at}
 use Rattle.dccp_packets.specs.Grammar.{Parts}
@@ -33,7 +35,7 @@ use Rattle.two_ends.proofs.Processed.{distinct, early-contains, floor-is, none-a
 use Rattle.two_ends.proofs.ReadBack.{FitsAck, ack-fits, ack-kept, logged-options, unlogged-options}
 use Rattle.two_ends.proofs.SentAt.{no-reset, read-in, sent-at}
 use Rattle.two_ends.proofs.Shown.{IsPacketOf}
-use Rattle.two_ends.proofs.Vectors.{IsFrame, frame-of, frames-length, one_vector}
+use Rattle.two_ends.proofs.Vectors.{IsFrame, frame-of, frames-length}
 
 abbrev bytes_in : Option Report → List ℕ
 bytes_in None = []
@@ -74,6 +76,16 @@ module _ (w : WorldState) (logs : Side → List Logged) (side : Side) (own : IsO
   abbrev view : View
   view = m.view
 
+  abbrev setting : Vectors
+  setting = (config_of x).vectors
+
+  -- the vector that the side writes, and whether it is whole
+  abbrev vector_of : (ℕ → Bool) → ℕ → ℕ → List ℕ
+  vector_of taken floor ack = vector_under taken floor ack setting
+
+  abbrev is_whole : (ℕ → Bool) → ℕ → ℕ → Bool
+  is_whole taken floor ack = is_whole_under taken floor ack setting
+
   -- a packet of the peer's log stands in a frame
   sent-number : (n : ℕ) → IsPacketOf iss y.log n → HasSentNumber w (other side) n
   sent-number n p =
@@ -98,7 +110,7 @@ module _ (w : WorldState) (logs : Side → List Logged) (side : Side) (own : IsO
 
   -- a frame, its logged packet, and the frame of the view
   module _ (place number : ℕ) (l : Logged) (frame : SentFrame) (there : slice_get x.log place ≡ Some l) (is : IsLogged (config_of x) number frame l) where
-    abbrev its : IsFrame iss l (frame_at view.frames (suc place))
+    abbrev its : IsFrame iss setting l (frame_at view.frames (suc place))
     its = frame-of place l m.here.frames there
 
     abbrev g : Frame
@@ -107,11 +119,11 @@ module _ (w : WorldState) (logs : Side → List Logged) (side : Side) (own : IsO
     abbrev its-ack : ℕ
     its-ack = number_of iss g.acknowledged
 
-    reports : (ack : ℕ) (b : Bool) → g.has_vector ≡ b → report_of ack (options_in frame.bytes) ≡ joined_report ack (one_vector b its.set its-ack)
+    reports : (ack : ℕ) (b : Bool) → g.has_vector ≡ b → report_of ack (options_in frame.bytes) ≡ joined_report ack (vector_parts b setting its.set its-ack)
     reports ack b vector =
         ap (report_of ack) (logged-options (config_of x) number frame l is)
         ∙ ap (joined_report ack) its.vectors
-        ∙ ap (λ (has_vector : Bool). joined_report ack (one_vector has_vector its.set its-ack)) vector
+        ∙ ap (λ (has_vector : Bool). joined_report ack (vector_parts has_vector setting its.set its-ack)) vector
 
     pub acknowledges : g.has_vector ≡ true → frame.ack ≡ Some its-ack
     acknowledges vector =
@@ -146,7 +158,7 @@ module _ (w : WorldState) (logs : Side → List Logged) (side : Side) (own : IsO
 
     tells : (ack : ℕ) (bytes : List ℕ) → CarriesVector frame ack bytes → (b : Bool) → g.has_vector ≡ b → TellsTruth x.half frame ack bytes
     tells ack bytes carries false none =
-        let silent : joined_report ack (one_vector false its.set its-ack) ≡ Some (record { ack = ack; bytes = bytes }) =
+        let silent : joined_report ack (vector_parts false setting its.set its-ack) ≡ Some (record { ack = ack; bytes = bytes }) =
         sym (reports ack false none) ∙ carries.carries in
         cc silent
     tells ack bytes carries true vector =
@@ -156,7 +168,7 @@ module _ (w : WorldState) (logs : Side → List Logged) (side : Side) (own : IsO
           is_vector =
               sym (ap bytes_in carries.carries)
               ∙ ap bytes_in (reports ack true vector)
-              ∙ append-nil (vector_of (has its.set.numbers) its.set.floor its-ack)
+              ∙ ap bytes_in (options-read ack (vector_of (has its.set.numbers) its.set.floor its-ack))
               ∙ vector-is vector
               ∙ ap (vector_of (has (processed_by x.half frame)) frame.floor) (sym acks);
           none_after =
@@ -195,7 +207,7 @@ module _ (w : WorldState) (logs : Side → List Logged) (side : Side) (own : IsO
       let truth = truthful index frame ack bytes there carries in
       let fits = acknowledged-fits ack bytes frame (found (config_of x) index frame own.logged there) carries in
       early-contains frame.processed (half_of w side).processed n
-      (heard-member 253 (has (processed_by (half_of w side) frame)) frame.floor ack n fits small
+      (heard-member (room_of setting) (has (processed_by (half_of w side) frame)) frame.floor ack n fits small
       (sym (ap (λ (vector : List ℕ). is_received (state_at ack vector n)) truth.is_vector) ∙ received))
 
   -- A frame that acknowledges nothing has no Ack Vector.
@@ -210,7 +222,7 @@ module _ (w : WorldState) (logs : Side → List Logged) (side : Side) (own : IsO
       ack : ℕ
       ack = number_of iss (frame_at view.frames (suc place)).acknowledged
 
-      by : (b : Bool) → (frame_at view.frames (suc place)).has_vector ≡ b → one_vector b (its place number l frame there is).set ack ≡ []
+      by : (b : Bool) → (frame_at view.frames (suc place)).has_vector ≡ b → vector_parts b setting (its place number l frame there is).set ack ≡ []
       by false vector = refl
       by true vector =
           let kept = read-in (config_of x) number frame l is in
@@ -233,7 +245,7 @@ module _ (w : WorldState) (logs : Side → List Logged) (side : Side) (own : IsO
     told-in place l there vector whole low high done =
         let at = sent-at (config_of x) place l own.logged there in
         let read = read-in (config_of x) at.number at.frame l at.is_logged in
-        let ours : IsFrame iss l (frame_at view.frames (suc place)) = frame-of place l m.here.frames there in
+        let ours : IsFrame iss setting l (frame_at view.frames (suc place)) = frame-of place l m.here.frames there in
         let ack : ℕ = number_of iss (frame_at view.frames (suc place)).acknowledged in
         let number : number_of (config_of x).iss (suc place) ≡ at.frame.number =
         omega (arith, read.number_is, at.is_numbered) in
@@ -241,12 +253,14 @@ module _ (w : WorldState) (logs : Side → List Logged) (side : Side) (own : IsO
           index = at.index;
           frame = at.frame;
           ack = ack;
-          bytes = concat (vector_of (has ours.set.numbers) ours.set.floor ack ∷ []);
+          bytes = vector_of (has ours.set.numbers) ours.set.floor ack;
           is_there = at.is_there;
           vector_is =
               record {
                 acknowledges = acknowledges place at.number l at.frame there at.is_logged vector;
-                carries = reports place at.number l at.frame there at.is_logged ack true vector;
+                carries =
+                    reports place at.number l at.frame there at.is_logged ack true vector
+                    ∙ options-read ack (vector_of (has ours.set.numbers) ours.set.floor ack);
               };
           whole = sym (whole-is place at.number l at.frame there at.is_logged vector) ∙ sym (ours.whole vector) ∙ whole;
           heard = subst (Contains y.half.processed) number (was-processed y x own (from-there x y m) (suc place) done);

@@ -58,7 +58,7 @@ module _ (e : EndState) where
         opening = refl;
         acknowledged = refl;
         rows = refl;
-        set = ap (λ (acks : Bool). recorded_by (acks && sends_vectors e.rows) e.received (next_number e) e.marks.gsr) plain;
+        set = ap (λ (acks : Bool). recorded_by (acks && sends_vectors e.rows) e.config.vectors e.received (next_number e) e.marks.gsr) plain;
         marked = refl;
       }
 

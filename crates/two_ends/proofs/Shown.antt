@@ -41,7 +41,7 @@ pub record IsShown (x y : Party) (view : MarkSide) : Type 0 where
   pub processed : x.half.processed ≡ map (number_of (config_of y).iss) view.processed
   pub marked : (end_of x).marked ≡ length x.half.processed
   pub packets : All (IsPacketOf (config_of y).iss y.log) x.half.processed
-  pub frames : AreFrames (config_of y).iss x.log view.frames
+  pub frames : AreFrames (config_of y).iss (config_of x).vectors x.log view.frames
   pub records : (r : Record) → Contains (end_of x).received.records r → IsRecorded (config_of x).iss (config_of y).iss view.frames r
 
 -- moves keep the facts

@@ -1,12 +1,14 @@
 -- The Ack Vector of a packet that was logged, and the frame of its sender's view that tells the same.
-use Rattle.std.proofs.Common.{◌≡◌, refl, ap, sym, subst, ℕ, zero, suc, ◌+◌, ◌^◌, ◌<◌, ◌≤◌, Bool, true, false, if◌then◌else◌, List, [], ◌∷◌, ◌++◌, Some, Ok, slice_get, length, map, arith}
+use Rattle.std.proofs.Common.{◌≡◌, refl, ap, sym, ◌∙◌, subst, ℕ, zero, suc, ◌+◌, ◌^◌, ◌<◌, ◌≤◌, Bool, true, false, if◌then◌else◌, List, [], ◌∷◌, ◌++◌, Some, Ok, slice_get, length, map, arith}
 use Rattle.std.proofs.lemmas.List.Elements.{All-head, All-tail}
 use Rattle.std.proofs.lemmas.Option.{same_Some}
 use Rattle.std.specs.List.{All}
-use Rattle.ack_vectors.specs.Vector.{is_whole, vector}
+use Rattle.ack_vectors.specs.Vector.{is_whole_under}
 use Rattle.ack_vectors.specs.declared.received.Record.{Record}
+use Rattle.ack_vectors.specs.declared.room.Vectors.{Vectors}
+use Rattle.dccp_endpoint.proofs.OwnPackets.{parts-are, vector_parts}
 use Rattle.dccp_endpoint.specs.Heeding.{is_of_negotiation}
-use Rattle.dccp_endpoint.specs.Reporting.{is_acking, vector_items}
+use Rattle.dccp_endpoint.specs.Reporting.{is_acking, vector_item, vector_items}
 use Rattle.dccp_options.specs.Vectors.{ack_vectors, is_ack_vector}
 use Rattle.dccp_options.specs.Written.{Item, entries_at, spelled}
 use Rattle.dccp_packets.specs.Grammar.{has_forms, packet_type}
@@ -21,11 +23,6 @@ use Rattle.two_ends.proofs.Logged.{Logged}
 -- the Ack Vectors of a logged packet
 abbrev pub vectors_of : Logged → List (List ℕ)
 vectors_of l = ack_vectors (map Ok (entries_at 0 l.draft.options))
-
--- the vector of a set, if there is one
-abbrev pub one_vector : Bool → MarkedSet → ℕ → List (List ℕ)
-one_vector true set ack = vector (has set.numbers) set.floor ack ∷ []
-one_vector false set ack = []
 
 -- an option of the negotiation is no Ack Vector
 no-vector : (kind : ℕ) → is_of_negotiation kind ≡ true → is_ack_vector kind ≡ false
@@ -44,15 +41,22 @@ no-vectors place (item ∷ items) all =
     by true vector none = cc vector
     by false vector none = none
 
--- The only Ack Vector is the one that stands in front.
-pub vectors-written : (has_vector : Bool) (set : MarkedSet) (ack : ℕ) (rest : List Item) → All IsNegotiating rest
-    → ack_vectors (map Ok (entries_at 0 (vector_items has_vector set ack ++ rest))) ≡ one_vector has_vector set ack
-vectors-written true set ack rest all =
-    ap (λ (more : List (List ℕ)). vector (has set.numbers) set.floor ack ∷ more) (no-vectors _ rest all)
-vectors-written false set ack rest all = no-vectors 0 rest all
+-- The only Ack Vectors are those that stand in front.
+parts-written : (parts : List (List ℕ)) (place : ℕ) (rest : List Item) → All IsNegotiating rest
+    → ack_vectors (map Ok (entries_at place (map vector_item parts ++ rest))) ≡ parts
+parts-written [] place rest all = no-vectors place rest all
+parts-written (part ∷ parts) place rest all =
+    ap (λ (more : List (List ℕ)). part ∷ more) (parts-written parts (place + length (spelled false 38 part)) rest all)
 
--- A frame of the view tells what the logged packet does; the peer's packets are numbered from here.
-pub record IsFrame (iss : ℕ) (l : Logged) (frame : Frame) : Type 0 where
+pub vectors-written : (has_vector : Bool) (setting : Vectors) (set : MarkedSet) (ack : ℕ) (rest : List Item) → All IsNegotiating rest
+    → ack_vectors (map Ok (entries_at 0 (vector_items has_vector setting set ack ++ rest))) ≡ vector_parts has_vector setting set ack
+vectors-written has_vector setting set ack rest all =
+    ap (λ (front : List Item). ack_vectors (map Ok (entries_at 0 (front ++ rest)))) (parts-are has_vector setting set ack)
+    ∙ parts-written (vector_parts has_vector setting set ack) 0 rest all
+
+-- A frame of the view tells what the logged packet does; the peer's packets are numbered from here, and this is how many
+-- options the sender's vectors have.
+pub record IsFrame (iss : ℕ) (setting : Vectors) (l : Logged) (frame : Frame) : Type 0 where
   pub long : has_forms true l.draft.kind ≡ true
   pub acks : frame.is_ack ≡ is_acking (packet_type l.draft.kind)
   pub acknowledges : frame.is_ack ≡ true → ack_of l.draft.kind ≡ Some (number_of iss frame.acknowledged)
@@ -62,30 +66,32 @@ pub record IsFrame (iss : ℕ) (l : Logged) (frame : Frame) : Type 0 where
   pub processed : frame.processed ≡ l.processed
   -- the set that the vector tells of, as it is at the step's end
   pub set : MarkedSet
-  pub vectors : vectors_of l ≡ one_vector frame.has_vector set (number_of iss frame.acknowledged)
+  pub vectors : vectors_of l ≡ vector_parts frame.has_vector setting set (number_of iss frame.acknowledged)
   pub floor : frame.has_vector ≡ true → set.floor ≡ l.floor
   pub marks : frame.has_vector ≡ true → AreMarks iss set frame.floor frame.says
-  pub whole : frame.has_vector ≡ true → frame.is_whole ≡ is_whole (has set.numbers) set.floor (number_of iss frame.acknowledged)
+  pub whole : frame.has_vector ≡ true → frame.is_whole ≡ is_whole_under (has set.numbers) set.floor (number_of iss frame.acknowledged) setting
 
 -- frame by frame
-pub data AreFrames (iss : ℕ) : List Logged → List Frame → Type 0 where
-  NoneSent : AreFrames iss [] []
-  OneSent : {l : Logged} {log : List Logged} {frame : Frame} {frames : List Frame} → IsFrame iss l frame → AreFrames iss log frames
-      → AreFrames iss (l ∷ log) (frame ∷ frames)
+pub data AreFrames (iss : ℕ) (setting : Vectors) : List Logged → List Frame → Type 0 where
+  NoneSent : AreFrames iss setting [] []
+  OneSent : {l : Logged} {log : List Logged} {frame : Frame} {frames : List Frame} → IsFrame iss setting l frame
+      → AreFrames iss setting log frames → AreFrames iss setting (l ∷ log) (frame ∷ frames)
 
-pub frames-append : {iss : ℕ} {log : List Logged} {frames : List Frame} {l : Logged} {frame : Frame} → AreFrames iss log frames → IsFrame iss l frame
-    → AreFrames iss (log ++ l ∷ []) (frames_with frames frame)
+pub frames-append : {iss : ℕ} {setting : Vectors} {log : List Logged} {frames : List Frame} {l : Logged} {frame : Frame}
+    → AreFrames iss setting log frames → IsFrame iss setting l frame → AreFrames iss setting (log ++ l ∷ []) (frames_with frames frame)
 frames-append NoneSent is = OneSent is NoneSent
 frames-append (OneSent first rest) is = OneSent first (frames-append rest is)
 
-pub frames-length : {iss : ℕ} {log : List Logged} {frames : List Frame} → AreFrames iss log frames → length frames ≡ length log
+pub frames-length : {iss : ℕ} {setting : Vectors} {log : List Logged} {frames : List Frame} → AreFrames iss setting log frames
+    → length frames ≡ length log
 frames-length NoneSent = refl
 frames-length (OneSent first rest) = ap suc (frames-length rest)
 
-pub frame-of : {iss : ℕ} {log : List Logged} {frames : List Frame} (place : ℕ) (l : Logged) → AreFrames iss log frames → slice_get log place ≡ Some l
-    → IsFrame iss l (frame_at frames (suc place))
+pub frame-of : {iss : ℕ} {setting : Vectors} {log : List Logged} {frames : List Frame} (place : ℕ) (l : Logged) → AreFrames iss setting log frames
+    → slice_get log place ≡ Some l → IsFrame iss setting l (frame_at frames (suc place))
 frame-of place l NoneSent there = cc there
-frame-of {iss} zero l (OneSent {frame = frame} first rest) there = subst (λ (own : Logged). IsFrame iss own frame) (same_Some _ l there) first
+frame-of {iss} {setting} zero l (OneSent {frame = frame} first rest) there =
+    subst (λ (own : Logged). IsFrame iss setting own frame) (same_Some _ l there) first
 frame-of (suc place) l (OneSent first rest) there = frame-of place l rest there
 
 -- a frame more leaves the others, and is the last

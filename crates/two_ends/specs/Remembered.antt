@@ -1,6 +1,6 @@
 -- What an end has taken of its peer's packets, and what it remembers of its own Ack Vectors (RFC 4340, sections 7.1 and 11.4).
 use Rattle.std.specs.Prelude.{◌≡◌, ◌↔◌, ℕ, ◌+◌, ◌^◌, ◌<◌, ◌≤◌, true, length, slice_get, Some, Contains}
-use Rattle.ack_vectors.specs.Vector.{is_whole}
+use Rattle.ack_vectors.specs.Vector.{is_whole_under}
 use Rattle.ack_vectors.specs.declared.received.Record.{Record}
 use Rattle.dccp_endpoint.specs.End.{floor_of, is_live, marked_of}
 use Rattle.dccp_endpoint.specs.Reporting.{is_acking}
@@ -46,7 +46,7 @@ pub record IsRecordOf (w : WorldState) (side : Side) (r : Record) : Type 0 where
   pub is_ack : is_acking (packet_type packet.header.kind) ≡ true
   pub is_numbered : frame.number ≡ r.number
   pub acknowledges : frame.ack ≡ Some r.ack
-  pub tells_whole : r.whole ≡ is_whole (has (processed_by (half_of w side) frame)) frame.floor r.ack
+  pub tells_whole : r.whole ≡ is_whole_under (has (processed_by (half_of w side) frame)) frame.floor r.ack (half_of w side).end.config.vectors
   pub floor_rises : IsBefore (floor_of (half_of w side).end) frame.floor → ⊥
 
 -- No record of an end says what its frames do not.

@@ -2,7 +2,7 @@
 use Rattle.std.specs.Prelude.{◌≡◌, ℕ, ◌^◌, ◌<◌, true, false, List, length, take, slice_get, slice_index, Some, Contains}
 use Rattle.seq_circle.specs.Circle.{distance, IsBefore, IsWithin}
 use Rattle.run_list.specs.MarkedSet.{has, floor_under}
-use Rattle.ack_vectors.specs.Vector.{vector, is_whole}
+use Rattle.ack_vectors.specs.Vector.{vector_under, is_whole_under}
 use Rattle.dccp_options.specs.Vectors.{report_of}
 use Rattle.dccp_packets.specs.Grammar.{Parts}
 use Rattle.congestion_trait.specs.Control.{Control}
@@ -49,10 +49,10 @@ pub record CarriesVector (frame : SentFrame) (ack : ℕ) (bytes : List ℕ) : Ty
   pub acknowledges : frame.ack ≡ Some ack
   pub carries : report_of ack (options_in frame.bytes) ≡ Some (record { ack = ack; bytes = bytes })
 
--- They are the vector of just what the side had processed, from the acknowledged number down to its floor, and it had processed
--- nothing after that number.
+-- They are the vector of just what the side had processed, from the acknowledged number down to its floor, as far as its options have
+-- room, and it had processed nothing after that number.
 pub record TellsTruth (half : Half) (frame : SentFrame) (ack : ℕ) (bytes : List ℕ) : Type 0 where
-  pub is_vector : bytes ≡ vector (has (processed_by half frame)) frame.floor ack
+  pub is_vector : bytes ≡ vector_under (has (processed_by half frame)) frame.floor ack half.end.config.vectors
   pub none_after : (n : ℕ) → Contains (processed_by half frame) n → IsBefore ack n → ⊥
 
 -- every Ack Vector that was ever sent
@@ -68,7 +68,7 @@ pub record ToldIn (w : WorldState) (side : Side) (n : ℕ) : Type 0 where
   pub bytes : List ℕ
   pub is_there : slice_get (half_of w side).frames index ≡ Some frame
   pub vector_is : CarriesVector frame ack bytes
-  pub whole : is_whole (has (processed_by (half_of w side) frame)) frame.floor ack ≡ true
+  pub whole : is_whole_under (has (processed_by (half_of w side) frame)) frame.floor ack (half_of w side).end.config.vectors ≡ true
   pub heard : Contains (half_of w (other side)).processed frame.number
   pub reaches : IsWithin n frame.floor ack
 

@@ -3,7 +3,7 @@
 //! Each part of `Safe` has a function whose clauses follow from it and from no weaker one. They are what a reader may
 //! hold against the definitions, by plain counts where numbers are in them.
 ghost use Rattle.std.specs.Prelude.{◌≡◌, ◌≢◌, ℕ, ◌+◌, ◌^◌, ◌<◌, ◌≤◌, List, [], ◌∷◌, ◌++◌, length, Some, None, Err, IsTrue, IsSome, Contains, take, drop, slice_get};
-ghost use Rattle.ack_vectors.specs.Vector.{is_whole};
+ghost use Rattle.ack_vectors.specs.Vector.{is_whole_under};
 ghost use Rattle.congestion_trait.specs.Flight.{Has};
 ghost use Rattle.congestion_trait.specs.declared.flight.Standing.TheVariants as standing;
 ghost use Rattle.dccp_endpoint.specs.Drafts.{Fits};
@@ -88,7 +88,7 @@ pub fn vectors_tell_what_was_processed<C: Congestion>()
         → IsTrue (is_received (state_at ack bytes n)) → Contains (take frame.processed (half_of w.world side).processed) n }
     ensures all { (w : Controlled C) → Safe C.control w → (side : Side) (index : ℕ) (frame : SentFrame) (ack n : ℕ) (bytes : List ℕ)
         → slice_get (half_of w.world side).frames index ≡ Some frame → CarriesVector frame ack bytes
-        → IsTrue (is_whole (has (take frame.processed (half_of w.world side).processed)) frame.floor ack) → frame.floor < 2 ^ 48 → ack < 2 ^ 48 → n < 2 ^ 48
+        → IsTrue (is_whole_under (has (take frame.processed (half_of w.world side).processed)) frame.floor ack (half_of w.world side).end.config.vectors) → frame.floor < 2 ^ 48 → ack < 2 ^ 48 → n < 2 ^ 48
         → IsFrom frame.floor ack → IsWithin n frame.floor ack → Contains (take frame.processed (half_of w.world side).processed) n
         → IsTrue (is_received (state_at ack bytes n)) }
     ensures none_after { (w : Controlled C) → Safe C.control w → (side : Side) (index : ℕ) (frame : SentFrame) (ack n : ℕ) (bytes : List ℕ)
@@ -104,7 +104,7 @@ pub fn what_none_told_is_far_behind<C: Congestion>()
         → n ≡ number_of iss count
         → distance (half_of w.world side).end.marks.isr n < distance (half_of w.world side).end.marks.isr (floor_of (half_of w.world side).end)
         → ((index : ℕ) (frame : SentFrame) (ack : ℕ) (bytes : List ℕ) → slice_get (half_of w.world side).frames index ≡ Some frame
-        → CarriesVector frame ack bytes → IsTrue (is_whole (has (take frame.processed (half_of w.world side).processed)) frame.floor ack)
+        → CarriesVector frame ack bytes → IsTrue (is_whole_under (has (take frame.processed (half_of w.world side).processed)) frame.floor ack (half_of w.world side).end.config.vectors)
         → IsWithin n frame.floor ack → Contains (half_of w.world (other side)).processed frame.number → ⊥)
         → AreAmongFirst iss (count + 2047) (half_of w.world side).processed → ⊥ }
 {}

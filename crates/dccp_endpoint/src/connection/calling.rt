@@ -189,7 +189,7 @@ impl Connection {
     {
         self.ask(keys);
         let ack = Number::Long(self.marks.gsr);
-        self.send_ack(Kind::Ack { ack }, &[], keys, out);
+        self.send_ack_asking(Kind::Ack { ack }, keys, out);
     }
 
     /// A timer has run out, other than that of the congestion control. True exactly where it has something to do in
@@ -254,7 +254,7 @@ impl Connection {
         ensures { record { after = self.new; frame = out.new; calls = []; answer = true } ≡ sends_ack self.old (alone (kind.Ack (Long self.old.marks.gsr))) true }
     {
         let ack = Number::Long(self.marks.gsr);
-        self.send_ack(Kind::Ack { ack }, &[], &[], out);
+        self.send_ack_confirming(Kind::Ack { ack }, &[], out);
     }
 
     // The Changes of all rows that ask go out again.

@@ -110,7 +110,7 @@ impl Connection {
         ensures { record { after = self.new; frame = out.new; calls = []; answer = result } ≡ acknowledges self.old (map due_of confirms.now) (Took delivered) }
     {
         let ack = Number::Long(self.marks.gsr);
-        self.send_ack(Kind::Ack { ack }, confirms, &[], out);
+        self.send_ack_confirming(Kind::Ack { ack }, confirms, out);
         Outcome::Took { delivered }
     }
 

@@ -1,6 +1,9 @@
 //! The frames that an end sends, in which form of numbers, and what they say of features. One test, the value of Send
 //! Ack Vector, decides on the Ack Vector of an Ack or DataAck and on its record, so neither is without the other.
-ghost use Rattle.std.specs.Prelude.{◌≡◌, ◌≤◌, ◌||◌, Some, None, true, false, if◌then◌else◌, length, map};
+ghost use Rattle.std.specs.Prelude.{◌≡◌, ◌≤◌, ◌+◌, ◌++◌, ◌||◌, ◌<◌, Some, None, true, false, if◌then◌else◌, length, map, take, drop};
+ghost use Rattle.ack_vectors.specs.Vector.{option_data};
+ghost use Rattle.dccp_options.specs.Written.{spelled, written};
+ghost use Rattle.dccp_endpoint.specs.Reporting.{vector_item};
 ghost use Rattle.dccp_endpoint.specs.Calling.{has_keys};
 ghost use Rattle.dccp_endpoint.specs.Heeding.{due_of};
 ghost use Rattle.dccp_endpoint.specs.ShortForm.{is_settled_on_one};
@@ -10,7 +13,7 @@ ghost use Rattle.dccp_sum.specs.Checksum.{sealed};
 use super::receiving::is_open;
 use super::{Connection, fit};
 use crate::speaking::{asking, open_offers, put_changes, put_confirms, send_all};
-use ack_vectors::{VectorBytes, Vectors};
+use ack_vectors::VectorBytes;
 use dccp_options::OptWriter;
 use dccp_options::kinds::ACK_VECTOR_0;
 use dccp_packets::{Frame, Header, Kind, Number, Outbox, encode};
@@ -36,9 +39,49 @@ fn negotiates(confirms: &[ConfirmOut], keys: &[(Feature, Place)]) -> bool
     !confirms.is_empty() || !keys.is_empty()
 }
 
+// The bytes of data that one option has room for (RFC 4340, section 5.8).
+const OPTION_ROOM: usize = 253;
+
+// Writes one option of an Ack Vector.
+fn put_option(area: &mut OptWriter, part: &[u8])
+    requires fits { length part.now ≤ 253 }
+    requires room { length area.old + 255 ≤ 1008 }
+    ensures bytes { area.new ≡ area.old ++ spelled false 38 part.now }
+    ensures long { length area.new ≡ length area.old + (2 + length part.now) }
+{
+    let _ = area.put(false, ACK_VECTOR_0, part);
+}
+
+// Writes a full option, and a second with what is left.
+fn put_two(area: &mut OptWriter, bytes: &[u8])
+    requires long { 253 < length bytes.now }
+    requires fits { length bytes.now ≤ 506 }
+    requires room { length area.old + 510 ≤ 1008 }
+    ensures bytes { area.new ≡ area.old ++ (spelled false 38 (take 253 bytes.now) ++ spelled false 38 (drop 253 bytes.now)) }
+    ensures short { length area.new ≤ length area.old + 510 }
+{
+    let (first, second) = bytes.split_at(OPTION_ROOM);
+    put_option(area, first);
+    put_option(area, second);
+}
+
+// Writes the options of an Ack Vector with these bytes: one where it has room for them, otherwise a full one and a second.
+fn put_options(area: &mut OptWriter, bytes: &[u8])
+    requires fits { length bytes.now ≤ 506 }
+    requires room { length area.old + 510 ≤ 1008 }
+    ensures bytes { area.new ≡ area.old ++ written (map vector_item (option_data bytes.now)) }
+    ensures short { length area.new ≤ length area.old + 510 }
+{
+    if bytes.len() <= OPTION_ROOM {
+        put_option(area, bytes);
+    } else {
+        put_two(area, bytes);
+    }
+}
+
 impl Connection {
     ghost use Rattle.std.specs.Prelude.{◌+◌, ◌++◌, [], Ok, true, false, None, Some, if◌then◌else◌};
-    ghost use Rattle.ack_vectors.specs.Vector.{is_whole};
+    ghost use Rattle.ack_vectors.specs.Vector.{is_whole_under};
     ghost use Rattle.dccp_options.specs.Written.{written};
     ghost use Rattle.run_list.specs.MarkedSet.{has};
     ghost use Rattle.dccp_endpoint.specs.Reporting.{acknowledged, recorded_by, reporting, sends_vectors, vector_items};
@@ -141,27 +184,27 @@ impl Connection {
         self.rows.held(Feature::SendAckVector, Place::Here).value == 1
     }
 
-    // Writes the Ack Vector of the greatest number received; true where it is whole.
+    // Writes the Ack Vector of the greatest number received into its options; true where they hold it whole.
     fn put_vector(&self, area: &mut OptWriter) -> bool
-        requires room { length area.old + 255 ≤ 1008 }
-        ensures bytes { area.new ≡ area.old ++ written (vector_items true self.now.received.set self.now.marks.gsr) }
-        ensures short { length area.new ≤ length area.old + 255 }
-        ensures whole { result ≡ is_whole (has self.now.received.set.numbers) self.now.received.set.floor self.now.marks.gsr }
+        requires room { length area.old + 510 ≤ 1008 }
+        ensures bytes { area.new ≡ area.old ++ written (vector_items true self.now.config.vectors self.now.received.set self.now.marks.gsr) }
+        ensures short { length area.new ≤ length area.old + 510 }
+        ensures whole { result ≡ is_whole_under (has self.now.received.set.numbers) self.now.received.set.floor self.now.marks.gsr self.now.config.vectors }
     {
         let mut bytes = VectorBytes::new();
         let whole = self
             .received
-            .write(&mut bytes, self.marks.gsr, Vectors::One);
-        let _ = area.put(false, ACK_VECTOR_0, bytes.as_slice());
+            .write(&mut bytes, self.marks.gsr, self.config.vectors);
+        put_options(area, bytes.as_slice());
         whole
     }
 
     // Writes the Ack Vector if it goes out, and tells then whether it is whole.
     fn report(&self, area: &mut OptWriter) -> Option<bool>
-        requires room { length area.old + 255 ≤ 1008 }
-        ensures bytes { area.new ≡ area.old ++ written (vector_items (sends_vectors self.now.rows) self.now.received.set self.now.marks.gsr) }
-        ensures short { length area.new ≤ length area.old + 255 }
-        ensures whole { result ≡ (if sends_vectors self.now.rows then Some (is_whole (has self.now.received.set.numbers) self.now.received.set.floor self.now.marks.gsr) else None) }
+        requires room { length area.old + 510 ≤ 1008 }
+        ensures bytes { area.new ≡ area.old ++ written (vector_items (sends_vectors self.now.rows) self.now.config.vectors self.now.received.set self.now.marks.gsr) }
+        ensures short { length area.new ≤ length area.old + 510 }
+        ensures whole { result ≡ (if sends_vectors self.now.rows then Some (is_whole_under (has self.now.received.set.numbers) self.now.received.set.floor self.now.marks.gsr self.now.config.vectors) else None) }
     {
         if !self.sends_vectors() {
             return None;
@@ -171,8 +214,8 @@ impl Connection {
 
     // An Ack or a DataAck went out: its Ack Vector, if it had one, is recorded, and nothing is owed.
     fn record(&mut self, whole: Option<bool>)
-        requires { whole ≡ (if sends_vectors self.old.rows then Some (is_whole (has self.old.received.set.numbers) self.old.received.set.floor self.old.marks.gsr) else None) }
-        ensures { self.new ≡ record self.old { received = recorded_by (sends_vectors self.old.rows) self.old.received self.old.marks.gss self.old.marks.gsr; owed = false; unacked = 0 } }
+        requires { whole ≡ (if sends_vectors self.old.rows then Some (is_whole_under (has self.old.received.set.numbers) self.old.received.set.floor self.old.marks.gsr self.old.config.vectors) else None) }
+        ensures { self.new ≡ record self.old { received = recorded_by (sends_vectors self.old.rows) self.old.config.vectors self.old.received self.old.marks.gss self.old.marks.gsr; owed = false; unacked = 0 } }
     {
         if let Some(whole) = whole {
             self.received.sent(self.marks.gss, self.marks.gsr, whole);
@@ -181,28 +224,46 @@ impl Connection {
         self.unacked = 0;
     }
 
-    // Sends an Ack or a DataAck: behind its Ack Vector the Confirms, and the Changes of these rows, which are in
-    // CHANGING.
-    #[tactic(auto, using(crate::proofs::Frames::fixed_part_is_short, crate::proofs::Writing::written_all, crate::proofs::Short::short_ack))]
-    pub(crate) fn send_ack(
+    // Sends an Ack: behind its Ack Vector the Confirms. Beside these there is no room for Changes of all rows.
+    #[tactic(auto, using(crate::proofs::Frames::fixed_part_is_short, crate::proofs::Writing::written_confirms, crate::proofs::Short::short_ack))]
+    pub(crate) fn send_ack_confirming(
         &mut self,
         kind: Kind,
         confirms: &[ConfirmOut],
-        keys: &[(Feature, Place)],
         out: &mut Outbox,
     )
         requires form { has_forms true kind ≡ true }
         requires may { may_be_short (packet_type kind) ≡ true }
         requires room { HaveRoom (map due_of confirms.now) }
-        requires rows { length keys.now ≤ 18 }
-        requires changing { AreChanging self.old.rows keys.now }
         ensures counted { self.new ≡ acknowledged self.old }
-        ensures sent { out.new ≡ Some (next_frame self.old (reporting self.old (saying kind (map due_of confirms.now) self.old.rows keys.now))) }
+        ensures sent { out.new ≡ Some (next_frame self.old (reporting self.old (saying kind (map due_of confirms.now) self.old.rows []))) }
     {
-        let short = self.allows_short() && !negotiates(confirms, keys);
+        let short = self.allows_short() && !negotiates(confirms, &[]);
         let mut area = OptWriter::new();
         let whole = self.report(&mut area);
         put_confirms(&mut area, confirms);
+        self.send_with(kind, short, &area, &[], out);
+        self.record(whole);
+    }
+
+    // Sends an Ack: behind its Ack Vector the Changes of these rows, which are in CHANGING.
+    #[tactic(auto, using(crate::proofs::Frames::fixed_part_is_short, crate::proofs::Writing::written_both, crate::proofs::Short::short_ack))]
+    pub(crate) fn send_ack_asking(
+        &mut self,
+        kind: Kind,
+        keys: &[(Feature, Place)],
+        out: &mut Outbox,
+    )
+        requires form { has_forms true kind ≡ true }
+        requires may { may_be_short (packet_type kind) ≡ true }
+        requires rows { length keys.now ≤ 18 }
+        requires changing { AreChanging self.old.rows keys.now }
+        ensures counted { self.new ≡ acknowledged self.old }
+        ensures sent { out.new ≡ Some (next_frame self.old (reporting self.old (saying kind [] self.old.rows keys.now))) }
+    {
+        let short = self.allows_short() && !negotiates(&[], keys);
+        let mut area = OptWriter::new();
+        let whole = self.report(&mut area);
         put_changes(&mut area, &self.rows, keys);
         self.send_with(kind, short, &area, &[], out);
         self.record(whole);
