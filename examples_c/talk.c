@@ -1,4 +1,4 @@
-/* A client and a server over UDP on this machine. Each sends 200 packets of data, and one of them closes.
+/* A client and a server over UDP on this machine. Each sends 200 packets of data, the client first, and one of them closes.
  *
  *     talk server PORT [closes]        serves one client on 127.0.0.1, and ends
  *     talk client PORT [closes]        talks to it
@@ -34,7 +34,7 @@ struct talk {
     uint64_t rto_wait;      /* how long the timer RTO runs when it begins next */
     uint64_t heard, second; /* when data came last; the second in which answers are counted */
     unsigned handed, answers, sent, got;
-    bool closes, has_ended;
+    bool closes, waits, has_ended;
     unsigned code;
     uint64_t ended;
 };
@@ -174,10 +174,11 @@ static void widen(struct talk *talk) {
     arrange(talk);
 }
 
-/* Sends data as long as the window has room. */
+/* Sends data as long as the window has room. The client speaks first, and the server once it has heard something. */
 static void say(struct talk *talk) {
     dccp_frame frame;
     uint8_t data[64] = {0};
+    if (talk->waits && talk->got == 0) return;
     while (talk->sent < PACKETS) {
         data[0] = (uint8_t)talk->sent;
         if (dccp_send(&talk->end, data, sizeof data, &frame) != DCCP_OK) return;
@@ -263,7 +264,7 @@ int main(int count, char **words) {
     bool is_server = 3 <= count && strcmp(words[1], "server") == 0, closes = count == 4 && strcmp(words[3], "closes") == 0;
     bool is_client = 3 <= count && strcmp(words[1], "client") == 0;
     if ((count != 3 && !closes) || (!is_server && !is_client)) fail("talk server PORT [closes], or talk client PORT [closes]");
-    struct talk talk = {.socket = socket(AF_INET, SOCK_DGRAM, 0), .end = DCCP_NONE, .heard = now(), .closes = closes};
+    struct talk talk = {.socket = socket(AF_INET, SOCK_DGRAM, 0), .end = DCCP_NONE, .heard = now(), .closes = closes, .waits = is_server};
     talk.rto_wait = first_wait[DCCP_TIMER_RTO];
     if (talk.socket < 0) fail("socket");
     if (is_server)

@@ -201,8 +201,8 @@ void dccp_free(dccp_end *end);
 /* A client asks for its service, once: its Request is left. DCCP_OK, DCCP_NOT_MADE, DCCP_NOT_FRESH. */
 uint32_t dccp_open(dccp_end *end, dccp_frame *frame);
 
-/* Sends data, 0 to 1,024 bytes. DCCP_OK, DCCP_NOT_MADE, and the first that holds of DCCP_NOT_OPEN (in all phases but DCCP_OPEN),
- * DCCP_TOO_LONG, DCCP_NOT_NEGOTIATED, DCCP_WINDOW_FULL. */
+/* Sends data, 0 to 1,024 bytes; in DCCP_PARTOPEN a client speaks first. DCCP_OK, DCCP_NOT_MADE, and the first that holds of
+ * DCCP_NOT_OPEN (in all phases but DCCP_PARTOPEN and DCCP_OPEN), DCCP_TOO_LONG, DCCP_NOT_NEGOTIATED, DCCP_WINDOW_FULL. */
 uint32_t dccp_send(dccp_end *end, const uint8_t *data, size_t length, dccp_frame *frame);
 
 /* Closes the connection in order. No data are delivered to this end any more. DCCP_OK, DCCP_NOT_MADE; DCCP_NOT_OPEN in all phases but

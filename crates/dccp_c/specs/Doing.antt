@@ -2,8 +2,9 @@
 use Rattle.std.specs.Prelude.{ℕ, Bool, List, [], take, Option, Some, None, Result}
 use Rattle.ccid_two.specs.Kinds.{Both, kinds_control}
 use Rattle.congestion_trait.specs.Control.{may_send}
-use Rattle.dccp_endpoint.specs.Calling.{aborts, closes, fires, opens, prefers, sends_payload}
+use Rattle.dccp_endpoint.specs.Calling.{aborts, closes, fires, opens, prefers}
 use Rattle.dccp_endpoint.specs.Controlled.{End, EndStep, has_in_flight, with_control}
+use Rattle.dccp_endpoint.specs.Early.{sends_soon}
 use Rattle.dccp_endpoint.specs.Receiving.{receives}
 use Rattle.end_answers.specs.declared.calls.AbortFault.{AbortFault}
 use Rattle.end_answers.specs.declared.calls.CloseFault.{CloseFault}
@@ -29,9 +30,9 @@ CCall Fault = CEnd → EndStep Both (Result (Unit {0}) Fault)
 abbrev pub c_opens : CCall OpenFault
 c_opens e = with_control kinds_control e.congestion (opens e.state)
 
--- data go out, where the window has room
+-- data go out in PARTOPEN and OPEN, where the window has room (section 8.1.5)
 abbrev pub c_sends : List ℕ → CCall SendFault
-c_sends payload e = with_control kinds_control e.congestion (sends_payload e.state payload (may_send kinds_control e.congestion))
+c_sends payload e = with_control kinds_control e.congestion (sends_soon e.state payload (may_send kinds_control e.congestion))
 
 -- the end wants these values for a feature (section 6.6.1)
 abbrev pub c_prefers : Feature → Place → List ℕ → CCall PreferFault

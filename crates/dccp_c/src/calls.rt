@@ -70,7 +70,7 @@ pub extern "C" fn dccp_open(end: &mut End, alloc: Global, frame: &mut Frame) -> 
     open_code(&answer)
 }
 
-/// `Endpoint::send`.
+/// `Endpoint::send_soon`.
 #[unsafe(no_mangle)]
 pub extern "C" fn dccp_send(end: &mut End, alloc: Global, payload: &[u8], frame: &mut Frame) -> u32
     ensures end { end_in end.new.kept.value ≡ kept_after (c_sends payload.now) (end_in end.old.kept.value) }

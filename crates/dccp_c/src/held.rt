@@ -39,7 +39,7 @@ impl Held {
     pub(crate) fn send(&mut self, payload: &[u8]) -> Result<(), SendFault>
         ensures { record { after = self.new.end; frame = self.new.out; answer = result } ≡ c_sends payload.now self.old.end }
     {
-        self.end.send(payload, &mut self.out)
+        self.end.send_soon(payload, &mut self.out)
     }
 
     pub(crate) fn prefer(

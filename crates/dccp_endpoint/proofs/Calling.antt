@@ -25,9 +25,10 @@ use Rattle.feature_machine.specs.Rows as event
 use Rattle.feature_machine.specs.Turns.{Turn, turned}
 use Rattle.feature_machine.specs.declared.row.Row.{Row}
 use Rattle.feature_machine.proofs.Turning.{turned-joined}
-use Rattle.dccp_endpoint.specs.Calling.{aborts, aborts_in, asks_all, asks_now, closes, closes_in, closes_now, aborts_now, fires, fires_in, is_asking_now, lacks_vectors, most_data, opens, opens_as, preferring, prefers, prefers_in, prefers_so, prefers_wish, requests, requests_asking, sends_data, sends_payload, sends_unless, times_out}
-use Rattle.dccp_endpoint.specs.Causes.{Acknowledges, AreHeard, AreTurns, asks_for_request, ByCall, CallsSent, CallsTimeout, Deaf, EveryStepHasOneEffect, Greatest, HasEffect, InRequest, Keeps, LeavesIt, LooksNowhere, NotNow, Nothing, PrefersLater, PrefersNow, Repeating, StaysSo, is_waiting, is_without_connection}
+use Rattle.dccp_endpoint.specs.Calling.{aborts, aborts_in, asks_all, asks_now, closes, closes_in, closes_now, aborts_now, fires, fires_in, is_asking_now, lacks_vectors, most_data, opens, opens_as, preferring, prefers, prefers_in, prefers_so, prefers_wish, requests, requests_asking, send_fault, sends_data, sends_payload, sends_unless, times_out}
+use Rattle.dccp_endpoint.specs.Causes.{Acknowledges, AreHeard, AreTurns, asks_for_request, ByCall, CallsEarly, CallsSent, CallsTimeout, Deaf, EveryStepHasOneEffect, Greatest, HasEffect, InRequest, IsCalling, Keeps, LeavesIt, LooksNowhere, NotNow, Nothing, PrefersLater, PrefersNow, Repeating, StaysSo, is_waiting, is_without_connection}
 use Rattle.dccp_endpoint.specs.Drafts.{IsSendable, alone, carrying}
+use Rattle.dccp_endpoint.specs.Early.{early_fault, is_part_open, sends_early}
 use Rattle.dccp_endpoint.specs.Effects.{Next, Unheard, effect_of, end_after, frame_by, opened_by}
 use Rattle.dccp_endpoint.specs.End.{EndState, IsProper, is_connected, is_live, is_open, is_phase_of, with_rows}
 use Rattle.dccp_endpoint.specs.Inputs.{Input, Arrives, Opens, Closes, Aborts, Fires, Prefers, end_stepped}
@@ -39,10 +40,10 @@ use Rattle.dccp_endpoint.specs.Turns.{Key, offerings, sendings, turn_of}
 use Rattle.end_answers.specs.declared.calls.SendFault.TheVariants as send
 use Rattle.end_answers.specs.declared.calls.Timer.{Timer}
 use Rattle.end_answers.specs.declared.calls.Timer.TheVariants as timers
-use Rattle.dccp_endpoint.proofs.Deriving.{Ready, ack-caused, calling-caused, data-ack-caused, front_of, front-short, has-by, left, next-caused, offered_keys, offered_turns, offering, plain-caused, quiet, rest, silent-caused, wide, wide-proper, widened}
+use Rattle.dccp_endpoint.proofs.Deriving.{Ready, ack-caused, calling-caused, data-ack-caused, data_ack_with, front_of, front-short, has-by, left, next-caused, offered_keys, offered_turns, offering, plain-caused, quiet, rest, silent-caused, wide, wide-proper, widened}
 use Rattle.dccp_endpoint.proofs.Lawful.{offered-sound, rows-kept}
 use Rattle.dccp_endpoint.proofs.OwnFrames.{alone-sendable}
-use Rattle.dccp_endpoint.proofs.Phases.{open-is}
+use Rattle.dccp_endpoint.proofs.Phases.{open-is, part-open-is}
 use Rattle.dccp_endpoint.proofs.Room.{asking-few, due-few, front-confirming-sendable, front-asking-sendable, no-confirms, saying-sendable}
 use Rattle.dccp_endpoint.proofs.Tables.{numbered-code}
 use Rattle.dccp_endpoint.proofs.Walking.{receives-told}
@@ -236,34 +237,59 @@ module _ (o : EndState) (given : Input) (proper : IsProper (wide o)) where
   data-sendable k payload empty fits =
       record { is_long = empty.is_long; detail = empty.detail; items = empty.items; on_data = empty.on_data; area = empty.area; data_fits = fits }
 
-  data-has : (payload : List ℕ) → given ≡ input.Sends payload true → e.phase ≡ phase.Open → length payload ≤ 1024 → (owed : Bool)
-      → Has e given (with_calls (call.Sends (next_number e) ∷ []) (sends_data e payload owed))
-  data-has payload called in_open fits true =
+  -- on a DataAck
+  acknowledging-has : (payload : List ℕ)
+      → IsCalling e given Unheard (Next (data_ack_with (rest {given = given} proper) payload)) (call.Sends (next_number e) ∷ [])
+      → is_connected e.phase ≡ true → length payload ≤ 1024 → Has e given (with_calls (call.Sends (next_number e) ∷ []) (sends_data e payload true))
+  acknowledging-has payload why connected fits =
       let packet : Kind = kind.DataAck (Long e.marks.gsr) in
       let empty = front-confirming-sendable packet (front_of (rest {given = given} proper) []) [] refl tt refl (front-short (rest {given = given} proper) []) no-confirms in
-      has-by (calling-caused (CallsSent payload called in_open refl)
+      has-by (calling-caused why
       (data-ack-caused (rest proper) payload
       (record { is_long = empty.is_long; detail = empty.detail; items = empty.items; on_data = empty.on_data; area = empty.area; data_fits = fits })
-      (ap is_connected in_open)))
+      connected))
+
+  data-has : (payload : List ℕ) → given ≡ input.Sends payload true → e.phase ≡ phase.Open → length payload ≤ 1024 → (owed : Bool)
+      → Has e given (with_calls (call.Sends (next_number e) ∷ []) (sends_data e payload owed))
+  data-has payload called in_open fits true = acknowledging-has payload (CallsSent payload called in_open refl) (ap is_connected in_open) fits
   data-has payload called in_open fits false =
       has-by (calling-caused (CallsSent payload called in_open refl)
       (next-caused (rest proper) e.owed e.unacked quiet (carrying kind.Data payload)
       (data-sendable kind.Data payload (alone-sendable kind.Data refl tt) fits) refl (inl refl) refl Nothing refl (inl refl)))
 
-  -- whatever it is refused for
-  sends-has : (payload : List ℕ) (may_send : Bool) → given ≡ input.Sends payload may_send → (in_open long lacks : Bool) → is_open e.phase ≡ in_open
-      → nat_lt most_data (length payload) ≡ long
-      → Has e given (sends_unless e payload
-      (if not in_open then Some send.NotOpen
+  -- whatever they are refused for, they go out where they are not
+  unless-has : (payload : List ℕ) (acknowledges may_send fits_phase long lacks : Bool) → nat_lt most_data (length payload) ≡ long
+      → (fits_phase ≡ true → may_send ≡ true → length payload ≤ 1024
+      → Has e given (with_calls (call.Sends (next_number e) ∷ []) (sends_data e payload acknowledges)))
+      → Has e given (sends_unless e payload acknowledges
+      (if not fits_phase then Some send.NotOpen
       else if long then Some send.TooLong
       else if lacks then Some send.NotNegotiated
       else if not may_send then Some send.WindowFull
       else None))
-  sends-has payload may_send called false long lacks apart is = idle-has
-  sends-has payload may_send called true true lacks in_open is = idle-has
-  sends-has payload may_send called true false true in_open is = idle-has
-  sends-has payload false called true false false in_open is = idle-has
-  sends-has payload true called true false false in_open is = data-has payload called (open-is e.phase in_open) (grind (arith, is)) e.owed
+  unless-has payload acknowledges may_send false long lacks is goes = idle-has
+  unless-has payload acknowledges may_send true true lacks is goes = idle-has
+  unless-has payload acknowledges may_send true false true is goes = idle-has
+  unless-has payload acknowledges false true false false is goes = idle-has
+  unless-has payload acknowledges true true false false is goes = goes refl refl (grind (arith, is))
+
+  sends-has : (payload : List ℕ) (may_send : Bool) → given ≡ input.Sends payload may_send
+      → Has e given (sends_unless e payload e.owed (send_fault e payload may_send))
+  sends-has payload may_send called =
+      unless-has payload e.owed may_send (is_open e.phase) (nat_lt most_data (length payload)) (lacks_vectors e.rows) refl
+      (λ in_open may fits. data-has payload (called ∙ ap (input.Sends payload) may) (open-is e.phase in_open) fits e.owed)
+
+  -- send_early
+  early-data-has : (payload : List ℕ) → given ≡ input.SendsEarly payload true → e.phase ≡ phase.PartOpen → length payload ≤ 1024
+      → Has e given (with_calls (call.Sends (next_number e) ∷ []) (sends_data e payload true))
+  early-data-has payload called part_open fits =
+      acknowledging-has payload (CallsEarly payload called part_open refl) (ap is_connected part_open) fits
+
+  early-has : (payload : List ℕ) (may_send : Bool) → given ≡ input.SendsEarly payload may_send
+      → Has e given (sends_unless e payload true (early_fault e payload may_send))
+  early-has payload may_send called =
+      unless-has payload true may_send (is_part_open e.phase) (nat_lt most_data (length payload)) (lacks_vectors e.rows) refl
+      (λ part_open may fits. early-data-has payload (called ∙ ap (input.SendsEarly payload) may) (part-open-is e.phase part_open) fits)
 
   -- the timers
   times-out : given ≡ Fires timers.Rto true → e.phase ≡ phase.Open → Has e given (times_out e true)
@@ -288,7 +314,7 @@ module _ (o : EndState) (given : Input) (proper : IsProper (wide o)) where
 
 -- an end as wide as its rows say
 wide-has : (o : EndState) (given : Input) → IsProper (wide o) → Has (wide o) given (end_stepped (wide o) given)
-unfolding opens closes aborts fires prefers sends_payload
+unfolding opens closes aborts fires prefers sends_payload sends_early
 wide-has o (Arrives bytes) is =
     let told = (receives-told (wide o) bytes is).effect in
     record { effect = told.effect; after_is = told.after_is; frame_is = told.frame_is; calls_are = told.calls_are; because = told.because }
@@ -297,8 +323,8 @@ wide-has o Closes is = closes-in o Closes is o.phase refl
 wide-has o Aborts is = aborts-in o Aborts is o.phase
 wide-has o (Fires timer in_flight) is = fires-in o (Fires timer in_flight) is timer in_flight o.phase refl refl
 wide-has o (Prefers k values) is = prefers-has o (Prefers k values) is k values refl (is_connected o.phase) refl
-wide-has o (input.Sends payload may_send) is =
-    sends-has o (input.Sends payload may_send) is payload may_send refl (is_open o.phase) (nat_lt most_data (length payload)) (lacks_vectors o.rows) refl refl
+wide-has o (input.Sends payload may_send) is = sends-has o (input.Sends payload may_send) is payload may_send refl
+wide-has o (input.SendsEarly payload may_send) is = early-has o (input.SendsEarly payload may_send) is payload may_send refl
 
 pub every_step_has_an_effect : EveryStepHasOneEffect
 every_step_has_an_effect e given proper =

@@ -32,6 +32,7 @@ pub mod RowsOptions
 pub mod RowsPrefers
 pub mod RowsVectors
 pub mod RowsData
+pub mod RowsEarly
 pub mod RowsReports
 pub mod RowsShort
 pub mod RowsShortSent

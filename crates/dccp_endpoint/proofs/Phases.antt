@@ -13,6 +13,7 @@ use Rattle.dccp_states.specs.declared.reply.Reply.{Reply}
 use Rattle.dccp_states.specs.declared.reply.Reply.TheVariants as reply
 use Rattle.dccp_states.specs.Unexpected.{unexpected}
 use Rattle.dccp_endpoint.specs.Causes.{is_waiting}
+use Rattle.dccp_endpoint.specs.Early.{is_part_open}
 use Rattle.dccp_endpoint.specs.Faults.{counts}
 use Rattle.dccp_endpoint.specs.End.{first_phase, is_begun, is_connected, is_live, is_open, is_phase_of, phase_entered}
 
@@ -101,6 +102,10 @@ live-entered _ is = refl
 pub open-is : (ph : Phase) → is_open ph ≡ true → ph ≡ phase.Open
 open-is phase.Open is = refl
 open-is _ is = cc is
+
+pub part-open-is : (ph : Phase) → is_part_open ph ≡ true → ph ≡ phase.PartOpen
+part-open-is phase.PartOpen is = refl
+part-open-is _ is = cc is
 
 -- Who has heard its peer waits for it no more.
 pub live-heard : (ph : Phase) → is_live ph ≡ true → is_waiting ph ≡ false

@@ -1,5 +1,5 @@
 -- Worked data, computed from the definitions: what `send` puts out and what it is refused for, and what the congestion control hears of it.
-use Rattle.std.proofs.Common.{◌≡◌, refl, ℕ, true, false, List, [], ◌∷◌, replicate, Some, None, Ok, Err}
+use Rattle.std.proofs.Common.{◌≡◌, refl, ℕ, Bool, true, false, List, [], ◌∷◌, replicate, Some, None, Ok, Err}
 use Rattle.dccp_states.specs.declared.phase.Phase.TheVariants as phase
 use Rattle.dccp_endpoint.specs.Calling.{Called, fires, opens, sends_payload, sends_unless}
 use Rattle.dccp_endpoint.specs.Drafts.{framed}
@@ -69,10 +69,10 @@ unfolding receives opens sends_payload framed
 usual-connection-of-server = (refl, refl, refl, refl, refl, refl, refl)
 
 -- Each reason comes before the next: the phase, the length, the Ack Vectors that CCID 2 needs, and the window. Data of 1,024 bytes go out.
-abbrev too_long : List ℕ
+abbrev pub too_long : List ℕ
 too_long = replicate 1025 0
 
-abbrev longest : List ℕ
+abbrev pub longest : List ℕ
 longest = replicate 1024 0
 
 refused-sends :
@@ -87,8 +87,9 @@ unfolding receives opens sends_payload framed
 refused-sends = (refl, refl, refl, refl, refl, refl, refl)
 
 -- A refused call changes nothing.
-refused-changes-nothing : (e : EndState) (payload : List ℕ) (fault : SendFault) → sends_unless e payload (Some fault) ≡ idle e (Err fault)
-refused-changes-nothing e payload fault = refl
+refused-changes-nothing : (e : EndState) (payload : List ℕ) (acknowledges : Bool) (fault : SendFault)
+    → sends_unless e payload acknowledges (Some fault) ≡ idle e (Err fault)
+refused-changes-nothing e payload acknowledges fault = refl
 
 -- With another CCID no Ack Vectors are needed. The client negotiated 248.
 abbrev open_248 : EndState

@@ -152,28 +152,32 @@ most_data = 1024
 abbrev pub lacks_vectors : List Row → Bool
 lacks_vectors rows = value_in rows Ccid Here == 2 && not (value_in rows SendAckVector There == 1)
 
--- why data are not sent, if it is so; each reason before the next
-abbrev pub send_fault : EndState → List ℕ → Bool → Option SendFault
-send_fault e payload may_send =
-    if not (is_open e.phase) then Some send.NotOpen
+-- why data are not sent, if it is so, by whether they may go in this phase; each reason before the next
+abbrev pub fault_where : Bool → List Row → List ℕ → Bool → Option SendFault
+fault_where fits_phase rows payload may_send =
+    if not fits_phase then Some send.NotOpen
     else if nat_lt most_data (length payload) then Some send.TooLong
-    else if lacks_vectors e.rows then Some send.NotNegotiated
+    else if lacks_vectors rows then Some send.NotNegotiated
     else if not may_send then Some send.WindowFull
     else None
 
--- A DataAck goes out where an acknowledgement is owed, else a Data; the congestion control hears of its number.
+-- of `send` the phase is OPEN
+abbrev pub send_fault : EndState → List ℕ → Bool → Option SendFault
+send_fault e payload may_send = fault_where (is_open e.phase) e.rows payload may_send
+
+-- Data go out on a DataAck, which acknowledges, or on a Data.
 abbrev pub sends_data : EndState → List ℕ → Bool → Called SendFault
 sends_data e payload true = sends_ack e (carrying (kind.DataAck (Long e.marks.gsr)) payload) (Ok tt)
 sends_data e payload false = sends e (carrying kind.Data payload) (Ok tt)
 
--- data that are refused change nothing, and the congestion control hears of none of them
-abbrev pub sends_unless : EndState → List ℕ → Option SendFault → Called SendFault
-sends_unless e payload (Some fault) = idle e (Err fault)
-sends_unless e payload None = with_calls (Sends (next_number e) ∷ []) (sends_data e payload e.owed)
+-- The congestion control hears of the number of data that go out. Data that are refused change nothing, and it hears of none of them.
+abbrev pub sends_unless : EndState → List ℕ → Bool → Option SendFault → Called SendFault
+sends_unless e payload acknowledges (Some fault) = idle e (Err fault)
+sends_unless e payload acknowledges None = with_calls (Sends (next_number e) ∷ []) (sends_data e payload acknowledges)
 
--- Whether the congestion control lets a further packet be sent, comes with the call.
+-- A DataAck goes out where an acknowledgement is owed. Whether the congestion control lets a further packet be sent, comes with the call.
 unfoldable pub sends_payload : EndState → List ℕ → Bool → Called SendFault
-sends_payload e payload may_send = sends_unless e payload (send_fault e payload may_send)
+sends_payload e payload may_send = sends_unless e payload e.owed (send_fault e payload may_send)
 
 -- The phases in which a timer has something to do; the timer negotiate only if a row asks, and the timer rto only if something is in
 -- flight.

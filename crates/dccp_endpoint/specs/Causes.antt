@@ -232,6 +232,7 @@ asks_for_request input.Closes = false
 asks_for_request input.Aborts = false
 asks_for_request (input.Prefers key values) = false
 asks_for_request (input.Sends payload may_send) = false
+asks_for_request (input.SendsEarly payload may_send) = false
 asks_for_request (input.Fires timers.Request in_flight) = true
 asks_for_request (input.Fires _ in_flight) = false
 
@@ -271,6 +272,8 @@ pub data IsCalling (e : EndState) (given : Input) (hearing : Hearing) (sending :
   CallsNothing : IsCalling e given hearing sending []
   CallsFor : (a : Incoming) (h : Heeding) → WasTaken e given hearing a → AreOptionsRead e a h → IsCalling e given hearing sending (calls_for a e.rows h.rows)
   CallsSent : (payload : List ℕ) → given ≡ input.Sends payload true → e.phase ≡ phases.Open → HasData sending
+      → IsCalling e given hearing sending (call.Sends (next_number e) ∷ [])
+  CallsEarly : (payload : List ℕ) → given ≡ input.SendsEarly payload true → e.phase ≡ phases.PartOpen → HasData sending
       → IsCalling e given hearing sending (call.Sends (next_number e) ∷ [])
   CallsTimeout : given ≡ input.Fires timers.Rto true → e.phase ≡ phases.Open → IsCalling e given hearing sending (call.TimesOut ∷ [])
 

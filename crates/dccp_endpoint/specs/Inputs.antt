@@ -3,6 +3,7 @@ use Rattle.std.specs.Prelude.{ℕ, Bool, List, Result}
 use Rattle.dccp_endpoint.specs.End.{EndState}
 use Rattle.dccp_endpoint.specs.Receiving.{receives}
 use Rattle.dccp_endpoint.specs.Calling.{aborts, closes, fires, opens, prefers, sends_payload}
+use Rattle.dccp_endpoint.specs.Early.{sends_early}
 use Rattle.dccp_endpoint.specs.Steps.{Step}
 use Rattle.feature_lists.specs.declared.wishes.PreferFault.{PreferFault}
 use Rattle.dccp_endpoint.specs.Turns.{Key}
@@ -20,6 +21,7 @@ pub data Input : Type 0 where
   Opens Closes Aborts : Input
   Prefers : (key : Key) (values : List ℕ) → Input
   Sends : (payload : List ℕ) (may_send : Bool) → Input
+  SendsEarly : (payload : List ℕ) (may_send : Bool) → Input
   Fires : (timer : Timer) (in_flight : Bool) → Input
 
 -- what the end answers
@@ -45,3 +47,4 @@ end_stepped e Aborts = step_shown Aborted (aborts e)
 end_stepped e (Fires timer in_flight) = step_shown Fired (fires e timer in_flight)
 end_stepped e (Prefers k values) = step_shown Preferred (prefers e k values)
 end_stepped e (Sends payload may_send) = step_shown Sent (sends_payload e payload may_send)
+end_stepped e (SendsEarly payload may_send) = step_shown Sent (sends_early e payload may_send)

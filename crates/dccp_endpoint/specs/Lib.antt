@@ -15,6 +15,7 @@ pub mod Saying
 pub mod FirstFault
 pub mod Receiving
 pub mod Calling
+pub mod Early
 pub mod Inputs
 pub mod Controlled
 pub mod Effects

@@ -13,6 +13,7 @@ use std::marker::Model;
 use validity_windows::Marks;
 
 mod calling;
+mod early;
 mod handing;
 mod receiving;
 mod replying;

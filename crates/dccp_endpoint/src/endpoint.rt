@@ -26,7 +26,7 @@ const FIRST_CCID: u8 = 2;
 ///
 /// - `receive` for each datagram of the peer, of at most [`MOST_FRAME_BYTES`](crate::MOST_FRAME_BYTES) bytes: the owner drops a longer one
 /// - `timer` for each timer that has run out
-/// - `send` for data, in OPEN
+/// - `send` for data, in OPEN, `send_early` of a client that speaks first, in PARTOPEN, and `send_soon` in both
 /// - `prefer` for another value of a feature, in PARTOPEN and OPEN
 /// - `close` to end the connection in order, in PARTOPEN and OPEN, and `abort` to end it at once
 /// - the readers `phase`, `marks`, `held`, `window`, `in_flight`, `is_reported`, `floor` and `marked`, at any time
@@ -117,6 +117,7 @@ impl<C: Congestion> Endpoint<C> {
     ghost use Rattle.validity_windows.specs.Windows.{InRange};
     ghost use Rattle.dccp_endpoint.specs.Calling.{aborts, applies, closes, fires, opens, prefers, sends_payload};
     ghost use Rattle.dccp_endpoint.specs.Controlled.{has_in_flight, in_flight_of, window_of, with_control};
+    ghost use Rattle.dccp_endpoint.specs.Early.{sends_early, sends_soon};
     ghost use Rattle.dccp_endpoint.specs.End.{IsProper, floor_of, held_of, is_connected, marked_of, value_in};
     ghost use Rattle.dccp_endpoint.specs.Outcomes.{HasCause, HasEffectOf, HasNoOtherCause, OnDropped};
     ghost use Rattle.dccp_endpoint.specs.Receiving.{receives};
@@ -223,6 +224,49 @@ impl<C: Congestion> Endpoint<C> {
         let number = self.connection.send_data(payload, out);
         self.congestion.on_sent(number);
         Ok(())
+    }
+
+    /// Sends data of a client that speaks first, at most 1,024 bytes, where it has heard no more than the Response (own;
+    /// RFC 4340, section 8.1.5, lets it): in PARTOPEN, in a DataAck, which acknowledges the greatest number received and
+    /// has an Ack Vector where Send Ack Vector is 1. The phase stays, and nothing is owed then. The congestion control
+    /// counts the packet as in flight. Refused with `NotOpen` exactly outside PARTOPEN; then as `send` is, with `TooLong`,
+    /// then `NotNegotiated`, then `WindowFull`.
+    #[tactic(auto, unfolding(crate::specs::Early::sends_early))]
+    pub fn send_early(&mut self, payload: &[u8], out: &mut Outbox) -> Result<(), SendFault>
+        ensures step { record { after = self.new; frame = out.new; answer = result } ≡ with_control C.control self.old.congestion (sends_early self.old.state payload.now (may_send C.control self.old.congestion)) }
+        ensures not_open { (result ≡ Err SendFault.NotOpen) ↔ (self.old.state.phase ≢ Phase.PartOpen) }
+        ensures too_long { (result ≡ Err SendFault.TooLong) ↔ ((self.old.state.phase ≡ Phase.PartOpen) × (1024 < length payload.now)) }
+        ensures not_negotiated { (result ≡ Err SendFault.NotNegotiated) ↔ ((self.old.state.phase ≡ Phase.PartOpen) × (length payload.now ≤ 1024)
+            × (value_in self.old.state.rows feature.Ccid place.Here ≡ 2) × (value_in self.old.state.rows feature.SendAckVector place.There ≢ 1)) }
+        ensures window_full { (result ≡ Err SendFault.WindowFull) ↔ ((self.old.state.phase ≡ Phase.PartOpen) × (length payload.now ≤ 1024)
+            × ((value_in self.old.state.rows feature.Ccid place.Here ≢ 2) ⊎ (value_in self.old.state.rows feature.SendAckVector place.There ≡ 1))
+            × (window_of C.control self.old.congestion ≤ in_flight_of C.control self.old.congestion)) }
+        ensures stays { self.new.state.phase ≡ self.old.state.phase }
+        ensures refused { OnErr result (self.new ≡ self.old) }
+        ensures sends_nothing { OnErr result (out.new ≡ None) }
+    {
+        out.clear();
+        let may_send = self.congestion.may_send();
+        if let Some(fault) = self.connection.early_fault(payload, may_send) {
+            return Err(fault);
+        }
+        let number = self.connection.send_early_data(payload, out);
+        self.congestion.on_sent(number);
+        Ok(())
+    }
+
+    /// Sends data as soon as the phase lets them go: in PARTOPEN by [`Endpoint::send_early`], in any other phase by
+    /// [`Endpoint::send`]; refused as that call is (own).
+    pub fn send_soon(&mut self, payload: &[u8], out: &mut Outbox) -> Result<(), SendFault>
+        ensures step { record { after = self.new; frame = out.new; answer = result } ≡ with_control C.control self.old.congestion (sends_soon self.old.state payload.now (may_send C.control self.old.congestion)) }
+        ensures refused { OnErr result (self.new ≡ self.old) }
+        ensures sends_nothing { OnErr result (out.new ≡ None) }
+    {
+        if self.connection.is_part_open() {
+            self.send_early(payload, out)
+        } else {
+            self.send(payload, out)
+        }
     }
 
     /// Ends the connection in order: a client sends Close and is in CLOSING; a server asks for it by CloseReq and is in

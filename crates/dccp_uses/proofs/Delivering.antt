@@ -33,6 +33,7 @@ bytes-or none input.Closes = none
 bytes-or none input.Aborts = none
 bytes-or none (input.Prefers key values) = none
 bytes-or none (input.Sends payload may_send) = none
+bytes-or none (input.SendsEarly payload may_send) = none
 bytes-or none (input.Fires timer in_flight) = none
 
 taken-within : (e : EndState) (bytes : List ℕ) (place : ℕ × ℕ) → IsTaken e bytes (Some place) → IsWithin bytes place

@@ -53,8 +53,9 @@ impl<C: Congestion + Drop> Session<C> {
 
 impl<C: Congestion> Session<C> {
     ghost use Rattle.std.specs.Prelude.{◌≡◌, ◌≤◌, ◌<◌, ◌-◌, ◌↔◌, ℕ, OnErr, length};
-    ghost use Rattle.dccp_endpoint.specs.Calling.{aborts, closes, opens, prefers, sends_payload};
+    ghost use Rattle.dccp_endpoint.specs.Calling.{aborts, closes, opens, prefers};
     ghost use Rattle.dccp_endpoint.specs.Controlled.{in_flight_of, window_of, with_control};
+    ghost use Rattle.dccp_endpoint.specs.Early.{sends_soon};
     ghost use Rattle.congestion_trait.specs.Control.{may_send};
     ghost use Rattle.dccp_uses.specs.Alarms.{arranged, has_run_out, until_first};
     ghost use Rattle.dccp_uses.specs.Handing.{HandsAll};
@@ -122,8 +123,9 @@ impl<C: Congestion> Session<C> {
         Ok(())
     }
 
-    /// Sends data, at most 1,024 bytes, if the end takes them. Refused as `Endpoint::send` is, with `WindowFull` where
-    /// there is no room; then nothing has changed and nothing is sent, and the data may be offered again.
+    /// Sends data, at most 1,024 bytes, if the end takes them, in PARTOPEN too, so that a client may speak first. Refused
+    /// as `Endpoint::send_soon` is, with `WindowFull` where there is no room; then nothing has changed and nothing is
+    /// sent, and the data may be offered again.
     pub fn send<N: Network>(
         &mut self,
         payload: &[u8],
@@ -131,12 +133,12 @@ impl<C: Congestion> Session<C> {
         network: &mut N,
     ) -> Result<(), SendFault>
         ensures does { Does N.sends (calls C.control now self.old (with_control C.control self.old.end.congestion
-            (sends_payload self.old.end.state payload.now (may_send C.control self.old.end.congestion)))) self.new network.old network.new result }
+            (sends_soon self.old.end.state payload.now (may_send C.control self.old.end.congestion)))) self.new network.old network.new result }
         ensures refused { OnErr result (self.new ≡ self.old) }
         ensures sends_nothing { OnErr result (network.new ≡ network.old) }
     {
         let mut out = Outbox::new();
-        self.end.send(payload, &mut out)?;
+        self.end.send_soon(payload, &mut out)?;
         hand_over(&out, network);
         self.arrange(now);
         Ok(())

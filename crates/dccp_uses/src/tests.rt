@@ -28,6 +28,7 @@ enum Story {
     LongDatagrams,
     Service,
     OtherService,
+    SpeaksFirst,
 }
 
 fn stays_open<C: Congestion>(pair: &mut Pair<C>) -> bool {
@@ -274,6 +275,19 @@ fn is_refused<C: Congestion>(pair: &mut Pair<C>) -> bool {
     pair.go_on(1) && !pair.is_served() && pair.client_ended() == Some(8)
 }
 
+// The client's Ack is lost, and its first data open the server (RFC 4340, section 8.1.5).
+fn speaks_first<C: Congestion>(pair: &mut Pair<C>) -> bool {
+    if !pair.go_on(1) {
+        return false;
+    }
+    pair.lose();
+    pair.send(&[1]) == Some(true)
+        && pair.send(&[2]) == Some(true)
+        && pair.go_on(20)
+        && pair.are(Phase::Open)
+        && pair.delivered() == [1, 2].as_slice()
+}
+
 fn amiss_if(came: bool) -> usize {
     usize::from(!came)
 }
@@ -292,6 +306,7 @@ fn amiss<C: Congestion>(pair: &mut Pair<C>, story: Story) -> usize {
         Story::LongDatagrams => amiss_if(heeds_no_zeros(pair)),
         Story::Service => amiss_if(is_taken(pair)),
         Story::OtherService => amiss_if(is_refused(pair)),
+        Story::SpeaksFirst => amiss_if(speaks_first(pair)),
     }
 }
 
@@ -330,13 +345,14 @@ fn stories_over_a_wire_that_loses(rt: HostRuntime) {
 }
 
 // The service that the server has.
-const IN_ORDER: [(&str, u32, Story); 6] = [
+const IN_ORDER: [(&str, u32, Story); 7] = [
     ("a timer begins with its first wait", 42, Story::FirstWaits),
     ("the Request goes out again", 42, Story::Requests),
     ("a timeout doubles the next wait", 42, Story::Timeouts),
     ("a long datagram changes nothing", 42, Story::LongDatagrams),
     ("a Request is a connection", 42, Story::Service),
     ("of another service it is none", 43, Story::OtherService),
+    ("the client speaks first", 42, Story::SpeaksFirst),
 ];
 
 #[test]

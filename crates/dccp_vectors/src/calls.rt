@@ -1,11 +1,12 @@
 //! Each public call of an end, with ample memory. What an end answers to which packet, and in which phase, is told by
 //! the replays and schedules of examples/.
 //!
-//! Each word makes one call. Behind the colon stand its answer and, where it may send one, the frame, or `-`. `marks`
-//! shows GSS, GSR, OSR and GAR, and `windows` SWL, SWH, AWL and AWH; `floor` the floor and how many numbers were taken;
-//! `window` the window and what is in flight.
+//! Each word makes one call. Behind the colon stand its answer and, where it may send one, the frame, or `-`. Data that
+//! are delivered are told by where they stand in their packet. `marks` shows GSS, GSR, OSR and GAR, and `windows` SWL,
+//! SWH, AWL and AWH; `floor` the floor and how many numbers were taken; `window` the window and what is in flight.
 use crate::ends::{
-    Endpoint, aborts, closes, fires, new_end, opens, plain, prefers, sends, tell_frame, tell_packet,
+    Endpoint, aborts, closes, fires, new_end, opens, plain, prefers, sends, sends_early, sends_soon,
+    tell_frame, tell_packet,
 };
 use crate::tables::{Table, holds, pieces, tell_held, values};
 use dccp_endpoint::{Config, Ports, Pseudo, Role, Timer};
@@ -84,6 +85,7 @@ fn timer(text: &str) -> Option<Timer> {
     match text {
         "ack" => Some(Timer::Ack),
         "request" => Some(Timer::Request),
+        "rto" => Some(Timer::Rto),
         "close" => Some(Timer::Close),
         _ => None,
     }
@@ -122,6 +124,28 @@ fn tell_sending(
 ) -> Result<(), Fail> {
     let data = hex::decode(alloc, data)?;
     tell_result(alloc, sends(end, &data, out), out, told)
+}
+
+fn tell_early(
+    alloc: Global,
+    end: &mut Endpoint,
+    data: &str,
+    out: &mut Outbox,
+    told: &mut String,
+) -> Result<(), Fail> {
+    let data = hex::decode(alloc, data)?;
+    tell_result(alloc, sends_early(end, &data, out), out, told)
+}
+
+fn tell_soon(
+    alloc: Global,
+    end: &mut Endpoint,
+    data: &str,
+    out: &mut Outbox,
+    told: &mut String,
+) -> Result<(), Fail> {
+    let data = hex::decode(alloc, data)?;
+    tell_result(alloc, sends_soon(end, &data, out), out, told)
 }
 
 fn tell_arrival(
@@ -214,6 +238,8 @@ fn tell_call(
         "timer" => tell_timer(alloc, end, rest, out, told),
         "prefer" => tell_preference(alloc, end, rest, out, told),
         "send" => tell_sending(alloc, end, rest, out, told),
+        "early" => tell_early(alloc, end, rest, out, told),
+        "soon" => tell_soon(alloc, end, rest, out, told),
         "packet" => tell_arrival(alloc, end, rest, out, told),
         _ => tell_shown(end, verb, rest, told),
     }
@@ -233,7 +259,7 @@ fn tell_calls(
 }
 
 #[derive(Clone, Copy)]
-struct Calls(Config);
+pub(crate) struct Calls(pub(crate) Config);
 
 impl Table for Calls {
     fn tell(&self, alloc: Global, words: &str, told: &mut String) -> Result<(), Fail> {

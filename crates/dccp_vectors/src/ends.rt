@@ -44,6 +44,22 @@ pub(crate) fn sends(end: &mut Endpoint, data: &[u8], out: &mut Outbox) -> Result
     end.send(data, out)
 }
 
+pub(crate) fn sends_early(
+    end: &mut Endpoint,
+    data: &[u8],
+    out: &mut Outbox,
+) -> Result<(), SendFault> {
+    end.send_early(data, out)
+}
+
+pub(crate) fn sends_soon(
+    end: &mut Endpoint,
+    data: &[u8],
+    out: &mut Outbox,
+) -> Result<(), SendFault> {
+    end.send_soon(data, out)
+}
+
 pub(crate) fn prefers(
     end: &mut Endpoint,
     feature: Feature,
@@ -88,6 +104,9 @@ pub(crate) fn meets(alloc: Global, end: &mut Endpoint, role: Role) -> Result<(),
 fn tell_outcome(outcome: &Outcome, told: &mut String) -> Result<(), Fail> {
     match *outcome {
         Outcome::Took { delivered: None } => told.push_str(" took")?,
+        Outcome::Took {
+            delivered: Some((first, past)),
+        } => write!(told, " took {first}-{past}")?,
         Outcome::SentReset { code, detail } => {
             let [first, second, third] = detail;
             write!(told, " sent reset {code} {first} {second} {third}")?;

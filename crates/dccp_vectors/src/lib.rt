@@ -8,6 +8,8 @@ mod asked;
 #[cfg(test)]
 mod calls;
 #[cfg(test)]
+mod early;
+#[cfg(test)]
 mod ends;
 #[cfg(test)]
 mod features;

@@ -7,10 +7,10 @@ pub enum OpenFault {
     NotFresh,
 }
 
-/// Why `send` was refused, each reason before the next. The end is unchanged.
+/// Why `send` or `send_early` was refused, each reason before the next. The end is unchanged.
 #[derive(Clone, Copy, Debug, PartialEq, Eq)]
 pub enum SendFault {
-    /// The phase is not OPEN (RFC 4340, section 8.1.5).
+    /// The phase is not OPEN, or for `send_early` not PARTOPEN (RFC 4340, section 8.1.5).
     NotOpen,
     /// The data are longer than 1,024 bytes (own).
     TooLong,

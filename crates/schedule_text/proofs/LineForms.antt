@@ -271,6 +271,7 @@ spelled-line text (line.Event (event.Deliver from index)) is =
     let one = name-length from index is.1 in
     words-read text form.Deliver (frame_name from index ∷ []) (line.Event (event.Deliver from index)) is.0 (((from, index), tt), refl, ((refl, is.1), refl)) (omega arith) refl
 spelled-line text (line.Event (event.Send side payload)) is = send-read text is.digits side payload is.spells is.words is.few
+spelled-line text (line.Event (event.SendEarly side payload)) is = absurd is
 spelled-line text (line.Event (event.Prefer side feature place values)) is =
     let one = side-length side in
     let two = place-length place in
@@ -308,6 +309,7 @@ printed-line : (e : Event) → IsPrintable e → IsLine (event_text e) (line.Eve
 printed-line event.Open is = refl
 printed-line (event.Deliver from index) is = (refl, is)
 printed-line (event.Send side payload) is = record { digits = hex_or_dash payload; spells = printed-digits payload is.bytes; words = refl; few = is.few }
+printed-line (event.SendEarly side payload) is = absurd is
 printed-line (event.Prefer side feature place values) is = (refl, is)
 printed-line (event.Timer side which) is = refl
 printed-line (event.Close side) is = refl

@@ -34,6 +34,7 @@ IsLine text (line.Event event.Open) = text ≡ joined (line_words (line.Event ev
 IsLine text (line.Event (event.Deliver from index)) =
     (text ≡ joined (line_words (line.Event (event.Deliver from index)))) × IsSayable (line.Event (event.Deliver from index))
 IsLine text (line.Event (event.Send side payload)) = IsSendLine text (side_name side) payload
+IsLine text (line.Event (event.SendEarly side payload)) = ⊥
 IsLine text (line.Event (event.Prefer side feature place values)) =
     (text ≡ joined (line_words (line.Event (event.Prefer side feature place values))))
     × IsSayable (line.Event (event.Prefer side feature place values))

@@ -26,11 +26,12 @@ side_letter Server = codes "s"
 abbrev pub frame_name : Side → ℕ → List ℕ
 frame_name from index = side_letter from ++ decimal index
 
--- the words that a schedule has for an event, its form first
+-- The words that a schedule has for an event, its form first. It has none for early data; these are for people, and read by nobody.
 abbrev pub event_words : Event → List (List ℕ)
 event_words event.Open = form_name form.Open ∷ []
 event_words (event.Deliver from index) = form_name form.Deliver ∷ frame_name from index ∷ []
 event_words (event.Send side payload) = form_name form.Send ∷ side_name side ∷ hex_or_dash payload ∷ []
+event_words (event.SendEarly side payload) = codes "early" ∷ side_name side ∷ hex_or_dash payload ∷ []
 event_words (event.Prefer side feature place values) =
     form_name form.Prefer ∷ side_name side ∷ place_name place ∷ decimal (feature_number feature) ∷ values_text values ∷ []
 event_words (event.Timer side timer) = form_name form.Timer ∷ side_name side ∷ timer_name timer ∷ []

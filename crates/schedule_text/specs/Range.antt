@@ -27,6 +27,7 @@ abbrev pub IsPrintable : Event → Type 0
 IsPrintable event.Open = Unit {0}
 IsPrintable (event.Deliver from index) = index < 2 ^ 47
 IsPrintable (event.Send side payload) = FitsOneLine payload
+IsPrintable (event.SendEarly side payload) = ⊥
 IsPrintable (event.Prefer side feature place values) = AreValues values
 IsPrintable (event.Timer side timer) = Unit {0}
 IsPrintable (event.Close side) = Unit {0}

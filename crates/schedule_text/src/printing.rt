@@ -111,6 +111,16 @@ fn put_send(text: &mut Vec<u8>, side: Side, payload: &[u8]) -> Result<(), NoMemo
     put_hex_or_dash(text, payload)
 }
 
+// Early data have no line: this is for people to read.
+fn put_send_early(text: &mut Vec<u8>, side: Side, payload: &[u8]) -> Result<(), NoMemory>
+    ensures ok { OnOk result (text.new.items ≡ text.old.items ++ event_text (Event.SendEarly side payload.now)) }
+    ensures front { Keeps text.old.items text.new.items }
+{
+    put_named(text, b"early ", side_name(side))?;
+    put(text, b" ")?;
+    put_hex_or_dash(text, payload)
+}
+
 #[tactic(auto, using(tool_text::proofs::Keeping::keeps_itself, tool_text::proofs::Keeping::keeps_on, tool_text::proofs::Keeping::keeps_more, tool_text::proofs::Keeping::keeps_through))]
 fn put_more_values(text: &mut Vec<u8>, values: &[u64]) -> Result<(), NoMemory>
     ensures ok { OnOk result (text.new.items ≡ text.old.items ++ flat_map (λ value. 44 ∷ decimal value) values.now) }
@@ -181,6 +191,7 @@ fn put_event(text: &mut Vec<u8>, event: &Event) -> Result<(), NoMemory>
         Event::Open => put(text, b"open"),
         Event::Deliver { from, index } => put_delivery(text, *from, *index),
         Event::Send { side, payload } => put_send(text, *side, payload.bytes()),
+        Event::SendEarly { side, payload } => put_send_early(text, *side, payload.bytes()),
         Event::Prefer {
             side,
             feature,
@@ -302,7 +313,8 @@ fn put_line(
     Ok(())
 }
 
-/// Appends an event as its line has it, without a newline (own). After NoMemory the text is as before.
+/// Appends an event as its line has it, without a newline (own); early data, which have no line, with the word
+/// `early`. After NoMemory the text is as before.
 pub fn print_event(event: &Event, to: &mut Vec<u8>) -> Result<(), NoMemory>
     ensures ok { OnOk result (to.new.items ≡ to.old.items ++ event_text event.now) }
     ensures err { OnErr result (to.new.items ≡ to.old.items) }

@@ -2,6 +2,7 @@
 use Rattle.std.proofs.Common.{◌≡◌, refl, sym, ap, ◌∙◌, subst, ℕ, List, Bool, true, false, if◌then◌else◌, Option, Some, None, Result, Ok, Err, slice_get}
 use Rattle.ccid_two.specs.Kinds.{Both, kinds_control}
 use Rattle.dccp_endpoint.specs.Calling.{aborts, closes, opens, prefers, sends_payload}
+use Rattle.dccp_endpoint.specs.Early.{sends_early}
 use Rattle.dccp_endpoint.specs.Inputs as input
 use Rattle.two_ends.specs.Controlled.{Controlled, ControlledStep, congestion_of, controlled, controls, happens_to, said_by}
 use Rattle.two_ends.specs.World.{Half, HalfStep, Said, WorldState, WorldStep, delivers_frame as arrives_at, half_of, half_steps, happens, is_far_frame, is_full, in_world, refusal_of, seen_of_call, send_refusal_of, unless_far, with_half}
@@ -84,6 +85,9 @@ event-told w (event.Deliver from index) said step is = delivery-told w from inde
 event-told w (event.Send side payload) said step is =
     called-told w side (half_steps (half_of w side) None (input.Sends payload said.may_send)) (is_full (half_of w side)) step (arrived step.world (event.Send side payload)) is
     (call-told (arrived step.world (event.Send side payload)) send_refusal_of (sends_payload (half_of w side).end payload said.may_send).answer)
+event-told w (event.SendEarly side payload) said step is =
+    called-told w side (half_steps (half_of w side) None (input.SendsEarly payload said.may_send)) (is_full (half_of w side)) step (arrived step.world (event.SendEarly side payload)) is
+    (call-told (arrived step.world (event.SendEarly side payload)) send_refusal_of (sends_early (half_of w side).end payload said.may_send).answer)
 event-told w (event.Prefer side feature place values) said step is =
     called-told w side (half_steps (half_of w side) None (input.Prefers (feature, place) values)) (is_full (half_of w side)) step (arrived step.world (event.Prefer side feature place values)) is
     (call-told (arrived step.world (event.Prefer side feature place values)) refusal_of (prefers (half_of w side).end (feature, place) values).answer)

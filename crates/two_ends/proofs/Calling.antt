@@ -2,7 +2,7 @@
 use Rattle.std.proofs.Common.{◌≡◌, refl, ap, sym, ◌∙◌, ℕ, ◌^◌, ◌<◌, ◌==◌, ◌||◌, Bool, true, false, cond, if◌then◌else◌, List, [], ◌∷◌, ◌++◌, Option, Some, None, Result, arith}
 use Rattle.std.proofs.lemmas.Option.{same_Some}
 use Rattle.std.specs.List.{concat, filter, list_any}
-use Rattle.congestion_trait.specs.Calls.{Call, Starts, call_sends, tells}
+use Rattle.congestion_trait.specs.Calls.{Call, Sends, Starts, call_sends, tells}
 use Rattle.dccp_options.specs.Grammar.{Entry}
 use Rattle.dccp_options.specs.Vectors.{Report, ack_vectors, is_received, joined_report, report_of, state_at}
 use Rattle.dccp_options.specs.declared.option.OptFault.{OptFault}
@@ -11,7 +11,7 @@ use Rattle.dccp_packets.specs.declared.header.PacketType.TheVariants as types
 use Rattle.feature_lists.specs.declared.features.Feature.TheVariants.{AckRatio, Ccid}
 use Rattle.feature_lists.specs.declared.features.Place.TheVariants.{Here}
 use Rattle.feature_machine.specs.declared.row.Row.{Row}
-use Rattle.dccp_endpoint.specs.Causes.{IsCalling, CallsNothing, CallsFor, CallsSent, CallsTimeout, WasTaken}
+use Rattle.dccp_endpoint.specs.Causes.{IsCalling, CallsNothing, CallsEarly, CallsFor, CallsSent, CallsTimeout, WasTaken}
 use Rattle.dccp_endpoint.specs.Congesting.{calls_for, handing, report_calls, reported_from, start_calls}
 use Rattle.dccp_endpoint.specs.Effects.{Hearing, Sending}
 use Rattle.dccp_endpoint.specs.End.{EndState, value_in}
@@ -119,6 +119,11 @@ equal m n same = grind arith
 next-fits : (e : EndState) → next_number e < 2 ^ 48
 next-fits e = omega arith
 
+next-sent : (e : EndState) (n : ℕ) → list_any (call_sends n) (Sends (next_number e) ∷ []) ≡ true → n < 2 ^ 48
+next-sent e n is =
+    let same : n ≡ next_number e = equal n (next_number e) (or-first (n == next_number e) false refl is) in
+    omega (arith, same, next-fits e)
+
 module _ (e : EndState) (given : Input) (hearing : Hearing) (sending : Sending) where
   -- What was told received, a packet told that was taken.
   pub record IsHeardOf (n : ℕ) : Type 0 where
@@ -130,13 +135,13 @@ module _ (e : EndState) (given : Input) (hearing : Hearing) (sending : Sending) 
   tells-so _ CallsNothing n is = cc is
   tells-so _ (CallsFor a h was heeded) n is = record { packet = a; taken = was; told = for-tells a e.rows h.rows n is }
   tells-so _ (CallsSent payload asked phase carries) n is = cc is
+  tells-so _ (CallsEarly payload asked phase carries) n is = cc is
   tells-so _ (CallsTimeout asked phase) n is = cc is
 
   -- What is sent, has the next number.
   pub sends-so : (calls : List Call) → IsCalling e given hearing sending calls → (n : ℕ) → list_any (call_sends n) calls ≡ true → n < 2 ^ 48
   sends-so _ CallsNothing n is = cc is
   sends-so _ (CallsFor a h was heeded) n is = cc (for-sends a e.rows h.rows n, is)
-  sends-so _ (CallsSent payload asked phase carries) n is =
-      let same : n ≡ next_number e = equal n (next_number e) (or-first (n == next_number e) false refl is) in
-      omega (arith, same, next-fits e)
+  sends-so _ (CallsSent payload asked phase carries) n is = next-sent e n is
+  sends-so _ (CallsEarly payload asked phase carries) n is = next-sent e n is
   sends-so _ (CallsTimeout asked phase) n is = cc is

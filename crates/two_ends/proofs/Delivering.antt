@@ -13,6 +13,7 @@ use Rattle.dccp_endpoint.proofs.Deriving.{Told}
 use Rattle.dccp_endpoint.proofs.Phases.{accept-so, answer-so, check-live}
 use Rattle.dccp_endpoint.proofs.Walking.{told_of_step}
 use Rattle.dccp_endpoint.specs.Calling.{aborts, closes, opens, prefers, sends_payload}
+use Rattle.dccp_endpoint.specs.Early.{sends_early}
 use Rattle.dccp_endpoint.specs.Causes.{AreTurns, Came, EveryStepHasOneEffect}
 use Rattle.dccp_endpoint.specs.Effects.{Effect, Heard, Taken, count_by}
 use Rattle.dccp_endpoint.specs.End.{EndState, marked_of}
@@ -206,6 +207,7 @@ silent-call x input.Aborts is = call-none _ (aborts x).answer
 silent-call x (input.Fires timer in_flight) is = refl
 silent-call x (input.Prefers k values) is = call-none _ (prefers x k values).answer
 silent-call x (input.Sends payload may_send) is = call-none _ (sends_payload x payload may_send).answer
+silent-call x (input.SendsEarly payload may_send) is = call-none _ (sends_early x payload may_send).answer
 
 answer-took : (o : Outcome) (place : ℕ × ℕ) → place_delivered (seen_of (input.Received o)) ≡ Some place → o ≡ Took (Some place)
 answer-took (Took delivered) place is = ap Took is
@@ -271,6 +273,7 @@ step-delivers : (w : WorldState) → IsHeld SideInvariant w → (e : Event) (sai
 step-delivers w h (event.Deliver from index) said after same place is = arrived w h from index _ refl after same place is
 step-delivers w h event.Open said after same place is = no-delivery w Client input.Opens tt after same place is
 step-delivers w h (event.Send side payload) said after same place is = no-delivery w side (input.Sends payload said.may_send) tt after same place is
+step-delivers w h (event.SendEarly side payload) said after same place is = no-delivery w side (input.SendsEarly payload said.may_send) tt after same place is
 step-delivers w h (event.Prefer side feature seen_at values) said after same place is =
     no-delivery w side (input.Prefers (feature, seen_at) values) tt after same place is
 step-delivers w h (event.Timer side timer) said after same place is = no-delivery w side (input.Fires timer said.in_flight) tt after same place is

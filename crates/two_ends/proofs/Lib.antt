@@ -40,5 +40,6 @@ pub mod Spelling
 pub mod Preferring
 pub mod Nearing
 pub mod RowsFar
+pub mod RowsEarly
 pub mod Refusing
 pub mod Sharing

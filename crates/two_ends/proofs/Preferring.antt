@@ -505,6 +505,8 @@ module _ {C : Type 0} (control : Control C) (effects : EveryStepHasOneEffect) wh
       by (event.Deliver from index) unless_so = delivery-keeps effects w.world held from (slice_get (half_of w.world from).frames index) side k
       by (event.Send acting payload) unless_so =
           call-keeps effects w.world held acting None (input.Sends payload (said w (event.Send acting payload)).may_send) tt side k
+      by (event.SendEarly acting payload) unless_so =
+          call-keeps effects w.world held acting None (input.SendsEarly payload (said w (event.SendEarly acting payload)).may_send) tt side k
       by (event.Prefer acting one there values) unless_so =
           preference-keeps effects w.world held acting (one, there) values side k
           (λ sides keys room answer.

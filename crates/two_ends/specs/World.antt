@@ -180,6 +180,7 @@ pub record Said : Type 0 where
 abbrev pub input_of : Asked → Said → Input
 input_of asked.Open said = input.Opens
 input_of (asked.Send payload) said = input.Sends payload.now said.may_send
+input_of (asked.SendEarly payload) said = input.SendsEarly payload.now said.may_send
 input_of (asked.Prefer feature place values) said = input.Prefers (feature, place) values.now
 input_of asked.Close said = input.Closes
 input_of asked.Abort said = input.Aborts
@@ -190,6 +191,7 @@ abbrev pub happening_of : Event → Said → Happening
 happening_of event.Open said = Calls Client input.Opens
 happening_of (event.Deliver from index) said = Delivers from index
 happening_of (event.Send side payload) said = Calls side (input.Sends payload said.may_send)
+happening_of (event.SendEarly side payload) said = Calls side (input.SendsEarly payload said.may_send)
 happening_of (event.Prefer side feature place values) said = Calls side (input.Prefers (feature, place) values)
 happening_of (event.Timer side timer) said = Calls side (input.Fires timer said.in_flight)
 happening_of (event.Close side) said = Calls side input.Closes
@@ -214,6 +216,7 @@ abbrev pub LacksFrame : WorldState → Event → Type 0
 LacksFrame w event.Open = ⊥
 LacksFrame w (event.Deliver from index) = length (half_of w from).frames ≤ index
 LacksFrame w (event.Send side payload) = ⊥
+LacksFrame w (event.SendEarly side payload) = ⊥
 LacksFrame w (event.Prefer side feature place values) = ⊥
 LacksFrame w (event.Timer side timer) = ⊥
 LacksFrame w (event.Close side) = ⊥
@@ -233,6 +236,7 @@ abbrev pub DeliversFar : WorldState → Event → Type 0
 DeliversFar w event.Open = ⊥
 DeliversFar w (event.Deliver from index) = is_far_at (half_of w (other from)).end (slice_get (half_of w from).frames index) ≡ true
 DeliversFar w (event.Send side payload) = ⊥
+DeliversFar w (event.SendEarly side payload) = ⊥
 DeliversFar w (event.Prefer side feature place values) = ⊥
 DeliversFar w (event.Timer side timer) = ⊥
 DeliversFar w (event.Close side) = ⊥

@@ -4,7 +4,7 @@ ghost use Rattle.dccp_endpoint.specs.Controlled.{after_calls, with_control};
 ghost use Rattle.dccp_endpoint.specs.Inputs.{end_stepped};
 ghost use Rattle.dccp_endpoint.specs.Receiving.{receives};
 ghost use Rattle.two_ends.specs.Controlled.{said_by};
-ghost use Rattle.two_ends.specs.World.{input_of, number_if, refusal_of, seen_of, send_refusal_of};
+ghost use Rattle.two_ends.specs.World.{input_of, number_if, refusal_of, seen_of, seen_of_call, send_refusal_of};
 
 use crate::frames::{keep_frame, take_memory};
 use crate::{Payload, Refusal, Seen, SentFrame, Values};
@@ -23,6 +23,7 @@ use std::marker::Model;
 pub(crate) enum Asked<'a> {
     Open,
     Send(&'a Payload),
+    SendEarly(&'a Payload),
     Prefer {
         feature: Feature,
         place: Place,
@@ -178,6 +179,16 @@ fn send_refusal_of(fault: SendFault) -> Refusal
     }
 }
 
+// What is seen of data that were sent or refused.
+fn sent(answered: Result<(), SendFault>) -> Seen
+    ensures { result ≡ seen_of_call send_refusal_of answered }
+{
+    match answered {
+        Ok(()) => Seen::Called(Ok(())),
+        Err(fault) => Seen::Called(Err(send_refusal_of(fault))),
+    }
+}
+
 // What is seen of a call of the end alone.
 fn answer<C: Congestion>(end: &mut Endpoint<C>, asked: Asked<'_>, out: &mut Outbox) -> Seen
     ensures after { end.new.state ≡ (end_stepped end.old.state (input_of asked.entry (said_by C.control end.old.congestion))).after }
@@ -190,10 +201,8 @@ fn answer<C: Congestion>(end: &mut Endpoint<C>, asked: Asked<'_>, out: &mut Outb
             Ok(()) => Seen::Called(Ok(())),
             Err(OpenFault::NotFresh) => Seen::Called(Err(Refusal::NotFresh)),
         },
-        Asked::Send(payload) => match end.send(payload.bytes(), out) {
-            Ok(()) => Seen::Called(Ok(())),
-            Err(fault) => Seen::Called(Err(send_refusal_of(fault))),
-        },
+        Asked::Send(payload) => sent(end.send(payload.bytes(), out)),
+        Asked::SendEarly(payload) => sent(end.send_early(payload.bytes(), out)),
         Asked::Prefer {
             feature,
             place,

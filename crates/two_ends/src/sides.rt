@@ -80,6 +80,7 @@ impl<C: Congestion> Sides<C> {
         match event {
             Event::Open => self.call(Side::Client, Asked::Open),
             Event::Send { side, payload } => self.call(*side, Asked::Send(payload)),
+            Event::SendEarly { side, payload } => self.call(*side, Asked::SendEarly(payload)),
             Event::Prefer {
                 side,
                 feature,

@@ -14,6 +14,7 @@ abbrev pub actor : Event → Side
 actor event.Open = Client
 actor (event.Deliver from index) = other from
 actor (event.Send side payload) = side
+actor (event.SendEarly side payload) = side
 actor (event.Prefer side feature place values) = side
 actor (event.Timer side timer) = side
 actor (event.Close side) = side

@@ -124,6 +124,12 @@ pub enum Event {
         side: Side,
         payload: Payload,
     },
+    /// The side, in PARTOPEN, sends these data before it has heard more than the Response (own; RFC 4340, section 8.1.5,
+    /// lets it). No line of a schedule says this.
+    SendEarly {
+        side: Side,
+        payload: Payload,
+    },
     /// The side asks for these values of a feature, best first (RFC 4340, section 6).
     Prefer {
         side: Side,
@@ -151,13 +157,13 @@ pub enum Event {
 pub enum Refusal {
     /// `open`: the end is a server, or was opened before.
     NotFresh,
-    /// `prefer` and `close`: the phase is neither PARTOPEN nor OPEN. `send`: it is not OPEN.
+    /// `prefer` and `close`: the phase is neither PARTOPEN nor OPEN. `send`: it is not OPEN. `send_early`: not PARTOPEN.
     NotOpen,
-    /// `send`: the data are longer than 1,024 bytes.
+    /// `send`, `send_early`: the data are longer than 1,024 bytes.
     TooLong,
-    /// `send`: CCID here is 2, and the peer sends no Ack Vectors.
+    /// `send`, `send_early`: CCID here is 2, and the peer sends no Ack Vectors.
     NotNegotiated,
-    /// `send`: as many data packets are in flight as may be.
+    /// `send`, `send_early`: as many data packets are in flight as may be.
     WindowFull,
     /// `prefer`: the values are none, too many or not distinct, or not such as the feature may have.
     BadList,
@@ -213,8 +219,9 @@ impl Event {
         match self {
             Event::Open => Side::Client,
             Event::Deliver { from, .. } => from.other(),
-            Event::Send { side, .. } | Event::Prefer { side, .. } => *side,
-            Event::Timer { side, .. } | Event::Close { side } | Event::Abort { side } => *side,
+            Event::Send { side, .. } | Event::SendEarly { side, .. } => *side,
+            Event::Prefer { side, .. } | Event::Timer { side, .. } => *side,
+            Event::Close { side } | Event::Abort { side } => *side,
         }
     }
 

@@ -3,9 +3,9 @@
 //!     cargo run --example talk -- server PORT [closes]
 //!     cargo run --example talk -- client PORT [closes]
 //!
-//! Each offers a Sequence Window of 500 packets, sends 200 and loses one frame in twenty on purpose; the one that closes asks for a
-//! window of 700 while data flow. Last comes a line: how many packets came, the Sequence Windows of this end and of its peer, and
-//! the code with which the connection ended.
+//! Each offers a Sequence Window of 500 packets, sends 200, the client first, and loses one frame in twenty on purpose; the one that
+//! closes asks for a window of 700 while data flow. Last comes a line: how many packets came, the Sequence Windows of this end and of
+//! its peer, and the code with which the connection ended.
 
 use dccp::{
     Accepted, Config, Connection, Event, Feature, MOST_FRAME_BYTES, Phase, Place, Transmit,
@@ -134,6 +134,8 @@ fn ask(port: u16) -> Result<(Connection, Wire), Box<dyn Error>> {
 /// What has come and gone over a connection.
 #[derive(Default)]
 struct Talk {
+    /// The server's: it speaks once it has heard something.
+    waits: bool,
     sent: u32,
     got: u32,
     heard: Option<Instant>,
@@ -158,6 +160,7 @@ impl Talk {
     /// Sends data as long as the window has room. The end that closes asks for a wider Sequence Window on the way.
     fn say(&mut self, connection: &mut Connection, closes: bool) -> Result<(), Box<dyn Error>> {
         while self.sent < PACKETS
+            && !(self.waits && self.got == 0)
             && connection
                 .send(&[self.sent as u8; 64], Instant::now())
                 .is_ok()
@@ -189,8 +192,17 @@ impl Talk {
     }
 }
 
-fn talk(connection: &mut Connection, mut wire: Wire, closes: bool) -> Result<Talk, Box<dyn Error>> {
-    let (begun, mut talk) = (Instant::now(), Talk::default());
+fn talk(
+    connection: &mut Connection,
+    mut wire: Wire,
+    closes: bool,
+    waits: bool,
+) -> Result<Talk, Box<dyn Error>> {
+    let begun = Instant::now();
+    let mut talk = Talk {
+        waits,
+        ..Talk::default()
+    };
     let mut room = [0; MOST_FRAME_BYTES + 1];
     while talk.ended.is_none_or(|(_, at)| at.elapsed() < LINGER) {
         if Duration::from_secs(60) < begun.elapsed() {
@@ -228,7 +240,7 @@ fn main() -> Result<(), Box<dyn Error>> {
         "client" => ask(port)?,
         _ => return Err("a server or a client".into()),
     };
-    let talk = talk(&mut connection, wire, closes)?;
+    let talk = talk(&mut connection, wire, closes, side == "server")?;
     let code = talk.ended.map_or(0, |(code, _)| code);
     let mut width = |place| connection.feature(Feature::SequenceWindow, place).value;
     println!(

@@ -153,7 +153,7 @@ impl Connection {
         OpenError::answer(status)
     }
 
-    /// Sends data, 0 to 1,024 bytes, in one packet. A refused call changes nothing.
+    /// Sends data, 0 to 1,024 bytes, in one packet; in [`Phase::PartOpen`] a client speaks first. A refused call changes nothing.
     ///
     /// ```
     /// use dccp::{Config, Connection, SendError};

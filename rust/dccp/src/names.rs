@@ -154,7 +154,7 @@ refusals! {
 refusals! {
     /// Why data were not sent; the first that holds.
     SendError {
-        /// The phase is not `Open`.
+        /// The phase is neither `PartOpen` nor `Open`.
         NotOpen = NOT_OPEN, "the connection is not open";
         /// There are more than 1,024 bytes.
         TooLong = TOO_LONG, "more than 1,024 bytes of data";

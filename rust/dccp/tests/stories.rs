@@ -89,6 +89,39 @@ fn a_request_waits_twice_as_long_each_time() -> Result<(), Box<dyn Error>> {
 }
 
 #[test]
+fn a_client_speaks_first_to_a_server_that_never_does() -> Result<(), Box<dyn Error>> {
+    let now = Instant::now();
+    let mut one = Connection::new(&client())?;
+    one.open(now)?;
+    let request = one.poll_transmit().ok_or("a Request")?;
+    let Accepted::Connection(mut other) = Connection::accept(&server(), &request.bytes, now)?
+    else {
+        return Err("a Request is accepted".into());
+    };
+    let response = other.poll_transmit().ok_or("a Response")?;
+    one.handle_datagram(&response.bytes, now);
+    let ack = one.poll_transmit().ok_or("an Ack")?;
+    other.handle_datagram(&ack.bytes, now);
+    // What the server says to the Ack is held back: of other servers nothing would come.
+    while other.poll_transmit().is_some() {}
+    assert_eq!((one.phase(), other.phase()), (Phase::PartOpen, Phase::Open));
+    for word in [b"one", b"two"] {
+        one.send(word, now)?;
+        let data = one.poll_transmit().ok_or("data")?;
+        assert_eq!(kind(&data), 4);
+        other.handle_datagram(&data.bytes, now);
+    }
+    assert_eq!((one.phase(), one.in_flight()), (Phase::PartOpen, 2));
+    let mut got = Vec::new();
+    assert_eq!(events(&mut other, &mut got), None);
+    assert_eq!(got, [b"one", b"two"]);
+    let ack = other.poll_transmit().ok_or("an Ack")?;
+    one.handle_datagram(&ack.bytes, now);
+    assert_eq!((one.phase(), one.in_flight()), (Phase::Open, 0));
+    Ok(())
+}
+
+#[test]
 fn a_stranger_is_answered_by_a_reset_and_makes_no_connection() -> Result<(), Box<dyn Error>> {
     let (mut one, _, now) = open_pair()?;
     one.send(b"stray", now)?;

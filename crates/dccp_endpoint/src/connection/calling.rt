@@ -14,7 +14,7 @@ const MOST_DATA: usize = 1024;
 impl Connection {
     ghost use Rattle.std.specs.Prelude.{◌≡◌, ◌≢◌, ◌↔◌, ◌⊎◌, ◌≤◌, ◌<◌, Bool, [], None, Ok, Err, OnErr, true, false, length};
     ghost use Rattle.dccp_states.specs.declared.phase.Role.TheVariants as role;
-    ghost use Rattle.dccp_endpoint.specs.Calling.{aborts, aborts_now, applies, asks_all, asks_now, closes, closes_now, fires, has_keys, lacks_vectors, opens, opens_as, preferring, prefers, prefers_wish, requests, send_fault};
+    ghost use Rattle.dccp_endpoint.specs.Calling.{aborts, aborts_now, applies, asks_all, asks_now, closes, closes_now, fault_where, fires, has_keys, lacks_vectors, opens, opens_as, preferring, prefers, prefers_wish, requests, send_fault};
     ghost use Rattle.dccp_endpoint.specs.End.{is_connected};
     ghost use Rattle.dccp_endpoint.specs.Speaking.{AreDue};
     ghost use Rattle.feature_lists.specs.Wishes.{is_wish, wish_of};
@@ -228,7 +228,19 @@ impl Connection {
     pub(crate) fn send_fault(&self, payload: &[u8], may_send: bool) -> Option<SendFault>
         ensures { result ≡ send_fault self.now payload.now may_send }
     {
-        if !is_open(self.phase) {
+        self.fault_where(is_open(self.phase), payload, may_send)
+    }
+
+    // Why data are not sent, if it is so, by whether they may go in this phase.
+    pub(crate) fn fault_where(
+        &self,
+        fits_phase: bool,
+        payload: &[u8],
+        may_send: bool,
+    ) -> Option<SendFault>
+        ensures { result ≡ fault_where fits_phase self.now.rows payload.now may_send }
+    {
+        if !fits_phase {
             Some(SendFault::NotOpen)
         } else if MOST_DATA < payload.len() {
             Some(SendFault::TooLong)

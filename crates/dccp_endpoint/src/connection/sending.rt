@@ -271,7 +271,7 @@ impl Connection {
 
     // Sends a DataAck, which has its Ack Vector alone beside the data.
     #[tactic(auto, using(crate::proofs::Frames::fixed_part_is_short, crate::proofs::Writing::written_alone, crate::proofs::Short::short_data_ack))]
-    fn send_data_ack(&mut self, payload: &[u8], out: &mut Outbox)
+    pub(crate) fn send_data_ack(&mut self, payload: &[u8], out: &mut Outbox)
         requires { length payload.now ≤ 1024 }
         ensures counted { self.new ≡ acknowledged self.old }
         ensures sent { out.new ≡ Some (next_frame self.old (reporting self.old (carrying (kind.DataAck (Long self.old.marks.gsr)) payload.now))) }
