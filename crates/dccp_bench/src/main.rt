@@ -5,7 +5,7 @@
 //! end, and lets two ends send each other data, so that what they allocate can be counted. `ratios` and a number of
 //! rounds times marks, the writing of Ack Vectors and the taking of reports. `runs` and a number of rounds times marks
 //! in several orders, over both ways to keep runs. `ends` and a number of rounds times an end in OPEN to which packets
-//! of data come. `campaign` and a number of workers times a campaign.
+//! of data come. `listener` and a number of datagrams times a listener to which so many of 100,000 peers come. `campaign` and a number of workers times a campaign.
 //!
 //! Nothing is claimed of what it prints.
 #![tactic(auto)]
@@ -14,6 +14,7 @@ mod campaigns;
 mod data;
 mod ends;
 mod frames;
+mod listener;
 mod marks;
 mod passes;
 mod ratios;
@@ -32,6 +33,7 @@ enum Form {
     Ratios,
     Runs,
     Ends,
+    Listener,
     Campaign,
 }
 
@@ -45,6 +47,7 @@ fn asked(rt: &HostRuntime) -> io::Result<(Form, u32)> {
             "ratios" => form = Form::Ratios,
             "runs" => form = Form::Runs,
             "ends" => form = Form::Ends,
+            "listener" => form = Form::Listener,
             "campaign" => form = Form::Campaign,
             text => rounds = text.parse::<u32>().unwrap_or(1),
         }
@@ -99,6 +102,7 @@ fn main(rt: HostRuntime) -> io::Result<()> {
         }
         Form::Runs => runs::all(&rt, rounds),
         Form::Ends => ends::all(&rt, rounds),
+        Form::Listener => listener::all(&rt, rounds),
         Form::Campaign => campaigns::all(&rt, &rt, rounds),
     }
 }

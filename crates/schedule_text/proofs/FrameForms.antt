@@ -32,7 +32,7 @@ digits-are = both-is hex_kind end_row hex-is end-is
 frame-is : (seal : Bool) → IsExactRow (frame_row seal)
 frame-is seal = as-is (digits_frame seal) (judged_row 0 (size_judged seal) (hex_kind ▷ end_row)) (checked-is 0 (size_judged seal) (hex_kind ▷ end_row) digits-are)
 
-replay-is : IsExactRow replay_row
+pub replay-is : IsExactRow replay_row
 replay-is = after-is (codes "seal") (frame_row true) (frame_row false) refl (frame-is true) (frame-is false)
 
 -- Sizes
@@ -182,6 +182,24 @@ spelled-frame text None is = (line-idle replay_row.said text).1 (record { says =
 spelled-frame text (Some frame) is = (line-accepted replay_row replay-is text frame).1 (spoken-by text frame frame.seal refl is is.words)
 
 -- behind `seal` a frame has eight bytes
+covered-found : (seal : Bool) (words : List (List ℕ)) (frame : FrameLine) → (frame_row seal).Spells frame words → frame.seal ≡ true → 8 ≤ length frame.bytes
+covered-found seal words frame is =
+    let found = found-by seal words frame is in
+    let size = found.sized in
+    subst (λ (f : FrameLine). f.seal ≡ true → 8 ≤ length f.bytes) found.is size.covered
+
+covered-when : (test : Bool) (word : List ℕ) (rest : List (List ℕ)) (frame : FrameLine)
+    → ByTest test ((frame_row true).Spells frame rest) ((frame_row false).Spells frame (word ∷ rest)) → frame.seal ≡ true → 8 ≤ length frame.bytes
+covered-when true word rest frame is = covered-found true rest frame is
+covered-when false word rest frame is = covered-found false (word ∷ rest) frame is
+
+covered-words : (words : List (List ℕ)) (frame : FrameLine) → replay_row.Spells frame words → frame.seal ≡ true → 8 ≤ length frame.bytes
+covered-words [] frame is = absurd is.2.0
+covered-words (word ∷ rest) frame is = covered-when (bytes_eq word (codes "seal")) word rest frame is
+
+pub frame-covered : (left : WordsLeft) (frame : FrameLine) → replay_row.said left ≡ Ok frame → frame.seal ≡ true → 8 ≤ length frame.bytes
+frame-covered left frame is = covered-words (texts_of left.words) frame (replay-is.spelled left frame is)
+
 sealed-by : (text : List ℕ) (r : Result (Option FrameLine) LineFault) → read_frame text ≡ r → IfOk r (λ said. IfSome said (λ frame. frame.seal ≡ true → 8 ≤ length frame.bytes))
 sealed-by text (Ok None) is = tt
 sealed-by text (Ok (Some frame)) is = (frame-spelled text (Some frame) is).covered

@@ -49,8 +49,8 @@ impl<'a> WordKind<'a> for APlace {
     }
 }
 
-/// The word for a timer.
-pub(crate) struct ATimer;
+/// The word for a timer (own): `request`, `ack`, `negotiate`, `rto`, `close` or `timewait`; every other word is UnknownWord.
+pub struct ATimer;
 
 impl<'a> WordKind<'a> for ATimer {
     type Read = Timer;

@@ -168,8 +168,8 @@ fn deliver(words: &mut Words<'_>, said: &mut Line) -> Result<(), LineFault>
     Ok(())
 }
 
-// The bytes as a payload, which has room for as many as one line has digits for.
-fn payload_of(digits: &Digits<'_>) -> Payload
+/// The bytes as a payload, which has room for as many as one line has digits for (own).
+pub fn payload_of(digits: &Digits<'_>) -> Payload
     ensures { result ≡ digits.now }
 {
     let mut bytes = [0; MOST_BYTES];

@@ -1,4 +1,4 @@
-//! Streams that fail at each of their calls in turn, in all four forms.
+//! Streams that fail at each of their calls in turn, in all five forms.
 //!
 //! The streams tell whether one of their calls failed. Exactly where one did, the tool ends with the status of a failed
 //! read or write and has written a front of its text; else it ends as ever.
@@ -18,7 +18,7 @@ struct Form {
 }
 
 // Of each form calls that are done, and where there is one, one whose input is refused.
-const FORMS: [Form; 10] = [
+const FORMS: [Form; 12] = [
     Form {
         words: "run",
         input: b"plain\nopen\ndeliver c0\ndeliver s0\ndeliver c1\n",
@@ -97,6 +97,22 @@ records 1 shown 1 skipped 0 flows 1\n",
 \x45\x00",
         status: Status::Input,
         text: "capture CutShort after record 0\n",
+    },
+    Form {
+        words: "listen,--most,1",
+        input: b"10.0.0.3:40000 close\n10.0.0.1:40000 seal 9c4013890500000001000000000003e80000002a\n",
+        status: Status::Done,
+        text: "1 10.0.0.3:40000: refused NoFlow\n\
+2 10.0.0.1:40000: took\n\
+sent 10.0.0.1:40000 13899c400700261403000000000007d000000000000003e80000002a\n\
+flows 1\n\
+flow 10.0.0.1:40000 RESPOND\n",
+    },
+    Form {
+        words: "listen,--most=1",
+        input: b"10.0.0.3:40000 close\n10.0.0.3 close\n10.0.0.3:40000 walk\n",
+        status: Status::Input,
+        text: "1 10.0.0.3:40000: refused NoFlow\nline 2 column 1: BadPeer\n",
     },
     Form {
         words: "campaign,--first,1,--seeds,3,--events,1,--workers,2",

@@ -13,6 +13,8 @@ mod failures;
 #[cfg(test)]
 mod gates;
 #[cfg(test)]
+mod listening;
+#[cfg(test)]
 mod replays;
 #[cfg(test)]
 mod schedules;

@@ -862,7 +862,7 @@ end client OPEN window 4 flight 0 1=2/2 2=0/0 3=100/100 4=0/0 5=2/2 6=0/0 7=0/0 
 ];
 
 // All others, by their names.
-const WHOLE: [(&str, Case); 30] = [
+const WHOLE: [(&str, Case); 32] = [
     (
         "empty",
         Case {
@@ -2170,6 +2170,49 @@ was_reset 0\n\
 sent_reset 0\n\
 refused 23\n\
 settled 58\n",
+        },
+    ),
+    (
+        "two_flows",
+        Case {
+            words: "listen,--most,2",
+            input: "# listen --most 2\n\
+# A peer asks for a service that is not there, asks again for one that is, and opens; another peer asks meanwhile.\n\
+10.0.0.1:40000 seal 9c4013890500000001000000000003e80000002c\n\
+10.0.0.1:40000 seal 9c4013890500000001000000000003e80000002a\n\
+10.0.0.3:40000 seal 9c4013890500000001000000000003e80000002b\n\
+10.0.0.1:40000 seal 9c4013890600000007000000000003e900000000000007d0\n",
+            status: Status::Done,
+            text: "3 10.0.0.1:40000: sent reset 8 0 0 0\n\
+sent 10.0.0.1:40000 13899c4007001a0e0f0000000000000000000000000003e808000000\n\
+4 10.0.0.1:40000: took\n\
+sent 10.0.0.1:40000 13899c400700261403000000000007d000000000000003e80000002a\n\
+5 10.0.0.3:40000: took\n\
+sent 10.0.0.3:40000 13899c400700261103000000000007d000000000000003e80000002b\n\
+6 10.0.0.1:40000: took\n\
+sent 10.0.0.1:40000 13899c400600234007000000000007d100000000000003e9\n\
+flows 2\n\
+flow 10.0.0.1:40000 OPEN\n\
+flow 10.0.0.3:40000 RESPOND\n",
+        },
+    ),
+    (
+        "full_listener",
+        Case {
+            words: "listen,--most,1",
+            input: "# listen --most 1\n\
+# One flow may stand. The second peer is told that the listener is busy, and has no end that could close.\n\
+10.0.0.1:40000 seal 9c4013890500000001000000000003e80000002a\n\
+10.0.0.3:40000 seal 9c4013890500000001000000000003e80000002b\n\
+10.0.0.3:40000 close\n",
+            status: Status::Done,
+            text: "3 10.0.0.1:40000: took\n\
+sent 10.0.0.1:40000 13899c400700261403000000000007d000000000000003e80000002a\n\
+4 10.0.0.3:40000: busy\n\
+sent 10.0.0.3:40000 13899c400700190c0f0000000000000000000000000003e809000000\n\
+5 10.0.0.3:40000: refused NoFlow\n\
+flows 1\n\
+flow 10.0.0.1:40000 RESPOND\n",
         },
     ),
 ];

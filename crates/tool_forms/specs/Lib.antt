@@ -1,6 +1,7 @@
 pub mod Tables
 pub mod Given
 pub mod Settings
-pub mod Words
 pub mod CampaignWords
+pub mod ListenWords
+pub mod Words
 pub mod Commands

@@ -1,5 +1,5 @@
 -- What the words after the program's name ask for (own).
-use Rattle.std.specs.Prelude.{◌≡◌, ◌||◌, ℕ, Bool, false, List, [], ◌∷◌, codes, Option, Some, None, is_some, option_and_then, if◌then◌else◌, String, string_bytes}
+use Rattle.std.specs.Prelude.{◌≡◌, ◌≤◌, ◌||◌, ℕ, Bool, false, List, [], ◌∷◌, codes, Option, Some, None, is_some, option_and_then, if◌then◌else◌, String, string_bytes}
 use Rattle.std.specs.Str.{bytes_eq}
 use Rattle.std.specs.declared.alloc.Global.{Global}
 use Rattle.world_events.specs.declared.event.Side.{Side}
@@ -8,7 +8,8 @@ use Rattle.tool_forms.specs.declared.settings.Setting.TheVariants as setting
 use Rattle.tool_forms.specs.Given.{Value}
 use Rattle.tool_forms.specs.Given as value
 use Rattle.tool_forms.specs.Settings.{words_give}
-use Rattle.tool_forms.specs.CampaignWords.{campaign_of}
+use Rattle.tool_forms.specs.CampaignWords.{IsWithinBounds, campaign_of}
+use Rattle.tool_forms.specs.ListenWords.{most_of}
 use Rattle.tool_forms.specs.declared.words.Form.{Form}
 use Rattle.tool_forms.specs.declared.words.Form.TheVariants as form
 
@@ -34,12 +35,16 @@ replay_of words = replays (words_give table.Replay setting.Plain words) (side_gi
 abbrev pub campaigns : List (String Global) → Option Form
 campaigns words = option_and_then (λ campaign. Some (form.Campaign campaign)) (campaign_of words)
 
+-- The words behind `listen`.
+abbrev pub listen_of : List (String Global) → Option Form
+listen_of words = option_and_then (λ most. Some (form.Listen most)) (most_of words)
+
 -- No word may follow `run` and `show`.
 abbrev pub takes_no_word : Form → List (String Global) → Option Form
 takes_no_word form [] = Some form
 takes_no_word form (word ∷ words) = None
 
--- The form that the words have: `run`, `replay`, `campaign` or `show`.
+-- The form that the words have: `run`, `replay`, `campaign`, `show` or `listen`.
 unfoldable pub form_of : List (String Global) → Option Form
 form_of [] = None
 form_of (first ∷ words) =
@@ -47,7 +52,16 @@ form_of (first ∷ words) =
     else if is_word first (codes "replay") then replay_of words
     else if is_word first (codes "campaign") then campaigns words
     else if is_word first (codes "show") then takes_no_word form.Show words
+    else if is_word first (codes "listen") then listen_of words
     else None
+
+-- the numbers of a form are within their bounds
+abbrev pub IsFormWithinBounds : Form → Type 0
+IsFormWithinBounds form.Run = Unit {0}
+IsFormWithinBounds (form.Replay side plain) = Unit {0}
+IsFormWithinBounds (form.Campaign campaign) = IsWithinBounds campaign
+IsFormWithinBounds form.Show = Unit {0}
+IsFormWithinBounds (form.Listen most) = (1 ≤ most) × (most ≤ 1024)
 
 -- Only the words behind `replay` and `campaign` are settings.
 abbrev pub has_settings : List (String Global) → Bool
@@ -56,7 +70,7 @@ has_settings (first ∷ words) = is_word first (codes "replay") || is_word first
 
 -- The line that answers all other words.
 abbrev pub usage : List ℕ
-usage = codes "usage: dccp run | replay --side server|client [--plain] | campaign --first F --seeds N --events E --workers W | show\n"
+usage = codes "usage: dccp run | replay --side server|client [--plain] | campaign --first F --seeds N --events E --workers W | show | listen --most M\n"
 
 -- For `run`, over a source that tells its bytes, something holds of them.
 abbrev pub OnRun : List (String Global) → Option (List ℕ) → (List ℕ → Type 0) → Type 0
@@ -70,3 +84,7 @@ OnReplay words told Holds =
 -- and for `show`
 abbrev pub OnShow : List (String Global) → Option (List ℕ) → (List ℕ → Type 0) → Type 0
 OnShow words told Holds = form_of words ≡ Some form.Show → (bytes : List ℕ) → told ≡ Some bytes → Holds bytes
+
+-- and for `listen`, with so many flows at most
+abbrev pub OnListen : List (String Global) → Option (List ℕ) → (ℕ → List ℕ → Type 0) → Type 0
+OnListen words told Holds = (most : ℕ) → form_of words ≡ Some (form.Listen most) → (bytes : List ℕ) → told ≡ Some bytes → Holds most bytes

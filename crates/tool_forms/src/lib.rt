@@ -3,6 +3,7 @@
 
 mod campaign_words;
 mod commands;
+mod listen_words;
 mod settings;
 mod words;
 

@@ -1,12 +1,12 @@
 //! What the words after the program's name ask for.
-ghost use Rattle.std.specs.Prelude.{◌≡◌, IfOk, IsOk, Ok, Some, false};
+ghost use Rattle.std.specs.Prelude.{◌≡◌, IfOk, IfSome, IsOk, false};
 ghost use Rattle.clap.specs.Words.{found_of, rows_of};
-ghost use Rattle.tool_forms.specs.CampaignWords.{IsWithinBounds};
 ghost use Rattle.tool_forms.specs.Commands.{replay_in};
-ghost use Rattle.tool_forms.specs.Words.{campaigns, form_of, has_settings, is_word, replay_of, takes_no_word};
+ghost use Rattle.tool_forms.specs.Words.{IsFormWithinBounds, campaigns, form_of, has_settings, is_word, listen_of, replay_of, takes_no_word};
 
 use crate::campaign_words::{Campaign, campaign_of};
 use crate::commands::{is_given, read, replay_command, text_in};
+use crate::listen_words::most_of;
 use crate::settings::{Setting, side_in};
 use clap::ArgMatches;
 use seq_circle::NoMemory;
@@ -24,11 +24,13 @@ pub enum Form {
     Campaign(Campaign),
     /// `show` tells the packets of a capture.
     Show,
+    /// `listen` hands what many peers send to one listener, of at most this many flows: 1 to 1,024.
+    Listen { most: u16 },
 }
 
 /// The line that answers words which are none of the forms (own). It names all forms.
 pub const USAGE: &[u8] =
-    b"usage: dccp run | replay --side server|client [--plain] | campaign --first F --seeds N --events E --workers W | show\n";
+    b"usage: dccp run | replay --side server|client [--plain] | campaign --first F --seeds N --events E --workers W | show | listen --most M\n";
 
 fn is_word(word: &String, text: &[u8]) -> bool
     ensures { result ≡ is_word word.now text.now }
@@ -38,7 +40,8 @@ fn is_word(word: &String, text: &[u8]) -> bool
 
 // The replay that the matches ask for.
 fn replay_in(matches: &ArgMatches) -> Option<Form>
-    ensures { result ≡ replay_in (rows_of (found_of matches.now)) }
+    ensures value { result ≡ replay_in (rows_of (found_of matches.now)) }
+    ensures within { IfSome result IsFormWithinBounds }
 {
     let text = text_in(matches, Setting::Side)?;
     let side = side_in(text.as_bytes())?;
@@ -48,7 +51,8 @@ fn replay_in(matches: &ArgMatches) -> Option<Form>
 
 // The job that the words behind `replay` ask for.
 fn replay_of(alloc: Global, words: &[String]) -> Result<Option<Form>, NoMemory>
-    ensures { IfOk result (λ form. form ≡ replay_of words.now) }
+    ensures value { IfOk result (λ form. form ≡ replay_of words.now) }
+    ensures within { IfOk result (λ form. IfSome form IsFormWithinBounds) }
 {
     let command = replay_command(alloc)?;
     match read(command, words)? {
@@ -59,7 +63,9 @@ fn replay_of(alloc: Global, words: &[String]) -> Result<Option<Form>, NoMemory>
 
 // No word may follow.
 fn takes_no_word(form: Form, words: &[String]) -> Option<Form>
-    ensures { result ≡ takes_no_word form words.now }
+    requires { IsFormWithinBounds form }
+    ensures value { result ≡ takes_no_word form words.now }
+    ensures within { IfSome result IsFormWithinBounds }
 {
     if words.is_empty() { Some(form) } else { None }
 }
@@ -67,12 +73,21 @@ fn takes_no_word(form: Form, words: &[String]) -> Option<Form>
 // The job that the words behind `campaign` ask for.
 fn campaigns(alloc: Global, words: &[String]) -> Result<Option<Form>, NoMemory>
     ensures value { IfOk result (λ form. form ≡ campaigns words.now) }
-    ensures within { (campaign : Campaign) → result ≡ Ok (Some (Form.Campaign campaign)) → IsWithinBounds campaign }
+    ensures within { IfOk result (λ form. IfSome form IsFormWithinBounds) }
 {
     match campaign_of(alloc, words)? {
         Some(campaign) => Ok(Some(Form::Campaign(campaign))),
         None => Ok(None),
     }
+}
+
+// The job that the words behind `listen` ask for.
+fn listen_of(words: &[String]) -> Option<Form>
+    ensures value { result ≡ listen_of words.now }
+    ensures within { IfSome result IsFormWithinBounds }
+{
+    let most = most_of(words)?;
+    Some(Form::Listen { most })
 }
 
 /// The job that these words ask for, those after the program's name, or None where they are none of the forms (own).
@@ -81,7 +96,7 @@ fn campaigns(alloc: Global, words: &[String]) -> Result<Option<Form>, NoMemory>
 #[tactic(auto, unfolding(crate::specs::Words::form_of))]
 pub fn form_of(alloc: Global, words: &[String]) -> Result<Option<Form>, NoMemory>
     ensures value { IfOk result (λ form. form ≡ form_of words.now) }
-    ensures within { (campaign : Campaign) → result ≡ Ok (Some (Form.Campaign campaign)) → IsWithinBounds campaign }
+    ensures within { IfOk result (λ form. IfSome form IsFormWithinBounds) }
     ensures memory { has_settings words.now ≡ false → IsOk result }
 {
     match words {
@@ -89,6 +104,7 @@ pub fn form_of(alloc: Global, words: &[String]) -> Result<Option<Form>, NoMemory
         [first, words @ ..] if is_word(first, b"replay") => replay_of(alloc, words),
         [first, words @ ..] if is_word(first, b"campaign") => campaigns(alloc, words),
         [first, words @ ..] if is_word(first, b"show") => Ok(takes_no_word(Form::Show, words)),
+        [first, words @ ..] if is_word(first, b"listen") => Ok(listen_of(words)),
         _ => Ok(None),
     }
 }

@@ -14,6 +14,7 @@ use Rattle.dccp_states.specs.declared.phase.Role.{Role}
 use Rattle.dccp_states.specs.declared.phase.Role.TheVariants as role
 use Rattle.feature_machine.specs.Lists as listed
 use Rattle.dccp_sum.specs.Checksum.{sealed}
+use Rattle.dccp_sum.specs.declared.pseudo_header.Pseudo.{Pseudo}
 use Rattle.world_events.specs.declared.event.Seen.TheVariants as seen
 use Rattle.world_events.specs.declared.event.Side.{Side}
 use Rattle.world_events.specs.declared.event.Side.TheVariants.{Client, Server}
@@ -84,10 +85,9 @@ begun_from replay Server = record { text = []; replay = replay }
 abbrev pub begun_replay : Side → Bool → Begun
 begun_replay side plain = begun_from (first_replay side plain) side
 
--- The frame that arrives at the end of a side: with `seal` the checksum is set for the addresses of its peer and itself, unless the
--- coverage passes the frame's end.
-abbrev pub arriving : Side → FrameLine → List ℕ
-arriving side frame = if frame.seal then sealed (usual (role_of side)).pseudo_in frame.bytes else frame.bytes
+-- The frame that a line makes arrive: with `seal` the checksum is set for these addresses, unless the coverage passes the frame's end.
+abbrev pub arriving : Pseudo → FrameLine → List ℕ
+arriving addresses frame = if frame.seal then sealed addresses frame.bytes else frame.bytes
 
 -- The line of what the end does with the frame that this line made arrive, and that of the frame that it sends.
 abbrev pub replay_line : Replay → ℕ → List ℕ → EndStep Both Outcome → List ℕ
@@ -106,7 +106,7 @@ by_frame replay number bytes = by_end_step replay number bytes (controlled_step 
 abbrev pub by_frame_line : Replay → ℕ → Result (Option FrameLine) LineFault → Verdict (List ℕ) Replay
 by_frame_line replay number (Err fault) = Refused fault
 by_frame_line replay number (Ok None) = Accepted None replay
-by_frame_line replay number (Ok (Some frame)) = by_frame replay number (arriving replay.side frame)
+by_frame_line replay number (Ok (Some frame)) = by_frame replay number (arriving (usual (role_of replay.side)).pseudo_in frame)
 
 -- A line without its newline.
 unfoldable pub frame_judged : Replay → ℕ → List ℕ → Verdict (List ℕ) Replay

@@ -22,7 +22,8 @@ fn sent_by(side: Side) -> &'static [u8]
     }
 }
 
-fn phase_name(phase: Phase) -> &'static [u8]
+/// The word for a phase (own).
+pub fn phase_name(phase: Phase) -> &'static [u8]
     ensures { result.now ≡ phase_name phase }
 {
     match phase {

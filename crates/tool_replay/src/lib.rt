@@ -5,5 +5,6 @@ mod end_lines;
 mod replay;
 mod replaying;
 
-pub use crate::end_lines::{put_end_line, put_frame_line};
+pub use crate::end_lines::{phase_name, put_end_line, put_frame_line};
+pub use crate::replay::arriving;
 pub use crate::replaying::replay_frames;

@@ -126,7 +126,7 @@ impl LineJob for Replay {
             Err(fault) => Ok(Err(fault)),
             Ok(None) => Ok(Ok(())),
             Ok(Some(said)) => {
-                let frame = arriving(self.side, said);
+                let frame = arriving(&addresses(self.side), said);
                 self.take(number, &frame, text)
             }
         }
@@ -173,14 +173,14 @@ fn addresses(side: Side) -> Pseudo
     Config::usual(role_of(side)).pseudo_in
 }
 
-// The frame that arrives: its checksum is set where the line says so.
-fn arriving(side: Side, said: FrameLine) -> Frame
+/// The frame that arrives (own): its checksum is set for these addresses where the line says so.
+pub fn arriving(addresses: &Pseudo, said: FrameLine) -> Frame
     requires { said.seal ≡ true → 8 ≤ length said.bytes }
-    ensures { result ≡ arriving side said }
+    ensures { result ≡ arriving addresses.now said }
 {
     let mut frame = said.bytes;
     if said.seal {
-        seal_frame(&addresses(side), &mut frame);
+        seal_frame(addresses, &mut frame);
     }
     frame
 }

@@ -10,8 +10,8 @@ pub struct LineFault {
     pub why: LineWhy,
 }
 
-/// What may be wrong with a line, in the order in which it is judged (own). Missing, UnknownWord, BadNumber and BadHex
-/// are judged together, word by word from the left. Each grammar of lines says which of these it answers.
+/// What may be wrong with a line, in the order in which it is judged (own). Missing, UnknownWord, BadPeer, BadNumber and
+/// BadHex are judged together, word by word from the left. Each grammar of lines says which of these it answers.
 #[derive(Clone, Copy, Debug, PartialEq, Eq)]
 pub enum LineWhy {
     /// It ends past the input's limit. The program judges this.
@@ -24,6 +24,8 @@ pub enum LineWhy {
     Missing,
     /// A word is none of those that may stand there: at that word.
     UnknownWord,
+    /// A word should be a peer, an IPv4 address and a port, and is not: at that word.
+    BadPeer,
     /// A word should be a number, a feature or a list of numbers and is not, or the index of a name is none: at that
     /// word.
     BadNumber,
@@ -57,6 +59,7 @@ pub fn line_why_name(why: LineWhy) -> &'static [u8]
         LineWhy::NotText => b"NotText",
         LineWhy::Missing => b"Missing",
         LineWhy::UnknownWord => b"UnknownWord",
+        LineWhy::BadPeer => b"BadPeer",
         LineWhy::BadNumber => b"BadNumber",
         LineWhy::BadHex => b"BadHex",
         LineWhy::Trailing => b"Trailing",

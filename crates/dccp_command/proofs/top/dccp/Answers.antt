@@ -1,9 +1,10 @@
--- A replay is of the side that the words name, with its offers or without.
-use Rattle.std.proofs.Common.{rules, ◌≡◌, sym, ◌∙◌, subst, Bool, Some, drop}
+-- A replay is of the side that the words name, with its offers or without, and `listen` has as many flows as they say.
+use Rattle.std.proofs.Common.{rules, ◌≡◌, sym, ◌∙◌, subst, ℕ, Bool, Some, drop}
 use Rattle.world_events.specs.declared.event.Side.{Side}
 use Rattle.dccp_io.specs.Fronts.{GivesAtMost}
 use Rattle.tool_forms.specs.declared.words.Form.TheVariants as form
 use Rattle.tool_replay.specs.Replay.{replay_text, replay_refused, replay_accepted}
+use Rattle.tool_listen.specs.Listen.{listen_text, listen_refused, listen_accepted}
 use Rattle.tool_output.specs.Ends.{Answers}
 use Rattle.tool_forms.specs.Words.{form_of}
 use Rattle.dccp_command.proofs.top.dccp.Goals as goal
@@ -27,3 +28,19 @@ returns-in-Some-Replay-clause-replay_past g c = λ side plain words bytes told i
     subst (λ (s : Side). GivesAtMost 16384 (Some (drop (replay_accepted s plain bytes) bytes)) (g.S.Source.left c.replay_frames.new.input)) same.0
     (subst (λ (p : Bool). GivesAtMost 16384 (Some (drop (replay_accepted c.in-Some-Replay.side p bytes) bytes)) (g.S.Source.left c.replay_frames.new.input)) same.1
     (c.replay_frames.ensures.past bytes told input))
+
+same-most : (most other : ℕ) → Some (form.Listen most) ≡ Some (form.Listen other) → most ≡ other
+same-most most other is = cc is
+
+pub returns-in-Some-Listen-clause-listened : goal.returns-in-Some-Listen-clause-listened
+returns-in-Some-Listen-clause-listened g c = λ most words bytes told.
+    let found : form_of c.args.words.now ≡ Some (form.Listen c.in-Some-Listen.most) = search rules in
+    subst (λ (m : ℕ). Answers (listen_text m bytes) (listen_refused m bytes) c.listen_to_peers.result (g.S.Source.left c.listen_to_peers.new.input)
+    (g.K.Sink.taken c.args.output.now) (g.K.Sink.taken c.listen_to_peers.new.output)) (same-most c.in-Some-Listen.most most (sym found ∙ words))
+    (c.listen_to_peers.ensures.listened bytes told)
+
+pub returns-in-Some-Listen-clause-listen_past : goal.returns-in-Some-Listen-clause-listen_past
+returns-in-Some-Listen-clause-listen_past g c = λ most words bytes told input.
+    let found : form_of c.args.words.now ≡ Some (form.Listen c.in-Some-Listen.most) = search rules in
+    subst (λ (m : ℕ). GivesAtMost 16384 (Some (drop (listen_accepted m bytes) bytes)) (g.S.Source.left c.listen_to_peers.new.input))
+    (same-most c.in-Some-Listen.most most (sym found ∙ words)) (c.listen_to_peers.ensures.past bytes told input)

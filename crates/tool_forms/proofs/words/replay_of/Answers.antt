@@ -9,12 +9,12 @@ use Rattle.tool_forms.proofs.words.replay_of.Goals as goal
 pub read-requires : goal.read-requires
 read-requires c = record { simple = replay-simple _ c.in_ok-command.ensures }
 
-pub returns-in-Some : goal.returns-in-Some
-returns-in-Some c =
+pub returns-in-Some-clause-value : goal.returns-in-Some-clause-value
+returns-in-Some-clause-value c =
     let read = subst (λ (found : Option ArgMatches). IsReadBy (app_of c.in_ok-command.command) c.args.words.now found) c.in-Some.is c.in_ok-matches.ensures in
-    c.replay_in.ensures ∙ replay-judged _ c.args.words.now c.in-Some.matches c.in_ok-command.ensures read
+    c.replay_in.ensures.value ∙ replay-judged _ c.args.words.now c.in-Some.matches c.in_ok-command.ensures read
 
-pub returns-in-None : goal.returns-in-None
-returns-in-None c =
+pub returns-in-None-clause-value : goal.returns-in-None-clause-value
+returns-in-None-clause-value c =
     let read = subst (λ (found : Option ArgMatches). IsReadBy (app_of c.in_ok-command.command) c.args.words.now found) c.in-None.is c.in_ok-matches.ensures in
     replay-refused _ c.args.words.now c.in_ok-command.ensures read

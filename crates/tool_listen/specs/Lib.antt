@@ -1,0 +1,4 @@
+pub mod Peers
+pub mod Calls
+pub mod Telling
+pub mod Listen
