@@ -6,7 +6,8 @@ ghost use Rattle.tool_run.specs.Transcript.{transcript, is_refused, accepted_byt
 ghost use Rattle.tool_replay.specs.Replay.{replay_text, replay_refused, replay_accepted};
 ghost use Rattle.dccp_command.specs.CampaignText.{AnswersUnread, campaign_text};
 ghost use Rattle.tool_show.specs.CaptureText.{capture_text, is_faulty, records_end};
-ghost use Rattle.tool_forms.specs.Words.{OnRun, OnReplay, OnShow, form_of, has_settings, usage};
+ghost use Rattle.tool_ecn.specs.Play.{ecn_text, ecn_refused, ecn_accepted};
+ghost use Rattle.tool_forms.specs.Words.{OnRun, OnReplay, OnShow, OnEcn, form_of, has_settings, usage};
 ghost use Rattle.tool_output.specs.Ends.{SinkFails, IsWritten, IsAnswered, Answers, StopsWithin, EndsForCause};
 
 use crate::campaigning::run_campaign;
@@ -14,6 +15,7 @@ use dccp_io::{Sink, Source, write_all};
 use fault_campaign::Gate;
 use std::alloc::Global;
 use std::thread::Threads;
+use tool_ecn::play_nonces;
 use tool_forms::{Campaign, Form, USAGE, form_of};
 use tool_output::Status;
 use tool_replay::replay_frames;
@@ -23,7 +25,8 @@ use tool_show::show_capture;
 /// Does what the words ask for (own), those after the program's name. `run` plays a schedule: it reads `input`, and
 /// writes to `output` a line for each event and for each frame that it sent, and at last the state of both ends.
 /// `replay` hands the frames of `input` to one end, and writes the same of it. `show` reads a capture, and writes a
-/// line for each DCCP packet in it, and at last how many records it has or why it ends early. Each form answers while
+/// line for each DCCP packet in it, and at last how many records it has or why it ends early. `ecn` lets events take
+/// place between an ECN-capable sender and an ECN-capable receiver, and writes a line for each. Each form answers while
 /// it reads, a line or a record at a time: the answer goes out in blocks, and before more of the input is asked for.
 /// `campaign` reads nothing: it runs seeds on as many threads as it is told, each of which calls `gate` before each
 /// seed that it runs, and writes what was counted of all of them, the same for every number of threads and for every
@@ -61,6 +64,9 @@ pub fn dccp<R: Threads + Sync, G: Gate + Sync, S: Source, K: Sink>(
     ensures shown { OnShow words.now (S.left input.old) (λ bytes.
         Answers (capture_text bytes) (is_faulty bytes) result (S.left input.new) (K.taken output.old) (K.taken output.new)) }
     ensures past { OnShow words.now (S.left input.old) (λ bytes. result ≡ Status.Input → Passed 524288 (Some (drop (records_end bytes) bytes)) (S.left input.new)) }
+    ensures nonces { OnEcn words.now (S.left input.old) (λ bytes.
+        Answers (ecn_text bytes) (ecn_refused bytes) result (S.left input.new) (K.taken output.old) (K.taken output.new)) }
+    ensures nonces_past { OnEcn words.now (S.left input.old) (λ bytes. StopsWithin 16384 (ecn_accepted bytes) bytes result (S.left input.new)) }
     ensures campaign_unread { (campaign : Campaign) → form_of words.now ≡ Some (Form.Campaign campaign) → input.new ≡ input.old }
     ensures totals { (campaign : Campaign) → form_of words.now ≡ Some (Form.Campaign campaign)
         → AnswersUnread (campaign_text campaign) result (K.taken output.old) (K.taken output.new) (SinkFails K.faults K.empty_takes output.old output.new) }
@@ -77,6 +83,7 @@ pub fn dccp<R: Threads + Sync, G: Gate + Sync, S: Source, K: Sink>(
         Some(Form::Replay { side, plain }) => replay_frames(alloc, side, plain, input, output),
         Some(Form::Campaign(campaign)) => run_campaign(rt, alloc, gate, campaign, output),
         Some(Form::Show) => show_capture(alloc, input, output),
+        Some(Form::Ecn) => play_nonces(alloc, input, output),
         None => refuse_words(output),
     }
 }

@@ -34,12 +34,12 @@ replay_of words = replays (words_give table.Replay setting.Plain words) (side_gi
 abbrev pub campaigns : List (String Global) → Option Form
 campaigns words = option_and_then (λ campaign. Some (form.Campaign campaign)) (campaign_of words)
 
--- No word may follow `run` and `show`.
+-- No word may follow `run`, `show` and `ecn`.
 abbrev pub takes_no_word : Form → List (String Global) → Option Form
 takes_no_word form [] = Some form
 takes_no_word form (word ∷ words) = None
 
--- The form that the words have: `run`, `replay`, `campaign` or `show`.
+-- The form that the words have: `run`, `replay`, `campaign`, `show` or `ecn`.
 unfoldable pub form_of : List (String Global) → Option Form
 form_of [] = None
 form_of (first ∷ words) =
@@ -47,6 +47,7 @@ form_of (first ∷ words) =
     else if is_word first (codes "replay") then replay_of words
     else if is_word first (codes "campaign") then campaigns words
     else if is_word first (codes "show") then takes_no_word form.Show words
+    else if is_word first (codes "ecn") then takes_no_word form.Ecn words
     else None
 
 -- Only the words behind `replay` and `campaign` are settings.
@@ -56,7 +57,7 @@ has_settings (first ∷ words) = is_word first (codes "replay") || is_word first
 
 -- The line that answers all other words.
 abbrev pub usage : List ℕ
-usage = codes "usage: dccp run | replay --side server|client [--plain] | campaign --first F --seeds N --events E --workers W | show\n"
+usage = codes "usage: dccp run | replay --side server|client [--plain] | campaign --first F --seeds N --events E --workers W | show | ecn\n"
 
 -- For `run`, over a source that tells its bytes, something holds of them.
 abbrev pub OnRun : List (String Global) → Option (List ℕ) → (List ℕ → Type 0) → Type 0
@@ -70,3 +71,7 @@ OnReplay words told Holds =
 -- and for `show`
 abbrev pub OnShow : List (String Global) → Option (List ℕ) → (List ℕ → Type 0) → Type 0
 OnShow words told Holds = form_of words ≡ Some form.Show → (bytes : List ℕ) → told ≡ Some bytes → Holds bytes
+
+-- and for `ecn`
+abbrev pub OnEcn : List (String Global) → Option (List ℕ) → (List ℕ → Type 0) → Type 0
+OnEcn words told Holds = form_of words ≡ Some form.Ecn → (bytes : List ℕ) → told ≡ Some bytes → Holds bytes

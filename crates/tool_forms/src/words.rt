@@ -24,11 +24,13 @@ pub enum Form {
     Campaign(Campaign),
     /// `show` tells the packets of a capture.
     Show,
+    /// `ecn` lets events take place between an ECN-capable sender and an ECN-capable receiver.
+    Ecn,
 }
 
 /// The line that answers words which are none of the forms (own). It names all forms.
 pub const USAGE: &[u8] =
-    b"usage: dccp run | replay --side server|client [--plain] | campaign --first F --seeds N --events E --workers W | show\n";
+    b"usage: dccp run | replay --side server|client [--plain] | campaign --first F --seeds N --events E --workers W | show | ecn\n";
 
 fn is_word(word: &String, text: &[u8]) -> bool
     ensures { result ≡ is_word word.now text.now }
@@ -89,6 +91,7 @@ pub fn form_of(alloc: Global, words: &[String]) -> Result<Option<Form>, NoMemory
         [first, words @ ..] if is_word(first, b"replay") => replay_of(alloc, words),
         [first, words @ ..] if is_word(first, b"campaign") => campaigns(alloc, words),
         [first, words @ ..] if is_word(first, b"show") => Ok(takes_no_word(Form::Show, words)),
+        [first, words @ ..] if is_word(first, b"ecn") => Ok(takes_no_word(Form::Ecn, words)),
         _ => Ok(None),
     }
 }
