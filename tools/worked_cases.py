@@ -13,7 +13,8 @@ FAULTS_IN_PIECES = ["option_faults"]
 WHOLE = """empty comments_alone no_such_frame handshake open_both_ways number_wrap server_number_wrap older_request_last
     data_in_request server_order_wins mandatory_unshared crossing_changes late_changes late_confirm nothing_shared invalid_value
     vector_of_received full_run_of_64 floor_rises_by_record coverage_too_large window_of_ccid_two refused_calls_and_closing
-    repeated_request vector_cut_at_253 three_openings twelve_events eight_seeds last_seeds two_flows full_listener""".split()
+    repeated_request vector_cut_at_253 three_openings twelve_events eight_seeds last_seeds two_flows full_listener nonces_checked
+    marked_first""".split()
 
 HEAD = '''//! The worked cases that have words and an input, one after another over the tool's one call. `tools/worked_cases.py`
 //! writes these tables from examples/, where the cases are told.
@@ -59,7 +60,7 @@ fn worked_cases(rt: HostRuntime) -> Result<(), Fail> {
 
 def inputs(text):
     """The words and the lines of each input of a file. Empty lines stand for what comes before it, as `.ci/example` has them."""
-    starts = list(re.finditer(r"^# (run|(?:replay|campaign|listen) .*)$", text, re.M))
+    starts = list(re.finditer(r"^# (run|ecn|(?:replay|campaign|listen) .*)$", text, re.M))
     if not starts:
         yield "run", text
     for start, end in zip(starts, [*(it.start() for it in starts[1:]), len(text)]):
@@ -89,7 +90,7 @@ def case_of(words, given, told, indent):
 
 def cases(stem):
     """The cases of a file of examples/."""
-    path = next(it for it in sorted(EXAMPLES.glob(f"*/{stem}.*")) if it.suffix in (".schedule", ".replay", ".campaign", ".listen"))
+    path = next(it for it in sorted(EXAMPLES.glob(f"*/{stem}.*")) if it.suffix in (".schedule", ".replay", ".campaign", ".listen", ".ecn"))
     told = path.with_suffix(".expected").read_bytes().decode()
     for words, given in inputs(path.read_bytes().decode()):
         own, told = answers(told, words)

@@ -3,7 +3,7 @@
 //!
 //! `marks` and a number of rounds makes the calls of received numbers and of congestion control, hands packets to an
 //! end, and lets two ends send each other data, so that what they allocate can be counted. `ratios` and a number of
-//! rounds times marks, the writing of Ack Vectors and the taking of reports. `runs` and a number of rounds times marks
+//! rounds times marks, the writing of Ack Vectors and the taking of reports, `nonces` those of ECN-capable ends. `runs` and a number of rounds times marks
 //! in several orders, over both ways to keep runs. `ends` and a number of rounds times an end in OPEN to which packets
 //! of data come. `listener` and a number of datagrams times a listener to which so many of 100,000 peers come. `campaign` and a number of workers times a campaign.
 //!
@@ -16,6 +16,7 @@ mod ends;
 mod frames;
 mod listener;
 mod marks;
+mod nonces;
 mod passes;
 mod ratios;
 mod runs;
@@ -31,6 +32,7 @@ enum Form {
     Packets,
     Marks,
     Ratios,
+    Nonces,
     Runs,
     Ends,
     Listener,
@@ -45,6 +47,7 @@ fn asked(rt: &HostRuntime) -> io::Result<(Form, u32)> {
         match word.as_str() {
             "marks" => form = Form::Marks,
             "ratios" => form = Form::Ratios,
+            "nonces" => form = Form::Nonces,
             "runs" => form = Form::Runs,
             "ends" => form = Form::Ends,
             "listener" => form = Form::Listener,
@@ -100,6 +103,7 @@ fn main(rt: HostRuntime) -> io::Result<()> {
             }
             Ok(())
         }
+        Form::Nonces => nonces::all(&rt, rounds),
         Form::Runs => runs::all(&rt, rounds),
         Form::Ends => ends::all(&rt, rounds),
         Form::Listener => listener::all(&rt, rounds),

@@ -19,8 +19,8 @@ const LISTS: u32 = 32;
 // Three received.
 const SMALL: [u8; 3] = [38, 3, 0x02];
 
-// How many successive numbers are marked.
-const WINDOW: u32 = 2048;
+/// How many successive numbers are marked.
+pub(crate) const WINDOW: u32 = 2048;
 
 // The factor by which the next place follows from the one before, plus 1, where places come scattered. With one that
 // leaves 1 when divided by 4, each place comes once.
@@ -34,8 +34,8 @@ pub(crate) fn zero() -> Seq48 {
     zero
 }
 
-// The newest of the numbers from 0 on that so many runs and the gaps below them have.
-fn newest(runs: u32) -> Seq48 {
+/// The newest of the numbers from 0 on that so many runs and the gaps below them have.
+pub(crate) fn newest(runs: u32) -> Seq48 {
     zero().add(u64::from(runs) * 2).sub(1)
 }
 
@@ -138,13 +138,19 @@ fn fills(received: &mut Received, factor: u32, rounds: u32) -> u64 {
     sum
 }
 
-// The nanoseconds since the start.
-fn spent(rt: &HostRuntime, start: Instant) -> io::Result<u64> {
+/// The nanoseconds since the start.
+pub(crate) fn spent(rt: &HostRuntime, start: Instant) -> io::Result<u64> {
     Ok(u64::try_from(start.elapsed(rt)?.as_nanos()).unwrap_or(u64::MAX))
 }
 
-// Prints a call and its size, the nanoseconds, the calls and the sum, so that none is left out.
-fn told(rt: &HostRuntime, call: (&str, u32), spent: u64, calls: u32, sum: u64) -> io::Result<()> {
+/// Prints a call and its size, the nanoseconds, the calls and the sum, so that none is left out.
+pub(crate) fn told(
+    rt: &HostRuntime,
+    call: (&str, u32),
+    spent: u64,
+    calls: u32,
+    sum: u64,
+) -> io::Result<()> {
     eprintln!(rt; "{} {} {} {} {}", call.0, call.1, spent, calls, sum)
 }
 

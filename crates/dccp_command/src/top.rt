@@ -7,7 +7,8 @@ ghost use Rattle.tool_replay.specs.Replay.{replay_text, replay_refused, replay_a
 ghost use Rattle.tool_listen.specs.Listen.{listen_text, listen_refused, listen_accepted};
 ghost use Rattle.dccp_command.specs.CampaignText.{AnswersUnread, campaign_text};
 ghost use Rattle.tool_show.specs.CaptureText.{capture_text, is_faulty, records_end};
-ghost use Rattle.tool_forms.specs.Words.{OnRun, OnReplay, OnShow, OnListen, form_of, has_settings, usage};
+ghost use Rattle.tool_ecn.specs.Play.{ecn_text, ecn_refused, ecn_accepted};
+ghost use Rattle.tool_forms.specs.Words.{OnRun, OnReplay, OnShow, OnListen, OnEcn, form_of, has_settings, usage};
 ghost use Rattle.tool_output.specs.Ends.{SinkFails, IsWritten, IsAnswered, Answers, StopsWithin, EndsForCause};
 
 use crate::campaigning::run_campaign;
@@ -15,6 +16,7 @@ use dccp_io::{Sink, Source, write_all};
 use fault_campaign::Gate;
 use std::alloc::Global;
 use std::thread::Threads;
+use tool_ecn::play_nonces;
 use tool_forms::{Campaign, Form, USAGE, form_of};
 use tool_listen::listen_to_peers;
 use tool_output::Status;
@@ -27,7 +29,8 @@ use tool_show::show_capture;
 /// `replay` hands the frames of `input` to one end, and writes the same of it. `show` reads a capture, and writes a
 /// line for each DCCP packet in it, and at last how many records it has or why it ends early. `listen` hands what many
 /// peers send to one listener, and writes a line for what each is answered and for each frame that goes to one, and at
-/// last the flows. Each form answers while it reads, a line or a record at a time: the answer goes out in blocks, and
+/// last the flows. `ecn` lets events take place between an ECN-capable sender and an ECN-capable receiver, and writes a
+/// line for each. Each form answers while it reads, a line or a record at a time: the answer goes out in blocks, and
 /// before more of the input is asked for.
 /// `campaign` reads nothing: it runs seeds on as many threads as it is told, each of which calls `gate` before each
 /// seed that it runs, and writes what was counted of all of them, the same for every number of threads and for every
@@ -69,6 +72,9 @@ pub fn dccp<R: Threads + Sync, G: Gate + Sync, S: Source, K: Sink>(
         Answers (listen_text most bytes) (listen_refused most bytes) result (S.left input.new) (K.taken output.old) (K.taken output.new)) }
     ensures listen_past { OnListen words.now (S.left input.old) (λ most bytes.
         StopsWithin 16384 (listen_accepted most bytes) bytes result (S.left input.new)) }
+    ensures nonces { OnEcn words.now (S.left input.old) (λ bytes.
+        Answers (ecn_text bytes) (ecn_refused bytes) result (S.left input.new) (K.taken output.old) (K.taken output.new)) }
+    ensures nonces_past { OnEcn words.now (S.left input.old) (λ bytes. StopsWithin 16384 (ecn_accepted bytes) bytes result (S.left input.new)) }
     ensures campaign_unread { (campaign : Campaign) → form_of words.now ≡ Some (Form.Campaign campaign) → input.new ≡ input.old }
     ensures totals { (campaign : Campaign) → form_of words.now ≡ Some (Form.Campaign campaign)
         → AnswersUnread (campaign_text campaign) result (K.taken output.old) (K.taken output.new) (SinkFails K.faults K.empty_takes output.old output.new) }
@@ -86,6 +92,7 @@ pub fn dccp<R: Threads + Sync, G: Gate + Sync, S: Source, K: Sink>(
         Some(Form::Campaign(campaign)) => run_campaign(rt, alloc, gate, campaign, output),
         Some(Form::Show) => show_capture(alloc, input, output),
         Some(Form::Listen { most }) => listen_to_peers(alloc, most, input, output),
+        Some(Form::Ecn) => play_nonces(alloc, input, output),
         None => refuse_words(output),
     }
 }

@@ -1,4 +1,4 @@
-//! Streams that fail at each of their calls in turn, in all five forms.
+//! Streams that fail at each of their calls in turn, in all six forms.
 //!
 //! The streams tell whether one of their calls failed. Exactly where one did, the tool ends with the status of a failed
 //! read or write and has written a front of its text; else it ends as ever.
@@ -18,7 +18,7 @@ struct Form {
 }
 
 // Of each form calls that are done, and where there is one, one whose input is refused.
-const FORMS: [Form; 12] = [
+const FORMS: [Form; 14] = [
     Form {
         words: "run",
         input: b"plain\nopen\ndeliver c0\ndeliver s0\ndeliver c1\n",
@@ -113,6 +113,22 @@ flow 10.0.0.1:40000 RESPOND\n",
         input: b"10.0.0.3:40000 close\n10.0.0.3 close\n10.0.0.3:40000 walk\n",
         status: Status::Input,
         text: "1 10.0.0.3:40000: refused NoFlow\nline 2 column 1: BadPeer\n",
+    },
+    Form {
+        words: "ecn",
+        input: b"send 1\ndeliver 0\nreport\nforge 0\n",
+        status: Status::Done,
+        text: "1 send 1: ok\n\
+2 deliver 0: new\n\
+3 report: vector 39 00\n\
+4 forge 0: unfit\n\
+sent 1 reports 1\n",
+    },
+    Form {
+        words: "ecn",
+        input: b"send 1\nmark 1\nsend 2\n",
+        status: Status::Input,
+        text: "1 send 1: ok\nline 2 column 6: NoSuchFrame\n",
     },
     Form {
         words: "campaign,--first,1,--seeds,3,--events,1,--workers,2",

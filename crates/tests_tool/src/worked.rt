@@ -862,7 +862,7 @@ end client OPEN window 4 flight 0 1=2/2 2=0/0 3=100/100 4=0/0 5=2/2 6=0/0 7=0/0 
 ];
 
 // All others, by their names.
-const WHOLE: [(&str, Case); 32] = [
+const WHOLE: [(&str, Case); 34] = [
     (
         "empty",
         Case {
@@ -2213,6 +2213,56 @@ sent 10.0.0.3:40000 13899c400700190c0f0000000000000000000000000003e809000000\n\
 5 10.0.0.3:40000: refused NoFlow\n\
 flows 1\n\
 flow 10.0.0.1:40000 RESPOND\n",
+        },
+    ),
+    (
+        "nonces_checked",
+        Case {
+            words: "ecn",
+            input: "# ecn\n\
+# One packet of three is marked on its way: its nonce is lost, and those of the others are 0 together.\n\
+send 1\n\
+send 0\n\
+send 1\n\
+deliver 0\n\
+mark 1\n\
+deliver 2\n\
+report\n\
+check 0\n\
+forge 0\n",
+            status: Status::Done,
+            text: "3 send 1: ok\n\
+4 send 0: ok\n\
+5 send 1: ok\n\
+6 deliver 0: new\n\
+7 mark 1: new\n\
+8 deliver 2: new\n\
+9 report: vector 38 004000\n\
+10 check 0: fits\n\
+11 forge 0: unfit\n\
+sent 3 reports 1\n",
+        },
+    ),
+    (
+        "marked_first",
+        Case {
+            words: "ecn",
+            input: "# ecn\n\
+# A packet comes marked, and then again, unmarked: the first receipt counts. Before it there is nothing to report.\n\
+send 1\n\
+report\n\
+mark 0\n\
+deliver 0\n\
+report\n\
+check 0\n",
+            status: Status::Done,
+            text: "3 send 1: ok\n\
+4 report: nothing\n\
+5 mark 0: new\n\
+6 deliver 0: again\n\
+7 report: vector 38 40\n\
+8 check 0: fits\n\
+sent 1 reports 1\n",
         },
     ),
 ];

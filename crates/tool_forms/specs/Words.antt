@@ -39,12 +39,12 @@ campaigns words = option_and_then (λ campaign. Some (form.Campaign campaign)) (
 abbrev pub listen_of : List (String Global) → Option Form
 listen_of words = option_and_then (λ most. Some (form.Listen most)) (most_of words)
 
--- No word may follow `run` and `show`.
+-- No word may follow `run`, `show` and `ecn`.
 abbrev pub takes_no_word : Form → List (String Global) → Option Form
 takes_no_word form [] = Some form
 takes_no_word form (word ∷ words) = None
 
--- The form that the words have: `run`, `replay`, `campaign`, `show` or `listen`.
+-- The form that the words have: `run`, `replay`, `campaign`, `show`, `listen` or `ecn`.
 unfoldable pub form_of : List (String Global) → Option Form
 form_of [] = None
 form_of (first ∷ words) =
@@ -53,6 +53,7 @@ form_of (first ∷ words) =
     else if is_word first (codes "campaign") then campaigns words
     else if is_word first (codes "show") then takes_no_word form.Show words
     else if is_word first (codes "listen") then listen_of words
+    else if is_word first (codes "ecn") then takes_no_word form.Ecn words
     else None
 
 -- the numbers of a form are within their bounds
@@ -62,6 +63,7 @@ IsFormWithinBounds (form.Replay side plain) = Unit {0}
 IsFormWithinBounds (form.Campaign campaign) = IsWithinBounds campaign
 IsFormWithinBounds form.Show = Unit {0}
 IsFormWithinBounds (form.Listen most) = (1 ≤ most) × (most ≤ 1024)
+IsFormWithinBounds form.Ecn = Unit {0}
 
 -- Only the words behind `replay` and `campaign` are settings.
 abbrev pub has_settings : List (String Global) → Bool
@@ -70,7 +72,7 @@ has_settings (first ∷ words) = is_word first (codes "replay") || is_word first
 
 -- The line that answers all other words.
 abbrev pub usage : List ℕ
-usage = codes "usage: dccp run | replay --side server|client [--plain] | campaign --first F --seeds N --events E --workers W | show | listen --most M\n"
+usage = codes "usage: dccp run | replay --side server|client [--plain] | campaign --first F --seeds N --events E --workers W | show | listen --most M | ecn\n"
 
 -- For `run`, over a source that tells its bytes, something holds of them.
 abbrev pub OnRun : List (String Global) → Option (List ℕ) → (List ℕ → Type 0) → Type 0
@@ -85,6 +87,10 @@ OnReplay words told Holds =
 abbrev pub OnShow : List (String Global) → Option (List ℕ) → (List ℕ → Type 0) → Type 0
 OnShow words told Holds = form_of words ≡ Some form.Show → (bytes : List ℕ) → told ≡ Some bytes → Holds bytes
 
--- and for `listen`, with so many flows at most
+-- for `listen`, with so many flows at most
 abbrev pub OnListen : List (String Global) → Option (List ℕ) → (ℕ → List ℕ → Type 0) → Type 0
 OnListen words told Holds = (most : ℕ) → form_of words ≡ Some (form.Listen most) → (bytes : List ℕ) → told ≡ Some bytes → Holds most bytes
+
+-- and for `ecn`
+abbrev pub OnEcn : List (String Global) → Option (List ℕ) → (List ℕ → Type 0) → Type 0
+OnEcn words told Holds = form_of words ≡ Some form.Ecn → (bytes : List ℕ) → told ≡ Some bytes → Holds bytes

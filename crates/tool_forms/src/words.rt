@@ -26,11 +26,13 @@ pub enum Form {
     Show,
     /// `listen` hands what many peers send to one listener, of at most this many flows: 1 to 1,024.
     Listen { most: u16 },
+    /// `ecn` lets events take place between an ECN-capable sender and an ECN-capable receiver.
+    Ecn,
 }
 
 /// The line that answers words which are none of the forms (own). It names all forms.
 pub const USAGE: &[u8] =
-    b"usage: dccp run | replay --side server|client [--plain] | campaign --first F --seeds N --events E --workers W | show | listen --most M\n";
+    b"usage: dccp run | replay --side server|client [--plain] | campaign --first F --seeds N --events E --workers W | show | listen --most M | ecn\n";
 
 fn is_word(word: &String, text: &[u8]) -> bool
     ensures { result ≡ is_word word.now text.now }
@@ -105,6 +107,7 @@ pub fn form_of(alloc: Global, words: &[String]) -> Result<Option<Form>, NoMemory
         [first, words @ ..] if is_word(first, b"campaign") => campaigns(alloc, words),
         [first, words @ ..] if is_word(first, b"show") => Ok(takes_no_word(Form::Show, words)),
         [first, words @ ..] if is_word(first, b"listen") => Ok(listen_of(words)),
+        [first, words @ ..] if is_word(first, b"ecn") => Ok(takes_no_word(Form::Ecn, words)),
         _ => Ok(None),
     }
 }

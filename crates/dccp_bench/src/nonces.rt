@@ -1,0 +1,103 @@
+//! The calls of an ECN-capable receiver and sender: marks in a full window, the writing of a vector and its check, at the sizes
+//! at which `ratios` times those of received numbers alone.
+
+use crate::ratios::{SIZES, WINDOW, newest, spent, told, zero};
+use ack_vectors::VectorBytes;
+use dccp_ecn::{Arrived, EcnReceived, NonceLedger};
+use run_list::Marked;
+use seq_circle::Seq48;
+use std::io;
+use std::time::Instant;
+
+// The nonce of each packet: its number's lowest bit.
+fn nonce_of(number: Seq48) -> bool {
+    number.get() % 2 == 1
+}
+
+fn unmarked(number: Seq48) -> Arrived {
+    Arrived::Nonce(nonce_of(number))
+}
+
+// The window is filled so many times, in order.
+fn fills(received: &mut EcnReceived, rounds: u32) -> u64 {
+    let mut sum = 0u64;
+    for _ in 0..rounds {
+        received.start(zero());
+        let mut number = zero();
+        for _ in 0..WINDOW {
+            if received.took(number, unmarked(number)) == Marked::New {
+                sum = sum.wrapping_add(1);
+            }
+            number = number.next();
+        }
+    }
+    sum
+}
+
+// Takes every second number from 1 to the newest.
+fn take_every_second(received: &mut EcnReceived, runs: u32) {
+    received.start(zero());
+    let mut number = zero().next();
+    for _ in 0..runs {
+        let _ = received.took(number, unmarked(number));
+        number = number.add(2);
+    }
+}
+
+// A ledger that has sent every number from 0 to the newest.
+fn sent_all(runs: u32) -> NonceLedger {
+    let mut ledger = NonceLedger::new(zero());
+    let mut number = zero();
+    for _ in 0..u64::from(runs) * 2 {
+        number = ledger.sent(nonce_of(number)).next();
+    }
+    ledger
+}
+
+// So many vectors are written.
+fn writes(received: &EcnReceived, out: &mut VectorBytes, ack: Seq48, rounds: u32) -> u64 {
+    let mut sum = 0u64;
+    for _ in 0..rounds {
+        let vector = received.write(out, ack);
+        sum = sum.wrapping_add(u64::from(vector.kind));
+    }
+    sum
+}
+
+// A vector is checked so many times.
+fn checks(ledger: &NonceLedger, ack: Seq48, bytes: &[u8], rounds: u32) -> u64 {
+    let mut sum = 0u64;
+    for _ in 0..rounds {
+        sum = sum.wrapping_add(ledger.check(ack, 38, bytes) as u64);
+    }
+    sum
+}
+
+// Times so many writes, and so many checks of what was written, at one size.
+fn measure(rt: &HostRuntime, received: &mut EcnReceived, runs: u32, rounds: u32) -> io::Result<()> {
+    take_every_second(received, runs);
+    let mut out = VectorBytes::new();
+    let start = Instant::now(rt)?;
+    let sum = writes(received, &mut out, newest(runs), rounds);
+    told(rt, ("write-ecn", runs), spent(rt, start)?, rounds, sum)?;
+    let ledger = sent_all(runs);
+    let start = Instant::now(rt)?;
+    let sum = checks(&ledger, newest(runs), out.as_slice(), rounds);
+    told(rt, ("check", runs), spent(rt, start)?, rounds, sum)
+}
+
+/// Prints the nanoseconds of marking all numbers of a window, and of so many writes and checks at each size.
+pub(crate) fn all(rt: &HostRuntime, rounds: u32) -> io::Result<()> {
+    let Ok(mut received) = EcnReceived::new(rt.alloc()) else {
+        return Err(io::Error::other("no memory"));
+    };
+    let fillings = rounds / 64;
+    let start = Instant::now(rt)?;
+    let sum = fills(&mut received, fillings);
+    let calls = fillings.saturating_mul(WINDOW);
+    told(rt, ("in-order-ecn", WINDOW), spent(rt, start)?, calls, sum)?;
+    for runs in SIZES {
+        measure(rt, &mut received, runs, rounds)?;
+    }
+    Ok(())
+}

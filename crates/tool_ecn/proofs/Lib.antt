@@ -1,0 +1,2 @@
+pub mod EcnRow
+pub mod Short
