@@ -5,8 +5,8 @@
 //! are delivered are told by where they stand in their packet. `marks` shows GSS, GSR, OSR and GAR, and `windows` SWL,
 //! SWH, AWL and AWH; `floor` the floor and how many numbers were taken; `window` the window and what is in flight.
 use crate::ends::{
-    Endpoint, aborts, closes, fires, new_end, opens, plain, prefers, sends, sends_early, sends_soon,
-    tell_frame, tell_packet,
+    Endpoint, aborts, closes, fires, new_end, opens, plain, prefers, sends, sends_early,
+    sends_soon, tell_frame, tell_packet,
 };
 use crate::tables::{Table, holds, pieces, tell_held, values};
 use dccp_endpoint::{Config, Ports, Pseudo, Role, Timer};
