@@ -60,9 +60,11 @@ fn service_for(services: &[u32], asked: Option<u32>) -> u32
 pub(crate) fn config_for(config: &ListenConfig, peer: Peer, iss: Seq48, bytes: &[u8]) -> Config
     ensures { result ≡ config_for config.now peer iss bytes.now }
 {
+    let own_address = config.own_address;
+    let address = peer.address;
     let addresses = Pseudo::V4 {
-        from: config.own_address,
-        to: peer.address,
+        from: own_address,
+        to: address,
     };
     let ports = Ports {
         own: config.own_port,
