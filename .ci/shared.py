@@ -10,6 +10,7 @@ from pathlib import Path
 
 TOP = Path(__file__).resolve().parent.parent
 LAUNCHER = TOP / "dccp"
+BRIDGE = TOP / "dccp_bridge"
 PROGRAM = TOP / "crates" / "dccp" / "out" / "dccp"
 EXAMPLES = TOP / "examples"
 sys.path.insert(0, str(TOP / "tools"))

@@ -3,7 +3,6 @@ use Rattle.std.proofs.Common.{◌≡◌, refl, sym, subst, ℕ, ◌+◌, List, [
 use Rattle.std.specs.Prelude.{map}
 use Rattle.std.specs.List.Sorted.{IsStrictlySortedBy}
 use Rattle.dccp_io.specs.Lines.{Next, End, Line, Long, Much, lines_of, next_in_lines, text_of}
-use Rattle.dccp_listener.specs.Chain.{Deed}
 use Rattle.dccp_listener.specs.Listens.{AreInOrder, computed_turn, listening_after}
 use Rattle.dccp_listener.specs.Peers.{Listening}
 use Rattle.dccp_listener.specs.Runs.{CallTurn, IsRunOfTurns, IsTurn}

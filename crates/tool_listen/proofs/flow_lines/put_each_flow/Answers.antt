@@ -1,6 +1,4 @@
-use Rattle.std.proofs.Common.{◌++◌, arith}
-use Rattle.std.specs.Prelude.{flat_map}
-use Rattle.tool_listen.specs.Telling.{flow_line}
+use Rattle.std.proofs.Common.{arith}
 use Rattle.tool_listen.proofs.AtPlaces.{flow_put}
 use Rattle.tool_listen.proofs.flow_lines.put_each_flow.Goals as goal
 

@@ -1,0 +1,4 @@
+pub mod Carrying
+pub mod Fitting
+pub mod HeaderSum
+pub mod Refusing

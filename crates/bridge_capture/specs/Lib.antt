@@ -1,0 +1,4 @@
+pub mod Capturing
+pub mod Lines
+pub mod Reading
+pub mod Records

@@ -1,0 +1,59 @@
+//! The second tool's one call: a form of its words over a source and a sink.
+ghost use Rattle.std.specs.Prelude.{◌≡◌, ◌↔◌, Some, None};
+ghost use Rattle.dccp_io.specs.Counts.{Rose};
+ghost use Rattle.bridge_capture.specs.Capturing.{frames_capture, transcript_accepted, transcript_refused};
+ghost use Rattle.bridge_unwrap.specs.Unwrapping.{is_unwrapped_faulty, unwrapped_pieces, unwrapped_text};
+ghost use Rattle.bridge_command.specs.Words.{OnCapture, OnUnwrap, asked_form, bridge_usage};
+ghost use Rattle.tool_output.specs.Ends.{SinkFails, IsWritten, Answers, StopsWithin, EndsForCause};
+
+use crate::words::{Form, USAGE, form_of};
+use bridge_capture::capture_frames;
+use bridge_unwrap::unwrap_capture;
+use dccp_io::{Sink, Source, write_all};
+use std::alloc::Global;
+use tool_output::Status;
+
+/// Does what the words ask for (own), those after the program's name. `capture` reads what `run` or `replay` wrote, and
+/// writes a classic capture with a record for each frame that was sent. `unwrap` reads a classic capture of one of nine link
+/// types, and writes one of raw IP, record for record.
+///
+/// Words are judged first; after that the first refusal met in the order of reading decides. With status 0 or 1 the output
+/// is that of the whole input, with status 3, 4 or 5 a front of it. The clauses on the output speak of a source that tells
+/// its bytes and a sink that tells what it took.
+pub fn bridge<S: Source, K: Sink>(
+    alloc: Global,
+    words: &[String],
+    input: &mut S,
+    output: &mut K,
+) -> Status
+    // Words that are none of the forms come to the usage line, as far as the sink takes it.
+    ensures words { (result ≡ Status.Words) ↔ (asked_form words.now ≡ None) }
+    ensures unread { asked_form words.now ≡ None → input.new ≡ input.old }
+    ensures usage { result ≡ Status.Words → IsWritten bridge_usage (K.taken output.old) (K.taken output.new) (SinkFails K.faults K.empty_takes output.old output.new) }
+
+    // What each form writes, how it ends, and how far a refused input was read.
+    ensures captured { OnCapture words.now (S.left input.old) (λ bytes.
+        Answers (frames_capture bytes) (transcript_refused bytes) result (S.left input.new) (K.taken output.old) (K.taken output.new)) }
+    ensures past { OnCapture words.now (S.left input.old) (λ bytes. StopsWithin 16384 (transcript_accepted bytes) bytes result (S.left input.new)) }
+    ensures unwrapped { OnUnwrap words.now (S.left input.old) (λ bytes.
+        Answers (unwrapped_text bytes) (is_unwrapped_faulty bytes) result (S.left input.new) (K.taken output.old) (K.taken output.new)) }
+    ensures unwrap_past { OnUnwrap words.now (S.left input.old) (λ bytes. StopsWithin 524288 (unwrapped_pieces bytes).accepted bytes result (S.left input.new)) }
+
+    // Why any form ended.
+    ensures cause { (form : Form) → asked_form words.now ≡ Some form
+        → EndsForCause result (Rose (S.faults input.old) (S.faults input.new)) (SinkFails K.faults K.empty_takes output.old output.new) }
+{
+    match form_of(words) {
+        Some(Form::Capture) => capture_frames(alloc, input, output),
+        Some(Form::Unwrap) => unwrap_capture(alloc, input, output),
+        None => refuse_words(output),
+    }
+}
+
+fn refuse_words<K: Sink>(output: &mut K) -> Status
+    ensures words { result ≡ Status.Words }
+    ensures usage { IsWritten bridge_usage (K.taken output.old) (K.taken output.new) (SinkFails K.faults K.empty_takes output.old output.new) }
+{
+    let _ = write_all(output, USAGE);
+    Status::Words
+}

@@ -1,0 +1,20 @@
+//! Why an input of pieces is refused.
+
+/// Why an input of pieces is refused (own).
+#[derive(Clone, Copy, Debug, PartialEq, Eq)]
+pub enum PieceFault {
+    /// The first bytes are no magic number of a capture.
+    BadMagic,
+    /// The version is another than the format has.
+    BadVersion,
+    /// A link type is none of those that are known.
+    BadLink,
+    /// The input ends inside a piece, or where it may not end.
+    CutShort,
+    /// A record or a block is longer than may be.
+    TooLong,
+    /// A block contradicts itself, or names an interface that is not there.
+    BadBlock,
+    /// A piece ends behind the first 4,294,967,296 bytes.
+    TooLarge,
+}

@@ -1,0 +1,77 @@
+-- Where the IP packet of a captured record begins, by its link type (the link-layer header types of libpcap; VLAN tags by IEEE 802.1Q).
+use Rattle.std.specs.Prelude.{ℕ, ◌+◌, ◌/◌, Bool, ◌&&◌, ◌||◌, ◌==◌, not, nat_lt, if◌then◌else◌, List, length, slice_index, Option, Some, None}
+use Rattle.byteorder.specs.Endian.{big_number, little_number}
+use Rattle.dccp_packets.specs.Grammar.{number_at}
+
+-- the link types: 0 and 108 begin with an address family, 1 is Ethernet, 12 and 101 are raw IP, 113 and 276 those of the "any" device of
+-- Linux, 228 is IPv4 and 229 IPv6
+abbrev pub is_known_link : ℕ → Bool
+is_known_link link =
+    link == 0 || (link == 1 || (link == 12 || (link == 101 || (link == 108 || (link == 113 || (link == 228 || (link == 229 || link == 276)))))))
+
+-- IP of this version begins at a place: the first four bits there are the version
+abbrev pub ip_at : ℕ → ℕ → List ℕ → Option ℕ
+ip_at version start bytes = if nat_lt start (length bytes) && slice_index bytes start / 16 == version then Some start else None
+
+-- the one, or else the other
+abbrev pub start_or : Option ℕ → Option ℕ → Option ℕ
+start_or (Some start) other = Some start
+start_or None other = other
+
+-- IP of either version begins with the record
+abbrev pub ip_at_first : List ℕ → Option ℕ
+ip_at_first bytes = start_or (ip_at 4 0 bytes) (ip_at 6 0 bytes)
+
+-- what follows at a place has this type: 0800 for IPv4, 86dd for IPv6
+abbrev pub ip_of_type : ℕ → ℕ → List ℕ → Option ℕ
+ip_of_type kind next bytes = if kind == 2048 then ip_at 4 next bytes else if kind == 34525 then ip_at 6 next bytes else None
+
+-- the types of VLAN tags, 8100 and 88a8
+abbrev pub is_tag : ℕ → Bool
+is_tag kind = kind == 33024 || kind == 34984
+
+-- the same behind a tag, of whose four bytes the last two are the next type
+abbrev pub ip_behind_tag : ℕ → ℕ → List ℕ → Option ℕ
+ip_behind_tag kind next bytes =
+    if not (is_tag kind) then ip_of_type kind next bytes
+    else if nat_lt (length bytes) (next + 4) then None
+    else ip_of_type (number_at (next + 2) 2 bytes) (next + 4) bytes
+
+-- the same behind up to two tags
+abbrev pub ip_behind_tags : ℕ → ℕ → List ℕ → Option ℕ
+ip_behind_tags kind next bytes =
+    if not (is_tag kind) then ip_of_type kind next bytes
+    else if nat_lt (length bytes) (next + 4) then None
+    else ip_behind_tag (number_at (next + 2) 2 bytes) (next + 4) bytes
+
+-- the type stands at one place of the link's header, and what follows behind the header
+abbrev pub ip_by_type : ℕ → ℕ → List ℕ → Option ℕ
+ip_by_type place header bytes = if nat_lt (length bytes) header then None else ip_behind_tags (number_at place 2 bytes) header bytes
+
+-- the address families of IP: 2 of IPv4, and 10, 24, 28 or 30 of IPv6, by the system that captured
+abbrev pub ip_of_family : ℕ → List ℕ → Option ℕ
+ip_of_family family bytes =
+    if family == 2 then ip_at 4 4 bytes
+    else if family == 10 || (family == 24 || (family == 28 || family == 30)) then ip_at 6 4 bytes
+    else None
+
+-- the family stands first, with the most significant byte first
+abbrev pub ip_in_loop : List ℕ → Option ℕ
+ip_in_loop bytes = if nat_lt (length bytes) 4 then None else ip_of_family (big_number 4 bytes) bytes
+
+-- the family stands first, in the byte order of the system that captured
+abbrev pub ip_in_null : List ℕ → Option ℕ
+ip_in_null bytes =
+    if nat_lt (length bytes) 4 then None else start_or (ip_of_family (big_number 4 bytes) bytes) (ip_of_family (little_number 4 bytes) bytes)
+
+-- where the IP packet begins in a record of this link type, if it has one
+abbrev pub ip_start : ℕ → List ℕ → Option ℕ
+ip_start link bytes =
+    if link == 0 then ip_in_null bytes
+    else if link == 1 then ip_by_type 12 14 bytes
+    else if link == 108 then ip_in_loop bytes
+    else if link == 113 then ip_by_type 14 16 bytes
+    else if link == 228 then ip_at 4 0 bytes
+    else if link == 229 then ip_at 6 0 bytes
+    else if link == 276 then ip_by_type 0 20 bytes
+    else ip_at_first bytes

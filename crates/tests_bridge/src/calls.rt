@@ -1,0 +1,72 @@
+//! Calls of the second tool over streams in memory.
+use bridge_command::{Status, bridge};
+use dccp_io::{MemorySink, MemorySource};
+use std::alloc::Global;
+use std::test::Fail;
+
+// More than any output here has.
+const ROOM: usize = 4096;
+
+/// Which read and which write fails, counted from 1, and how many bytes each other one gives or takes at most.
+#[derive(Clone, Copy)]
+pub(crate) struct Streams {
+    pub(crate) failing_read: Option<u64>,
+    pub(crate) failing_write: Option<u64>,
+    pub(crate) most: usize,
+}
+
+impl Streams {
+    /// None of their calls fails.
+    pub(crate) fn of(most: usize) -> Streams {
+        Streams {
+            failing_read: None,
+            failing_write: None,
+            most,
+        }
+    }
+}
+
+/// How a call ended, and all that it wrote.
+#[derive(Drop)]
+pub(crate) struct Answer {
+    pub(crate) status: Status,
+    pub(crate) bytes: Vec<u8>,
+}
+
+fn words_in(alloc: Global, line: &str) -> Result<Vec<String>, Fail> {
+    let mut words = Vec::new(alloc);
+    if line.is_empty() {
+        return Ok(words);
+    }
+    for word in line.split(',') {
+        words.push(String::from_str(alloc, word)?)?;
+    }
+    Ok(words)
+}
+
+fn none_or_one(alloc: Global, number: Option<u64>) -> Result<Vec<u64>, Fail> {
+    let mut numbers = Vec::new(alloc);
+    if let Some(number) = number {
+        numbers.push(number)?;
+    }
+    Ok(numbers)
+}
+
+/// The answer to these words, parted by commas, over this input.
+pub(crate) fn answer_to(
+    alloc: Global,
+    streams: &Streams,
+    words: &str,
+    input: &[u8],
+) -> Result<Answer, Fail> {
+    let words = words_in(alloc, words)?;
+    let bytes = input.to_vec(alloc)?;
+    let failing = none_or_one(alloc, streams.failing_read)?;
+    let mut source = MemorySource::new(bytes, failing, streams.most.max(1));
+    let failing = none_or_one(alloc, streams.failing_write)?;
+    let sink = MemorySink::new(alloc, failing, streams.most, ROOM);
+    let mut sink = sink.ok().ok_or("no memory")?;
+    let status = bridge(alloc, &words, &mut source, &mut sink);
+    let bytes = sink.taken().to_vec(alloc)?;
+    Ok(Answer { status, bytes })
+}
