@@ -3,7 +3,7 @@ ghost use Rattle.std.specs.Prelude.{◌≡◌, ◌≤◌, length, IfErr};
 ghost use Rattle.schedule_text.specs.Kinds as spec;
 
 use crate::names::{Form, form_named, place_named, side_named, timer_of};
-use crate::numbers::{feature_of, frame_index, sequence_number_of, values_of, schedule_version};
+use crate::numbers::{feature_of, frame_index, schedule_version, sequence_number_of, values_of};
 use crate::{LineWhy, Timer, Values};
 use feature_lists::{Feature, Place};
 use seq_circle::Seq48;

@@ -42,7 +42,12 @@ const WORDS: [&str; 4] = [
 fn words_of_listeners(rt: HostRuntime) -> Result<(), Fail> {
     for words in WORDS {
         assert!(rt;
-            comes(&rt, rt.alloc(), &Streams::of(7), &Case::done(words, "flows 0\n"))?,
+            comes(
+                &rt,
+                rt.alloc(),
+                &Streams::of(7),
+                &Case::done(words, "flows 0\n")
+            )?,
             "{words}"
         );
     }

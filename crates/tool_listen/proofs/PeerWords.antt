@@ -176,12 +176,14 @@ peer-by text (address ∷ (port ∷ [])) peer whole is =
     (All-cons (λ byte. byte < 256) four.b (four.c ∷ four.d ∷ []) four.small.second
     (All-cons (λ byte. byte < 256) four.c (four.d ∷ []) four.small.third
     (All-cons (λ byte. byte < 256) four.d [] four.small.fourth (All-nil (λ byte. byte < 256))))) in
-    subst (λ (p : Peer). (text ≡ peer_text p) × IsPeer p) found.is
-    (written ∙ sym (written-as (record { address = found.numbers; port = found.number })), record {
-      four = sym (ap length four.is);
-      bytes = subst (λ (address : List ℕ). All (λ byte. byte < 256) address) four.is bytes;
-      small = number.1;
-    })
+    subst (λ (p : Peer). (text ≡ peer_text p) × IsPeer p) found.is (
+      written ∙ sym (written-as (record { address = found.numbers; port = found.number })),
+      record {
+        four = sym (ap length four.is);
+        bytes = subst (λ (address : List ℕ). All (λ byte. byte < 256) address) four.is bytes;
+        small = number.1;
+      },
+    )
 
 peer-means : (text : List ℕ) (peer : Peer) → peer_of text ≡ Some peer → (text ≡ peer_text peer) × IsPeer peer
 peer-means text peer is = peer-by text (parted_by 58 text) peer (join_with_byte-slice_split 58 text) is

@@ -58,12 +58,7 @@ fn hear(
 }
 
 // The listener takes a call.
-fn ask(
-    listener: &mut Listener,
-    peer: Peer,
-    act: Act<'_>,
-    out: &mut Outbox,
-) -> Result<Seen, NoFlow>
+fn ask(listener: &mut Listener, peer: Peer, act: Act<'_>, out: &mut Outbox) -> Result<Seen, NoFlow>
     ensures after { listener.new ≡ listening_after listener.old peer (Calls (call_of act.entry)) }
     ensures sent { out.new ≡ (listens listener.old peer (Calls (call_of act.entry))).frame }
     ensures told { Stepped (seen_if result) ≡ (listens listener.old peer (Calls (call_of act.entry))).told }

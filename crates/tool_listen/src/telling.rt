@@ -43,10 +43,7 @@ pub(crate) fn put_heard(text: &mut Vec<u8>, bytes: &[u8], heard: Heard) -> Resul
 }
 
 /// Puts what a call was answered.
-pub(crate) fn put_answer(
-    text: &mut Vec<u8>,
-    answer: Result<Seen, NoFlow>,
-) -> Result<(), NoMemory>
+pub(crate) fn put_answer(text: &mut Vec<u8>, answer: Result<Seen, NoFlow>) -> Result<(), NoMemory>
     requires { CanBeTold [] (Stepped (seen_if answer)) }
     ensures { OnOk result (text.new.items ≡ text.old.items ++ answer_text [] (Stepped (seen_if answer))) }
 {

@@ -154,6 +154,7 @@ version-peers play version peers = by play.is_configured where
   fits-by : (config : Config) (vectors : Vectors) → Fits config → Fits (record config { vectors = vectors })
   fits-by config vectors fits =
       record { own_port = fits.own_port; peer_port = fits.peer_port; service = fits.service; iss = fits.iss; lists = fits.lists }
+
   by : (behind : Bool)
       → PeersBehind (if behind then Refused (whole_line why.HeaderLate) else configures play (with_vectors (vectors_of version)))
   by true = tt
