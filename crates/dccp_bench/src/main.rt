@@ -3,9 +3,9 @@
 //!
 //! `marks` and a number of rounds makes the calls of received numbers and of congestion control, hands packets to an
 //! end, and lets two ends send each other data, so that what they allocate can be counted. `ratios` and a number of
-//! rounds times marks, the writing of Ack Vectors and the taking of reports, `nonces` those of ECN-capable ends. `runs` and a number of rounds times marks
-//! in several orders, over both ways to keep runs. `ends` and a number of rounds times an end in OPEN to which packets
-//! of data come. `listener` and a number of datagrams times a listener to which so many of 100,000 peers come. `campaign` and a number of workers times a campaign.
+//! rounds times marks, the writing of Ack Vectors and the taking of reports, `nonces` those of ECN-capable ends. `runs`
+//! and a number of rounds times marks in several orders, over both ways to keep runs. `ends` and a number of rounds
+//! times an end in OPEN to which packets of data come. `campaign` and a number of workers times a campaign.
 //!
 //! Nothing is claimed of what it prints.
 #![tactic(auto)]
@@ -14,7 +14,6 @@ mod campaigns;
 mod data;
 mod ends;
 mod frames;
-mod listener;
 mod marks;
 mod nonces;
 mod passes;
@@ -35,7 +34,6 @@ enum Form {
     Nonces,
     Runs,
     Ends,
-    Listener,
     Campaign,
 }
 
@@ -50,7 +48,6 @@ fn asked(rt: &HostRuntime) -> io::Result<(Form, u32)> {
             "nonces" => form = Form::Nonces,
             "runs" => form = Form::Runs,
             "ends" => form = Form::Ends,
-            "listener" => form = Form::Listener,
             "campaign" => form = Form::Campaign,
             text => rounds = text.parse::<u32>().unwrap_or(1),
         }
@@ -106,7 +103,6 @@ fn main(rt: HostRuntime) -> io::Result<()> {
         Form::Nonces => nonces::all(&rt, rounds),
         Form::Runs => runs::all(&rt, rounds),
         Form::Ends => ends::all(&rt, rounds),
-        Form::Listener => listener::all(&rt, rounds),
         Form::Campaign => campaigns::all(&rt, &rt, rounds),
     }
 }
