@@ -1,3 +1,4 @@
+pub mod Behind
 mod Examples
 pub mod Listings
 pub mod RawOptions

@@ -1,6 +1,7 @@
 -- What a writer of options writes (RFC 4340, section 5.8).
-use Rattle.std.specs.Prelude.{ℕ, ◌+◌, ◌≤◌, ◌<◌, Bool, true, false, if◌then◌else◌, List, [], ◌∷◌, ◌++◌, length}
-use Rattle.dccp_options.specs.Grammar.{Entry}
+use Rattle.std.specs.Prelude.{ℕ, ◌+◌, ◌≤◌, ◌<◌, Bool, true, false, if◌then◌else◌, List, [], ◌∷◌, ◌++◌, length, Result}
+use Rattle.dccp_options.specs.Grammar.{Entry, marked_entries, raw_options}
+use Rattle.dccp_options.specs.declared.option.OptFault.{OptFault}
 use Rattle.dccp_options.specs.Vectors.{is_ack_vector}
 
 -- an option to be written
@@ -49,3 +50,7 @@ item_at entry = record { mandatory = entry.mandatory; kind = entry.kind; body = 
 abbrev pub item_vectors : List Item → List (List ℕ)
 item_vectors [] = []
 item_vectors (item ∷ rest) = (if is_ack_vector item.kind then item.body ∷ [] else []) ++ item_vectors rest
+
+-- what bytes are listed as on each packet but Data, where the first of them stands at this place
+abbrev pub listed_from : ℕ → List ℕ → List (Result Entry OptFault)
+listed_from place bytes = marked_entries false (raw_options place 0 bytes)

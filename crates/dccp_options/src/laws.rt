@@ -6,7 +6,7 @@ ghost use Rattle.dccp_options.specs.declared.option.OptFault.{OptFault};
 ghost use Rattle.dccp_options.specs.Grammar.{Entry, options_of};
 ghost use Rattle.dccp_options.specs.Listing.{IsListed, IsCut};
 ghost use Rattle.dccp_options.specs.Vectors.{is_ack_vector, states, reported, state_at, report_of, joined_report, runs_of, is_in_run, state_in};
-ghost use Rattle.dccp_options.specs.Written.{Item, IsWritable, spelled, written, entries_at, item_at, item_vectors};
+ghost use Rattle.dccp_options.specs.Written.{Item, IsWritable, spelled, written, entries_at, item_at, item_vectors, listed_from};
 
 /// The list of an area is the one that goes by the first byte of what is left: Padding, Mandatory, another option of
 /// one byte, an option with a length, or one whose length is wrong; and an area has no other list (RFC 4340, section
@@ -24,6 +24,14 @@ pub fn written_options_are_listed()
         → options_of (written items ++ replicate zeros 0) false ≡ map Ok (entries_at 0 items) }
     ensures one_more { (items : List Item) (item : Item)
         → written (items ++ item ∷ []) ≡ written items ++ spelled item.mandatory item.kind item.body }
+{}
+
+/// Zeros between options list nothing: behind what a writer wrote and zeros, further bytes are listed as they are by
+/// themselves at their place (RFC 4340, section 5.8.1). So options may be appended to an area that was filled up.
+pub fn zeros_part_options()
+    ensures { (items : List Item) (zeros : ℕ) (more : List ℕ) → All IsWritable items
+        → options_of ((written items ++ replicate zeros 0) ++ more) false
+        ≡ map Ok (entries_at 0 items) ++ listed_from (length (written items) + zeros) more }
 {}
 
 /// The entries of options that were written are those options, in their order: each with its mark, its type and its

@@ -18,7 +18,7 @@ mod writer;
 pub use crate::laws::{
     a_cut_option_ends_the_list, a_report_is_what_was_written, a_written_vector_is_reported,
     an_area_has_one_list, entries_keep_what_was_written, runs_give_the_states,
-    vectors_continue_each_other, written_options_are_listed,
+    vectors_continue_each_other, written_options_are_listed, zeros_part_options,
 };
 pub use crate::list::{OptList, options};
 pub use crate::option::{Opt, OptFault};

@@ -27,6 +27,15 @@ impl<'a> OptList<'a> {
     ghost use Rattle.std.specs.Prelude.{false};
     ghost use Rattle.dccp_options.specs.Left.{entries_left};
 
+    /// The options that are still to come, once more: for whoever goes over them many times, since a list is not `Copy`.
+    pub fn again(&self) -> OptList<'a>
+        ensures { result ≡ self.now }
+    {
+        OptList {
+            cursor: self.cursor,
+        }
+    }
+
     /// Where the list stands.
     pub(crate) fn cursor(self) -> Cursor<'a>
         ensures { entries_left false result ≡ self.entry }
