@@ -33,7 +33,7 @@ states_down-add state zero b n m p q e =
 states_down-add state (suc a) b n m p q e =
     rw (suc-add a b) (ap (λ ss. state n ∷ ss) (states_down-add state a b (down n) m (down_fits n) q (omega arith)))
 
-pub constant-states : (state count n : ℕ) → states_down (λ _. state) count n ≡ replicate count state
+pub constant-states : {S : Type 0} (state : S) (count n : ℕ) → states_down (λ _. state) count n ≡ replicate count state
 constant-states state zero n = refl
 constant-states state (suc count) n = ap (λ ss. state ∷ ss) (constant-states state count (down n))
 
@@ -43,11 +43,11 @@ BeginsWithout s [] = Unit {0}
 BeginsWithout s (t ∷ ts) = (t ≡ s) → ⊥
 
 -- one more of the first run's state
-pub grouped_with-same : (s count : ℕ) (gs : List Group) → grouped_with s (group s count ∷ gs) ≡ group s (count + 1) ∷ gs
+pub grouped_with-same : (s count : ℕ) (gs : List (Group ℕ)) → grouped_with s (group s count ∷ gs) ≡ group s (count + 1) ∷ gs
 grouped_with-same s count gs = rw (eq-eqb s s refl) refl
 
 -- another state begins a run
-pub grouped_with-other : (s t : ℕ) (gs : List Group) → ((t ≡ s) → ⊥) → grouped_with s (grouped_with t gs) ≡ group s 1 ∷ grouped_with t gs
+pub grouped_with-other : (s t : ℕ) (gs : List (Group ℕ)) → ((t ≡ s) → ⊥) → grouped_with s (grouped_with t gs) ≡ group s 1 ∷ grouped_with t gs
 grouped_with-other s t [] h = rw (ne_eqb t s h) refl
 grouped_with-other s t (g ∷ gs) h =
     elim (cases_eq g.state t) [

@@ -1,4 +1,5 @@
 pub mod ByRuns
+pub mod Coded
 pub mod Options
 pub mod Pieces
 pub mod ReadBack

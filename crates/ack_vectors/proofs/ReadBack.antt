@@ -51,7 +51,7 @@ abbrev pub ArePlain : List ℕ → Type 0
 ArePlain [] = Unit {0}
 ArePlain (s ∷ ss) = ((s == 2) ≡ false) × ArePlain ss
 
-pub states-grouped_with : (s : ℕ) (gs : List Group) → (s == 2) ≡ false → states (bytes_of_groups (grouped_with s gs)) ≡ s ∷ states (bytes_of_groups gs)
+pub states-grouped_with : (s : ℕ) (gs : List (Group ℕ)) → (s == 2) ≡ false → states (bytes_of_groups (grouped_with s gs)) ≡ s ∷ states (bytes_of_groups gs)
 states-grouped_with s [] two = states-pieces 1 s 1 [] (omega arith) two
 states-grouped_with s (g ∷ gs) two =
     elim (cases_eq g.state s) [
@@ -87,17 +87,17 @@ plain-states_down p (suc count) n h = (h n, plain-states_down p count (down n) h
 pub states-all_bytes : (p : ℕ → ℕ) (floor ack : ℕ) → AllPlain p → states (all_bytes p floor ack) ≡ states_between p floor ack
 states-all_bytes p floor ack h = states-spelled (states_between p floor ack) (plain-states_down p (numbers_between floor ack) ack h)
 
-pub length-states_down : (p : ℕ → ℕ) (count n : ℕ) → length (states_down p count n) ≡ count
+pub length-states_down : {S : Type 0} (p : ℕ → S) (count n : ℕ) → length (states_down p count n) ≡ count
 length-states_down p zero n = refl
 length-states_down p (suc count) n = ap suc (length-states_down p count (down n))
 
 -- the state at a place is that of the number so far down
-pub slice_get-states_down : (p : ℕ → ℕ) (count n i m : ℕ) → n < 2 ^ 48 → m < 2 ^ 48 → i < count → residue (m + i) ≡ n → slice_get (states_down p count n) i ≡ Some (p m)
+pub slice_get-states_down : {S : Type 0} (p : ℕ → S) (count n i m : ℕ) → n < 2 ^ 48 → m < 2 ^ 48 → i < count → residue (m + i) ≡ n → slice_get (states_down p count n) i ≡ Some (p m)
 slice_get-states_down p zero n i m a b h e = absurd (omega arith)
 slice_get-states_down p (suc count) n zero m a b h e = let same : n ≡ m = omega arith in ap (λ k. Some (p k)) same
 slice_get-states_down p (suc count) n (suc i) m a b h e = slice_get-states_down p count (down n) i m (down_fits n) b (omega arith) (omega arith)
 
-pub slice_get-front : (front behind : List ℕ) (i : ℕ) → i < length front → slice_get (front ++ behind) i ≡ slice_get front i
+pub slice_get-front : {X : Type 0} (front behind : List X) (i : ℕ) → i < length front → slice_get (front ++ behind) i ≡ slice_get front i
 slice_get-front [] behind i h = absurd (omega arith)
 slice_get-front (x ∷ xs) behind zero h = refl
 slice_get-front (x ∷ xs) behind (suc i) h = slice_get-front xs behind i (omega arith)

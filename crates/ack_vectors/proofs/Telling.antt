@@ -93,11 +93,11 @@ bytes-pieces s c p =
     (All-replicate (λ byte. byte < 256) (c / 64) (piece s 64) (omega arith))
     (bytes-last s (c % 64) p (omega arith))
 
-abbrev AreSmall : List Group → Type 0
+abbrev AreSmall : List (Group ℕ) → Type 0
 AreSmall [] = Unit {0}
 AreSmall (g ∷ gs) = (g.state < 4) × AreSmall gs
 
-small-grouped_with : (s : ℕ) (gs : List Group) → s < 4 → AreSmall gs → AreSmall (grouped_with s gs)
+small-grouped_with : (s : ℕ) (gs : List (Group ℕ)) → s < 4 → AreSmall gs → AreSmall (grouped_with s gs)
 small-grouped_with s [] p h = (p, tt)
 small-grouped_with s (g ∷ gs) p h =
     elim (cases_eq g.state s) [
@@ -110,7 +110,7 @@ small-groups state zero n h = tt
 small-groups state (suc count) n h =
     small-grouped_with (state n) (groups (states_down state count (down n 1))) (h n) (small-groups state count (down n 1) h)
 
-bytes-spelled : (gs : List Group) → AreSmall gs → All (λ byte. byte < 256) (bytes_of_groups gs)
+bytes-spelled : (gs : List (Group ℕ)) → AreSmall gs → All (λ byte. byte < 256) (bytes_of_groups gs)
 bytes-spelled [] h = All-nil (λ byte. byte < 256)
 bytes-spelled (g ∷ gs) h =
     All-append (λ byte. byte < 256) (pieces g.state g.count) (bytes_of_groups gs) (bytes-pieces g.state g.count h.0) (bytes-spelled gs h.1)

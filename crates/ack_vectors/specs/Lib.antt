@@ -1,3 +1,4 @@
 pub mod ByRuns
+pub mod Coding
 pub mod Kept
 pub mod Vector

@@ -2,9 +2,12 @@
 --
 -- It takes the state of each number and the number of bytes, so packets marked by ECN and a second option change
 -- arguments alone. A set is a test on numbers, so any list's membership can stand there.
-use Rattle.std.specs.Prelude.{ℕ, ◌+◌, ◌-◌, ◌*◌, ◌/◌, ◌%◌, ◌==◌, nat_le, Bool, true, false, List, [], ◌∷◌, ◌++◌, zero, suc, length, take, drop, replicate, if◌then◌else◌}
-use Rattle.seq_circle.specs.Circle.{distance, down, is_from}
-use Rattle.dccp_options.specs.Vectors.{states}
+use Rattle.std.specs.Prelude.{ℕ, ◌+◌, ◌-◌, ◌*◌, ◌==◌, nat_le, Bool, true, false, List, [], ◌∷◌, length, take, drop, if◌then◌else◌}
+use Rattle.seq_circle.specs.Circle.{distance, is_from}
+use Rattle.dccp_options.specs.Vectors.{run_length, state_of, states}
+use Rattle.ack_vectors.specs.Coding.{Coding}
+pub use Rattle.ack_vectors.specs.Coding.{Group, group, states_down}
+use Rattle.ack_vectors.specs.Coding as coded
 use Rattle.ack_vectors.specs.declared.room.Vectors.{Vectors}
 use Rattle.ack_vectors.specs.declared.room.Vectors.TheVariants.{One, Two}
 
@@ -17,11 +20,6 @@ state_told false = 3
 abbrev pub set_states : (ℕ → Bool) → ℕ → ℕ
 set_states has n = state_told (has n)
 
--- the states of so many numbers, from one down
-abbrev pub states_down : (ℕ → ℕ) → ℕ → ℕ → List ℕ
-states_down state zero n = []
-states_down state (suc count) n = state n ∷ states_down state count (down n 1)
-
 -- how many numbers there are from an acknowledgement down to the floor, both counted; none where it is below the floor
 abbrev pub numbers_between : ℕ → ℕ → ℕ
 numbers_between floor ack = if is_from floor ack then distance floor ack + 1 else 0
@@ -30,42 +28,34 @@ numbers_between floor ack = if is_from floor ack then distance floor ack + 1 els
 abbrev pub states_between : (ℕ → ℕ) → ℕ → ℕ → List ℕ
 states_between state floor ack = states_down state (numbers_between floor ack) ack
 
--- a maximal run of one state
-pub record Group : Type 0 where
-  pub state : ℕ
-  pub count : ℕ
-
--- a run of so many numbers of one state
-abbrev pub group : ℕ → ℕ → Group
-group state count = record { state = state; count = count }
-
--- a state before the runs of those behind it: it extends the first one, or begins one of its own
-abbrev pub grouped_with : ℕ → List Group → List Group
-grouped_with state [] = group state 1 ∷ []
-grouped_with state (g ∷ gs) =
-    if g.state == state then group state (g.count + 1) ∷ gs else group state 1 ∷ g ∷ gs
-
--- the maximal runs of one state
-abbrev pub groups : List ℕ → List Group
-groups [] = []
-groups (state ∷ states) = grouped_with state (groups states)
-
 -- the byte of a piece: its state in the upper two bits, and its length less one in the lower six
 abbrev pub piece : ℕ → ℕ → ℕ
 piece state count = state * 64 + (count - 1)
 
+-- states as the bytes of Ack Vectors, of which each covers up to 64 numbers (RFC 4340, section 11.4)
+abbrev pub vector_coding : Coding ℕ
+vector_coding =
+    record { same = λ one other. one == other; most = λ state. 64; byte = piece; state_of = state_of; run_length = run_length }
+
+-- a state before the runs of those behind it
+abbrev pub grouped_with : ℕ → List (Group ℕ) → List (Group ℕ)
+grouped_with = coded.grouped_with vector_coding
+
+-- the maximal runs of one state
+abbrev pub groups : List ℕ → List (Group ℕ)
+groups = coded.groups vector_coding
+
 -- the last piece of a run, if the pieces of 64 leave one
 abbrev pub last_piece : ℕ → ℕ → List ℕ
-last_piece state count = if count == 0 then [] else piece state count ∷ []
+last_piece = coded.last_piece vector_coding
 
 -- a run as its pieces, from the top: as many of 64 as there are, and what is left
 abbrev pub pieces : ℕ → ℕ → List ℕ
-pieces state count = replicate (count / 64) (piece state 64) ++ last_piece state (count % 64)
+pieces = coded.pieces vector_coding
 
 -- the bytes of runs
-abbrev pub bytes_of_groups : List Group → List ℕ
-bytes_of_groups [] = []
-bytes_of_groups (g ∷ gs) = pieces g.state g.count ++ bytes_of_groups gs
+abbrev pub bytes_of_groups : List (Group ℕ) → List ℕ
+bytes_of_groups = coded.bytes_of_groups vector_coding
 
 -- the bytes of states, however many
 abbrev pub all_bytes : (ℕ → ℕ) → ℕ → ℕ → List ℕ
