@@ -7,7 +7,7 @@ use Rattle.std.proofs.lemmas.Bool.{cases_lt, cases_eq, cases_Bool, ne_eqb, both_
 use Rattle.std.proofs.lemmas.List.{replicate-append-replicate}
 use Rattle.std.proofs.lemmas.List.Elements.{All-head, All-tail}
 use Rattle.seq_circle.specs.Circle.{distance, down}
-use Rattle.ack_vectors.specs.Coding.{Coding, Group, group, states_down, grouped_with, groups, last_piece, pieces, bytes_of_groups, bytes_of, states_of, BeginsWithout}
+use Rattle.ack_vectors.specs.Coding.{Coding, Group, group, states_down, grouped_with, groups, last_piece, pieces, bytes_of_groups, coded_bytes, states_of, BeginsWithout}
 
 -- For these states two are the same where they are equal, a byte covers a number or more, and each byte gives back its state and count.
 pub record IsLawful (S : Type 0) (coding : Coding S) (CanBe : S → Type 0) : Type 0 where
@@ -127,7 +127,7 @@ module _ {S : Type 0} (coding : Coding S) (CanBe : S → Type 0) (lawful : IsLaw
 
   -- The bytes of states begin with the byte of as many of their first run as it covers.
   pub bytes-first : (s : S) (count : ℕ) (rest : List S) → 0 < count → count ≤ coding.most s → (count ≡ coding.most s) ⊎ BeginsWithout coding s rest
-      → bytes_of coding (replicate count s ++ rest) ≡ coding.byte s count ∷ bytes_of coding rest
+      → coded_bytes coding (replicate count s ++ rest) ≡ coding.byte s count ∷ coded_bytes coding rest
   bytes-first s zero rest some fits ends = absurd (omega arith)
   bytes-first s (suc count) rest some fits ends =
       ap (λ (gs : List (Group S)). bytes_of_groups coding gs) (groups-replicate s count rest)
@@ -184,11 +184,11 @@ module _ {S : Type 0} (coding : Coding S) (CanBe : S → Type 0) (lawful : IsLaw
       ]
 
   -- What is written of states is read as them.
-  pub states-bytes_of : (states : List S) → All CanBe states → states_of coding (bytes_of coding states) ≡ states
-  states-bytes_of [] can = refl
-  states-bytes_of (s ∷ states) can =
+  pub states-coded_bytes : (states : List S) → All CanBe states → states_of coding (coded_bytes coding states) ≡ states
+  states-coded_bytes [] can = refl
+  states-coded_bytes (s ∷ states) can =
       states-grouped s (groups coding states) (All-head CanBe s states can)
-      ∙ ap (λ (rest : List S). s ∷ rest) (states-bytes_of states (All-tail CanBe s states can))
+      ∙ ap (λ (rest : List S). s ∷ rest) (states-coded_bytes states (All-tail CanBe s states can))
 
 module _ {S : Type 0} (old new : ℕ → S) (m : ℕ) (apart : (n : ℕ) → n < 2 ^ 48 → (n ≡ m → ⊥) → new n ≡ old n) where
   -- one number with another state changes nothing where it is not reached

@@ -52,8 +52,8 @@ bytes_of_groups coding [] = []
 bytes_of_groups coding (g ∷ gs) = pieces coding g.state g.count ++ bytes_of_groups coding gs
 
 -- the bytes of states, however many
-abbrev pub bytes_of : {S : Type 0} → Coding S → List S → List ℕ
-bytes_of coding states = bytes_of_groups coding (groups coding states)
+abbrev pub coded_bytes : {S : Type 0} → Coding S → List S → List ℕ
+coded_bytes coding states = bytes_of_groups coding (groups coding states)
 
 -- the states that bytes give
 abbrev pub states_of : {S : Type 0} → Coding S → List ℕ → List S

@@ -1,0 +1,92 @@
+-- A bounded inbox: the data that it holds, what was dropped, and whether the application still listens (own; RFC 4340, sections 11.6 and 11.7).
+use Rattle.std.specs.Prelude.{◌≡◌, ℕ, ◌*◌, ◌≤◌, nat_le, nat_lt, not, ◌&&◌, Bool, true, false, List, [], ◌∷◌, ◌++◌, length, drop, Option, Some, None, if◌then◌else◌}
+use Rattle.circular_buffer.specs.Buffer.{Buffer, keep_last}
+use Rattle.data_dropped.specs.declared.answers.Arrival.{Arrival}
+use Rattle.data_dropped.specs.declared.answers.Arrival.TheVariants.{Kept, Dropped}
+use Rattle.data_dropped.specs.declared.drops.DropEntry.{DropEntry}
+
+-- the data of a packet under its number
+pub record KeptData : Type 0 where
+  pub number : ℕ
+  pub payload : List ℕ
+
+-- The data that are held, the oldest first; the last 2,048 drops, the oldest first; whether the application has stopped listening; and how
+-- many items may be held.
+pub record InboxState : Type 0 where
+  pub items : List KeptData
+  pub drops : List DropEntry
+  pub stopped : Bool
+  pub capacity : ℕ
+
+-- an inbox of this capacity that was asked for nothing
+abbrev pub empty_inbox : ℕ → InboxState
+empty_inbox capacity = record { items = []; drops = []; stopped = false; capacity = capacity }
+
+-- what always holds of an inbox: it holds no more than it may, which is 1 to 1,024 items, and has room for 2,048 drops
+pub record IsInbox (items : Buffer KeptData) (drops : Buffer DropEntry) : Type 0 where
+  pub within : length items.items ≤ items.capacity
+  pub some : 1 ≤ items.capacity
+  pub few : items.capacity ≤ 1024
+  pub room : drops.capacity ≡ 2048
+
+-- there is room for one item more, and the application listens
+abbrev pub takes_more : InboxState → Bool
+takes_more held = not held.stopped && nat_lt (length held.items) held.capacity
+
+-- Drop Codes 1 and 2: the application is no longer listening, and the receive buffer is full (RFC 4340, section 11.7)
+abbrev pub not_listening : ℕ
+not_listening = 1
+
+abbrev pub buffer_full : ℕ
+buffer_full = 2
+
+-- why data are dropped now
+abbrev pub reason : InboxState → ℕ
+reason held = if held.stopped then not_listening else buffer_full
+
+-- one item more, behind the others
+abbrev pub keeping : InboxState → ℕ → List ℕ → InboxState
+keeping held n payload = record held { items = held.items ++ record { number = n; payload = payload } ∷ [] }
+
+-- one drop more; of all the last 2,048 count (own)
+abbrev pub dropping : InboxState → ℕ → InboxState
+dropping held n = record held { drops = keep_last 2048 (held.drops ++ record { number = n; code = reason held } ∷ []) }
+
+-- data of this number that arrived, by whether there is room
+abbrev pub held_if : Bool → InboxState → ℕ → List ℕ → InboxState
+held_if true held n payload = keeping held n payload
+held_if false held n payload = dropping held n
+
+-- what is answered to data, by whether there is room
+abbrev pub answer_if : Bool → InboxState → Arrival
+answer_if true held = Kept
+answer_if false held = Dropped (reason held)
+
+-- the inbox once data of at most 1,024 bytes arrived, and its answer
+abbrev pub after_arrival : InboxState → ℕ → List ℕ → InboxState
+after_arrival held n payload = held_if (takes_more held) held n payload
+
+abbrev pub arrival_answer : InboxState → Arrival
+arrival_answer held = answer_if (takes_more held) held
+
+-- the number and the length of the first item
+abbrev pub first_taken : List KeptData → Option (ℕ × ℕ)
+first_taken [] = None
+first_taken (item ∷ items) = Some (item.number, length item.payload)
+
+-- the first item's data over the front of these bytes
+abbrev pub first_over : List KeptData → List ℕ → List ℕ
+first_over [] old = old
+first_over (item ∷ items) old = item.payload ++ drop (length item.payload) old
+
+-- without its first item
+abbrev pub taking : InboxState → InboxState
+taking held = record held { items = drop 1 held.items }
+
+-- the application has stopped listening
+abbrev pub stopping : InboxState → InboxState
+stopping held = record held { stopped = true }
+
+-- three quarters of the room are taken (own; RFC 4340, section 11.6 leaves to the receiver when it is slow)
+abbrev pub is_slow : InboxState → Bool
+is_slow held = nat_le (3 * held.capacity) (4 * length held.items)

@@ -1,0 +1,5 @@
+pub mod Drops
+pub mod History
+pub mod Inbox
+pub mod Reports
+pub mod Writing

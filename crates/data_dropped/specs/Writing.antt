@@ -1,0 +1,13 @@
+-- How the bytes of a report are written: from each place the byte of a run of codes, and then what is left.
+use Rattle.std.specs.Prelude.{◌≡◌, ◌⊎◌, ℕ, ◌+◌, List, ◌++◌, Option, None, drop, get_or, replicate}
+use Rattle.ack_vectors.specs.Coding.{BeginsWithout, coded_bytes}
+use Rattle.data_dropped.specs.Drops.{drop_coding, most_numbers}
+
+-- So many codes from a place on are the same, and a byte covers no more of them: it is full, or another code follows, or none.
+pub record IsRunAt (codes : List (Option ℕ)) (place count : ℕ) : Type 0 where
+  pub same : drop place codes ≡ replicate count (get_or codes place None) ++ drop (place + count) codes
+  pub ends : (count ≡ most_numbers (get_or codes place None)) ⊎ BeginsWithout drop_coding (get_or codes place None) (drop (place + count) codes)
+
+-- the bytes of the codes from a place on
+abbrev pub bytes_from : List (Option ℕ) → ℕ → List ℕ
+bytes_from codes place = coded_bytes drop_coding (drop place codes)

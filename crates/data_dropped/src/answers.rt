@@ -1,0 +1,11 @@
+//! What becomes of data that arrive.
+
+/// What became of data.
+#[derive(Clone, Copy, Debug, PartialEq, Eq)]
+pub enum Arrival {
+    /// They are held, and can be taken.
+    Kept,
+    /// They were dropped, for the reason of this Drop Code (RFC 4340, section 11.7): 1, the application is no longer
+    /// listening; 2, the receive buffer is full.
+    Dropped(u8),
+}

@@ -1,0 +1,164 @@
+//! A bounded inbox.
+use crate::answers::Arrival;
+use crate::drops::{DropBytes, DropEntry, SPAN};
+use crate::item::{Item, MOST_DATA};
+use crate::writing::write_drops;
+use circular_buffer::HeapCircularBuffer;
+use seq_circle::{NoMemory, Seq48};
+use std::alloc::Global;
+use std::marker::Model;
+
+// Drop Codes (RFC 4340, section 11.7).
+const NOT_LISTENING: u8 = 1;
+
+const BUFFER_FULL: u8 = 2;
+
+/// The data of packets that an application has not read yet, at most `capacity` of them, and the last 2,048 drops. It
+/// drops what arrives while it is full or after `stop`, and never what it holds. Contracts see the items and the drops
+/// from the oldest on, whether it was stopped, and its capacity.
+///
+/// Both rings are taken in `new`: an item has 1,040 bytes, a drop 16. No call after it takes memory.
+#[derive(Drop)]
+pub struct Inbox {
+    items: HeapCircularBuffer<Item>,
+    drops: HeapCircularBuffer<DropEntry>,
+    stopped: bool,
+}
+
+impl Model for Inbox {
+    ghost use Rattle.data_dropped.specs.Inbox.{InboxState, IsInbox};
+
+    ghost Value = { InboxState };
+
+    ghost view = { λ i. record { items = i.items.items; drops = i.drops.items; stopped = i.stopped; capacity = i.items.capacity } };
+
+    ghost invariant = { λ i. IsInbox i.items i.drops };
+}
+
+impl Inbox {
+    ghost use Rattle.std.specs.Prelude.{◌≡◌, ◌↔◌, ◌<◌, ◌≤◌, [], IfOk, IsNone, false, length, true};
+    ghost use Rattle.data_dropped.specs.Drops.{drop_bytes, tells_all};
+    ghost use Rattle.data_dropped.specs.Inbox.{after_arrival, arrival_answer, dropping, empty_inbox, first_over, first_taken, is_slow, keeping, reason, stopping, takes_more, taking};
+
+    /// An inbox that holds nothing, for 1 to 1,024 items. `NoMemory` comes only here.
+    pub fn new(alloc: Global, capacity: u16) -> Result<Inbox, NoMemory>
+        requires some { 1 ≤ capacity }
+        requires few { capacity ≤ 1024 }
+        ensures { IfOk result (λ inbox. inbox ≡ empty_inbox capacity) }
+    {
+        let Ok(items) = HeapCircularBuffer::with_capacity(alloc, usize::from(capacity)) else {
+            return Err(NoMemory);
+        };
+        let Ok(drops) = HeapCircularBuffer::with_capacity(alloc, SPAN) else {
+            return Err(NoMemory);
+        };
+        Ok(Inbox {
+            items,
+            drops,
+            stopped: false,
+        })
+    }
+
+    // The application listens, and there is room for one item more.
+    fn takes_more(&self) -> bool
+        ensures value { result ≡ takes_more self.now }
+        ensures within { length self.now.items ≤ self.now.capacity }
+    {
+        !self.stopped && self.items.len() < self.items.capacity()
+    }
+
+    // Why data are dropped now.
+    fn reason(&self) -> u8
+        ensures { result ≡ reason self.now }
+    {
+        if self.stopped {
+            NOT_LISTENING
+        } else {
+            BUFFER_FULL
+        }
+    }
+
+    // One item more.
+    fn keep(&mut self, number: Seq48, payload: &[u8])
+        requires room { takes_more self.old ≡ true }
+        requires short { length payload.now ≤ 1024 }
+        ensures { self.new ≡ keeping self.old number payload.now }
+    {
+        self.items.push_back(Item::of(number, payload));
+    }
+
+    // One drop more, which may drive the oldest out.
+    fn note_drop(&mut self, number: Seq48) -> Arrival
+        ensures dropped { self.new ≡ dropping self.old number }
+        ensures answer { result ≡ Arrival.Dropped (reason self.old) }
+    {
+        let code = self.reason();
+        self.drops.push_back(DropEntry { number, code });
+        Arrival::Dropped(code)
+    }
+
+    /// Data of at most 1,024 bytes have arrived under this packet's number. `Dropped(1)` exactly after `stop`; then
+    /// `Dropped(2)` exactly where `capacity` items are held; otherwise they are kept, behind the others.
+    pub fn arrived(&mut self, number: Seq48, payload: &[u8]) -> Arrival
+        requires { length payload.now ≤ 1024 }
+        ensures after { self.new ≡ after_arrival self.old number payload.now }
+        ensures answer { result ≡ arrival_answer self.old }
+        ensures stopped { (result ≡ Arrival.Dropped 1) ↔ (self.old.stopped ≡ true) }
+        ensures full { (result ≡ Arrival.Dropped 2) ↔ ((self.old.stopped ≡ false) × (length self.old.items ≡ self.old.capacity)) }
+        ensures kept { (result ≡ Arrival.Kept) ↔ ((self.old.stopped ≡ false) × (length self.old.items < self.old.capacity)) }
+    {
+        if self.takes_more() {
+            self.keep(number, payload);
+            Arrival::Kept
+        } else {
+            self.note_drop(number)
+        }
+    }
+
+    /// Longer data have arrived, which no item holds: they are dropped, with 1 after `stop` and with 2 otherwise (own).
+    pub fn too_long(&mut self, number: Seq48) -> Arrival
+        ensures dropped { self.new ≡ dropping self.old number }
+        ensures answer { result ≡ Arrival.Dropped (reason self.old) }
+    {
+        self.note_drop(number)
+    }
+
+    /// Takes the first item: its data are written over the front of `into`, and its number and length are answered. The
+    /// rest of `into` stays. None exactly where no item is held; then nothing changes.
+    pub fn take(&mut self, into: &mut [u8; MOST_DATA]) -> Option<(Seq48, usize)>
+        ensures rest { self.new ≡ taking self.old }
+        ensures answer { result ≡ first_taken self.old.items }
+        ensures data { into.new ≡ first_over self.old.items into.old }
+        ensures none { IsNone result ↔ (self.old.items ≡ []) }
+    {
+        let item = self.items.pop_front()?;
+        let count = item.put(into);
+        Some((item.number(), count))
+    }
+
+    /// The application listens no more: all data that arrive from now on are dropped. Items that are held can still be
+    /// taken.
+    pub fn stop(&mut self)
+        ensures { self.new ≡ stopping self.old }
+    {
+        self.stopped = true;
+    }
+
+    /// Tells whether three quarters of the room are taken, or more (own).
+    pub fn slow(&self) -> bool
+        ensures { result ≡ is_slow self.now }
+    {
+        3 * self.items.capacity() <= 4 * self.items.len()
+    }
+
+    /// Writes the Data Dropped bytes of the numbers from `ack` downwards, in place of what was there: of the 2,048
+    /// numbers down to the lowest that has a code, each with the code of its latest drop among the last 2,048 (RFC 4340,
+    /// section 11.7; the bounds are own). They are the first 253 bytes of these, and none where no number has a code.
+    /// True exactly where nothing was cut off.
+    pub fn write(&self, out: &mut DropBytes, ack: Seq48) -> bool
+        ensures bytes { out.new.items ≡ drop_bytes self.now.drops ack }
+        ensures whole { result ≡ tells_all self.now.drops ack }
+    {
+        write_drops(&self.drops, out, ack)
+    }
+}

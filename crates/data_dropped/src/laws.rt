@@ -1,0 +1,37 @@
+//! What the definitions mean.
+ghost use Rattle.std.specs.Prelude.{◌≡◌, ℕ, ◌^◌, ◌<◌, ◌≤◌, ◌==◌, nat_lt, List, [], ◌∷◌, ◌++◌, IsTrue, Some, None, length, if◌then◌else◌};
+ghost use Rattle.std.specs.List.{list_any};
+ghost use Rattle.seq_circle.specs.Circle.{distance};
+ghost use Rattle.data_dropped.specs.Drops.{HaveCodes, code_at, drop_bytes, drop_code, numbers_reached, tells_all};
+ghost use Rattle.data_dropped.specs.History.{InboxCall, IsAccounted, history_after_all, is_stop, no_history};
+ghost use Rattle.data_dropped.specs.Inbox.{InboxState};
+ghost use Rattle.data_dropped.specs.declared.drops.DropEntry.{DropEntry};
+
+/// Of several drops of a number the latest counts (own).
+pub fn the_latest_drop_counts()
+    ensures { (drops : List DropEntry) (d : DropEntry) (n : ℕ)
+        → drop_code (drops ++ d ∷ []) n ≡ (if d.number == n then Some d.code else drop_code drops n) }
+{}
+
+/// A report of drops is read back: each number that it reaches has the code that was told, if one was, and no number
+/// below has one (`codes`). So a code is read only where it is the number's (`only`), and where nothing was cut off every
+/// number of the 2,048 from the acknowledgement number down has its code (`all`; RFC 4340, section 11.7). It reaches no
+/// further (`within`), and fits one option (`fits`; section 5.8).
+pub fn a_report_of_drops_reads_back()
+    ensures codes { (drops : List DropEntry) (ack n : ℕ) → HaveCodes drops → ack < 2 ^ 48 → n < 2 ^ 48
+        → code_at ack (drop_bytes drops ack) n ≡ (if nat_lt (distance n ack) (numbers_reached drops ack) then drop_code drops n else None) }
+    ensures only { (drops : List DropEntry) (ack n code : ℕ) → HaveCodes drops → ack < 2 ^ 48 → n < 2 ^ 48
+        → code_at ack (drop_bytes drops ack) n ≡ Some code → drop_code drops n ≡ Some code }
+    ensures all { (drops : List DropEntry) (ack n : ℕ) → HaveCodes drops → ack < 2 ^ 48 → n < 2 ^ 48 → IsTrue (tells_all drops ack)
+        → distance n ack < 2048 → code_at ack (drop_bytes drops ack) n ≡ drop_code drops n }
+    ensures within { (drops : List DropEntry) (ack : ℕ) → HaveCodes drops → numbers_reached drops ack ≤ 2048 }
+    ensures fits { (drops : List DropEntry) (ack : ℕ) → length (drop_bytes drops ack) ≤ 253 }
+{}
+
+/// Over every list of calls of an inbox, what was taken and then what is held is what was kept, whole, once and in order;
+/// no more is held than may be; it was stopped where a call stopped it; and the drops that count are the last 2,048 of
+/// all, each with a Drop Code of three bits (own).
+pub fn what_is_kept_is_taken()
+    ensures accounted { (capacity : ℕ) (calls : List InboxCall) → IsAccounted capacity (list_any is_stop calls) (history_after_all (no_history capacity) calls) }
+    ensures codes { (capacity : ℕ) (calls : List InboxCall) → HaveCodes (history_after_all (no_history capacity) calls).held.drops }
+{}
