@@ -1,5 +1,6 @@
-//! What a test tries stands in a helper that answers whether it holds: a proof follows each value that a function holds
-//! through each of its steps.
+//! Options: each type in each length, what a list of them has, vectors, and what is written (RFC 4340, section 5.8). What a
+//! test tries stands in a helper that answers whether it holds: a proof follows each value that a function holds through
+//! each of its steps.
 ghost use Rattle.std.specs.Prelude.{◌≤◌, length};
 
 use dccp_options::kinds::{ACK_VECTOR_0, CHANGE_L};

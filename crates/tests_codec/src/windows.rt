@@ -1,5 +1,5 @@
-//! Marks and verdicts as rows of numbers, which one helper takes: a proof follows each value that a function holds
-//! through each of its steps.
+//! Windows of numbers (RFC 4340, section 7.5): marks and verdicts as rows of numbers, which one helper takes. For a proof
+//! follows each value that a function holds through each of its steps.
 ghost use Rattle.std.specs.Prelude.{true, ◌≡◌};
 ghost use Rattle.validity_windows.specs.Windows.{InRange};
 
