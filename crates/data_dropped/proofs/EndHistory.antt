@@ -1,5 +1,5 @@
 -- The calls of an end with an inbox are calls of the inbox.
-use Rattle.std.proofs.Common.{◌≡◌, ℕ, ◌||◌, nat_le, if◌then◌else◌, Bool, true, false, List, [], ◌∷◌, length, Option, Some, None, refl, ap, sym, subst, ◌∙◌}
+use Rattle.std.proofs.Common.{◌≡◌, ℕ, ◌||◌, Bool, true, false, List, [], ◌∷◌, Option, Some, None, refl, ap, sym, subst, ◌∙◌}
 use Rattle.std.specs.Prelude.{slice_range}
 use Rattle.std.specs.List.{list_any}
 use Rattle.congestion_trait.specs.Control.{Control}
@@ -8,11 +8,11 @@ use Rattle.dccp_endpoint.specs.Receiving.{receives}
 use Rattle.dccp_endpoint.specs.declared.config.Config.{Config}
 use Rattle.end_answers.specs.declared.outcome.Outcome.{Outcome}
 use Rattle.end_answers.specs.declared.outcome.Outcome.TheVariants.{Took, Dropped, Synced, WasReset, SentReset}
-use Rattle.data_dropped.specs.Buffering.{Buffered, arriving_number, buffers, delivered_by, data_delivered}
+use Rattle.data_dropped.specs.Buffering.{Buffered, arriving_number, buffers, delivery_by, data_delivered}
 use Rattle.data_dropped.specs.Drops.{HaveCodes}
 use Rattle.data_dropped.specs.EndHistory.{BufferedPast, EndCall, EndOpens, EndReceives, EndTakes, EndStops, buffered_now, calls_by, calls_from, data_call, is_end_stop, no_past, past_after, past_all, past_step}
 use Rattle.data_dropped.specs.History.{History, InboxCall, IsAccounted, Takes, Stops, history_after, history_after_all, is_stop}
-use Rattle.data_dropped.specs.Inbox.{InboxState}
+use Rattle.data_dropped.specs.Inbox.{InboxState, fits_item}
 use Rattle.data_dropped.proofs.History.{all-accounted, history_after-accounted, counted-codes, first-accounted}
 
 -- data of any length
@@ -20,9 +20,9 @@ held-data : (h : History) (n : ℕ) (payload : List ℕ) (short : Bool) → (dat
 held-data h n payload true = refl
 held-data h n payload false = refl
 
-held-by : (h : History) (n : ℕ) (bytes : List ℕ) (outcome : Outcome) → (delivered_by h.held n bytes outcome).inbox ≡ (history_after_all h (calls_by n bytes outcome)).held
+held-by : (h : History) (n : ℕ) (bytes : List ℕ) (outcome : Outcome) → (delivery_by h.held n bytes outcome).inbox ≡ (history_after_all h (calls_by n bytes outcome)).held
 held-by h n bytes (Took None) = refl
-held-by h n bytes (Took (Some place)) = held-data h n (slice_range bytes place.0 place.1) (nat_le (length (slice_range bytes place.0 place.1)) 1024)
+held-by h n bytes (Took (Some place)) = held-data h n (slice_range bytes place.0 place.1) (fits_item (slice_range bytes place.0 place.1))
 held-by h n bytes (Dropped why) = refl
 held-by h n bytes (Synced number) = refl
 held-by h n bytes (WasReset code) = refl
@@ -43,7 +43,7 @@ module _ {C : Type 0} (control : Control C) where
   none-stops : (n : ℕ) (bytes : List ℕ) (outcome : Outcome) → list_any is_stop (calls_by n bytes outcome) ≡ false
   none-stops n bytes (Took None) = refl
   none-stops n bytes (Took (Some place)) =
-      ap (λ (b : Bool). b || false) (data_call-goes_on (nat_le (length (slice_range bytes place.0 place.1)) 1024) n (slice_range bytes place.0 place.1))
+      ap (λ (b : Bool). b || false) (data_call-goes_on (fits_item (slice_range bytes place.0 place.1)) n (slice_range bytes place.0 place.1))
   none-stops n bytes (Dropped why) = refl
   none-stops n bytes (Synced number) = refl
   none-stops n bytes (WasReset code) = refl

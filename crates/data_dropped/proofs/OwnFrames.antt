@@ -1,5 +1,6 @@
 -- The frames of an end tell the drops of its inbox.
-use Rattle.std.proofs.Common.{◌≡◌, ℕ, ◌+◌, ◌-◌, ◌%◌, ◌^◌, ◌≤◌, ◌==◌, ◌&&◌, not, Bool, true, false, IsTrue, List, [], ◌∷◌, ◌++◌, length, Option, Some, None, Result, Ok, refl, ap, sym, ◌∙◌, subst, inl, inr, arith, All}
+use Rattle.std.proofs.Common.{◌≡◌, ℕ, ◌+◌, ◌-◌, ◌%◌, ◌^◌, ◌≤◌, ◌==◌, ◌&&◌, not, Bool, true, false, IsTrue, List, [], ◌∷◌, ◌++◌, length, map, Option, Some, None, Result, Ok, refl, ap, sym, ◌∙◌, subst, inl, inr, arith, All}
+use Rattle.ack_vectors.specs.declared.room.Vectors.{Vectors}
 use Rattle.std.specs.List.{list_any}
 use Rattle.std.proofs.Math.Nat.{mod-mod}
 use Rattle.std.proofs.lemmas.Bool.{and_parts}
@@ -28,7 +29,7 @@ use Rattle.dccp_endpoint.specs.End.{EndState, IsProper}
 use Rattle.dccp_endpoint.specs.Heeding.{Due}
 use Rattle.dccp_endpoint.specs.Inputs.{Arrives}
 use Rattle.dccp_endpoint.specs.Receiving.{receives}
-use Rattle.dccp_endpoint.specs.Reporting.{vector_items}
+use Rattle.dccp_endpoint.specs.Reporting.{vector_item, vector_items}
 use Rattle.dccp_endpoint.specs.Steps.{next_number}
 use Rattle.dccp_endpoint.specs.ShortForm.{allows_short, goes_short, is_negotiating}
 use Rattle.dccp_endpoint.specs.Speaking.{change_item, change_items, change_type, confirm_item, confirm_items, confirm_type}
@@ -37,6 +38,7 @@ use Rattle.dccp_endpoint.specs.declared.config.Config.{Config}
 use Rattle.dccp_endpoint.proofs.AnyFrames.{IsSealed}
 use Rattle.dccp_endpoint.proofs.Calling.{every_step_has_an_effect}
 use Rattle.dccp_endpoint.proofs.OwnFrames.{own_frames_read_in_widths}
+use Rattle.dccp_endpoint.proofs.OwnPackets.{parts-are, vector_parts}
 use Rattle.dccp_endpoint.proofs.Short.{is_formed}
 use Rattle.feature_lists.specs.declared.features.Place.{Place}
 use Rattle.feature_lists.specs.declared.features.Place.TheVariants.{Here, There}
@@ -51,9 +53,13 @@ use Rattle.data_dropped.proofs.Behind.{IsOther, area-tells, others-tell_nothing}
 use Rattle.data_dropped.proofs.Frames.{lengthened-read}
 
 -- an end's own options are of other types
-vector-other : (has : Bool) (set : MarkedSet) (ack : ℕ) → All IsOther (vector_items has set ack)
-vector-other true set ack = All-cons IsOther _ [] refl (All-nil IsOther)
-vector-other false set ack = All-nil IsOther
+parts-other : (parts : List (List ℕ)) → All IsOther (map vector_item parts)
+parts-other [] = All-nil IsOther
+parts-other (part ∷ parts) = All-cons IsOther (vector_item part) (map vector_item parts) refl (parts-other parts)
+
+vector-other : (has_vector : Bool) (vectors : Vectors) (set : MarkedSet) (greatest : ℕ) → All IsOther (vector_items has_vector vectors set greatest)
+vector-other has_vector vectors set greatest =
+    subst (λ (items : List Item). All IsOther items) (sym (parts-are has_vector vectors set greatest)) (parts-other (vector_parts has_vector vectors set greatest))
 
 confirm-other : (left : Bool) → (confirm_type left == data_dropped) ≡ false
 confirm-other true = refl
@@ -75,7 +81,7 @@ changes-other rows (k ∷ keys) =
 own-other : (e : EndState) (f : Effect) (k : Kind) (confirms : List Due) (keys : List Key)
     → All IsOther (vector_of e f k ++ (confirm_items confirms ++ change_items (rows_by e.rows f) keys))
 own-other e f k confirms keys =
-    All-append IsOther (vector_of e f k) (confirm_items confirms ++ change_items (rows_by e.rows f) keys) (vector-other _ _ _)
+    All-append IsOther (vector_of e f k) (confirm_items confirms ++ change_items (rows_by e.rows f) keys) (vector-other _ _ _ _)
     (All-append IsOther (confirm_items confirms) (change_items (rows_by e.rows f) keys) (confirms-other confirms) (changes-other (rows_by e.rows f) keys))
 
 -- the header of an own frame is valid as it is read

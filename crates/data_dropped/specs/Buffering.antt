@@ -1,5 +1,5 @@
 -- An end with a bounded inbox, and what it does with bytes that arrive (own; the end's part is RFC 4340's, section 8.5).
-use Rattle.std.specs.Prelude.{ℕ, ◌≤◌, nat_le, Bool, true, false, List, length, Option, Some, None, Result, Ok, Err, slice_range}
+use Rattle.std.specs.Prelude.{ℕ, ◌≤◌, Bool, true, false, List, length, Option, Some, None, Result, Ok, Err, slice_range}
 use Rattle.congestion_trait.specs.Control.{Control}
 use Rattle.dccp_endpoint.specs.Controlled.{End, EndStep, begins, with_control}
 use Rattle.dccp_endpoint.specs.Receiving.{receives}
@@ -10,7 +10,7 @@ use Rattle.dccp_packets.specs.declared.reading.Malformed.{Malformed}
 use Rattle.end_answers.specs.declared.outcome.Outcome.{Outcome}
 use Rattle.end_answers.specs.declared.outcome.Outcome.TheVariants.{Took, Dropped, Synced, WasReset, SentReset}
 use Rattle.data_dropped.specs.Frames.{buffered_frame}
-use Rattle.data_dropped.specs.Inbox.{InboxState, after_arrival, arrival_answer, dropping, empty_inbox, reason}
+use Rattle.data_dropped.specs.Inbox.{InboxState, after_arrival, arrival_answer, dropping, empty_inbox, fits_item, reason}
 use Rattle.data_dropped.specs.declared.answers.Arrival.{Arrival}
 use Rattle.data_dropped.specs.declared.answers.Arrival.TheVariants as arrival
 
@@ -45,7 +45,7 @@ data_delivered false held n payload = record { inbox = dropping held n; arrival 
 
 -- by their length
 abbrev pub delivered_data : InboxState → ℕ → List ℕ → Delivery
-delivered_data held n payload = data_delivered (nat_le (length payload) 1024) held n payload
+delivered_data held n payload = data_delivered (fits_item payload) held n payload
 
 -- none were delivered
 abbrev pub nothing_delivered : InboxState → Delivery
@@ -57,12 +57,12 @@ delivered_from held n bytes None = nothing_delivered held
 delivered_from held n bytes (Some place) = delivered_data held n (slice_range bytes place.0 place.1)
 
 -- by the outcome of the end
-abbrev pub delivered_by : InboxState → ℕ → List ℕ → Outcome → Delivery
-delivered_by held n bytes (Took delivered) = delivered_from held n bytes delivered
-delivered_by held n bytes (Dropped why) = nothing_delivered held
-delivered_by held n bytes (Synced number) = nothing_delivered held
-delivered_by held n bytes (WasReset code) = nothing_delivered held
-delivered_by held n bytes (SentReset code detail) = nothing_delivered held
+abbrev pub delivery_by : InboxState → ℕ → List ℕ → Outcome → Delivery
+delivery_by held n bytes (Took delivered) = delivered_from held n bytes delivered
+delivery_by held n bytes (Dropped why) = nothing_delivered held
+delivery_by held n bytes (Synced number) = nothing_delivered held
+delivery_by held n bytes (WasReset code) = nothing_delivered held
+delivery_by held n bytes (SentReset code detail) = nothing_delivered held
 
 -- the data that an outcome delivers lie within the bytes
 abbrev pub HasDataWithin : List ℕ → Outcome → Type 0
@@ -92,7 +92,7 @@ with_inbox step delivery =
 
 -- by the end's step, for a packet of this number
 abbrev pub buffers_step : {C : Type 0} → InboxState → ℕ → List ℕ → EndStep C Outcome → BufferedStep C
-buffers_step held n bytes step = with_inbox step (delivered_by held n bytes step.answer)
+buffers_step held n bytes step = with_inbox step (delivery_by held n bytes step.answer)
 
 -- What an end with an inbox does with bytes that arrive: the end's step is that of any end.
 abbrev pub buffers : {C : Type 0} → Control C → Buffered C → List ℕ → BufferedStep C

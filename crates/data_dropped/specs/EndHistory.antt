@@ -1,5 +1,5 @@
 -- An end with an inbox, call by call (own).
-use Rattle.std.specs.Prelude.{ℕ, nat_le, Bool, true, false, List, [], ◌∷◌, length, Option, Some, None, slice_range, if◌then◌else◌}
+use Rattle.std.specs.Prelude.{ℕ, Bool, true, false, List, [], ◌∷◌, Option, Some, None, slice_range}
 use Rattle.congestion_trait.specs.Control.{Control}
 use Rattle.dccp_endpoint.specs.Calling.{opens}
 use Rattle.dccp_endpoint.specs.Controlled.{End, EndStep, begins, with_control}
@@ -9,6 +9,7 @@ use Rattle.end_answers.specs.declared.outcome.Outcome.{Outcome}
 use Rattle.end_answers.specs.declared.outcome.Outcome.TheVariants.{Took, Dropped, Synced, WasReset, SentReset}
 use Rattle.data_dropped.specs.Buffering.{Buffered, arriving_number}
 use Rattle.data_dropped.specs.History.{History, InboxCall, DataArrive, LongDataArrive, Takes, Stops, history_after, history_after_all, no_history}
+use Rattle.data_dropped.specs.Inbox.{fits_item}
 
 -- a call of an end with an inbox that changes it
 pub data EndCall : Type 0 where
@@ -38,7 +39,7 @@ data_call false n payload = LongDataArrive n
 abbrev pub calls_from : ℕ → List ℕ → Option (ℕ × ℕ) → List InboxCall
 calls_from n bytes None = []
 calls_from n bytes (Some place) =
-    data_call (nat_le (length (slice_range bytes place.0 place.1)) 1024) n (slice_range bytes place.0 place.1) ∷ []
+    data_call (fits_item (slice_range bytes place.0 place.1)) n (slice_range bytes place.0 place.1) ∷ []
 
 -- by the outcome of a packet of this number
 abbrev pub calls_by : ℕ → List ℕ → Outcome → List InboxCall

@@ -1,6 +1,6 @@
 //! An end with a bounded inbox.
 ghost use Rattle.std.specs.Prelude.{◌≡◌, Some};
-ghost use Rattle.data_dropped.specs.Buffering.{HasDataWithin, arriving_number, delivered_by, delivered_data};
+ghost use Rattle.data_dropped.specs.Buffering.{HasDataWithin, arriving_number, delivery_by, delivered_data};
 
 use crate::answers::{Arrival, Got};
 use crate::appending::buffer;
@@ -41,7 +41,7 @@ fn settle(
     outcome: &Outcome,
 ) -> Option<Arrival>
     requires { HasDataWithin bytes.now outcome.now }
-    ensures { record { inbox = inbox.new; arrival = result } ≡ delivered_by inbox.old number bytes.now outcome.now }
+    ensures { record { inbox = inbox.new; arrival = result } ≡ delivery_by inbox.old number bytes.now outcome.now }
 {
     match *outcome {
         Outcome::Took {
