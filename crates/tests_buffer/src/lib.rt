@@ -8,3 +8,5 @@ mod ends;
 mod inboxes;
 #[cfg(test)]
 mod reports;
+#[cfg(test)]
+mod rooms;
