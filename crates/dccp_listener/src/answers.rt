@@ -3,19 +3,12 @@ ghost use Rattle.std.specs.Prelude.{◌≡◌, ◌≤◌, length};
 ghost use Rattle.ccid_two.specs.Kinds.{kinds_control};
 ghost use Rattle.dccp_endpoint.specs.Feeding.{receiving};
 ghost use Rattle.two_ends.specs.World.{seen_of, send_refusal_of};
-ghost use Rattle.dccp_listener.specs.Chain.{Calls, call_of, flow_step, is_flow, is_given_up};
+ghost use Rattle.dccp_listener.specs.Chain.{Calls, call_of, flow_step, is_given_up};
 
 use crate::Act;
 use ccid_two::Kinds;
 use dccp_endpoint::{AbortFault, CloseFault, Endpoint, Outbox, Outcome, Phase, SendFault};
 use world_events::{Refusal, Seen};
-
-/// The phases in which a peer has an end.
-pub(crate) fn is_flow(phase: Phase) -> bool
-    ensures { result ≡ is_flow phase }
-{
-    !matches!(phase, Phase::Closed | Phase::Listen)
-}
 
 /// The phase in which an end is given up.
 pub(crate) fn is_given_up(phase: Phase) -> bool
