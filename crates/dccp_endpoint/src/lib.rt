@@ -27,6 +27,7 @@ pub use crate::config::{Config, Ports};
 pub use crate::endpoint::Endpoint;
 pub(crate) use crate::exit::Exit;
 pub use crate::feeding::feed;
+pub use crate::heeding::heed_request;
 pub use crate::laws::{
     every_step_has_one_effect, frames_are_read_in_full, own_frames_are_read,
     own_packets_say_one_thing_of_a_row, own_packets_speak_once, packets_say_one_thing_to_a_row,
