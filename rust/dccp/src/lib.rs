@@ -45,7 +45,6 @@ mod connection;
 mod end;
 mod names;
 mod sys;
-mod timers;
 
 pub use crate::config::Config;
 pub use crate::connection::{Accepted, Connection, Event, Transmit};
