@@ -64,10 +64,10 @@ static void make(dccp_end *end, bool is_server) {
 static void connect_both(void) {
     make(&client, false);
     make(&server, true);
-    check(dccp_open(&client, &frame));
+    check(dccp_open(&client, 0, &frame));
     for (dccp_end *to = &server; frame.length; to = to == &server ? &client : &server) {
         dccp_frame given = frame;
-        check(dccp_receive(to, given.bytes, given.length, &frame, &told));
+        check(dccp_receive(to, given.bytes, given.length, 0, &frame, &told));
     }
 }
 
@@ -77,8 +77,8 @@ static void look(void) {
 }
 
 /* A timer of no number is refused before the end is touched, and another does nothing in this phase. */
-static void refused(void) { dccp_timer(&client, 6, &frame); }
-static void idle(void) { dccp_timer(&client, DCCP_TIMER_CLOSE, &frame); }
+static void refused(void) { dccp_timer(&client, 6, 0, &frame); }
+static void idle(void) { dccp_timer(&client, DCCP_TIMER_CLOSE, 0, &frame); }
 
 static void made(void) {
     dccp_end end = DCCP_NONE;
@@ -90,12 +90,12 @@ static void made(void) {
 static void two_packets(size_t length) {
     for (int it = 0; it < 2; it++) {
         dccp_frame given;
-        check(dccp_send(&client, data, length, &given));
-        check(dccp_receive(&server, given.bytes, given.length, &frame, &told));
+        check(dccp_send(&client, data, length, 0, &given));
+        check(dccp_receive(&server, given.bytes, given.length, 0, &frame, &told));
     }
     dccp_frame given = frame;
-    if (given.length == 0) check(dccp_timer(&server, DCCP_TIMER_ACK, &given));
-    check(dccp_receive(&client, given.bytes, given.length, &frame, &told));
+    if (given.length == 0) check(dccp_timer(&server, DCCP_TIMER_ACK, 0, &given));
+    check(dccp_receive(&client, given.bytes, given.length, 0, &frame, &told));
 }
 
 static void of_no_bytes(void) { two_packets(0); }
@@ -140,14 +140,14 @@ static void *every_call(void *none) {
     uint64_t width = 500;
     connect_both();
     for (int it = 0; it < 100; it++) of_1024_bytes();
-    check(dccp_prefer(&client, DCCP_SEQUENCE_WINDOW, false, &width, 1, &frame));
+    check(dccp_prefer(&client, DCCP_SEQUENCE_WINDOW, false, &width, 1, 0, &frame));
     dccp_frame given = frame;
-    check(dccp_receive(&server, given.bytes, given.length, &frame, &told));
+    check(dccp_receive(&server, given.bytes, given.length, 0, &frame, &told));
     check(dccp_look(&client, &view));
     check(dccp_feature(&client, DCCP_CCID, false, &state));
-    check(dccp_timer(&server, DCCP_TIMER_ACK, &frame));
-    check(dccp_close(&client, &frame));
-    check(dccp_abort(&server, &frame));
+    check(dccp_timer(&server, DCCP_TIMER_ACK, 0, &frame));
+    check(dccp_close(&client, 0, &frame));
+    check(dccp_abort(&server, 0, &frame));
     return none;
 }
 

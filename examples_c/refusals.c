@@ -1,5 +1,5 @@
-/* A Request byte by byte, each refusal of the library in turn, and each allocation refused: a line for each that is not answered as the
- * header says. */
+/* A Request byte by byte, each refusal of the library in turn, what a server accepts, a timer in counted time, and each allocation refused:
+ * a line for each that is not answered as the header says. */
 #include <stdio.h>
 #include <stdlib.h>
 #include <string.h>
@@ -58,7 +58,7 @@ static void exchange(dccp_end *to, dccp_end *from, dccp_frame *frame) {
     dccp_told told;
     while (frame->length) {
         dccp_frame answer;
-        same("a frame that arrives", DCCP_OK, dccp_receive(to, frame->bytes, frame->length, &answer, &told));
+        same("a frame that arrives", DCCP_OK, dccp_receive(to, frame->bytes, frame->length, 0, &answer, &told));
         *frame = answer;
         dccp_end *other = to;
         to = from;
@@ -80,13 +80,15 @@ static void without_an_end(void) {
     dccp_feature_state state;
     uint8_t byte = 0;
     uint64_t value = 2;
-    same("open without an end", DCCP_NOT_MADE, dccp_open(&none, &frame));
-    same("send without an end", DCCP_NOT_MADE, dccp_send(&none, &byte, 1, &frame));
-    same("close without an end", DCCP_NOT_MADE, dccp_close(&none, &frame));
-    same("abort without an end", DCCP_NOT_MADE, dccp_abort(&none, &frame));
-    same("prefer without an end", DCCP_NOT_MADE, dccp_prefer(&none, DCCP_CCID, false, &value, 1, &frame));
-    same("a timer without an end", DCCP_NOT_MADE, dccp_timer(&none, DCCP_TIMER_ACK, &frame));
-    same("a datagram without an end", DCCP_NOT_MADE, dccp_receive(&none, &byte, 1, &frame, &told));
+    same("open without an end", DCCP_NOT_MADE, dccp_open(&none, 0, &frame));
+    same("send without an end", DCCP_NOT_MADE, dccp_send(&none, &byte, 1, 0, &frame));
+    same("close without an end", DCCP_NOT_MADE, dccp_close(&none, 0, &frame));
+    same("abort without an end", DCCP_NOT_MADE, dccp_abort(&none, 0, &frame));
+    same("prefer without an end", DCCP_NOT_MADE, dccp_prefer(&none, DCCP_CCID, false, &value, 1, 0, &frame));
+    same("a timer without an end", DCCP_NOT_MADE, dccp_timer(&none, DCCP_TIMER_ACK, 0, &frame));
+    same("a tick without an end", DCCP_NOT_MADE, dccp_tick(&none, 0, &frame));
+    same("the time until then", DCCP_NEVER, dccp_until_first(&none, 0));
+    same("a datagram without an end", DCCP_NOT_MADE, dccp_receive(&none, &byte, 1, 0, &frame, &told));
     same("a look without an end", DCCP_NOT_MADE, dccp_look(&none, &view));
     same("a feature without an end", DCCP_NOT_MADE, dccp_feature(&none, DCCP_CCID, false, &state));
     same("its frame", 0, frame.length);
@@ -136,7 +138,7 @@ static void a_request(void) {
     dccp_frame frame;
     settings.is_plain = true;
     same("a plain client", DCCP_OK, dccp_make(&end, &settings, &none, 0));
-    same("its open", DCCP_OK, dccp_open(&end, &frame));
+    same("its open", DCCP_OK, dccp_open(&end, 0, &frame));
     same("the length of its Request", sizeof wanted, frame.length);
     same("its Request over IPv4", 0, memcmp(frame.bytes, wanted, sizeof wanted) != 0);
     settings.is_v6 = true;
@@ -145,24 +147,101 @@ static void a_request(void) {
     wanted[6] = 0xea;
     wanted[7] = 0x79;
     same("a client over IPv6", DCCP_OK, dccp_make(&end, &settings, &none, 0));
-    same("its open", DCCP_OK, dccp_open(&end, &frame));
+    same("its open", DCCP_OK, dccp_open(&end, 0, &frame));
     same("its Request over IPv6", 0, memcmp(frame.bytes, wanted, sizeof wanted) != 0);
     dccp_free(&end);
 }
 
-static void memory(void) {
+/* The Request of a client for a service. */
+static dccp_frame request(uint32_t service) {
+    dccp_end end = DCCP_NONE;
+    dccp_settings settings = client;
+    dccp_wish none = {.count = 0};
+    dccp_frame frame;
+    settings.service = service;
+    same("a client", DCCP_OK, dccp_make(&end, &settings, &none, 0));
+    same("its open", DCCP_OK, dccp_open(&end, 0, &frame));
+    dccp_free(&end);
+    return frame;
+}
+
+/* What a server makes of a datagram. That it is one need not be said. */
+static uint32_t accepts(dccp_end *end, const dccp_frame *datagram, dccp_frame *frame, dccp_told *told) {
+    dccp_settings settings = server();
+    dccp_wish none = {.count = 0};
+    settings.is_server = false;
+    return dccp_accept(end, &settings, &none, 0, datagram->bytes, datagram->length, 0, frame, told);
+}
+
+static void a_server(void) {
+    dccp_end end = DCCP_NONE;
+    dccp_settings own = server();
+    dccp_wish none = {.count = 0}, ninth = {.values = {1}, .count = 9, .feature = DCCP_CCID};
+    dccp_frame frame;
+    dccp_told told;
+    static uint8_t bytes[DCCP_MOST_FRAME_BYTES + 1];
+    dccp_frame wanted = request(own.service), other = request(own.service + 1);
+    same("a Request for another service", DCCP_NO_CONNECTION, accepts(&end, &other, &frame, &told));
+    same("what became of it", DCCP_SENT_RESET, told.kind);
+    same("the code: Bad Service Code", 8, told.code);
+    same("its Reset", 7, (frame.bytes[8] >> 1) & 15);
+    same("its end", false, end.made);
+    same("a Request", DCCP_OK, accepts(&end, &wanted, &frame, &told));
+    same("its Response", 1, (frame.bytes[8] >> 1) & 15);
+    same("its phase", DCCP_RESPOND, look(&end).phase);
+    same("no packet", DCCP_NO_CONNECTION, dccp_accept(&end, &own, &none, 0, bytes, 11, 0, &frame, &told));
+    same("why", DCCP_CAUSE_SHORT, told.cause);
+    same("its frame", 0, frame.length);
+    same("the end that was there", false, end.made);
+    same("2,045 bytes", DCCP_TOO_LONG, dccp_accept(&end, &own, &none, 0, bytes, sizeof bytes, 0, &frame, &told));
+    same("nine values", DCCP_BAD_LIST, dccp_accept(&end, &own, &ninth, 1, bytes, 11, 0, &frame, &told));
+    same("blocks that are kept", 0, held);
+}
+
+/* A Request that nobody answers goes out again after one second, and after two more (RFC 4340, section 8.1.1; 64 at most). */
+static void a_timer(void) {
     dccp_end end = DCCP_NONE;
     dccp_wish none = {.count = 0};
+    dccp_frame frame;
+    same("a client", DCCP_OK, dccp_make(&end, &client, &none, 0));
+    same("no timer yet", DCCP_NEVER, dccp_until_first(&end, 5000));
+    same("its open", DCCP_OK, dccp_open(&end, 5000, &frame));
+    same("the time until then", 1000, dccp_until_first(&end, 5000));
+    same("a tick before that", DCCP_NOTHING_DUE, dccp_tick(&end, 5999, &frame));
+    same("its frame", 0, frame.length);
+    same("a tick", DCCP_OK, dccp_tick(&end, 6000, &frame));
+    same("its Request", 0, (frame.bytes[8] >> 1) & 15);
+    same("a further tick", DCCP_NOTHING_DUE, dccp_tick(&end, 6000, &frame));
+    same("the time until the next", 2000, dccp_until_first(&end, 6000));
+    dccp_free(&end);
+}
+
+static uint32_t make(dccp_end *end, const dccp_frame *datagram) {
+    dccp_wish none = {.count = 0};
+    (void)datagram;
+    return dccp_make(end, &client, &none, 0);
+}
+
+static uint32_t accept(dccp_end *end, const dccp_frame *datagram) {
+    dccp_frame frame;
+    dccp_told told;
+    return accepts(end, datagram, &frame, &told);
+}
+
+/* Each allocation of a call that makes an end is refused in turn. */
+static void memory(uint32_t (*making)(dccp_end *, const dccp_frame *)) {
+    dccp_end end = DCCP_NONE;
+    dccp_frame datagram = request(client.service);
     for (unsigned at = 1;; at++) {
         refused = at;
-        uint32_t status = dccp_make(&end, &client, &none, 0);
+        uint32_t status = making(&end, &datagram);
         bool is_reached = refused == 0;
         refused = 0;
         if (!is_reached) {
-            same("make with memory", DCCP_OK, status);
+            same("with memory", DCCP_OK, status);
             break;
         }
-        same("make without memory", DCCP_NO_MEMORY, status);
+        same("without memory", DCCP_NO_MEMORY, status);
         same("an end without memory", false, end.made);
         same("blocks that are kept", 0, held);
     }
@@ -181,39 +260,39 @@ static void a_connection(void) {
     same("a client", DCCP_OK, dccp_make(&one, &client, &none, 0));
     same("a server", DCCP_OK, dccp_make(&other, &settings, &none, 0));
     same("its phase", DCCP_LISTEN, look(&other).phase);
-    same("a server's open", DCCP_NOT_FRESH, dccp_open(&other, &frame));
-    same("abort in CLOSED", DCCP_NOT_LIVE, dccp_abort(&one, &frame));
-    same("close in CLOSED", DCCP_NOT_OPEN, dccp_close(&one, &frame));
-    same("send in CLOSED", DCCP_NOT_OPEN, dccp_send(&one, bytes, 1, &frame));
-    same("open", DCCP_OK, dccp_open(&one, &frame));
+    same("a server's open", DCCP_NOT_FRESH, dccp_open(&other, 0, &frame));
+    same("abort in CLOSED", DCCP_NOT_LIVE, dccp_abort(&one, 0, &frame));
+    same("close in CLOSED", DCCP_NOT_OPEN, dccp_close(&one, 0, &frame));
+    same("send in CLOSED", DCCP_NOT_OPEN, dccp_send(&one, bytes, 1, 0, &frame));
+    same("open", DCCP_OK, dccp_open(&one, 0, &frame));
     same("its Request", 0, (frame.bytes[8] >> 1) & 15);
     exchange(&other, &one, &frame);
-    same("open twice", DCCP_NOT_FRESH, dccp_open(&one, &frame));
+    same("open twice", DCCP_NOT_FRESH, dccp_open(&one, 0, &frame));
     same("the client's phase", DCCP_OPEN, look(&one).phase);
     same("the server's phase", DCCP_OPEN, look(&other).phase);
-    same("the timer Ack", DCCP_OK, dccp_timer(&other, DCCP_TIMER_ACK, &frame));
+    same("the timer Ack", DCCP_OK, dccp_timer(&other, DCCP_TIMER_ACK, 0, &frame));
     same("its Ack", 3, (frame.bytes[8] >> 1) & 15);
     exchange(&one, &other, &frame);
-    same("the timer Close", DCCP_NOTHING_DUE, dccp_timer(&one, DCCP_TIMER_CLOSE, &frame));
+    same("the timer Close", DCCP_NOTHING_DUE, dccp_timer(&one, DCCP_TIMER_CLOSE, 0, &frame));
     same("its frame", 0, frame.length);
-    same("timer 6", DCCP_UNKNOWN, dccp_timer(&one, 6, &frame));
-    same("1,025 bytes", DCCP_TOO_LONG, dccp_send(&one, bytes, DCCP_MOST_DATA_BYTES + 1, &frame));
-    same("2,044 bytes", DCCP_OK, dccp_receive(&one, bytes, DCCP_MOST_FRAME_BYTES, &frame, &told));
+    same("timer 6", DCCP_UNKNOWN, dccp_timer(&one, 6, 0, &frame));
+    same("1,025 bytes", DCCP_TOO_LONG, dccp_send(&one, bytes, DCCP_MOST_DATA_BYTES + 1, 0, &frame));
+    same("2,044 bytes", DCCP_OK, dccp_receive(&one, bytes, DCCP_MOST_FRAME_BYTES, 0, &frame, &told));
     same("what became of them", DCCP_DROPPED, told.kind);
-    same("2,045 bytes", DCCP_TOO_LONG, dccp_receive(&one, bytes, DCCP_MOST_FRAME_BYTES + 1, &frame, &told));
-    same("2 twice", DCCP_BAD_LIST, dccp_prefer(&one, DCCP_CCID, false, twice, 2, &frame));
-    same("the peer's ratio", DCCP_NOT_OURS, dccp_prefer(&one, DCCP_ACK_RATIO, true, twice, 1, &frame));
+    same("2,045 bytes", DCCP_TOO_LONG, dccp_receive(&one, bytes, DCCP_MOST_FRAME_BYTES + 1, 0, &frame, &told));
+    same("2 twice", DCCP_BAD_LIST, dccp_prefer(&one, DCCP_CCID, false, twice, 2, 0, &frame));
+    same("the peer's ratio", DCCP_NOT_OURS, dccp_prefer(&one, DCCP_ACK_RATIO, true, twice, 1, 0, &frame));
     same("the window", 4, look(&one).window);
-    for (unsigned at = 0; at < 4; at++) same("a packet", DCCP_OK, dccp_send(&one, (const uint8_t *)"abc", at, &frame));
+    for (unsigned at = 0; at < 4; at++) same("a packet", DCCP_OK, dccp_send(&one, (const uint8_t *)"abc", at, 0, &frame));
     dccp_frame given = frame;
-    same("its arrival", DCCP_OK, dccp_receive(&other, given.bytes, given.length, &frame, &told));
+    same("its arrival", DCCP_OK, dccp_receive(&other, given.bytes, given.length, 0, &frame, &told));
     same("its data", DCCP_DATA, told.kind);
     same("how many they are", 3, told.past - told.first);
     same("the data themselves", 0, memcmp(given.bytes + told.first, "abc", 3) != 0);
-    same("a full window", DCCP_WINDOW_FULL, dccp_send(&one, bytes, 1, &frame));
+    same("a full window", DCCP_WINDOW_FULL, dccp_send(&one, bytes, 1, 0, &frame));
     same("what is in flight", 4, look(&one).in_flight);
-    same("abort", DCCP_OK, dccp_abort(&one, &frame));
-    same("its Reset arrives", DCCP_OK, dccp_receive(&other, frame.bytes, frame.length, &frame, &told));
+    same("abort", DCCP_OK, dccp_abort(&one, 0, &frame));
+    same("its Reset arrives", DCCP_OK, dccp_receive(&other, frame.bytes, frame.length, 0, &frame, &told));
     same("the news of it", DCCP_WAS_RESET, told.kind);
     same("its code", 2, told.code);
     same("the server's phase", DCCP_TIMEWAIT, look(&other).phase);
@@ -226,7 +305,10 @@ int main(void) {
     without_an_end();
     wishes();
     a_request();
-    memory();
+    a_server();
+    a_timer();
+    memory(make);
+    memory(accept);
     a_connection();
     return wrong;
 }

@@ -5,8 +5,8 @@
  *
  * Each offers a Sequence Window of 500 packets, and the one that closes asks for 700 while data flow. One frame in twenty is lost
  * on purpose. Last comes a line: how many packets came, the Sequence Windows of this end and of its peer, and the code with which
- * the connection ended. It is what a caller of the library needs: a socket, a clock, a random first number, the timers, and a limit
- * on answers to strangers. */
+ * the connection ended. It is what a caller of the library needs: a socket, a clock, a random first number, and a limit on answers
+ * to strangers. */
 #include <arpa/inet.h>
 #include <errno.h>
 #include <poll.h>
@@ -20,18 +20,11 @@
 
 #include "dccp.h"
 
-enum { TIMERS = 6, PACKETS = 200, SERVICE = 42, WIDTH = 500, WIDER = 700, LOST_OF = 20, ANSWERS_A_SECOND = 20, LINGER = 1500 };
-
-struct timer {
-    bool runs;
-    uint64_t since, wait; /* in milliseconds */
-};
+enum { PACKETS = 200, SERVICE = 42, WIDTH = 500, WIDER = 700, LOST_OF = 20, ANSWERS_A_SECOND = 20, LINGER = 1500 };
 
 struct talk {
     int socket;
     dccp_end end;
-    struct timer timers[TIMERS];
-    uint64_t rto_wait;      /* how long the timer RTO runs when it begins next */
     uint64_t heard, second; /* when data came last; the second in which answers are counted */
     unsigned handed, answers, sent, got;
     bool closes, waits, has_ended;
@@ -69,56 +62,16 @@ static dccp_view look(struct talk *talk) {
     return view;
 }
 
-static const uint64_t first_wait[TIMERS] = {1000, 200, 1000, 1000, 400, 240000};
-
-/* Whether a timer runs for an end (docs/USING.md, "The timers"). */
-static bool runs_in(unsigned timer, const dccp_view *view) {
-    switch (timer) {
-    case DCCP_TIMER_REQUEST: return view->phase == DCCP_REQUEST;
-    case DCCP_TIMER_ACK:
-    case DCCP_TIMER_NEGOTIATE: return view->phase == DCCP_PARTOPEN || view->phase == DCCP_OPEN;
-    case DCCP_TIMER_RTO: return view->phase == DCCP_OPEN && 0 < view->in_flight;
-    case DCCP_TIMER_CLOSE: return view->phase == DCCP_CLOSEREQ || view->phase == DCCP_CLOSING;
-    default: return view->phase == DCCP_TIMEWAIT;
-    }
-}
-
-/* After each call the timers run as the end needs them. */
-static void arrange(struct talk *talk) {
-    dccp_view view = look(talk);
-    for (unsigned it = 0; it < TIMERS; it++) {
-        if (runs_in(it, &view) && !talk->timers[it].runs)
-            talk->timers[it] = (struct timer){true, now(), it == DCCP_TIMER_RTO ? talk->rto_wait : first_wait[it]};
-        else if (!runs_in(it, &view))
-            talk->timers[it].runs = false;
-    }
-}
-
-static uint64_t left(const struct timer *timer) {
-    uint64_t gone = now() - timer->since;
-    return gone < timer->wait ? timer->wait - gone : 0;
-}
-
-/* Each timer that has run out is told once, and waits twice as long the next time, up to 64 seconds. */
+/* Tells the end each timer that has run out. */
 static void tick(struct talk *talk) {
     dccp_frame frame;
-    for (unsigned it = 0; it < TIMERS; it++) {
-        struct timer *timer = &talk->timers[it];
-        if (!timer->runs || left(timer) != 0) continue;
-        *timer = (struct timer){true, now(), timer->wait < 32000 ? 2 * timer->wait : 64000};
-        if (it == DCCP_TIMER_RTO) talk->rto_wait = timer->wait;
-        dccp_timer(&talk->end, it, &frame);
-        hand_over(talk, &frame);
-        arrange(talk);
-    }
+    while (dccp_tick(&talk->end, now(), &frame) == DCCP_OK) hand_over(talk, &frame);
 }
 
-/* How long the program may sleep. */
+/* How long the program may sleep, in milliseconds: 50 at most, since it also waits to close. */
 static int until_first(struct talk *talk) {
-    uint64_t soonest = 50;
-    for (unsigned it = 0; it < TIMERS; it++)
-        if (talk->timers[it].runs && left(&talk->timers[it]) < soonest) soonest = left(&talk->timers[it]);
-    return (int)soonest;
+    uint64_t left = dccp_until_first(&talk->end, now());
+    return left < 50 ? (int)left : 50;
 }
 
 /* Whether another Sync or Reset may answer in this second (RFC 4340, sections 7.5.4 and 8.3.1). */
@@ -130,31 +83,26 @@ static bool may_answer(struct talk *talk) {
     return talk->answers++ < ANSWERS_A_SECOND;
 }
 
+/* Takes what is told of a datagram, and hands over the frame that answers it. */
+static void take(struct talk *talk, const dccp_told *told, const dccp_frame *frame) {
+    bool is_answer = told->kind == DCCP_SYNCED || told->kind == DCCP_SENT_RESET;
+    if (!is_answer || may_answer(talk)) hand_over(talk, frame);
+    if (told->kind == DCCP_DATA) {
+        talk->got++;
+        talk->heard = now();
+    }
+    bool is_over = told->kind == DCCP_WAS_RESET || (told->kind == DCCP_SENT_RESET && look(talk).phase == DCCP_CLOSED);
+    if (is_over && !talk->has_ended) {
+        talk->has_ended = true;
+        talk->code = told->code;
+        talk->ended = now();
+    }
+}
+
 static void arrived(struct talk *talk, const uint8_t *datagram, size_t length) {
     dccp_frame frame;
     dccp_told told;
-    uint32_t in_flight = look(talk).in_flight;
-    if (dccp_receive(&talk->end, datagram, length, &frame, &told) != DCCP_OK) return;
-    bool is_answer = told.kind == DCCP_SYNCED || told.kind == DCCP_SENT_RESET;
-    if (!is_answer || may_answer(talk)) hand_over(talk, &frame);
-    dccp_view view = look(talk);
-    if (told.kind == DCCP_DATA) {
-        talk->got++;
-        talk->heard = now();
-        /* An Ack goes out no later than after its timer's first wait. */
-        if (talk->timers[DCCP_TIMER_ACK].wait != first_wait[DCCP_TIMER_ACK]) talk->timers[DCCP_TIMER_ACK].runs = false;
-    }
-    bool is_over = told.kind == DCCP_WAS_RESET || (told.kind == DCCP_SENT_RESET && view.phase == DCCP_CLOSED);
-    if (is_over && !talk->has_ended) {
-        talk->has_ended = true;
-        talk->code = told.code;
-        talk->ended = now();
-    }
-    if (view.in_flight < in_flight) {
-        talk->timers[DCCP_TIMER_RTO].runs = false;
-        talk->rto_wait = first_wait[DCCP_TIMER_RTO];
-    }
-    arrange(talk);
+    if (dccp_receive(&talk->end, datagram, length, now(), &frame, &told) == DCCP_OK) take(talk, &told, &frame);
 }
 
 /* Hears all that has come. */
@@ -168,10 +116,8 @@ static void hear(struct talk *talk) {
 static void widen(struct talk *talk) {
     dccp_frame frame;
     uint64_t wider = WIDER;
-    if (dccp_prefer(&talk->end, DCCP_SEQUENCE_WINDOW, false, &wider, 1, &frame) != DCCP_OK) fail("prefer");
+    if (dccp_prefer(&talk->end, DCCP_SEQUENCE_WINDOW, false, &wider, 1, now(), &frame) != DCCP_OK) fail("prefer");
     hand_over(talk, &frame);
-    talk->timers[DCCP_TIMER_NEGOTIATE].runs = false;
-    arrange(talk);
 }
 
 /* Sends data as long as the window has room. The client speaks first, and the server once it has heard something. */
@@ -181,26 +127,24 @@ static void say(struct talk *talk) {
     if (talk->waits && talk->got == 0) return;
     while (talk->sent < PACKETS) {
         data[0] = (uint8_t)talk->sent;
-        if (dccp_send(&talk->end, data, sizeof data, &frame) != DCCP_OK) return;
+        if (dccp_send(&talk->end, data, sizeof data, now(), &frame) != DCCP_OK) return;
         talk->sent++;
         hand_over(talk, &frame);
-        arrange(talk);
         if (talk->closes && talk->sent == PACKETS / 2) widen(talk);
     }
 }
 
-static void make(struct talk *talk, bool is_server, unsigned own_port, unsigned peer_port) {
-    dccp_settings settings = {
+static const dccp_wish wide = {.values = {WIDTH}, .count = 1, .feature = DCCP_SEQUENCE_WINDOW, .is_offered = true};
+
+static dccp_settings settings_of(unsigned own_port, unsigned peer_port) {
+    return (dccp_settings){
         .own_address = {127, 0, 0, 1},
         .peer_address = {127, 0, 0, 1},
         .first_number = first_number(),
         .service = SERVICE,
         .own_port = (uint16_t)own_port,
         .peer_port = (uint16_t)peer_port,
-        .is_server = is_server,
     };
-    dccp_wish wide = {.values = {WIDTH}, .count = 1, .feature = DCCP_SEQUENCE_WINDOW, .is_offered = true};
-    if (dccp_make(&talk->end, &settings, &wide, 1) != DCCP_OK) fail("make");
 }
 
 static struct sockaddr_in here(unsigned port) {
@@ -213,7 +157,7 @@ static void connect_to(int socket, const struct sockaddr_in *address) {
     if (connect(socket, (const struct sockaddr *)address, sizeof *address) != 0) fail("connect");
 }
 
-/* Waits for a client whose first datagram leads an end out of LISTEN. Any other is forgotten. */
+/* Waits for a client whose first datagram opens a connection. Any other is forgotten, but for its answer. */
 static void serve(struct talk *talk, unsigned port) {
     struct sockaddr_in own = here(port), peer;
     if (bind(talk->socket, (struct sockaddr *)&own, sizeof own) != 0) fail("bind");
@@ -222,13 +166,17 @@ static void serve(struct talk *talk, unsigned port) {
         socklen_t size = sizeof peer;
         ssize_t length = recvfrom(talk->socket, datagram, sizeof datagram, 0, (struct sockaddr *)&peer, &size);
         if (length < 0) fail("recvfrom");
-        make(talk, true, port, ntohs(peer.sin_port));
-        connect_to(talk->socket, &peer);
-        arrived(talk, datagram, (size_t)length);
-        if (look(talk).phase != DCCP_LISTEN) return;
-        dccp_free(&talk->end);
-        struct sockaddr nobody = {.sa_family = AF_UNSPEC};
-        if (connect(talk->socket, &nobody, sizeof nobody) != 0) fail("connect");
+        dccp_settings settings = settings_of(port, ntohs(peer.sin_port));
+        dccp_frame frame;
+        dccp_told told;
+        uint32_t status = dccp_accept(&talk->end, &settings, &wide, 1, datagram, (size_t)length, now(), &frame, &told);
+        if (status == DCCP_OK) {
+            connect_to(talk->socket, &peer);
+            take(talk, &told, &frame);
+            return;
+        }
+        if (status == DCCP_NO_CONNECTION && may_answer(talk))
+            sendto(talk->socket, frame.bytes, frame.length, 0, (struct sockaddr *)&peer, size);
     }
 }
 
@@ -237,11 +185,11 @@ static void ask(struct talk *talk, unsigned port) {
     socklen_t size = sizeof own;
     connect_to(talk->socket, &peer);
     if (getsockname(talk->socket, (struct sockaddr *)&own, &size) != 0) fail("getsockname");
-    make(talk, false, ntohs(own.sin_port), port);
+    dccp_settings settings = settings_of(ntohs(own.sin_port), port);
     dccp_frame frame;
-    if (dccp_open(&talk->end, &frame) != DCCP_OK) fail("open");
+    if (dccp_make(&talk->end, &settings, &wide, 1) != DCCP_OK) fail("make");
+    if (dccp_open(&talk->end, now(), &frame) != DCCP_OK) fail("open");
     hand_over(talk, &frame);
-    arrange(talk);
 }
 
 static dccp_feature_state width(struct talk *talk, bool at_peer) {
@@ -256,8 +204,7 @@ static void close_if_done(struct talk *talk) {
     dccp_view view = look(talk);
     if (talk->sent < PACKETS || view.in_flight != 0 || now() - talk->heard < 1000 || view.phase != DCCP_OPEN) return;
     if (width(talk, false).stand != DCCP_STABLE) return;
-    if (dccp_close(&talk->end, &frame) == DCCP_OK) hand_over(talk, &frame);
-    arrange(talk);
+    if (dccp_close(&talk->end, now(), &frame) == DCCP_OK) hand_over(talk, &frame);
 }
 
 int main(int count, char **words) {
@@ -265,7 +212,6 @@ int main(int count, char **words) {
     bool is_client = 3 <= count && strcmp(words[1], "client") == 0;
     if ((count != 3 && !closes) || (!is_server && !is_client)) fail("talk server PORT [closes], or talk client PORT [closes]");
     struct talk talk = {.socket = socket(AF_INET, SOCK_DGRAM, 0), .end = DCCP_NONE, .heard = now(), .closes = closes, .waits = is_server};
-    talk.rto_wait = first_wait[DCCP_TIMER_RTO];
     if (talk.socket < 0) fail("socket");
     if (is_server)
         serve(&talk, (unsigned)atoi(words[2]));

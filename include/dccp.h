@@ -1,11 +1,13 @@
 /* One end of a DCCP connection (RFC 4340) with CCID 2 (RFC 4341) and feature negotiation.
  *
- * The library has no socket, no clock and no thread. Datagrams that arrived go in, and each call leaves at most one frame,
- * which the caller sends to the peer. It takes memory in dccp_make alone.
+ * The library has no socket, no clock and no thread. Datagrams that arrived and the time go in, and each call leaves at most
+ * one frame, which the caller sends to the peer. It takes memory in dccp_make and dccp_accept alone.
  *
- * Order of calls: begin a handle with DCCP_NONE, make an end in it, and for a client open it. From then on
- * dccp_receive for each datagram, dccp_timer for each timer that has run out, dccp_send, dccp_prefer, dccp_close and
- * dccp_abort in whatever order. dccp_free at last. docs/USING.md, "The timers", says which run when.
+ * Order of calls: begin a handle with DCCP_NONE; a client makes an end in it and opens it, a server lets dccp_accept make it of
+ * a peer's first datagram. From then on dccp_receive for each datagram, dccp_tick as soon as dccp_until_first has gone by,
+ * dccp_send, dccp_prefer, dccp_close and dccp_abort in whatever order. dccp_free at last.
+ *
+ * Time is `now`, a number of milliseconds from any beginning, the same for all calls of an end; it does not go back.
  *
  * After every call: if frame.length is not 0, its bytes go to the peer, whatever the call answered. A call that was
  * refused has changed nothing and leaves no bytes.
@@ -31,12 +33,13 @@ extern "C" {
 #define DCCP_MOST_FRAME_BYTES 2044 /* the longest frame, and the longest datagram that is taken */
 #define DCCP_MOST_DATA_BYTES 1024  /* the most data of one packet */
 #define DCCP_MOST_VALUES 8         /* the most values of one wish */
+#define DCCP_NEVER UINT64_MAX      /* what dccp_until_first answers where no timer runs */
 
 /* What a call answers. */
 typedef enum dccp_status {
     DCCP_OK = 0,
     DCCP_NOT_MADE = 1,       /* the handle holds no end */
-    DCCP_NO_MEMORY = 2,      /* dccp_make: no memory was to be had */
+    DCCP_NO_MEMORY = 2,      /* dccp_make, dccp_accept: no memory was to be had */
     DCCP_NOT_FRESH = 3,      /* dccp_open: a server's end, or one that was opened before */
     DCCP_NOT_OPEN = 4,       /* the connection is in no phase for the call */
     DCCP_TOO_LONG = 5,       /* more than 1,024 bytes of data, or more than 2,044 of a datagram */
@@ -46,7 +49,8 @@ typedef enum dccp_status {
     DCCP_NOT_OURS = 9,       /* Sequence Window or Ack Ratio of the peer, which it alone sets */
     DCCP_NOT_LIVE = 10,      /* dccp_abort: there is no connection */
     DCCP_UNKNOWN = 11,       /* no feature or timer has this number, or the first number is not below 2^48 */
-    DCCP_NOTHING_DUE = 12    /* dccp_timer: the timer has nothing to do now */
+    DCCP_NOTHING_DUE = 12,   /* dccp_tick: no timer has run out; dccp_timer: this one has nothing to do */
+    DCCP_NO_CONNECTION = 13  /* dccp_accept: the datagram opens no connection */
 } dccp_status;
 
 /* Where a connection stands (RFC 4340, section 8.4). */
@@ -198,31 +202,48 @@ uint32_t dccp_make(dccp_end *end, const dccp_settings *settings, const dccp_wish
 /* Frees what the handle holds. Afterwards it holds none, and may be freed again or made again. */
 void dccp_free(dccp_end *end);
 
+/* Makes a server's end of the first datagram of a peer, as dccp_make does it and with `is_server` taken for true. DCCP_OK: a Request has
+ * opened a connection, which is the peer's from now on; where one of its options was a fault, the phase is DCCP_CLOSED already. Else the
+ * handle holds none: DCCP_NO_CONNECTION, and the frame answers the datagram, if there is an answer; a status of dccp_make, or
+ * DCCP_TOO_LONG over 2,044 bytes, and `told` is as it was. It takes memory for any datagram: whoever minds leaves out those that are no
+ * Request, of which `(datagram[8] >> 1) & 15` is 0. */
+uint32_t dccp_accept(dccp_end *end, const dccp_settings *settings, const dccp_wish *wishes, size_t count, const uint8_t *datagram,
+                     size_t length, uint64_t now, dccp_frame *frame, dccp_told *told);
+
 /* A client asks for its service, once: its Request is left. DCCP_OK, DCCP_NOT_MADE, DCCP_NOT_FRESH. */
-uint32_t dccp_open(dccp_end *end, dccp_frame *frame);
+uint32_t dccp_open(dccp_end *end, uint64_t now, dccp_frame *frame);
 
 /* Sends data, 0 to 1,024 bytes; in DCCP_PARTOPEN a client speaks first. DCCP_OK, DCCP_NOT_MADE, and the first that holds of
  * DCCP_NOT_OPEN (in all phases but DCCP_PARTOPEN and DCCP_OPEN), DCCP_TOO_LONG, DCCP_NOT_NEGOTIATED, DCCP_WINDOW_FULL. */
-uint32_t dccp_send(dccp_end *end, const uint8_t *data, size_t length, dccp_frame *frame);
+uint32_t dccp_send(dccp_end *end, const uint8_t *data, size_t length, uint64_t now, dccp_frame *frame);
 
 /* Closes the connection in order. No data are delivered to this end any more. DCCP_OK, DCCP_NOT_MADE; DCCP_NOT_OPEN in all phases but
  * DCCP_PARTOPEN and DCCP_OPEN. */
-uint32_t dccp_close(dccp_end *end, dccp_frame *frame);
+uint32_t dccp_close(dccp_end *end, uint64_t now, dccp_frame *frame);
 
 /* Ends the connection at once. DCCP_OK, DCCP_NOT_MADE; DCCP_NOT_LIVE in DCCP_CLOSED, DCCP_LISTEN and DCCP_TIMEWAIT. */
-uint32_t dccp_abort(dccp_end *end, dccp_frame *frame);
+uint32_t dccp_abort(dccp_end *end, uint64_t now, dccp_frame *frame);
 
 /* Asks for these values of a feature, best first, at the peer or at this end. DCCP_OK, DCCP_NOT_MADE, DCCP_UNKNOWN; DCCP_NOT_OPEN in all
  * phases but DCCP_PARTOPEN and DCCP_OPEN; then DCCP_BAD_LIST, DCCP_NOT_OURS. What comes of it is seen by dccp_feature. */
-uint32_t dccp_prefer(dccp_end *end, uint32_t feature, bool at_peer, const uint64_t *values, size_t count, dccp_frame *frame);
+uint32_t dccp_prefer(dccp_end *end, uint32_t feature, bool at_peer, const uint64_t *values, size_t count, uint64_t now,
+                     dccp_frame *frame);
 
-/* A timer has run out. DCCP_OK; DCCP_NOTHING_DUE where it has nothing to do in this phase, which is no fault; DCCP_NOT_MADE,
- * DCCP_UNKNOWN. */
-uint32_t dccp_timer(dccp_end *end, uint32_t timer, dccp_frame *frame);
+/* Tells the end the first of its timers that has run out. DCCP_OK, also where that leaves no frame: call it again, until it answers
+ * DCCP_NOTHING_DUE, where none has run out; DCCP_NOT_MADE. */
+uint32_t dccp_tick(dccp_end *end, uint64_t now, dccp_frame *frame);
+
+/* How many milliseconds it is until dccp_tick has something to do; DCCP_NEVER where no timer runs, or there is no end. Ask again after every
+ * other call. */
+uint64_t dccp_until_first(dccp_end *end, uint64_t now);
+
+/* A timer has run out: for whoever keeps the timers instead of the library, and does not call dccp_tick. DCCP_OK; DCCP_NOTHING_DUE where it
+ * has nothing to do in this phase, which is no fault; DCCP_NOT_MADE, DCCP_UNKNOWN. */
+uint32_t dccp_timer(dccp_end *end, uint32_t timer, uint64_t now, dccp_frame *frame);
 
 /* A datagram of the peer has arrived: the bytes of one DCCP packet, from the generic header on. DCCP_OK, and what became of it in `told`;
  * DCCP_NOT_MADE, or DCCP_TOO_LONG over 2,044 bytes, and `told` is as it was. */
-uint32_t dccp_receive(dccp_end *end, const uint8_t *datagram, size_t length, dccp_frame *frame, dccp_told *told);
+uint32_t dccp_receive(dccp_end *end, const uint8_t *datagram, size_t length, uint64_t now, dccp_frame *frame, dccp_told *told);
 
 /* Reads an end. DCCP_OK, or DCCP_NOT_MADE and `view` is as it was. */
 uint32_t dccp_look(dccp_end *end, dccp_view *view);

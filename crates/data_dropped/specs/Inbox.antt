@@ -71,6 +71,10 @@ after_arrival held n payload = held_if (takes_more held) held n payload
 abbrev pub arrival_answer : InboxState → Arrival
 arrival_answer held = answer_if (takes_more held) held
 
+-- an item holds as much data: 1,024 bytes, as many as an end sends at once (own)
+abbrev pub fits_item : List ℕ → Bool
+fits_item payload = nat_le (length payload) 1024
+
 -- the number and the length of the first item
 abbrev pub first_taken : List KeptData → Option (ℕ × ℕ)
 first_taken [] = None

@@ -1,11 +1,14 @@
--- What a call from C does to the end that its handle holds (own; the steps are the end's).
-use Rattle.std.specs.Prelude.{ℕ, Bool, List, [], take, Option, Some, None, Result}
+-- What a call from C does to the end that its handle holds, and to its timers (own; the steps are the end's).
+use Rattle.std.specs.Prelude.{ℕ, ◌^◌, ◌-◌, Bool, true, false, List, [], ◌∷◌, take, Option, Some, None, unwrap_or, Result, if◌then◌else◌}
 use Rattle.ccid_two.specs.Kinds.{Both, kinds_control}
 use Rattle.congestion_trait.specs.Control.{may_send}
-use Rattle.dccp_endpoint.specs.Calling.{aborts, closes, fires, opens, prefers}
-use Rattle.dccp_endpoint.specs.Controlled.{End, EndStep, has_in_flight, with_control}
+use Rattle.dccp_endpoint.specs.Calling.{aborts, closes, opens, prefers}
+use Rattle.dccp_endpoint.specs.Controlled.{End, with_control}
 use Rattle.dccp_endpoint.specs.Early.{sends_soon}
 use Rattle.dccp_endpoint.specs.Receiving.{receives}
+use Rattle.dccp_uses.specs.Alarms.{alarm_of, has_run_out, until_first}
+use Rattle.dccp_uses.specs.Session.{SessionState, SessionStep, after_hearing, calls, calls_anew, every_timer, tells_end}
+use Rattle.dccp_uses.specs.declared.alarms.Alarms.{Alarms}
 use Rattle.end_answers.specs.declared.calls.AbortFault.{AbortFault}
 use Rattle.end_answers.specs.declared.calls.CloseFault.{CloseFault}
 use Rattle.end_answers.specs.declared.calls.OpenFault.{OpenFault}
@@ -18,51 +21,88 @@ use Rattle.feature_lists.specs.declared.wishes.PreferFault.{PreferFault}
 use Rattle.dccp_c.specs.Keeping.{Inner}
 use Rattle.dccp_c.specs.declared.frame.Frame.{Frame}
 
--- an end of C's, with CCID 2 or the fixed window
+-- an end of C's, with CCID 2 or the fixed window, and the alarms of its timers
 abbrev pub CEnd : Type 0
-CEnd = End Both
+CEnd = SessionState Both
+
+-- what a call does to it, by its answer
+abbrev pub CDoing : Type 0 → Type 0
+CDoing Answer = CEnd → SessionStep Both Answer
 
 -- what a call that may be refused does to it
 abbrev pub CCall : Type 0 → Type 0
-CCall Fault = CEnd → EndStep Both (Result (Unit {0}) Fault)
+CCall Fault = CDoing (Result (Unit {0}) Fault)
+
+-- an end and its alarms
+abbrev pub with_alarms : End Both → Alarms → CEnd
+with_alarms end alarms = record { end = end; alarms = alarms }
+
+-- what a call has done
+abbrev pub done : {Answer : Type 0} → End Both → Alarms → Option (List ℕ) → Answer → SessionStep Both Answer
+done end alarms frame answer = record { session = with_alarms end alarms; frame = frame; answer = answer }
 
 -- a client asks for its service (RFC 4340, section 8.1.1)
-abbrev pub c_opens : CCall OpenFault
-c_opens e = with_control kinds_control e.congestion (opens e.state)
+abbrev pub c_opens : ℕ → CCall OpenFault
+c_opens now s = calls kinds_control now s (with_control kinds_control s.end.congestion (opens s.end.state))
 
 -- data go out in PARTOPEN and OPEN, where the window has room (section 8.1.5)
-abbrev pub c_sends : List ℕ → CCall SendFault
-c_sends payload e = with_control kinds_control e.congestion (sends_soon e.state payload (may_send kinds_control e.congestion))
+abbrev pub c_sends : List ℕ → ℕ → CCall SendFault
+c_sends payload now s =
+    calls kinds_control now s (with_control kinds_control s.end.congestion (sends_soon s.end.state payload (may_send kinds_control s.end.congestion)))
 
 -- the end wants these values for a feature (section 6.6.1)
-abbrev pub c_prefers : Feature → Place → List ℕ → CCall PreferFault
-c_prefers feature place values e = with_control kinds_control e.congestion (prefers e.state (feature, place) values)
+abbrev pub c_prefers : Feature → Place → List ℕ → ℕ → CCall PreferFault
+c_prefers feature place values now s =
+    calls_anew kinds_control now s (with_control kinds_control s.end.congestion (prefers s.end.state (feature, place) values))
 
--- a timer has run out
-abbrev pub c_fires : Timer → CEnd → EndStep Both Bool
-c_fires timer e = with_control kinds_control e.congestion (fires e.state timer (has_in_flight kinds_control e.congestion))
+-- a timer has run out, whoever keeps it
+abbrev pub c_fires : Timer → ℕ → CDoing Bool
+c_fires timer now s = tells_end kinds_control now s timer
 
 -- the connection is closed in order (section 8.3)
-abbrev pub c_closes : CCall CloseFault
-c_closes e = with_control kinds_control e.congestion (closes e.state)
+abbrev pub c_closes : ℕ → CCall CloseFault
+c_closes now s = calls kinds_control now s (with_control kinds_control s.end.congestion (closes s.end.state))
 
 -- the connection is given up (section 8.3)
-abbrev pub c_aborts : CCall AbortFault
-c_aborts e = with_control kinds_control e.congestion (aborts e.state)
+abbrev pub c_aborts : ℕ → CCall AbortFault
+c_aborts now s = calls kinds_control now s (with_control kinds_control s.end.congestion (aborts s.end.state))
 
 -- a datagram arrives (section 8.5)
-abbrev pub c_receives : List ℕ → CEnd → EndStep Both Outcome
-c_receives bytes e = with_control kinds_control e.congestion (receives e.state bytes)
+abbrev pub c_receives : List ℕ → ℕ → CDoing Outcome
+c_receives bytes now s = after_hearing kinds_control now s (with_control kinds_control s.end.congestion (receives s.end.state bytes))
+
+-- of several timers the first that has run out
+abbrev pub first_due : Alarms → ℕ → List Timer → Option Timer
+first_due alarms now [] = None
+first_due alarms now (timer ∷ rest) = if has_run_out (alarm_of alarms timer) now then Some timer else first_due alarms now rest
+
+-- a timer that has run out is told, and the answer is true; where there is none, nothing happens
+abbrev pub c_tells : ℕ → CEnd → Option Timer → SessionStep Both Bool
+c_tells now s None = done s.end s.alarms None false
+c_tells now s (Some timer) = record { session = (c_fires timer now s).session; frame = (c_fires timer now s).frame; answer = true }
+
+-- the first of the six timers that has run out is told
+abbrev pub c_ticks : ℕ → CDoing Bool
+c_ticks now s = c_tells now s (first_due s.alarms now every_timer)
+
+-- no time at all: 2^64 - 1
+abbrev pub never : ℕ
+never = 2 ^ 64 - 1
+
+-- how long it is until a timer of an end runs out, if any does
+abbrev pub c_waits : ℕ → Option CEnd → ℕ
+c_waits now None = never
+c_waits now (Some s) = unwrap_or (until_first s.alarms now) never
 
 -- the end that a handle holds, if any, without the place for its frame
 abbrev pub end_in : Option Inner → Option CEnd
 end_in None = None
-end_in (Some held) = Some held.end
+end_in (Some held) = Some (with_alarms held.end held.alarms)
 
 -- The end after a call; where there is none, there is none after it.
-abbrev pub kept_after : {Answer : Type 0} → (CEnd → EndStep Both Answer) → Option CEnd → Option CEnd
+abbrev pub kept_after : {Answer : Type 0} → CDoing Answer → Option CEnd → Option CEnd
 kept_after doing None = None
-kept_after doing (Some e) = Some (doing e).after
+kept_after doing (Some s) = Some (doing s).session
 
 -- the bytes of a frame, none where there is no frame
 abbrev pub bytes_of : Option (List ℕ) → List ℕ
@@ -74,26 +114,26 @@ abbrev pub bytes_in : Frame → List ℕ
 bytes_in frame = take frame.length frame.bytes
 
 -- The frame that a call hands out: the step's, or no bytes where there is no end.
-abbrev pub frame_after : {Answer : Type 0} → (CEnd → EndStep Both Answer) → Option CEnd → List ℕ
+abbrev pub frame_after : {Answer : Type 0} → CDoing Answer → Option CEnd → List ℕ
 frame_after doing None = []
-frame_after doing (Some e) = bytes_of (doing e).frame
+frame_after doing (Some s) = bytes_of (doing s).frame
 
 -- The code of a call: the step's, or 1 where there is no end.
-abbrev pub code_after : {Answer : Type 0} → (Answer → ℕ) → (CEnd → EndStep Both Answer) → Option CEnd → ℕ
+abbrev pub code_after : {Answer : Type 0} → (Answer → ℕ) → CDoing Answer → Option CEnd → ℕ
 code_after code doing None = 1
-code_after code doing (Some e) = code (doing e).answer
+code_after code doing (Some s) = code (doing s).answer
 
 -- A call that names a feature or a timer: where there is none of that number, nothing happens, no bytes go out, and the code is 11.
-abbrev pub end_if_known : {Name Answer : Type 0} → (Name → CEnd → EndStep Both Answer) → Option Name → Option CEnd → Option CEnd
+abbrev pub end_if_known : {Name Answer : Type 0} → (Name → CDoing Answer) → Option Name → Option CEnd → Option CEnd
 end_if_known doing None held = held
 end_if_known doing (Some name) held = kept_after (doing name) held
 
 -- the bytes that such a call leaves
-abbrev pub frame_if_known : {Name Answer : Type 0} → (Name → CEnd → EndStep Both Answer) → Option Name → Option CEnd → List ℕ
+abbrev pub frame_if_known : {Name Answer : Type 0} → (Name → CDoing Answer) → Option Name → Option CEnd → List ℕ
 frame_if_known doing None held = []
 frame_if_known doing (Some name) held = frame_after (doing name) held
 
 -- its code
-abbrev pub code_if_known : {Name Answer : Type 0} → (Answer → ℕ) → (Name → CEnd → EndStep Both Answer) → Option Name → Option CEnd → ℕ
+abbrev pub code_if_known : {Name Answer : Type 0} → (Answer → ℕ) → (Name → CDoing Answer) → Option Name → Option CEnd → ℕ
 code_if_known code doing None held = 11
 code_if_known code doing (Some name) held = code_after code (doing name) held

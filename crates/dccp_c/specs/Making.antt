@@ -2,8 +2,8 @@
 use Rattle.std.specs.Prelude.{◌≡◌, ◌⊎◌, ℕ, ◌^◌, nat_lt, ◌==◌, Bool, true, false, not, List, [], ◌∷◌, take, Option, Some, None, Result, Ok, Err, if◌then◌else◌}
 use Rattle.ccid_two.specs.Kinds.{at_first, kinds_control}
 use Rattle.dccp_endpoint.specs.Configured.{configured}
-use Rattle.dccp_endpoint.specs.Controlled.{begins}
 use Rattle.dccp_endpoint.specs.declared.config.Config.{Config}
+use Rattle.dccp_uses.specs.Session.{session_begins}
 use Rattle.dccp_states.specs.declared.phase.Role.{Role}
 use Rattle.dccp_states.specs.declared.phase.Role.TheVariants.{Client, Server}
 use Rattle.dccp_sum.specs.declared.pseudo_header.Pseudo.{Pseudo}
@@ -93,7 +93,7 @@ configured_by s wishes = wished_from (config_by s) wishes
 
 -- The end that was made: a new one where the code says so, else none.
 abbrev pub made_from : Bool → Result Config ℕ → Option CEnd
-made_from true (Ok config) = Some (begins kinds_control config at_first)
+made_from true (Ok config) = Some (session_begins kinds_control config at_first)
 made_from true (Err code) = None
 made_from false _ = None
 

@@ -1,7 +1,7 @@
 -- What C may read of an end (own).
 use Rattle.std.specs.Prelude.{ℕ, Option, Some, None}
-use Rattle.ccid_two.specs.Kinds.{kinds_control}
-use Rattle.dccp_endpoint.specs.Controlled.{in_flight_of, window_of}
+use Rattle.ccid_two.specs.Kinds.{Both, kinds_control}
+use Rattle.dccp_endpoint.specs.Controlled.{End, in_flight_of, window_of}
 use Rattle.dccp_endpoint.specs.End.{held_of, marked_of}
 use Rattle.feature_lists.specs.declared.features.Feature.{Feature}
 use Rattle.feature_lists.specs.declared.features.Place.{Place}
@@ -11,7 +11,7 @@ use Rattle.dccp_c.specs.declared.readers.FeatureState.{FeatureState}
 use Rattle.dccp_c.specs.declared.readers.View.{View}
 
 -- the numbers of an end, its phase and its window
-abbrev pub seen : CEnd → View
+abbrev pub seen : End Both → View
 seen e =
     record {
       iss = e.state.marks.iss;
@@ -26,18 +26,18 @@ seen e =
     }
 
 -- what it holds for a feature, and where the negotiation of it stands
-abbrev pub seen_feature : Feature → Place → CEnd → FeatureState
+abbrev pub seen_feature : Feature → Place → End Both → FeatureState
 seen_feature feature place e = record { value = (held_of e.state feature place).value; stand = stand_code (held_of e.state feature place).stand }
 
 -- What C finds behind a reading: what was read, or what stood there where there is no end.
-abbrev pub seen_after : {Seen : Type 0} → (CEnd → Seen) → Option CEnd → Seen → Seen
+abbrev pub seen_after : {Seen : Type 0} → (End Both → Seen) → Option CEnd → Seen → Seen
 seen_after see None old = old
-seen_after see (Some e) old = see e
+seen_after see (Some s) old = see s.end
 
 -- the code of a reading: 1 where there is no end
 abbrev pub look_code : Option CEnd → ℕ
 look_code None = 1
-look_code (Some e) = 0
+look_code (Some s) = 0
 
 -- A feature of a number that is none is answered by 11, and nothing is read.
 abbrev pub feature_after : Option Feature → Place → Option CEnd → FeatureState → FeatureState

@@ -37,26 +37,26 @@ told_outcome (WasReset code) = record told_quiet { kind = 4; code = code }
 told_outcome (SentReset code detail) = record told_quiet { kind = 5; code = code; detail = detail }
 
 -- What C is told behind a datagram; where there is no end, what it had stays.
-abbrev pub told_after : List ℕ → Option CEnd → Told → Told
-told_after bytes None old = old
-told_after bytes (Some e) old = told_outcome (c_receives bytes e).answer
+abbrev pub told_after : List ℕ → ℕ → Option CEnd → Told → Told
+told_after bytes now None old = old
+told_after bytes now (Some s) old = told_outcome (c_receives bytes now s).answer
 
 -- bytes that a packet of such an end may have: at most 2,044
 abbrev pub is_short : List ℕ → Bool
 is_short bytes = nat_le (length bytes) 2044
 
 -- A longer datagram is answered by 5 and changes nothing, nor what C was told before.
-abbrev pub hears_if_short : List ℕ → Option CEnd → Option CEnd
-hears_if_short bytes held = if is_short bytes then kept_after (c_receives bytes) held else held
+abbrev pub hears_if_short : List ℕ → ℕ → Option CEnd → Option CEnd
+hears_if_short bytes now held = if is_short bytes then kept_after (c_receives bytes now) held else held
 
 -- the bytes that answer a datagram
-abbrev pub hear_frame : List ℕ → Option CEnd → List ℕ
-hear_frame bytes held = if is_short bytes then frame_after (c_receives bytes) held else []
+abbrev pub hear_frame : List ℕ → ℕ → Option CEnd → List ℕ
+hear_frame bytes now held = if is_short bytes then frame_after (c_receives bytes now) held else []
 
 -- the code of handing one in
-abbrev pub hear_code : List ℕ → Option CEnd → ℕ
-hear_code bytes held = if is_short bytes then code_after (λ _. 0) (c_receives bytes) held else 5
+abbrev pub hear_code : List ℕ → ℕ → Option CEnd → ℕ
+hear_code bytes now held = if is_short bytes then code_after (λ _. 0) (c_receives bytes now) held else 5
 
 -- what C is told of it
-abbrev pub hear_told : List ℕ → Option CEnd → Told → Told
-hear_told bytes held old = if is_short bytes then told_after bytes held old else old
+abbrev pub hear_told : List ℕ → ℕ → Option CEnd → Told → Told
+hear_told bytes now held old = if is_short bytes then told_after bytes now held old else old

@@ -1,18 +1,19 @@
-//! The functions that C calls: each does one step of the end that its handle holds.
+//! The functions that C calls: each does one step of the end that its handle holds, and of its timers.
 ghost use Rattle.std.specs.Prelude.{◌≡◌, None};
 ghost use Rattle.feature_lists.specs.Features.{feature_numbered};
 ghost use Rattle.dccp_c.specs.Codes.{abort_code, close_code, open_code, place_by, send_code, timer_code, timer_coded, wish_code};
-ghost use Rattle.dccp_c.specs.Doing.{c_aborts, kept_after, end_if_known, bytes_in, c_closes, code_after, code_if_known, end_in, frame_after, frame_if_known, c_opens, c_fires, c_sends, c_prefers};
+ghost use Rattle.dccp_c.specs.Accepting.{AcceptsCode, accepted_end, as_server, accept_step, step_bytes, step_told};
+ghost use Rattle.dccp_c.specs.Doing.{c_aborts, kept_after, end_if_known, bytes_in, c_closes, code_after, code_if_known, end_in, frame_after, frame_if_known, c_opens, c_fires, c_sends, c_prefers, c_ticks, c_waits};
 ghost use Rattle.dccp_c.specs.Making.{MakesCode, configured_by, made_of};
 ghost use Rattle.dccp_c.specs.Seeing.{feature_after, feature_code, look_code, seen_after, seen};
 ghost use Rattle.dccp_c.specs.Telling.{hear_code, hear_frame, hear_told, hears_if_short};
 
 use crate::codes::{
-    DONE, NO_MEMORY, NOT_MADE, TOO_LONG, UNKNOWN, abort_code, close_code, feature_of, open_code,
-    place_of, send_code, timer_code, timer_of, wish_code,
+    DONE, NO_CONNECTION, NO_MEMORY, NOT_MADE, NOTHING_DUE, TOO_LONG, UNKNOWN, abort_code,
+    close_code, feature_of, open_code, place_of, send_code, timer_code, timer_of, wish_code,
 };
-use crate::held::Held;
-use crate::making::configured_by;
+use crate::held::{Held, first_due};
+use crate::making::{as_server, configured_by};
 use crate::readers::{seen, seen_feature};
 use crate::told::told_of;
 use crate::{End, FeatureState, Frame, Settings, Told, View, Wish};
@@ -31,7 +32,7 @@ pub extern "C" fn dccp_make(
     ensures end { end_in end.new.kept.value ≡ made_of result (configured_by settings.now wishes.now) }
     ensures code { MakesCode (configured_by settings.now wishes.now) result }
 {
-    *end = End::none(alloc);
+    end.clear(alloc);
     let config = match configured_by(settings, wishes) {
         Ok(config) => config,
         Err(code) => return code,
@@ -45,6 +46,46 @@ pub extern "C" fn dccp_make(
     }
 }
 
+/// Makes a server's end of the first datagram of a peer, in place of what the handle held, which is freed first. Refused
+/// as `dccp_make` is, and with TOO_LONG; NO_CONNECTION where the datagram opens none, and the frame answers it. Then it
+/// holds nothing.
+#[unsafe(no_mangle)]
+pub extern "C" fn dccp_accept(
+    end: &mut End,
+    alloc: Global,
+    settings: &Settings,
+    wishes: &[Wish],
+    datagram: &[u8],
+    now: u64,
+    frame: &mut Frame,
+    told: &mut Told,
+) -> u32
+    ensures end { end_in end.new.kept.value ≡ accepted_end datagram.now now result (configured_by (as_server settings.now) wishes.now) }
+    ensures frame { bytes_in frame.new ≡ step_bytes (accept_step datagram.now now result (configured_by (as_server settings.now) wishes.now)) }
+    ensures told { told.new ≡ step_told (accept_step datagram.now now result (configured_by (as_server settings.now) wishes.now)) told.old }
+    ensures code { AcceptsCode datagram.now now (configured_by (as_server settings.now) wishes.now) result }
+{
+    end.clear(alloc);
+    frame.clear();
+    let config = match configured_by(&as_server(settings), wishes) {
+        Ok(config) => config,
+        Err(code) => return code,
+    };
+    if MOST_FRAME_BYTES < datagram.len() {
+        return TOO_LONG;
+    }
+    let Ok(mut held) = Held::new(alloc, config) else {
+        return NO_MEMORY;
+    };
+    *told = told_of(&held.receive(datagram, now));
+    frame.fill(&held.out);
+    if held.is_listening() {
+        return NO_CONNECTION;
+    }
+    end.put(held);
+    DONE
+}
+
 /// Frees what the handle holds, if anything.
 #[unsafe(no_mangle)]
 pub extern "C" fn dccp_free(end: &mut End, alloc: Global)
@@ -53,75 +94,81 @@ pub extern "C" fn dccp_free(end: &mut End, alloc: Global)
     drop(end.take(alloc));
 }
 
-/// `Endpoint::open`.
+/// `Session::open`.
 #[unsafe(no_mangle)]
-pub extern "C" fn dccp_open(end: &mut End, alloc: Global, frame: &mut Frame) -> u32
-    ensures end { end_in end.new.kept.value ≡ kept_after c_opens (end_in end.old.kept.value) }
-    ensures frame { bytes_in frame.new ≡ frame_after c_opens (end_in end.old.kept.value) }
-    ensures code { result ≡ code_after open_code c_opens (end_in end.old.kept.value) }
+pub extern "C" fn dccp_open(end: &mut End, alloc: Global, now: u64, frame: &mut Frame) -> u32
+    ensures end { end_in end.new.kept.value ≡ kept_after (c_opens now) (end_in end.old.kept.value) }
+    ensures frame { bytes_in frame.new ≡ frame_after (c_opens now) (end_in end.old.kept.value) }
+    ensures code { result ≡ code_after open_code (c_opens now) (end_in end.old.kept.value) }
 {
     let Some(mut held) = end.take(alloc) else {
         frame.clear();
         return NOT_MADE;
     };
-    let answer = held.open();
+    let answer = held.open(now);
     frame.fill(&held.out);
     end.put(held);
     open_code(&answer)
 }
 
-/// `Endpoint::send_soon`.
+/// `Session::send`.
 #[unsafe(no_mangle)]
-pub extern "C" fn dccp_send(end: &mut End, alloc: Global, payload: &[u8], frame: &mut Frame) -> u32
-    ensures end { end_in end.new.kept.value ≡ kept_after (c_sends payload.now) (end_in end.old.kept.value) }
-    ensures frame { bytes_in frame.new ≡ frame_after (c_sends payload.now) (end_in end.old.kept.value) }
-    ensures code { result ≡ code_after send_code (c_sends payload.now) (end_in end.old.kept.value) }
+pub extern "C" fn dccp_send(
+    end: &mut End,
+    alloc: Global,
+    payload: &[u8],
+    now: u64,
+    frame: &mut Frame,
+) -> u32
+    ensures end { end_in end.new.kept.value ≡ kept_after (c_sends payload.now now) (end_in end.old.kept.value) }
+    ensures frame { bytes_in frame.new ≡ frame_after (c_sends payload.now now) (end_in end.old.kept.value) }
+    ensures code { result ≡ code_after send_code (c_sends payload.now now) (end_in end.old.kept.value) }
 {
     let Some(mut held) = end.take(alloc) else {
         frame.clear();
         return NOT_MADE;
     };
-    let answer = held.send(payload);
+    let answer = held.send(payload, now);
     frame.fill(&held.out);
     end.put(held);
     send_code(&answer)
 }
 
-/// `Endpoint::close`.
+/// `Session::close`.
 #[unsafe(no_mangle)]
-pub extern "C" fn dccp_close(end: &mut End, alloc: Global, frame: &mut Frame) -> u32
-    ensures end { end_in end.new.kept.value ≡ kept_after c_closes (end_in end.old.kept.value) }
-    ensures frame { bytes_in frame.new ≡ frame_after c_closes (end_in end.old.kept.value) }
-    ensures code { result ≡ code_after close_code c_closes (end_in end.old.kept.value) }
+pub extern "C" fn dccp_close(end: &mut End, alloc: Global, now: u64, frame: &mut Frame) -> u32
+    ensures end { end_in end.new.kept.value ≡ kept_after (c_closes now) (end_in end.old.kept.value) }
+    ensures frame { bytes_in frame.new ≡ frame_after (c_closes now) (end_in end.old.kept.value) }
+    ensures code { result ≡ code_after close_code (c_closes now) (end_in end.old.kept.value) }
 {
     let Some(mut held) = end.take(alloc) else {
         frame.clear();
         return NOT_MADE;
     };
-    let answer = held.close();
+    let answer = held.close(now);
     frame.fill(&held.out);
     end.put(held);
     close_code(&answer)
 }
 
-/// `Endpoint::abort`.
+/// `Session::abort`.
 #[unsafe(no_mangle)]
-pub extern "C" fn dccp_abort(end: &mut End, alloc: Global, frame: &mut Frame) -> u32
-    ensures end { end_in end.new.kept.value ≡ kept_after c_aborts (end_in end.old.kept.value) }
-    ensures frame { bytes_in frame.new ≡ frame_after c_aborts (end_in end.old.kept.value) }
-    ensures code { result ≡ code_after abort_code c_aborts (end_in end.old.kept.value) }
+pub extern "C" fn dccp_abort(end: &mut End, alloc: Global, now: u64, frame: &mut Frame) -> u32
+    ensures end { end_in end.new.kept.value ≡ kept_after (c_aborts now) (end_in end.old.kept.value) }
+    ensures frame { bytes_in frame.new ≡ frame_after (c_aborts now) (end_in end.old.kept.value) }
+    ensures code { result ≡ code_after abort_code (c_aborts now) (end_in end.old.kept.value) }
 {
     let Some(mut held) = end.take(alloc) else {
         frame.clear();
         return NOT_MADE;
     };
-    let answer = held.abort();
+    let answer = held.abort(now);
     frame.fill(&held.out);
     end.put(held);
     abort_code(&answer)
 }
 
-/// `Endpoint::prefer`, for the feature of this number at the peer or here. UNKNOWN where there is no such feature.
+/// `Session::prefer`, for the feature of this number at the peer or here. UNKNOWN where there is no such feature.
 #[unsafe(no_mangle)]
 pub extern "C" fn dccp_prefer(
     end: &mut End,
@@ -129,11 +176,12 @@ pub extern "C" fn dccp_prefer(
     feature: u32,
     at_peer: bool,
     values: &[u64],
+    now: u64,
     frame: &mut Frame,
 ) -> u32
-    ensures end { end_in end.new.kept.value ≡ end_if_known (λ f. c_prefers f (place_by at_peer) values.now) (feature_numbered feature) (end_in end.old.kept.value) }
-    ensures frame { bytes_in frame.new ≡ frame_if_known (λ f. c_prefers f (place_by at_peer) values.now) (feature_numbered feature) (end_in end.old.kept.value) }
-    ensures code { result ≡ code_if_known wish_code (λ f. c_prefers f (place_by at_peer) values.now) (feature_numbered feature) (end_in end.old.kept.value) }
+    ensures end { end_in end.new.kept.value ≡ end_if_known (λ f. c_prefers f (place_by at_peer) values.now now) (feature_numbered feature) (end_in end.old.kept.value) }
+    ensures frame { bytes_in frame.new ≡ frame_if_known (λ f. c_prefers f (place_by at_peer) values.now now) (feature_numbered feature) (end_in end.old.kept.value) }
+    ensures code { result ≡ code_if_known wish_code (λ f. c_prefers f (place_by at_peer) values.now now) (feature_numbered feature) (end_in end.old.kept.value) }
 {
     frame.clear();
     let Some(feature) = feature_of(feature) else {
@@ -142,19 +190,25 @@ pub extern "C" fn dccp_prefer(
     let Some(mut held) = end.take(alloc) else {
         return NOT_MADE;
     };
-    let answer = held.prefer(feature, place_of(at_peer), values);
+    let answer = held.prefer(feature, place_of(at_peer), values, now);
     frame.fill(&held.out);
     end.put(held);
     wish_code(&answer)
 }
 
-/// `Endpoint::timer`, for the timer of this number. UNKNOWN where there is no such timer, and NOTHING_DUE where it has
+/// A timer of this number has run out, which the caller keeps. UNKNOWN where there is no such timer, and NOTHING_DUE where it has
 /// nothing to do.
 #[unsafe(no_mangle)]
-pub extern "C" fn dccp_timer(end: &mut End, alloc: Global, timer: u32, frame: &mut Frame) -> u32
-    ensures end { end_in end.new.kept.value ≡ end_if_known c_fires (timer_coded timer) (end_in end.old.kept.value) }
-    ensures frame { bytes_in frame.new ≡ frame_if_known c_fires (timer_coded timer) (end_in end.old.kept.value) }
-    ensures code { result ≡ code_if_known timer_code c_fires (timer_coded timer) (end_in end.old.kept.value) }
+pub extern "C" fn dccp_timer(
+    end: &mut End,
+    alloc: Global,
+    timer: u32,
+    now: u64,
+    frame: &mut Frame,
+) -> u32
+    ensures end { end_in end.new.kept.value ≡ end_if_known (λ t. c_fires t now) (timer_coded timer) (end_in end.old.kept.value) }
+    ensures frame { bytes_in frame.new ≡ frame_if_known (λ t. c_fires t now) (timer_coded timer) (end_in end.old.kept.value) }
+    ensures code { result ≡ code_if_known timer_code (λ t. c_fires t now) (timer_coded timer) (end_in end.old.kept.value) }
 {
     frame.clear();
     let Some(timer) = timer_of(timer) else {
@@ -163,25 +217,61 @@ pub extern "C" fn dccp_timer(end: &mut End, alloc: Global, timer: u32, frame: &m
     let Some(mut held) = end.take(alloc) else {
         return NOT_MADE;
     };
-    let applies = held.timer(timer);
+    let applies = held.timer(timer, now);
     frame.fill(&held.out);
     end.put(held);
     timer_code(applies)
 }
 
-/// `Endpoint::receive`. A datagram of more than 2,044 bytes is answered by TOO_LONG, and changes nothing.
+/// Tells the first timer that has run out. NOTHING_DUE where none has.
+#[unsafe(no_mangle)]
+pub extern "C" fn dccp_tick(end: &mut End, alloc: Global, now: u64, frame: &mut Frame) -> u32
+    ensures end { end_in end.new.kept.value ≡ kept_after (c_ticks now) (end_in end.old.kept.value) }
+    ensures frame { bytes_in frame.new ≡ frame_after (c_ticks now) (end_in end.old.kept.value) }
+    ensures code { result ≡ code_after timer_code (c_ticks now) (end_in end.old.kept.value) }
+{
+    frame.clear();
+    let Some(mut held) = end.take(alloc) else {
+        return NOT_MADE;
+    };
+    let Some(timer) = first_due(&held.alarms, now) else {
+        end.put(held);
+        return NOTHING_DUE;
+    };
+    let _ = held.timer(timer, now);
+    frame.fill(&held.out);
+    end.put(held);
+    DONE
+}
+
+/// How many milliseconds it is until `dccp_tick` has something to do; 2^64 - 1 where no timer runs.
+#[unsafe(no_mangle)]
+pub extern "C" fn dccp_until_first(end: &mut End, alloc: Global, now: u64) -> u64
+    ensures end { end.new.kept.value ≡ end.old.kept.value }
+    ensures wait { result ≡ c_waits now (end_in end.old.kept.value) }
+{
+    let Some(held) = end.take(alloc) else {
+        return u64::MAX;
+    };
+    let left = held.alarms.until_first(now);
+    end.put(held);
+    left.unwrap_or(u64::MAX)
+}
+
+/// `Session::arrived`, which tells the outcome. A datagram of more than 2,044 bytes is answered by TOO_LONG, and changes nothing.
 #[unsafe(no_mangle)]
 pub extern "C" fn dccp_receive(
     end: &mut End,
     alloc: Global,
     datagram: &[u8],
+    now: u64,
     frame: &mut Frame,
     told: &mut Told,
 ) -> u32
-    ensures end { end_in end.new.kept.value ≡ hears_if_short datagram.now (end_in end.old.kept.value) }
-    ensures frame { bytes_in frame.new ≡ hear_frame datagram.now (end_in end.old.kept.value) }
-    ensures told { told.new ≡ hear_told datagram.now (end_in end.old.kept.value) told.old }
-    ensures code { result ≡ hear_code datagram.now (end_in end.old.kept.value) }
+    ensures end { end_in end.new.kept.value ≡ hears_if_short datagram.now now (end_in end.old.kept.value) }
+    ensures frame { bytes_in frame.new ≡ hear_frame datagram.now now (end_in end.old.kept.value) }
+    ensures told { told.new ≡ hear_told datagram.now now (end_in end.old.kept.value) told.old }
+    ensures code { result ≡ hear_code datagram.now now (end_in end.old.kept.value) }
 {
     frame.clear();
     if MOST_FRAME_BYTES < datagram.len() {
@@ -190,7 +280,7 @@ pub extern "C" fn dccp_receive(
     let Some(mut held) = end.take(alloc) else {
         return NOT_MADE;
     };
-    let outcome = held.receive(datagram);
+    let outcome = held.receive(datagram, now);
     *told = told_of(&outcome);
     frame.fill(&held.out);
     end.put(held);

@@ -43,8 +43,11 @@ pub const NOT_LIVE: u32 = 10;
 /// There is no such feature, timer or sequence number.
 pub const UNKNOWN: u32 = 11;
 
-/// The timer has nothing to do.
+/// The timer has nothing to do, or none has run out.
 pub const NOTHING_DUE: u32 = 12;
+
+/// The datagram opens no connection.
+pub const NO_CONNECTION: u32 = 13;
 
 pub(crate) fn open_code(answer: &Result<(), OpenFault>) -> u32
     ensures { result ≡ open_code answer.now }

@@ -25,6 +25,13 @@ impl End {
         }
     }
 
+    // Frees what it holds, if anything.
+    pub(crate) fn clear(&mut self, alloc: Global)
+        ensures { self.new.kept.value ≡ None }
+    {
+        *self = End::none(alloc);
+    }
+
     fn into_box(self) -> Option<Box<Held>>
         ensures { self.kept.value ≡ option_map (λ held. held.value) result }
     {

@@ -1,45 +1,100 @@
-//! What an end of C's is: the end, and the place where it leaves its frame.
+//! What an end of C's is: the end, its timers, and the place where it leaves its frame.
 ghost use Rattle.std.specs.Prelude.{◌≡◌, ◌≤◌, IfOk, length};
-ghost use Rattle.dccp_endpoint.specs.Controlled.{begins};
 ghost use Rattle.ccid_two.specs.Kinds.{at_first, kinds_control};
-ghost use Rattle.dccp_c.specs.Doing.{c_aborts, c_closes, c_receives, c_opens, c_fires, c_sends, c_prefers};
+ghost use Rattle.dccp_uses.specs.Alarms.{arranged};
+ghost use Rattle.dccp_uses.specs.Session.{condition_of, every_timer, is_listening, session_begins};
+ghost use Rattle.dccp_c.specs.Doing.{c_aborts, c_closes, c_fires, c_opens, c_prefers, c_receives, c_sends, done, first_due, with_alarms};
 
 use ccid_two::Kinds;
 use dccp_endpoint::{
-    AbortFault, CloseFault, Config, Endpoint, Feature, NoMemory, OpenFault, Outbox, Outcome, Place,
-    PreferFault, SendFault, Timer,
+    AbortFault, CloseFault, Config, Endpoint, Feature, NoMemory, OpenFault, Outbox, Outcome, Phase,
+    Place, PreferFault, SendFault, Timer,
+};
+use dccp_uses::{
+    Alarms, Condition, arranged, has_run_out, is_delivery, rung, with_delivery, with_progress,
 };
 use std::alloc::Global;
 
-/// An end, and the place where each of its calls leaves its frame.
+/// An end with its timers, and the place where each of its calls leaves its frame.
 #[derive(Drop)]
 pub struct Held {
     pub(crate) end: Endpoint<Kinds>,
+    pub(crate) alarms: Alarms,
     pub(crate) out: Outbox,
+}
+
+// What the timers of an end go by.
+fn condition(end: &Endpoint<Kinds>) -> Condition
+    ensures { result ≡ condition_of kinds_control end.now }
+{
+    Condition {
+        phase: end.phase(),
+        in_flight: 0 < end.in_flight(),
+    }
+}
+
+/// The first of the timers that has run out, in the order in which a session tells them.
+pub(crate) fn first_due(alarms: &Alarms, now: u64) -> Option<Timer>
+    ensures { result ≡ first_due alarms.now now every_timer }
+{
+    if has_run_out(alarms.request, now) {
+        return Some(Timer::Request);
+    }
+    if has_run_out(alarms.ack, now) {
+        return Some(Timer::Ack);
+    }
+    if has_run_out(alarms.negotiate, now) {
+        return Some(Timer::Negotiate);
+    }
+    if has_run_out(alarms.rto, now) {
+        return Some(Timer::Rto);
+    }
+    if has_run_out(alarms.close, now) {
+        return Some(Timer::Close);
+    }
+    if has_run_out(alarms.time_wait, now) {
+        return Some(Timer::TimeWait);
+    }
+    None
 }
 
 impl Held {
     pub(crate) fn new(alloc: Global, config: Config) -> Result<Box<Held>, NoMemory>
-        ensures { IfOk result (λ held. held.value.end ≡ begins kinds_control config at_first) }
+        ensures { IfOk result (λ held. with_alarms held.value.end held.value.alarms ≡ session_begins kinds_control config at_first) }
     {
         let end = Endpoint::new(alloc, config, Kinds::new(alloc)?)?;
+        let alarms = Alarms::none();
         let out = Outbox::new();
-        match Box::new(alloc, Held { end, out }) {
+        match Box::new(alloc, Held { end, alarms, out }) {
             Ok(held) => Ok(held),
             Err(_) => Err(NoMemory),
         }
     }
 
-    pub(crate) fn open(&mut self) -> Result<(), OpenFault>
-        ensures { record { after = self.new.end; frame = self.new.out; answer = result } ≡ c_opens self.old.end }
+    // The timers run from now on as the end needs them.
+    fn arrange(&mut self, now: u64)
+        ensures end { self.new.end ≡ self.old.end }
+        ensures alarms { self.new.alarms ≡ arranged self.old.alarms (condition_of kinds_control self.old.end) now }
+        ensures out { self.new.out ≡ self.old.out }
     {
-        self.end.open(&mut self.out)
+        let condition = condition(&self.end);
+        self.alarms = arranged(&self.alarms, &condition, now);
     }
 
-    pub(crate) fn send(&mut self, payload: &[u8]) -> Result<(), SendFault>
-        ensures { record { after = self.new.end; frame = self.new.out; answer = result } ≡ c_sends payload.now self.old.end }
+    pub(crate) fn open(&mut self, now: u64) -> Result<(), OpenFault>
+        ensures { done self.new.end self.new.alarms self.new.out result ≡ c_opens now (with_alarms self.old.end self.old.alarms) }
     {
-        self.end.send_soon(payload, &mut self.out)
+        self.end.open(&mut self.out)?;
+        self.arrange(now);
+        Ok(())
+    }
+
+    pub(crate) fn send(&mut self, payload: &[u8], now: u64) -> Result<(), SendFault>
+        ensures { done self.new.end self.new.alarms self.new.out result ≡ c_sends payload.now now (with_alarms self.old.end self.old.alarms) }
+    {
+        self.end.send_soon(payload, &mut self.out)?;
+        self.arrange(now);
+        Ok(())
     }
 
     pub(crate) fn prefer(
@@ -47,34 +102,58 @@ impl Held {
         feature: Feature,
         place: Place,
         values: &[u64],
+        now: u64,
     ) -> Result<(), PreferFault>
-        ensures { record { after = self.new.end; frame = self.new.out; answer = result } ≡ c_prefers feature place values.now self.old.end }
+        ensures { done self.new.end self.new.alarms self.new.out result ≡ c_prefers feature place values.now now (with_alarms self.old.end self.old.alarms) }
     {
-        self.end.prefer(feature, place, values, &mut self.out)
+        self.end.prefer(feature, place, values, &mut self.out)?;
+        self.alarms.negotiate = None;
+        self.arrange(now);
+        Ok(())
     }
 
-    pub(crate) fn timer(&mut self, timer: Timer) -> bool
-        ensures { record { after = self.new.end; frame = self.new.out; answer = result } ≡ c_fires timer self.old.end }
+    pub(crate) fn timer(&mut self, timer: Timer, now: u64) -> bool
+        ensures { done self.new.end self.new.alarms self.new.out result ≡ c_fires timer now (with_alarms self.old.end self.old.alarms) }
     {
-        self.end.timer(timer, &mut self.out)
+        self.alarms = rung(&self.alarms, timer, now);
+        let applies = self.end.timer(timer, &mut self.out);
+        self.arrange(now);
+        applies
     }
 
-    pub(crate) fn close(&mut self) -> Result<(), CloseFault>
-        ensures { record { after = self.new.end; frame = self.new.out; answer = result } ≡ c_closes self.old.end }
+    pub(crate) fn close(&mut self, now: u64) -> Result<(), CloseFault>
+        ensures { done self.new.end self.new.alarms self.new.out result ≡ c_closes now (with_alarms self.old.end self.old.alarms) }
     {
-        self.end.close(&mut self.out)
+        self.end.close(&mut self.out)?;
+        self.arrange(now);
+        Ok(())
     }
 
-    pub(crate) fn abort(&mut self) -> Result<(), AbortFault>
-        ensures { record { after = self.new.end; frame = self.new.out; answer = result } ≡ c_aborts self.old.end }
+    pub(crate) fn abort(&mut self, now: u64) -> Result<(), AbortFault>
+        ensures { done self.new.end self.new.alarms self.new.out result ≡ c_aborts now (with_alarms self.old.end self.old.alarms) }
     {
-        self.end.abort(&mut self.out)
+        self.end.abort(&mut self.out)?;
+        self.arrange(now);
+        Ok(())
     }
 
-    pub(crate) fn receive(&mut self, datagram: &[u8]) -> Outcome
+    pub(crate) fn receive(&mut self, datagram: &[u8], now: u64) -> Outcome
         requires { length datagram.now ≤ 2044 }
-        ensures { record { after = self.new.end; frame = self.new.out; answer = result } ≡ c_receives datagram.now self.old.end }
+        ensures { done self.new.end self.new.alarms self.new.out result ≡ c_receives datagram.now now (with_alarms self.old.end self.old.alarms) }
     {
-        self.end.receive(datagram, &mut self.out)
+        let in_flight = self.end.in_flight();
+        let outcome = self.end.receive(datagram, &mut self.out);
+        let progress = self.end.in_flight() < in_flight;
+        self.alarms = with_progress(&self.alarms, progress);
+        self.alarms = with_delivery(&self.alarms, is_delivery(&outcome));
+        self.arrange(now);
+        outcome
+    }
+
+    // Whether it waits for a Request still.
+    pub(crate) fn is_listening(&self) -> bool
+        ensures { result ≡ is_listening self.now.end.state.phase }
+    {
+        matches!(self.end.phase(), Phase::Listen)
     }
 }

@@ -1,10 +1,10 @@
-//! One end of a DCCP connection for programs in C (own; the end is RFC 4340's): a static library over `Endpoint<Kinds>`,
-//! whose functions `include/dccp.h` declares.
+//! One end of a DCCP connection for programs in C (own; the end is RFC 4340's): a static library over `Endpoint<Kinds>`
+//! with the timers of a session, whose functions `include/dccp.h` declares.
 //!
-//! C holds an [`End`], which points to an end with the place where it leaves its frame. Each function does one step of
-//! `Endpoint` and answers by a code of [`codes`](crate::codes); its contract is that step. None requires anything of its
-//! caller but what the types say: pointers to what they name, `bool`s that are 0 or 1, and one call at a time for an
-//! end. What may be wrong in a value is answered by a code, and an end that was not made by `NOT_MADE`.
+//! C holds an [`End`], which points to an end with its timers and the place where it leaves its frame. Each function
+//! does one step of `Session` and answers by a code of [`codes`](crate::codes); its contract is that step. None requires
+//! anything of its caller but what the types say: pointers to what they name, `bool`s that are 0 or 1, and one call at a
+//! time for an end. What may be wrong in a value is answered by a code, and an end that was not made by `NOT_MADE`.
 //!
 //! A static library of one's own is made in the same way: a line with `staticlib` in `crates.txt`, `rt lib` in its
 //! folder, which leaves an archive in `out/`, and exports as those of `calls`. Numbers, `bool`s, slices (in C a pointer

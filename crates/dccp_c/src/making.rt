@@ -1,6 +1,7 @@
 //! What C makes an end from.
 ghost use Rattle.std.specs.Prelude.{◌≡◌};
 ghost use Rattle.feature_lists.specs.Wishes.{wish_of};
+ghost use Rattle.dccp_c.specs.Accepting.{as_server};
 ghost use Rattle.dccp_c.specs.Making.{configured_by, first_four, pseudo_of, config_by, offered_so, wished, wished_all, wished_list, wished_so};
 
 use crate::codes::{BAD_LIST, NOT_OURS, UNKNOWN, feature_of, place_of, wish_code};
@@ -147,6 +148,15 @@ fn wished_all(config: Config, wishes: &[Wish]) -> Result<Config, u32>
         left = others;
     }
     Ok(config)
+}
+
+/// The settings of a server, whatever they say of that.
+pub(crate) fn as_server(settings: &Settings) -> Settings
+    ensures { result ≡ as_server settings.now }
+{
+    let mut settings = *settings;
+    settings.is_server = true;
+    settings
 }
 
 /// The configuration of these settings and wishes, or the code by which they are refused.

@@ -110,7 +110,7 @@ fn sooner(left: Option<u64>, alarm: Option<Alarm>, now: u64) -> Option<u64>
 }
 
 /// Whether an alarm has run out.
-pub(crate) fn has_run_out(alarm: Option<Alarm>, now: u64) -> bool
+pub fn has_run_out(alarm: Option<Alarm>, now: u64) -> bool
     ensures { result ≡ has_run_out alarm now }
 {
     match alarm {
@@ -185,7 +185,7 @@ fn arranged_alarm(alarms: &Alarms, timer: Timer, condition: &Condition, now: u64
 }
 
 /// The timers as they run for an end in this condition.
-pub(crate) fn arranged(alarms: &Alarms, condition: &Condition, now: u64) -> Alarms
+pub fn arranged(alarms: &Alarms, condition: &Condition, now: u64) -> Alarms
     ensures { result ≡ arranged alarms.now condition.now now }
 {
     Alarms {
@@ -213,7 +213,7 @@ fn set_back(alarm: Option<Alarm>, now: u64) -> Option<Alarm>
 }
 
 /// The timers once this one has run out. The timer rto also begins with a longer wait from now on.
-pub(crate) fn rung(alarms: &Alarms, timer: Timer, now: u64) -> Alarms
+pub fn rung(alarms: &Alarms, timer: Timer, now: u64) -> Alarms
     ensures { result ≡ rung alarms.now timer now }
 {
     let again = set_back(alarms.of(timer), now);
@@ -244,7 +244,7 @@ fn first_again(alarm: Option<Alarm>, wait: u64) -> Option<Alarm>
 
 /// The timers where a packet that arrived took something out of flight, or not: the timer rto begins anew, with its
 /// first wait.
-pub(crate) fn with_progress(alarms: &Alarms, progress: bool) -> Alarms
+pub fn with_progress(alarms: &Alarms, progress: bool) -> Alarms
     ensures { result ≡ with_progress alarms.now progress }
 {
     let mut alarms = *alarms;
@@ -256,7 +256,7 @@ pub(crate) fn with_progress(alarms: &Alarms, progress: bool) -> Alarms
 }
 
 /// The timers where data were delivered, or not: an Ack goes out no later than after its timer's first wait.
-pub(crate) fn with_delivery(alarms: &Alarms, delivered: bool) -> Alarms
+pub fn with_delivery(alarms: &Alarms, delivered: bool) -> Alarms
     ensures { result ≡ with_delivery alarms.now delivered }
 {
     let mut alarms = *alarms;

@@ -17,13 +17,13 @@ mod network;
 mod news;
 mod one_at_a_time;
 mod session;
-#[cfg(test)]
-mod tests;
 
 pub use crate::additive_window::AdditiveWindow;
-pub use crate::alarms::{Alarm, Alarms, Condition};
+pub use crate::alarms::{
+    Alarm, Alarms, Condition, arranged, has_run_out, rung, with_delivery, with_progress,
+};
 pub use crate::listening::accept;
 pub use crate::network::Network;
-pub use crate::news::News;
+pub use crate::news::{News, is_delivery};
 pub use crate::one_at_a_time::OneAtATime;
 pub use crate::session::Session;

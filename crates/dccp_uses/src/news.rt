@@ -52,8 +52,8 @@ pub(crate) fn news_of(outcome: &Outcome, was: Phase, is: Phase) -> News
     }
 }
 
-// Whether the outcome brought data.
-pub(crate) fn is_delivery(outcome: &Outcome) -> bool
+/// Whether the outcome brought data.
+pub fn is_delivery(outcome: &Outcome) -> bool
     ensures { result ≡ is_delivery outcome.now }
 {
     match *outcome {

@@ -1,13 +1,12 @@
-//! A connection: an end with its timers, the frames that wait to be sent, and what its owner is told.
+//! A connection: an end, the frames that wait to be sent, and what its owner is told.
 
 use crate::end::End;
-use crate::timers::{self, Timers};
 use crate::{
     AbortError, CloseError, Config, Feature, Held, MakeError, OpenError, Phase, Place, PreferError,
     SendError, sys,
 };
 use std::collections::VecDeque;
-use std::time::Instant;
+use std::time::{Duration, Instant};
 
 /// A frame for the peer: the bytes of one DCCP packet, from the generic header on.
 #[derive(Clone, Debug, PartialEq, Eq)]
@@ -64,7 +63,9 @@ pub enum Accepted {
 pub struct Connection {
     end: End,
     view: sys::View,
-    timers: Timers,
+    /// The end's time is counted in milliseconds from the first call that has one.
+    begun: Option<Instant>,
+    due: Option<Instant>,
     frames: VecDeque<Transmit>,
     events: VecDeque<Event>,
     has_ended: bool,
@@ -86,24 +87,27 @@ impl Connection {
     /// # Ok::<(), Box<dyn std::error::Error>>(())
     /// ```
     pub fn new(config: &Config) -> Result<Connection, MakeError> {
-        let mut end = match End::make(config.settings(), config.wishes()) {
-            Ok(end) => end,
-            Err(status) => return Err(MakeError::answer(status).expect_err("no end was made")),
-        };
+        let mut end = End::none();
+        MakeError::answer(end.make(config.settings(), config.wishes()))?;
+        Ok(Connection::of(end))
+    }
+
+    fn of(mut end: End) -> Connection {
         let view = end.look();
         let (frames, events) = (VecDeque::new(), VecDeque::new());
-        Ok(Connection {
+        Connection {
             end,
             view,
-            timers: Timers::new(),
+            begun: None,
+            due: None,
             frames,
             events,
             has_ended: false,
-        })
+        }
     }
 
-    /// What a server makes of a datagram from a peer that it does not know: a connection exactly where it leads a new end of this
-    /// configuration out of [`Phase::Listen`].
+    /// What a server makes of a datagram from a peer that it does not know: a connection exactly where it leads a new server's end
+    /// of this configuration out of [`Phase::Listen`].
     ///
     /// ```
     /// use dccp::{Accepted, Config, Connection};
@@ -120,14 +124,23 @@ impl Connection {
     /// # Ok::<(), Box<dyn std::error::Error>>(())
     /// ```
     pub fn accept(config: &Config, datagram: &[u8], now: Instant) -> Result<Accepted, MakeError> {
-        let mut connection = Connection::new(config)?;
-        connection.handle_datagram(datagram, now);
-        if connection.phase() != Phase::Listen {
-            return Ok(Accepted::Connection(Box::new(connection)));
+        let mut end = End::none();
+        let (status, frame, told) = end.accept(config.settings(), config.wishes(), datagram, 0);
+        let mut frames = VecDeque::new();
+        queue(&mut frames, (status, frame), is_answer(&told));
+        match status {
+            sys::TOO_LONG | sys::NO_CONNECTION => Ok(frames
+                .pop_front()
+                .map_or(Accepted::Nothing, Accepted::Answer)),
+            _ => {
+                MakeError::answer(status)?;
+                let mut connection = Connection::of(end);
+                connection.frames = frames;
+                connection.hear(&told, datagram, Phase::Listen);
+                connection.called(now);
+                Ok(Accepted::Connection(Box::new(connection)))
+            }
         }
-        Ok(connection
-            .poll_transmit()
-            .map_or(Accepted::Nothing, Accepted::Answer))
     }
 
     /// A client asks for its service, once: its Request goes out.
@@ -148,7 +161,8 @@ impl Connection {
     /// # Ok::<(), Box<dyn std::error::Error>>(())
     /// ```
     pub fn open(&mut self, now: Instant) -> Result<(), OpenError> {
-        let status = queue(&mut self.frames, self.end.open(), false);
+        let time = self.time(now);
+        let status = queue(&mut self.frames, self.end.open(time), false);
         self.called(now);
         OpenError::answer(status)
     }
@@ -165,7 +179,8 @@ impl Connection {
     /// # Ok::<(), Box<dyn std::error::Error>>(())
     /// ```
     pub fn send(&mut self, data: &[u8], now: Instant) -> Result<(), SendError> {
-        let status = queue(&mut self.frames, self.end.send(data), false);
+        let time = self.time(now);
+        let status = queue(&mut self.frames, self.end.send(data, time), false);
         self.called(now);
         SendError::answer(status)
     }
@@ -189,14 +204,11 @@ impl Connection {
         values: &[u64],
         now: Instant,
     ) -> Result<(), PreferError> {
-        let status = queue(
-            &mut self.frames,
-            self.end.prefer(feature as u32, place.is_peer(), values),
-            false,
-        );
-        if status == sys::DONE {
-            self.timers.preferred();
-        }
+        let time = self.time(now);
+        let left = self
+            .end
+            .prefer(feature as u32, place.is_peer(), values, time);
+        let status = queue(&mut self.frames, left, false);
         self.called(now);
         PreferError::answer(status)
     }
@@ -214,7 +226,8 @@ impl Connection {
     /// # Ok::<(), Box<dyn std::error::Error>>(())
     /// ```
     pub fn close(&mut self, now: Instant) -> Result<(), CloseError> {
-        let status = queue(&mut self.frames, self.end.close(), false);
+        let time = self.time(now);
+        let status = queue(&mut self.frames, self.end.close(time), false);
         self.called(now);
         CloseError::answer(status)
     }
@@ -234,7 +247,8 @@ impl Connection {
     /// # Ok::<(), Box<dyn std::error::Error>>(())
     /// ```
     pub fn abort(&mut self, now: Instant) -> Result<(), AbortError> {
-        let status = queue(&mut self.frames, self.end.abort(), false);
+        let time = self.time(now);
+        let status = queue(&mut self.frames, self.end.abort(time), false);
         self.has_ended |= status == sys::DONE;
         self.called(now);
         AbortError::answer(status)
@@ -253,28 +267,11 @@ impl Connection {
     /// # Ok::<(), Box<dyn std::error::Error>>(())
     /// ```
     pub fn handle_datagram(&mut self, datagram: &[u8], now: Instant) {
-        let before = self.view.in_flight;
-        let (status, frame, told) = self.end.receive(datagram);
-        queue(
-            &mut self.frames,
-            (status, frame),
-            matches!(told.kind, sys::SYNCED | sys::SENT_RESET),
-        );
-        self.view = self.end.look();
-        match told.kind {
-            sys::DATA => {
-                self.events
-                    .push_back(Event::Data(datagram[told.first..told.past].to_vec()));
-                self.timers.delivered();
-            }
-            sys::WAS_RESET => self.ended(told.code),
-            sys::SENT_RESET if self.phase() == Phase::Closed => self.ended(told.code),
-            _ => {}
-        }
-        if self.view.in_flight < before {
-            self.timers.progressed();
-        }
-        self.arrange(now);
+        let (was, time) = (self.phase(), self.time(now));
+        let (status, frame, told) = self.end.receive(datagram, time);
+        queue(&mut self.frames, (status, frame), is_answer(&told));
+        self.called(now);
+        self.hear(&told, datagram, was);
     }
 
     /// Tells each timer that has run out. Calling it early does nothing.
@@ -294,17 +291,14 @@ impl Connection {
     /// # Ok::<(), Box<dyn std::error::Error>>(())
     /// ```
     pub fn handle_timeout(&mut self, now: Instant) {
-        for timer in 0..timers::COUNT {
-            if self.timers.ring(timer, now) {
-                queue(&mut self.frames, self.end.timer(timer as u32), false);
-                self.called(now);
-            }
-        }
+        let time = self.time(now);
+        while queue(&mut self.frames, self.end.tick(time), false) == sys::DONE {}
+        self.called(now);
     }
 
     /// When [`Connection::handle_timeout`] has something to do; None where no timer runs. Ask again after every other call.
     pub fn poll_timeout(&self) -> Option<Instant> {
-        self.timers.first_due()
+        self.due
     }
 
     /// The next frame for the peer.
@@ -347,6 +341,26 @@ impl Connection {
         self.view.in_flight
     }
 
+    /// The time as the end counts it.
+    fn time(&mut self, now: Instant) -> u64 {
+        let begun = *self.begun.get_or_insert(now);
+        now.saturating_duration_since(begun).as_millis() as u64
+    }
+
+    /// Tells the owner what became of a datagram, by the phase before it.
+    fn hear(&mut self, told: &sys::Told, datagram: &[u8], was: Phase) {
+        let has_closed = was != Phase::Closed && self.phase() == Phase::Closed;
+        match told.kind {
+            sys::DATA => {
+                let data = datagram[told.first..told.past].to_vec();
+                self.events.push_back(Event::Data(data));
+            }
+            sys::WAS_RESET => self.ended(told.code),
+            sys::SENT_RESET if has_closed => self.ended(told.code),
+            _ => {}
+        }
+    }
+
     fn ended(&mut self, code: u8) {
         if !self.has_ended {
             self.has_ended = true;
@@ -354,15 +368,21 @@ impl Connection {
         }
     }
 
+    /// Looks what a call has made of the end, and when its next timer runs out.
     fn called(&mut self, now: Instant) {
         self.view = self.end.look();
-        self.arrange(now);
+        let time = self.time(now);
+        let left = self.end.until_first(time);
+        self.due = self
+            .begun
+            .zip(left)
+            .map(|(begun, left)| begun + Duration::from_millis(time + left));
     }
+}
 
-    fn arrange(&mut self, now: Instant) {
-        self.timers
-            .arrange(Phase::of(self.view.phase), self.view.in_flight, now);
-    }
+/// Whether a frame answers a datagram as anybody may call it forth.
+fn is_answer(told: &sys::Told) -> bool {
+    matches!(told.kind, sys::SYNCED | sys::SENT_RESET)
 }
 
 /// Keeps the frame that a call has left, if any, and answers the call's status.

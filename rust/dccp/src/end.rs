@@ -9,7 +9,7 @@ use crate::sys;
 use std::fmt;
 use std::ptr;
 
-/// One end. It takes its memory where it is made, and gives it back where it is dropped.
+/// One end, or none yet. It takes its memory where it is made, and gives it back where it is dropped.
 pub struct End {
     handle: sys::End,
     frame: Box<sys::Frame>,
@@ -33,8 +33,8 @@ impl Drop for End {
 }
 
 impl End {
-    /// Makes an end, or answers the status by which it was refused.
-    pub fn make(settings: &sys::Settings, wishes: &[sys::Wish]) -> Result<End, u32> {
+    /// No end, but the place for one.
+    pub fn none() -> End {
         let handle = sys::End {
             opaque: ptr::null_mut(),
             is_made: false,
@@ -43,12 +43,35 @@ impl End {
             length: 0,
             bytes: [0; sys::MOST_FRAME_BYTES],
         });
-        let mut end = End { handle, frame };
-        // SAFETY: pointers and length are as the head of this module says; the handle holds no end yet, and says so.
-        match unsafe { sys::dccp_make(&mut end.handle, settings, wishes.as_ptr(), wishes.len()) } {
-            sys::DONE => Ok(end),
-            status => Err(status),
-        }
+        End { handle, frame }
+    }
+
+    /// Makes an end, and answers the status; where it is not `DONE`, there is none.
+    pub fn make(&mut self, settings: &sys::Settings, wishes: &[sys::Wish]) -> u32 {
+        // SAFETY: as the head of this module says.
+        unsafe { sys::dccp_make(&mut self.handle, settings, wishes.as_ptr(), wishes.len()) }
+    }
+
+    /// Makes a server's end of a datagram, of which is told where the status is `DONE` or `NO_CONNECTION`.
+    pub fn accept(
+        &mut self,
+        settings: &sys::Settings,
+        wishes: &[sys::Wish],
+        datagram: &[u8],
+        now: u64,
+    ) -> (u32, &[u8], sys::Told) {
+        let mut told = sys::Told::default();
+        let (status, frame) = self.call(|end, frame| {
+            let (wish, count) = (wishes.as_ptr(), wishes.len());
+            let (bytes, length) = (datagram.as_ptr(), datagram.len());
+            // SAFETY: as the head of this module says.
+            unsafe {
+                sys::dccp_accept(
+                    end, settings, wish, count, bytes, length, now, frame, &mut told,
+                )
+            }
+        });
+        (status, frame, told)
     }
 
     /// Does a call, and answers its status and the frame that it leaves, which may be of no bytes.
@@ -57,44 +80,62 @@ impl End {
         (status, &self.frame.bytes[..self.frame.length])
     }
 
-    pub fn open(&mut self) -> (u32, &[u8]) {
+    pub fn open(&mut self, now: u64) -> (u32, &[u8]) {
         // SAFETY: as the head of this module says.
-        self.call(|end, frame| unsafe { sys::dccp_open(end, frame) })
+        self.call(|end, frame| unsafe { sys::dccp_open(end, now, frame) })
     }
 
-    pub fn send(&mut self, data: &[u8]) -> (u32, &[u8]) {
+    pub fn send(&mut self, data: &[u8], now: u64) -> (u32, &[u8]) {
         // SAFETY: as the head of this module says.
-        self.call(|end, frame| unsafe { sys::dccp_send(end, data.as_ptr(), data.len(), frame) })
-    }
-
-    pub fn close(&mut self) -> (u32, &[u8]) {
-        // SAFETY: as the head of this module says.
-        self.call(|end, frame| unsafe { sys::dccp_close(end, frame) })
-    }
-
-    pub fn abort(&mut self) -> (u32, &[u8]) {
-        // SAFETY: as the head of this module says.
-        self.call(|end, frame| unsafe { sys::dccp_abort(end, frame) })
-    }
-
-    pub fn prefer(&mut self, feature: u32, at_peer: bool, values: &[u64]) -> (u32, &[u8]) {
-        self.call(|end, frame| {
-            // SAFETY: as the head of this module says.
-            unsafe { sys::dccp_prefer(end, feature, at_peer, values.as_ptr(), values.len(), frame) }
+        self.call(|end, frame| unsafe {
+            sys::dccp_send(end, data.as_ptr(), data.len(), now, frame)
         })
     }
 
-    pub fn timer(&mut self, timer: u32) -> (u32, &[u8]) {
+    pub fn close(&mut self, now: u64) -> (u32, &[u8]) {
         // SAFETY: as the head of this module says.
-        self.call(|end, frame| unsafe { sys::dccp_timer(end, timer, frame) })
+        self.call(|end, frame| unsafe { sys::dccp_close(end, now, frame) })
+    }
+
+    pub fn abort(&mut self, now: u64) -> (u32, &[u8]) {
+        // SAFETY: as the head of this module says.
+        self.call(|end, frame| unsafe { sys::dccp_abort(end, now, frame) })
+    }
+
+    pub fn prefer(
+        &mut self,
+        feature: u32,
+        at_peer: bool,
+        values: &[u64],
+        now: u64,
+    ) -> (u32, &[u8]) {
+        self.call(|end, frame| {
+            let (value, count) = (values.as_ptr(), values.len());
+            // SAFETY: as the head of this module says.
+            unsafe { sys::dccp_prefer(end, feature, at_peer, value, count, now, frame) }
+        })
+    }
+
+    /// Tells the first timer that has run out; the status is `DONE` where one has.
+    pub fn tick(&mut self, now: u64) -> (u32, &[u8]) {
+        // SAFETY: as the head of this module says.
+        self.call(|end, frame| unsafe { sys::dccp_tick(end, now, frame) })
+    }
+
+    /// How many milliseconds it is until a timer runs out, or None where none runs.
+    pub fn until_first(&mut self, now: u64) -> Option<u64> {
+        // SAFETY: as the head of this module says.
+        let left = unsafe { sys::dccp_until_first(&mut self.handle, now) };
+        (left != sys::NEVER).then_some(left)
     }
 
     /// Takes a datagram; what became of it is told where the status is `DONE`.
-    pub fn receive(&mut self, datagram: &[u8]) -> (u32, &[u8], sys::Told) {
+    pub fn receive(&mut self, datagram: &[u8], now: u64) -> (u32, &[u8], sys::Told) {
         let mut told = sys::Told::default();
         let (status, frame) = self.call(|end, frame| {
+            let (bytes, length) = (datagram.as_ptr(), datagram.len());
             // SAFETY: as the head of this module says.
-            unsafe { sys::dccp_receive(end, datagram.as_ptr(), datagram.len(), frame, &mut told) }
+            unsafe { sys::dccp_receive(end, bytes, length, now, frame, &mut told) }
         });
         (status, frame, told)
     }

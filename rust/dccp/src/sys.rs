@@ -1,4 +1,4 @@
-//! The library for C, as `include/dccp.h` has it: a quick check of the repository compares this file with it.
+//! What this crate calls of the library for C, as `include/dccp.h` has it: a quick check of the repository compares this file with it.
 
 use std::ffi::c_void;
 
@@ -73,6 +73,7 @@ pub struct FeatureState {
 }
 
 pub const MOST_FRAME_BYTES: usize = 2044;
+pub const NEVER: u64 = u64::MAX;
 
 pub const DONE: u32 = 0;
 pub const NO_MEMORY: u32 = 2;
@@ -85,6 +86,7 @@ pub const BAD_LIST: u32 = 8;
 pub const NOT_OURS: u32 = 9;
 pub const NOT_LIVE: u32 = 10;
 pub const UNKNOWN: u32 = 11;
+pub const NO_CONNECTION: u32 = 13;
 
 pub const DATA: u32 = 1;
 pub const SYNCED: u32 = 3;
@@ -100,24 +102,44 @@ unsafe extern "C" {
         wishes: *const Wish,
         wishes_count: usize,
     ) -> u32;
+    pub fn dccp_accept(
+        end: *mut End,
+        settings: *const Settings,
+        wishes: *const Wish,
+        wishes_count: usize,
+        datagram: *const u8,
+        datagram_count: usize,
+        now: u64,
+        frame: *mut Frame,
+        told: *mut Told,
+    ) -> u32;
     pub fn dccp_free(end: *mut End);
-    pub fn dccp_open(end: *mut End, frame: *mut Frame) -> u32;
-    pub fn dccp_send(end: *mut End, payload: *const u8, payload_count: usize, frame: *mut Frame) -> u32;
-    pub fn dccp_close(end: *mut End, frame: *mut Frame) -> u32;
-    pub fn dccp_abort(end: *mut End, frame: *mut Frame) -> u32;
+    pub fn dccp_open(end: *mut End, now: u64, frame: *mut Frame) -> u32;
+    pub fn dccp_send(
+        end: *mut End,
+        payload: *const u8,
+        payload_count: usize,
+        now: u64,
+        frame: *mut Frame,
+    ) -> u32;
+    pub fn dccp_close(end: *mut End, now: u64, frame: *mut Frame) -> u32;
+    pub fn dccp_abort(end: *mut End, now: u64, frame: *mut Frame) -> u32;
     pub fn dccp_prefer(
         end: *mut End,
         feature: u32,
         at_peer: bool,
         values: *const u64,
         values_count: usize,
+        now: u64,
         frame: *mut Frame,
     ) -> u32;
-    pub fn dccp_timer(end: *mut End, timer: u32, frame: *mut Frame) -> u32;
+    pub fn dccp_tick(end: *mut End, now: u64, frame: *mut Frame) -> u32;
+    pub fn dccp_until_first(end: *mut End, now: u64) -> u64;
     pub fn dccp_receive(
         end: *mut End,
         datagram: *const u8,
         datagram_count: usize,
+        now: u64,
         frame: *mut Frame,
         told: *mut Told,
     ) -> u32;

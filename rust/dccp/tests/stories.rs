@@ -1,6 +1,6 @@
-//! Two connections in one process, whose time is counted on and whose frames are lost by number.
+//! Connections in one process, whose time is counted on and whose frames are lost by number.
 
-use dccp::{Accepted, Config, Connection, Event, Feature, Phase, Place, Transmit};
+use dccp::{Accepted, Config, Connection, Endpoint, Event, Feature, Phase, Place, Transmit};
 use std::error::Error;
 use std::net::SocketAddr;
 use std::time::{Duration, Instant};
@@ -188,5 +188,112 @@ fn a_server_closes_and_both_are_told_once() -> Result<(), Box<dyn Error>> {
     );
     one.handle_timeout(now + Duration::from_secs(240));
     assert_eq!((one.phase(), one.poll_timeout()), (Phase::Closed, None));
+    Ok(())
+}
+
+/// Clients at several addresses, and a server of at most two peers.
+struct Many {
+    server: Endpoint,
+    clients: Vec<(SocketAddr, Connection)>,
+    now: Instant,
+}
+
+impl Many {
+    fn new(clients: u8) -> Result<Many, Box<dyn Error>> {
+        let (_, there) = addresses();
+        let now = Instant::now();
+        let server = Endpoint::new(2, move |peer| Config::server(there, peer, SERVICE, 2_000));
+        let clients = (1..=clients).map(|it| {
+            let here = SocketAddr::from(([10, 0, 1, it], 40_000));
+            let mut client = Connection::new(&Config::client(here, there, SERVICE, 1_000))?;
+            client.open(now)?;
+            Ok((here, client))
+        });
+        let clients = clients.collect::<Result<_, Box<dyn Error>>>()?;
+        Ok(Many {
+            server,
+            clients,
+            now,
+        })
+    }
+
+    /// Frames arrive until there are no more.
+    fn exchange(&mut self) -> Result<(), Box<dyn Error>> {
+        let mut is_quiet = false;
+        while !is_quiet {
+            is_quiet = true;
+            for (here, client) in &mut self.clients {
+                while let Some(frame) = client.poll_transmit() {
+                    is_quiet = false;
+                    self.server.handle_datagram(*here, &frame.bytes, self.now)?;
+                }
+            }
+            while let Some((peer, frame)) = self.server.poll_transmit() {
+                is_quiet = false;
+                for (here, client) in &mut self.clients {
+                    if *here == peer {
+                        client.handle_datagram(&frame.bytes, self.now);
+                    }
+                }
+            }
+        }
+        Ok(())
+    }
+
+    fn phases(&self) -> Vec<Phase> {
+        self.clients.iter().map(|(_, it)| it.phase()).collect()
+    }
+}
+
+#[test]
+fn a_server_has_a_connection_for_each_peer_and_no_more_than_it_may() -> Result<(), Box<dyn Error>> {
+    let mut many = Many::new(3)?;
+    many.exchange()?;
+    assert_eq!(
+        many.phases(),
+        [Phase::Open, Phase::Open, Phase::Request],
+        "the third is passed over"
+    );
+    let peers: Vec<SocketAddr> = many.clients.iter().map(|(here, _)| *here).collect();
+    assert_eq!(
+        [many.server.poll_accept(), many.server.poll_accept()],
+        [Some(peers[0]), Some(peers[1])]
+    );
+    for (number, (_, client)) in many.clients.iter_mut().take(2).enumerate() {
+        client.send(&[number as u8], many.now)?;
+    }
+    many.exchange()?;
+    for (number, peer) in peers.iter().enumerate().take(2) {
+        let wanted = (*peer, Event::Data(vec![number as u8]));
+        assert_eq!(many.server.poll_event(), Some(wanted));
+    }
+    // Once one has gone there is room for the third, whose Request comes again after a second.
+    assert!(
+        many.server
+            .call(peers[0], |it| it.abort(many.now).is_ok())
+            .is_some()
+    );
+    assert_eq!(many.server.connections().count(), 1);
+    many.now += Duration::from_secs(1);
+    many.clients[2].1.handle_timeout(many.now);
+    many.exchange()?;
+    assert_eq!(many.phases(), [Phase::TimeWait, Phase::Open, Phase::Open]);
+    assert_eq!(many.server.poll_accept(), Some(peers[2]));
+    Ok(())
+}
+
+#[test]
+fn a_server_tells_the_timers_of_all_its_peers() -> Result<(), Box<dyn Error>> {
+    let mut many = Many::new(2)?;
+    many.exchange()?;
+    let due = many.server.poll_timeout().ok_or("a timer")?;
+    // The timer Ack waits for 200 milliseconds at first (RFC 4340, section 8.1.5).
+    assert_eq!(due - many.now, Duration::from_millis(200));
+    many.server.handle_timeout(due - Duration::from_millis(1));
+    assert_eq!(many.server.poll_transmit(), None);
+    many.server.handle_timeout(due);
+    let told: Vec<_> = std::iter::from_fn(|| many.server.poll_transmit()).collect();
+    assert_eq!(told.len(), 2);
+    assert!(told.iter().all(|(_, frame)| kind(frame) == 3));
     Ok(())
 }

@@ -1,0 +1,53 @@
+-- What a server of C's does with the first datagram of a peer (RFC 4340, section 8.1.2; own).
+use Rattle.std.specs.Prelude.{◌≡◌, ◌⊎◌, ℕ, ◌==◌, Bool, true, false, List, [], Option, Some, None, Result, Ok, Err, if◌then◌else◌}
+use Rattle.ccid_two.specs.Kinds.{Both, at_first, kinds_control}
+use Rattle.dccp_endpoint.specs.declared.config.Config.{Config}
+use Rattle.dccp_uses.specs.Session.{SessionStep, is_listening, session_begins}
+use Rattle.end_answers.specs.declared.outcome.Outcome.{Outcome}
+use Rattle.dccp_c.specs.Doing.{CEnd, bytes_of, c_receives}
+use Rattle.dccp_c.specs.Telling.{is_short, told_outcome}
+use Rattle.dccp_c.specs.declared.making.Settings.{Settings}
+use Rattle.dccp_c.specs.declared.told.Told.{Told}
+
+-- the settings of a server, whatever they say of that
+abbrev pub as_server : Settings → Settings
+as_server s = record s { is_server = true }
+
+-- a new end hears the datagram
+abbrev pub first_heard : List ℕ → ℕ → Config → SessionStep Both Outcome
+first_heard bytes now config = c_receives bytes now (session_begins kinds_control config at_first)
+
+-- 0 where it left LISTEN with that, which makes a connection, else 13; 5 where the datagram is too long to be heard
+abbrev pub heard_code : List ℕ → ℕ → Config → ℕ
+heard_code bytes now config =
+    if is_short bytes then (if is_listening (first_heard bytes now config).session.end.state.phase then 13 else 0) else 5
+
+-- The code of accepting: that of a refused configuration, else that of hearing, or 2 where memory is wanting.
+abbrev pub AcceptsCode : List ℕ → ℕ → Result Config ℕ → ℕ → Type 0
+AcceptsCode bytes now (Ok config) code = (code ≡ heard_code bytes now config) ⊎ (code ≡ 2)
+AcceptsCode bytes now (Err refusal) code = code ≡ refusal
+
+-- The datagram was heard where the code is 0 or 13.
+abbrev pub accept_step : List ℕ → ℕ → ℕ → Result Config ℕ → Option (SessionStep Both Outcome)
+accept_step bytes now code (Ok config) = if code == 0 then Some (first_heard bytes now config) else if code == 13 then Some (first_heard bytes now config) else None
+accept_step bytes now code (Err refusal) = None
+
+-- The end of a connection, where there is one.
+abbrev pub accepted_from : Bool → Option (SessionStep Both Outcome) → Option CEnd
+accepted_from true (Some step) = Some step.session
+accepted_from true None = None
+accepted_from false _ = None
+
+-- what the handle holds once accepting was answered by this code
+abbrev pub accepted_end : List ℕ → ℕ → ℕ → Result Config ℕ → Option CEnd
+accepted_end bytes now code config = accepted_from (code == 0) (accept_step bytes now code config)
+
+-- the bytes that answer the datagram, if it was heard
+abbrev pub step_bytes : Option (SessionStep Both Outcome) → List ℕ
+step_bytes None = []
+step_bytes (Some step) = bytes_of step.frame
+
+-- what C is told of it; where it was not heard, what it had stays
+abbrev pub step_told : Option (SessionStep Both Outcome) → Told → Told
+step_told None old = old
+step_told (Some step) old = told_outcome step.answer

@@ -1,0 +1,163 @@
+//! A server's connections, one for each peer.
+
+use crate::{Accepted, Config, Connection, Event, MakeError, Phase, Transmit};
+use std::collections::{BTreeMap, VecDeque};
+use std::fmt;
+use std::net::SocketAddr;
+use std::time::Instant;
+
+/// What makes the configuration of a connection to a peer.
+type Configure = Box<dyn FnMut(SocketAddr) -> Config + Send>;
+
+/// A server of many peers over one socket: a connection for each address from which a Request has come, up to a greatest number of them.
+/// What one peer sends changes nothing for another, as long as there is room. It has no socket and no clock, as a [`Connection`].
+///
+/// ```
+/// use dccp::{Config, Connection, Endpoint, Event};
+/// use std::time::Instant;
+///
+/// let (here, there) = ("192.0.2.1:40000".parse()?, "192.0.2.2:5001".parse()?);
+/// let now = Instant::now();
+/// // A real server draws the first number for each peer.
+/// let mut server = Endpoint::new(1_000, move |peer| Config::server(there, peer, 42, 2_000));
+/// let mut client = Connection::new(&Config::client(here, there, 42, 1_000))?;
+/// client.open(now)?;
+/// loop {
+///     while let Some(frame) = client.poll_transmit() {
+///         server.handle_datagram(here, &frame.bytes, now)?;
+///     }
+///     let Some((_, frame)) = server.poll_transmit() else { break };
+///     client.handle_datagram(&frame.bytes, now);
+/// }
+/// assert_eq!(server.poll_accept(), Some(here));
+/// assert_eq!(server.call(here, |it| it.send(b"hello", now)), Some(Ok(())));
+/// let (peer, frame) = server.poll_transmit().ok_or("a frame")?;
+/// client.handle_datagram(&frame.bytes, now);
+/// assert_eq!((peer, client.poll_event()), (here, Some(Event::Data(b"hello".to_vec()))));
+/// # Ok::<(), Box<dyn std::error::Error>>(())
+/// ```
+pub struct Endpoint {
+    most: usize,
+    configure: Configure,
+    connections: BTreeMap<SocketAddr, Connection>,
+    accepted: VecDeque<SocketAddr>,
+    frames: VecDeque<(SocketAddr, Transmit)>,
+    events: VecDeque<(SocketAddr, Event)>,
+}
+
+impl fmt::Debug for Endpoint {
+    fn fmt(&self, f: &mut fmt::Formatter<'_>) -> fmt::Result {
+        f.debug_struct("Endpoint")
+            .field("most", &self.most)
+            .field("connections", &self.connections)
+            .finish_non_exhaustive()
+    }
+}
+
+impl Endpoint {
+    /// A server of at most so many peers at a time. `configure` gives the configuration for a peer that is not known, a
+    /// [`Config::server`] with a first number that nobody can guess.
+    pub fn new(
+        most: usize,
+        configure: impl FnMut(SocketAddr) -> Config + Send + 'static,
+    ) -> Endpoint {
+        Endpoint {
+            most,
+            configure: Box::new(configure),
+            connections: BTreeMap::new(),
+            accepted: VecDeque::new(),
+            frames: VecDeque::new(),
+            events: VecDeque::new(),
+        }
+    }
+
+    /// A datagram has arrived from this address. Of a peer that is not known it may be a Request, which makes a connection; where there
+    /// are as many as may be, it is passed over. Refused as [`Connection::accept`] is.
+    pub fn handle_datagram(
+        &mut self,
+        peer: SocketAddr,
+        datagram: &[u8],
+        now: Instant,
+    ) -> Result<(), MakeError> {
+        if let Some(connection) = self.connections.get_mut(&peer) {
+            connection.handle_datagram(datagram, now);
+        } else if self.connections.len() < self.most {
+            match Connection::accept(&(self.configure)(peer), datagram, now)? {
+                Accepted::Connection(connection) => {
+                    self.connections.insert(peer, *connection);
+                    self.accepted.push_back(peer);
+                }
+                Accepted::Answer(frame) => self.frames.push_back((peer, frame)),
+                Accepted::Nothing => {}
+            }
+        }
+        self.gather(peer);
+        Ok(())
+    }
+
+    /// Makes calls of the connection of a peer, as `send` and `close`; None where there is none.
+    pub fn call<T>(
+        &mut self,
+        peer: SocketAddr,
+        doing: impl FnOnce(&mut Connection) -> T,
+    ) -> Option<T> {
+        let answer = doing(self.connections.get_mut(&peer)?);
+        self.gather(peer);
+        Some(answer)
+    }
+
+    /// The connections, and their peers.
+    pub fn connections(&self) -> impl Iterator<Item = (SocketAddr, &Connection)> {
+        self.connections.iter().map(|(peer, it)| (*peer, it))
+    }
+
+    /// Tells each timer of each connection that has run out. Calling it early does nothing.
+    pub fn handle_timeout(&mut self, now: Instant) {
+        let due: Vec<SocketAddr> = self
+            .connections()
+            .filter(|(_, it)| it.poll_timeout().is_some_and(|due| due <= now))
+            .map(|(peer, _)| peer)
+            .collect();
+        for peer in due {
+            self.call(peer, |it| it.handle_timeout(now));
+        }
+    }
+
+    /// When [`Endpoint::handle_timeout`] has something to do; None where no timer runs. Ask again after every other call.
+    pub fn poll_timeout(&self) -> Option<Instant> {
+        self.connections()
+            .filter_map(|(_, it)| it.poll_timeout())
+            .min()
+    }
+
+    /// The next peer whose connection is new.
+    pub fn poll_accept(&mut self) -> Option<SocketAddr> {
+        self.accepted.pop_front()
+    }
+
+    /// The next frame, and the peer to whom it goes.
+    pub fn poll_transmit(&mut self) -> Option<(SocketAddr, Transmit)> {
+        self.frames.pop_front()
+    }
+
+    /// The next that the owner is told, and of which peer.
+    pub fn poll_event(&mut self) -> Option<(SocketAddr, Event)> {
+        self.events.pop_front()
+    }
+
+    /// Takes what a connection has for the owner, and lets one go that is closed.
+    fn gather(&mut self, peer: SocketAddr) {
+        let Some(connection) = self.connections.get_mut(&peer) else {
+            return;
+        };
+        while let Some(frame) = connection.poll_transmit() {
+            self.frames.push_back((peer, frame));
+        }
+        while let Some(event) = connection.poll_event() {
+            self.events.push_back((peer, event));
+        }
+        if connection.phase() == Phase::Closed {
+            self.connections.remove(&peer);
+        }
+    }
+}
