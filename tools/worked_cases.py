@@ -1,5 +1,5 @@
-"""The worked cases of docs/CASES.md that have words and an input, as the tables of crates/tests_tool/src/worked.rt. They stand in examples/,
-and the toolchain puts no file into a test. Run by itself it writes the tables anew; `.ci/worked` holds that they are those of the texts."""
+"""The worked cases of docs/CASES.md that have words and an input, as the texts of crates/tests_tool/src/worked.rt. They stand in examples/,
+and the toolchain puts no file into a test. Run by itself it writes them anew; `.ci/worked` holds that they are those of examples/."""
 import re
 from pathlib import Path
 
@@ -8,8 +8,7 @@ TABLES = TOP / "crates" / "tests_tool" / "src" / "worked.rt"
 EXAMPLES = TOP / "examples"
 
 # Played over streams of 1, 7 and 4,096 bytes a call, and of 4,096 alone.
-IN_PIECES = """usual_connection_with_data mandatory_before_nothing options_passed_over""".split()
-FAULTS_IN_PIECES = ["option_faults"]
+IN_PIECES = """usual_connection_with_data mandatory_before_nothing options_passed_over option_faults""".split()
 WHOLE = """empty comments_alone no_such_frame handshake open_both_ways number_wrap server_number_wrap older_request_last
     data_in_request server_order_wins mandatory_unshared crossing_changes late_changes late_confirm nothing_shared invalid_value
     vector_of_received full_run_of_64 floor_rises_by_record coverage_too_large window_of_ccid_two refused_calls_and_closing
@@ -17,43 +16,20 @@ WHOLE = """empty comments_alone no_such_frame handshake open_both_ways number_wr
     marked_first""".split()
 
 HEAD = '''//! The worked cases that have words and an input, one after another over the tool's one call. `tools/worked_cases.py`
-//! writes these tables from examples/, where the cases are told.
-use crate::calls::{Case, Streams, comes, expect_in_pieces};
-use dccp_command::Status;
+//! writes these texts from examples/, where the cases are told.
+use crate::calls::{cases_come, cases_come_in_pieces};
 use std::test::Fail;
 
 '''
 
 FOOT = '''#[test]
 fn worked_cases_in_pieces(rt: HostRuntime) -> Result<(), Fail> {
-    for case in &IN_PIECES {
-        expect_in_pieces(&rt, rt.alloc(), case)?;
-    }
-    Ok(())
-}
-
-#[test]
-fn option_faults_in_pieces(rt: HostRuntime) -> Result<(), Fail> {
-    for case in &FAULTS {
-        expect_in_pieces(&rt, rt.alloc(), case)?;
-    }
-    Ok(())
-}
-
-#[test]
-fn more_option_faults_in_pieces(rt: HostRuntime) -> Result<(), Fail> {
-    for case in &MORE_FAULTS {
-        expect_in_pieces(&rt, rt.alloc(), case)?;
-    }
-    Ok(())
+    cases_come_in_pieces(&rt, rt.alloc(), IN_PIECES)
 }
 
 #[test]
 fn worked_cases(rt: HostRuntime) -> Result<(), Fail> {
-    for (name, case) in &WHOLE {
-        assert!(rt; comes(&rt, rt.alloc(), &Streams::of(4096), case)?, "{name}");
-    }
-    Ok(())
+    cases_come(&rt, rt.alloc(), 4096, WHOLE)
 }
 '''
 
@@ -78,14 +54,14 @@ def literal(text):
     """A text as a literal, a line of it on each line, and empty lines forty on one."""
     spelled = re.sub("^ ", r"\\x20", text.replace("\\", "\\\\").replace('"', '\\"'), flags=re.M)
     pieces = re.findall(r"\n{1,40}|.+\n?", spelled)
-    return '"' + "\\\n".join(it.replace("\n", "\\n") for it in pieces) + '"'
+    return '"\\\n' + "\\\n".join(it.replace("\n", "\\n") for it in pieces) + '"'
 
 
-def case_of(words, given, told, indent):
+def case_of(words, given, told):
+    """A case as the tests have it. Its marks stand nowhere else in it."""
+    assert not re.search("~ |=> ", given + told), words
     status = "Input" if re.search(r"^line ", told, re.M) else "Done"
-    rows = ["Case {", f'    words: "{words.replace(" ", ",")}",', f"    input: {literal(given)},", f"    status: Status::{status},",
-            f"    text: {literal(told)},", "}"]
-    return "\n".join(indent + it for it in rows)
+    return f"~ {words.replace(' ', ',')}\n{given}=> {status}\n{told}"
 
 
 def cases(stem):
@@ -94,28 +70,21 @@ def cases(stem):
     told = path.with_suffix(".expected").read_bytes().decode()
     for words, given in inputs(path.read_bytes().decode()):
         own, told = answers(told, words)
-        yield words, given, own
+        yield case_of(words, given, own)
 
 
-def table(name, rows):
-    return f"const {name}: [Case; {len(rows)}] = [\n" + "".join(f"{it},\n" for it in rows) + "];\n\n"
+def table(name, stems):
+    return f"const {name}: &str = {literal(''.join(it for stem in stems for it in cases(stem)))};\n\n"
 
 
 def tables():
     """The text of worked.rt."""
-    pieces = [case_of(*it, " " * 4) for stem in IN_PIECES for it in cases(stem)]
-    faults = [case_of(*it, " " * 4) for stem in FAULTS_IN_PIECES for it in cases(stem)]
-    half = (len(faults) + 1) // 2
-    whole = [f'    (\n        "{stem}",\n{case_of(*it, " " * 8)},\n    ),' for stem in WHOLE for it in cases(stem)]
     return "".join((
         HEAD,
         "// Data of which one packet is overtaken, and options in a Request, in pieces of any length.\n",
-        table("IN_PIECES", pieces),
-        "// Options that end the connection, as two tables: the proof of a longer one comes to no end.\n",
-        table("FAULTS", faults[:half]),
-        table("MORE_FAULTS", faults[half:]),
-        "// All others, by their names.\n",
-        f"const WHOLE: [(&str, Case); {len(whole)}] = [\n", "".join(f"{it}\n" for it in whole), "];\n\n",
+        table("IN_PIECES", IN_PIECES),
+        "// All others.\n",
+        table("WHOLE", WHOLE),
         FOOT,
     ))
 

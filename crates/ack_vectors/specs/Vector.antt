@@ -86,13 +86,15 @@ most_options Two = 2
 abbrev pub room_of : Vectors → ℕ
 room_of vectors = option_room * most_options vectors
 
--- the vector of a set of numbers in so many options, whether it is whole, and how many numbers it reaches
+-- the vector of a set of numbers in so many options
 abbrev pub vector_under : (ℕ → Bool) → ℕ → ℕ → Vectors → List ℕ
 vector_under has floor ack vectors = vector_within (room_of vectors) (set_states has) floor ack
 
+-- whether nothing of that vector is cut
 abbrev pub is_whole_under : (ℕ → Bool) → ℕ → ℕ → Vectors → Bool
 is_whole_under has floor ack vectors = is_whole_within (room_of vectors) (set_states has) floor ack
 
+-- how many numbers it reaches
 abbrev pub numbers_told_under : (ℕ → Bool) → ℕ → ℕ → Vectors → ℕ
 numbers_told_under has floor ack vectors = numbers_told_within (room_of vectors) (set_states has) floor ack
 

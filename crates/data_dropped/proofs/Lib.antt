@@ -1,8 +1,14 @@
 pub mod Arriving
 pub mod Lawful
+pub mod Behind
+pub mod EndHistory
+pub mod Frames
 pub mod History
 pub mod LastCode
+pub mod OwnFrames
+pub mod Places
 pub mod ReadBack
 pub mod Reading
 pub mod Table
+pub mod Telling
 pub mod Runs

@@ -33,10 +33,11 @@ pub record IsInbox (items : Buffer KeptData) (drops : Buffer DropEntry) : Type 0
 abbrev pub takes_more : InboxState → Bool
 takes_more held = not held.stopped && nat_lt (length held.items) held.capacity
 
--- Drop Codes 1 and 2: the application is no longer listening, and the receive buffer is full (RFC 4340, section 11.7)
+-- Drop Code 1: the application is no longer listening (RFC 4340, section 11.7)
 abbrev pub not_listening : ℕ
 not_listening = 1
 
+-- Drop Code 2: the receive buffer is full
 abbrev pub buffer_full : ℕ
 buffer_full = 2
 
@@ -62,12 +63,17 @@ abbrev pub answer_if : Bool → InboxState → Arrival
 answer_if true held = Kept
 answer_if false held = Dropped (reason held)
 
--- the inbox once data of at most 1,024 bytes arrived, and its answer
+-- the inbox once data of at most 1,024 bytes arrived
 abbrev pub after_arrival : InboxState → ℕ → List ℕ → InboxState
 after_arrival held n payload = held_if (takes_more held) held n payload
 
+-- what it answers to them
 abbrev pub arrival_answer : InboxState → Arrival
 arrival_answer held = answer_if (takes_more held) held
+
+-- an item holds as much data: 1,024 bytes, as many as an end sends at once (own)
+abbrev pub fits_item : List ℕ → Bool
+fits_item payload = nat_le (length payload) 1024
 
 -- the number and the length of the first item
 abbrev pub first_taken : List KeptData → Option (ℕ × ℕ)

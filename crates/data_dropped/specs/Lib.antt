@@ -1,5 +1,9 @@
+pub mod Buffering
 pub mod Drops
+pub mod EndHistory
+pub mod Frames
 pub mod History
 pub mod Inbox
 pub mod Reports
+pub mod Telling
 pub mod Writing

@@ -2,10 +2,21 @@
 ghost use Rattle.std.specs.Prelude.{◌≡◌, ℕ, ◌^◌, ◌<◌, ◌≤◌, ◌==◌, nat_lt, List, [], ◌∷◌, ◌++◌, IsTrue, Some, None, length, if◌then◌else◌};
 ghost use Rattle.std.specs.List.{list_any};
 ghost use Rattle.seq_circle.specs.Circle.{distance};
+ghost use Rattle.dccp_options.specs.Vectors.{Report};
+ghost use Rattle.dccp_sum.specs.declared.pseudo_header.Pseudo.{Pseudo};
+ghost use Rattle.dccp_endpoint.specs.End.{IsProper};
+ghost use Rattle.dccp_endpoint.specs.Receiving.{receives};
+ghost use Rattle.dccp_endpoint.specs.declared.config.Config.{Config};
+ghost use Rattle.data_dropped.specs.Buffering.{Buffered, buffers};
 ghost use Rattle.data_dropped.specs.Drops.{HaveCodes, code_at, drop_bytes, drop_code, numbers_reached, tells_all};
+ghost use Rattle.data_dropped.specs.EndHistory.{BufferedPast, EndCall, EndReceives, buffered_now, is_end_stop, no_past, past_after, past_all};
+ghost use Rattle.data_dropped.specs.Frames.{acknowledged_by};
 ghost use Rattle.data_dropped.specs.History.{InboxCall, IsAccounted, history_after_all, is_stop, no_history};
 ghost use Rattle.data_dropped.specs.Inbox.{InboxState};
+ghost use Rattle.data_dropped.specs.Telling.{FrameTells, IsReadAsDrops, TellsItsDrops, report_in_packet};
 ghost use Rattle.data_dropped.specs.declared.drops.DropEntry.{DropEntry};
+
+use congestion_trait::Congestion;
 
 /// Of several drops of a number the latest counts (own).
 pub fn the_latest_drop_counts()
@@ -34,4 +45,32 @@ pub fn a_report_of_drops_reads_back()
 pub fn what_is_kept_is_taken()
     ensures accounted { (capacity : ℕ) (calls : List InboxCall) → IsAccounted capacity (list_any is_stop calls) (history_after_all (no_history capacity) calls) }
     ensures codes { (capacity : ℕ) (calls : List InboxCall) → HaveCodes (history_after_all (no_history capacity) calls).held.drops }
+{}
+
+/// The same over every list of calls of an end with an inbox, whose packets are calls of its inbox where they deliver data
+/// (`received`).
+pub fn what_an_end_keeps_is_taken<C: Congestion>()
+    ensures received { (p : BufferedPast C) (bytes : List ℕ)
+        → (buffers C.control (buffered_now p) bytes).after ≡ buffered_now (past_after C.control p (EndReceives bytes)) }
+    ensures accounted { (config : Config) (congestion : C) (capacity : ℕ) (calls : List EndCall)
+        → IsAccounted capacity (list_any is_end_stop calls) (past_all C.control (no_past C.control config congestion capacity) calls).past }
+    ensures codes { (config : Config) (congestion : C) (capacity : ℕ) (calls : List EndCall)
+        → HaveCodes (past_all C.control (no_past C.control config congestion capacity) calls).past.held.drops }
+{}
+
+/// Each frame of a step of an end with an inbox tells its drops: it is a packet, its checksum fits, and beside the end's
+/// own options its Data Dropped options are just the report at the number that it acknowledges, as the inbox is after the
+/// step, where that has a byte and the packet has room for it; no other frame has one (own; RFC 4340, section 11.7). Where
+/// the end sends nothing, nothing goes out.
+pub fn every_frame_tells_its_drops<C: Congestion>()
+    ensures tells { (b : Buffered C) (bytes own : List ℕ) → IsProper b.end.state → (receives b.end.state bytes).frame ≡ Some own
+        → FrameTells C (buffers C.control b bytes) own }
+    ensures silent { (b : Buffered C) (bytes : List ℕ) → (receives b.end.state bytes).frame ≡ None → (buffers C.control b bytes).frame ≡ None }
+{}
+
+/// What is read of such a frame: a code only where it is the number's, and every code where nothing was cut off.
+pub fn a_frame_is_read_as_its_drops()
+    ensures { (pseudo : Pseudo) (gsr : ℕ) (held : InboxState) (own frame : List ℕ) (tells : TellsItsDrops pseudo gsr held own frame) (ack : ℕ) (r : Report)
+        → acknowledged_by gsr tells.packet.header.kind ≡ Some ack → report_in_packet ack tells.packet ≡ Some r → HaveCodes held.drops → ack < 2 ^ 48
+        → IsReadAsDrops held ack r }
 {}

@@ -86,7 +86,7 @@ alike-more state s count top n fits is same alike =
     ∙ ap (λ xs. xs ++ states_down state 1 n) alike ∙ ap (λ t. replicate count s ++ t ∷ []) same ∙ replicate-append-replicate count 1 s
 
 -- states have a byte
-bytes-some : (s : ℕ) (gs : List Group) → 1 ≤ length (bytes_of_groups (grouped_with s gs))
+bytes-some : (s : ℕ) (gs : List (Group ℕ)) → 1 ≤ length (bytes_of_groups (grouped_with s gs))
 bytes-some s [] = omega (arith, length-append (pieces s 1) [], pieces-some s 1 (omega arith))
 bytes-some s (g ∷ gs) =
     elim (cases_eq g.state s) [

@@ -16,6 +16,7 @@ pub record EcnRun : Type 0 where
   pub receipts : List Arrival
   pub heard : List (List Arrival)
 
+-- the run of these parts
 abbrev pub ecn_run : List Bool → List Arrival → List (List Arrival) → EcnRun
 ecn_run sent receipts heard = record { sent = sent; receipts = receipts; heard = heard }
 
@@ -24,6 +25,7 @@ abbrev pub ledger_from : Ledger → List Bool → Ledger
 ledger_from l [] = l
 ledger_from l (nonce ∷ nonces) = ledger_from (with_nonce_sent l nonce) nonces
 
+-- what a sender keeps that has sent packets with these nonces, the first with the number 1
 abbrev pub ledger_by : List Bool → Ledger
 ledger_by sent = ledger_from (ledger 1 []) sent
 
@@ -32,6 +34,7 @@ abbrev pub received_from : Arrivals → List Arrival → Arrivals
 received_from e [] = e
 received_from e (a ∷ rest) = received_from (taken_in e a.number a.how) rest
 
+-- the same of a receiver to which nothing else came
 abbrev pub received_after : List Arrival → Arrivals
 received_after receipts = received_from (none_arrived 1) receipts
 
@@ -40,9 +43,11 @@ abbrev pub greatest_from : Option ℕ → List Arrival → Option ℕ
 greatest_from greatest [] = greatest
 greatest_from greatest (a ∷ rest) = greatest_from (greatest_came greatest a.number) rest
 
+-- the same, of these receipts alone
 abbrev pub greatest_of : List Arrival → Option ℕ
 greatest_of receipts = greatest_from None receipts
 
+-- the number, or 0 where there is none
 abbrev pub number_or_0 : Option ℕ → ℕ
 number_or_0 None = 0
 number_or_0 (Some n) = n
@@ -51,10 +56,12 @@ number_or_0 (Some n) = n
 abbrev pub report_by : List Arrival → EcnReport
 report_by receipts = report_at (received_after receipts) (number_or_0 (greatest_of receipts))
 
+-- a receipt joins the run, if there is one
 abbrev pub run_with_receipt : EcnRun → Option Arrival → EcnRun
 run_with_receipt r None = r
 run_with_receipt r (Some a) = ecn_run r.sent (r.receipts ++ a ∷ []) r.heard
 
+-- a report joins the run, if there is a number at which it is written: it tells of the receipts so far
 abbrev pub run_with_report : EcnRun → Option ℕ → EcnRun
 run_with_report r None = r
 run_with_report r (Some _) = ecn_run r.sent r.receipts (r.heard ++ r.receipts ∷ [])
@@ -68,6 +75,7 @@ run_goes_on r event.Report = if nat_le most_sent (length r.heard) then r else ru
 run_goes_on r (event.Check index) = r
 run_goes_on r (event.Forge index) = r
 
+-- what events add to the run, in their order
 abbrev pub run_goes_on_by : EcnRun → List EcnEvent → EcnRun
 run_goes_on_by r [] = r
 run_goes_on_by r (e ∷ es) = run_goes_on_by (run_goes_on r e) es

@@ -30,6 +30,7 @@ pub record EcnState : Type 0 where
   pub greatest : Option ℕ
   pub reports : List EcnReport
 
+-- the state of these parts
 abbrev pub ecn_state : List Bool → Ledger → Arrivals → Option ℕ → List EcnReport → EcnState
 ecn_state sent ledger received greatest reports =
     record { sent = sent; ledger = ledger; received = received; greatest = greatest; reports = reports }
@@ -42,11 +43,12 @@ ecn_begins = ecn_state [] (ledger 1 []) (none_arrived 1) None []
 abbrev pub packet_number : ℕ → ℕ
 packet_number index = residue (1 + index)
 
--- what arrives of the packet with this index and nonce, unmarked or marked; nothing where no such packet was sent
+-- what arrives of the packet with this index and nonce, unmarked; nothing where no such packet was sent
 abbrev pub unmarked_at : ℕ → Option Bool → Option Arrival
 unmarked_at index None = None
 unmarked_at index (Some nonce) = Some (arrival_of (packet_number index) (came.Nonce nonce))
 
+-- the same of a packet that comes marked
 abbrev pub marked_at : ℕ → Option Bool → Option Arrival
 marked_at index None = None
 marked_at index (Some nonce) = Some (arrival_of (packet_number index) came.Marked)
@@ -64,10 +66,11 @@ report_at received ack = record { ack = ack; kind = ecn_kind received ack; bytes
 abbrev pub other_kind : ℕ → ℕ
 other_kind kind = if kind == ack_vector_0 then ack_vector_1 else ack_vector_0
 
--- what the sender tells of a report, and of the same one with the other nonce
+-- what the sender tells of a report
 abbrev pub checks : Ledger → EcnReport → Check
 checks l report = vector_checked l report.ack report.kind report.bytes
 
+-- the same of the report with the other nonce
 abbrev pub checks_forged : Ledger → EcnReport → Check
 checks_forged l report = vector_checked l report.ack (other_kind report.kind) report.bytes
 
@@ -80,6 +83,7 @@ pub record EcnStep : Type 0 where
   pub after : EcnState
   pub seen : EcnSeen
 
+-- the step of these parts
 abbrev pub ecn_step : EcnState → EcnSeen → EcnStep
 ecn_step after seen = record { after = after; seen = seen }
 
@@ -95,6 +99,7 @@ after_receipt w a = ecn_state w.sent w.ledger (taken_in w.received a.number a.ho
 abbrev pub keeps_report : EcnState → EcnReport → EcnState
 keeps_report w report = ecn_state w.sent w.ledger w.received w.greatest (w.reports ++ report ∷ [])
 
+-- what a receipt makes of the two, which there is of a packet that was sent
 abbrev pub receipt_step : EcnState → Option Arrival → Result EcnStep EcnFault
 receipt_step w None = Err fault.NoSuchFrame
 receipt_step w (Some a) = Ok (ecn_step (after_receipt w a) (seen.Took (answer_to w.received.set a.number)))
@@ -104,6 +109,7 @@ abbrev pub reports_to : EcnState → Option ℕ → Result EcnStep EcnFault
 reports_to w None = Ok (ecn_step w (seen.Reported None))
 reports_to w (Some ack) = Ok (ecn_step (keeps_report w (report_at w.received ack)) (seen.Reported (Some (length w.reports))))
 
+-- what a check of a report tells, where there is such a report
 abbrev pub is_checked : EcnState → (EcnReport → Check) → Option EcnReport → Result EcnStep EcnFault
 is_checked w check None = Err fault.NoSuchFrame
 is_checked w check (Some report) = Ok (ecn_step w (seen.Checked (check report)))

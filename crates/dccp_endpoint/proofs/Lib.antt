@@ -3,6 +3,7 @@ pub mod AnyFrames
 pub mod Short
 pub mod OwnFrames
 pub mod InFull
+pub mod NearWindows
 pub mod Phases
 pub mod Arriving
 pub mod Tables

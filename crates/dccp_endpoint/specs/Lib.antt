@@ -8,6 +8,7 @@ pub mod Drafts
 pub mod Turns
 pub mod Heeding
 pub mod ShortForm
+pub mod NearWindows
 pub mod Steps
 pub mod Speaking
 pub mod Reporting

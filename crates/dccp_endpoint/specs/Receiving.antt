@@ -11,6 +11,7 @@ use Rattle.ack_vectors.specs.Kept as kept
 use Rattle.seq_circle.specs.Circle.{residue, extended, is_before}
 use Rattle.dccp_sum.specs.Checksum.{checked}
 use Rattle.dccp_sum.specs.declared.packet_sum.SumFault.{SumFault}
+use Rattle.dccp_options.specs.Grammar.{options_of}
 use Rattle.dccp_packets.specs.Grammar.{Parts, decoded, code_of}
 use Rattle.dccp_packets.specs.declared.reading.Malformed.{Malformed}
 use Rattle.dccp_packets.specs.declared.header.Header.{Header}
@@ -30,7 +31,10 @@ use Rattle.dccp_states.specs.declared.reply.Reply.{Reply}
 use Rattle.dccp_states.specs.declared.reply.Reply.TheVariants as reply
 use Rattle.feature_lists.specs.declared.features.Feature.TheVariants.{ShortSeqnos}
 use Rattle.feature_lists.specs.declared.features.Place.TheVariants.{There}
+use Rattle.feature_machine.specs.Negotiating.{first_rows}
+use Rattle.feature_machine.specs.declared.offers.Listed.{Listed}
 use Rattle.feature_machine.specs.declared.row.Row.{Row}
+use Rattle.feature_machine.specs.declared.stands.Role2.TheVariants as end
 use Rattle.run_list.specs.MarkedSet.{answer_to}
 use Rattle.run_list.specs.declared.answers.Marked.{Marked}
 use Rattle.validity_windows.specs.Beginning.{begun}
@@ -330,6 +334,16 @@ leaves e a (exits.TimeWait code) = idle (in_phase e phases.TimeWait) (WasReset c
 -- Step 8: what the options come to, or their first fault. Options of the negotiation are heeded on the newest packets alone.
 abbrev pub reads_options : EndState → Incoming → Result Heeding Fault
 reads_options x a = heeds (a.newest && counts x.phase a.kind) a.ack (unheeded x.rows) a.options
+
+-- The same of a Request for its service that reaches a server's end in LISTEN: what it makes of the option area depends on its lists
+-- alone. The end has left LISTEN by then (step 3).
+abbrev pub reads_request : List Listed → List ℕ → Result Heeding Fault
+reads_request lists area = heeds true None (unheeded (first_rows end.Server lists)) (options_of area false)
+
+-- the fault, if there is one
+abbrev pub fault_if : Result Heeding Fault → Result (Unit {0}) Fault
+fault_if (Ok h) = Ok tt
+fault_if (Err fault) = Err fault
 
 -- The rows are stored once the options are read to their end, and the congestion control hears of them. A fault ends the connection,
 -- leaves the rows as they were and the packet unmarked, and hands nothing over.

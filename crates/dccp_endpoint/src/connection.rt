@@ -5,6 +5,7 @@ ghost use Rattle.dccp_endpoint.specs.End.{end_of, first_phase, with_widths};
 use crate::{Config, Held};
 use ack_vectors::Received;
 use dccp_states::{Phase, Role};
+use dccp_sum::Pseudo;
 use feature_lists::{Feature, Place, initial};
 use feature_machine::{Negotiation, Role2};
 use seq_circle::{NoMemory, Seq48};
@@ -108,6 +109,13 @@ impl Connection {
         ensures { result ≡ self.now.phase }
     {
         self.phase
+    }
+
+    /// The addresses of the packets that it sends.
+    pub(crate) fn pseudo_out(&self) -> Pseudo
+        ensures { result ≡ self.now.config.pseudo_out }
+    {
+        self.config.pseudo_out
     }
 
     /// The first and greatest numbers sent and received, and the widths of the windows (RFC 4340, section 7.1).

@@ -2,7 +2,7 @@
 use crate::connection::{Connection, is_open};
 use crate::{
     AbortFault, CloseFault, Config, Feature, Held, Marks, OpenFault, Outcome, Phase, Place,
-    PreferFault, Role, SendFault, Timer,
+    PreferFault, Pseudo, Role, SendFault, Timer,
 };
 use congestion_trait::Congestion;
 use dccp_packets::Outbox;
@@ -29,7 +29,7 @@ const FIRST_CCID: u8 = 2;
 /// - `send` for data, in OPEN, `send_early` of a client that speaks first, in PARTOPEN, and `send_soon` in both
 /// - `prefer` for another value of a feature, in PARTOPEN and OPEN
 /// - `close` to end the connection in order, in PARTOPEN and OPEN, and `abort` to end it at once
-/// - the readers `phase`, `marks`, `held`, `window`, `in_flight`, `is_reported`, `floor` and `marked`, at any time
+/// - the readers `phase`, `pseudo_out`, `marks`, `held`, `window`, `in_flight`, `is_reported`, `floor` and `marked`, at any time
 ///
 /// A feature's value, as `held` shows it, is settled for this end where its stand is Stable; that tells nothing of the
 /// other end, which may hold another one until it is Stable too. The connection has ended once the phase
@@ -128,6 +128,13 @@ impl<C: Congestion> Endpoint<C> {
         ensures { result ≡ self.now.state.phase }
     {
         self.connection.phase()
+    }
+
+    /// The addresses of the packets that it sends, for whoever seals a frame of the end anew.
+    pub fn pseudo_out(&self) -> Pseudo
+        ensures { result ≡ self.now.state.config.pseudo_out }
+    {
+        self.connection.pseudo_out()
     }
 
     /// The first and greatest numbers sent and received, and the widths of the windows (RFC 4340, section 7.1). The

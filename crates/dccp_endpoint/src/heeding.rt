@@ -2,15 +2,16 @@
 ghost use Rattle.std.specs.Prelude.{◌≡◌, ◌<◌, ◌≤◌, ℕ, Option, Ok, true, length, map};
 ghost use Rattle.dccp_options.specs.Grammar.{options_of};
 ghost use Rattle.dccp_options.specs.Left.{entry_of_option, item_of};
+ghost use Rattle.dccp_endpoint.specs.Receiving.{fault_if, reads_request};
 ghost use Rattle.dccp_endpoint.specs.Heeding.{Heeding, counted, due_of, heeding_or, heeds, heeds_body, heeds_change, heeds_confirm, heeds_entry, heeds_feature, heeds_first, heeds_item, is_change, is_left, is_of_negotiation, met, misunderstood, place_in_used, unheeded};
 
-use crate::Fault;
 use crate::faults::{fault_of, mandatory_fault};
+use crate::{Fault, Lists};
 use arrayvec::ArrayVec;
 use dccp_options::kinds::{CHANGE_L, CHANGE_R, CONFIRM_L, CONFIRM_R};
 use dccp_options::{Opt, OptFault, options};
 use dccp_packets::ResetCode;
-use feature_machine::{Answer, ConfirmOut, Negotiation, Settling};
+use feature_machine::{Answer, ConfirmOut, Negotiation, Role2, Settling};
 use seq_circle::Seq48;
 use std::marker::Model;
 
@@ -301,4 +302,19 @@ pub(crate) fn are_silent(area: &[u8], on_data: bool, count: bool) -> bool
         }
     }
     true
+}
+
+/// Reads the option area of a Request for its service that reaches a server's end in LISTEN, without such an end, whose
+/// configuration has these lists: Ok where the end would answer the Request, and else the fault for which it would close
+/// and that its Reset would tell (RFC 4340, sections 5.8 and 8.5, step 8). It takes no memory.
+pub fn heed_request(lists: &Lists, area: &[u8]) -> Result<(), Fault>
+    requires { length area.now ≤ 1008 }
+    ensures { result ≡ fault_if (reads_request lists.now area.now) }
+{
+    if are_silent(area, false, true) {
+        return Ok(());
+    }
+    let mut reading = Reading::new(&Negotiation::new(Role2::Server, lists));
+    heed(&mut reading, area, false, true, &None)?;
+    Ok(())
 }

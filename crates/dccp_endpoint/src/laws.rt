@@ -7,8 +7,11 @@ ghost use Rattle.dccp_endpoint.specs.declared.config.Config.{Config};
 ghost use Rattle.dccp_endpoint.specs.Causes.{EveryStepHasOneEffect};
 ghost use Rattle.dccp_endpoint.specs.Drafts.{Draft, Fits, IsSendable, ReadsAs, frame_of, own_header};
 ghost use Rattle.dccp_endpoint.specs.InFull.{FramesAreReadInFull};
+ghost use Rattle.dccp_endpoint.specs.NearWindows.{ValidNumbersAreNear};
 ghost use Rattle.dccp_endpoint.specs.FirstFault.{ReadingGoesThrough, ReadingStopsAtTheFirstFault};
 ghost use Rattle.dccp_endpoint.specs.Saying.{ConfirmsAreSingle, OwnPacketsSayOfARow, OwnPacketsSpeakOnce, RowsHearThePacket};
+
+use validity_windows::verdicts_are_those_of_whole_numbers;
 
 /// What an end writes is read as it was meant: each frame of a draft is a packet with the draft's type, options and
 /// data under the end's ports and the number, with short numbers or with long ones, and its checksum fits (RFC 4340,
@@ -29,6 +32,15 @@ pub fn own_frames_are_read()
 pub fn frames_are_read_in_full()
     ensures { FramesAreReadInFull }
 {}
+
+/// Where neither window is wider than those under which an end sends short numbers, every number that is valid on a
+/// Data, an Ack or a DataAck lies fewer than 2^23 from GSR, and the one that it acknowledges fewer than 2^23 from GSS
+/// (RFC 4340, sections 7.5.1 and 7.6; the width is own). So no packet that is in time is too far to be told.
+pub fn valid_numbers_are_near()
+    ensures { ValidNumbersAreNear }
+{
+    verdicts_are_those_of_whole_numbers();
+}
 
 /// Each step of an end has an effect, one for the whole step: a record of what becomes of each part of the end, of what
 /// goes out and why (own). The law says that there is one, and the end after the step, its frame and its calls are

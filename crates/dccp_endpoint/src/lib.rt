@@ -20,17 +20,20 @@ mod feeding;
 mod heeding;
 mod incoming;
 mod laws;
+mod sealing;
 mod speaking;
 
 pub use crate::config::{Config, Ports};
 pub use crate::endpoint::Endpoint;
 pub(crate) use crate::exit::Exit;
 pub use crate::feeding::feed;
+pub use crate::heeding::heed_request;
 pub use crate::laws::{
     every_step_has_one_effect, frames_are_read_in_full, own_frames_are_read,
     own_packets_say_one_thing_of_a_row, own_packets_speak_once, packets_say_one_thing_to_a_row,
-    reading_stops_at_the_first_fault,
+    reading_stops_at_the_first_fault, valid_numbers_are_near,
 };
+pub use crate::sealing::seal_frame;
 pub use ack_vectors::Vectors;
 pub use congestion_trait::Congestion;
 pub use dccp_packets::{Frame, MOST_FRAME_BYTES, Malformed, Outbox, ResetCode};

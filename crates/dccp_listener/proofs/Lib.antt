@@ -6,4 +6,4 @@ pub mod Computing
 pub mod EndsStand
 pub mod Requests
 pub mod Places
-pub mod Plain
+pub mod Fresh

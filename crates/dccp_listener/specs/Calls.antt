@@ -1,5 +1,5 @@
 -- What the calls of a listener do (own).
-use Rattle.std.specs.Prelude.{◌≡◌, ◌≤◌, ℕ, false, List, length, Option, Some, None, Result, Ok, Err, IsSome}
+use Rattle.std.specs.Prelude.{◌≡◌, ◌≤◌, ◌<◌, ℕ, false, List, length, Option, Some, None, Result, Ok, Err, IsSome}
 use Rattle.dccp_packets.specs.Grammar.{Parts, decoded}
 use Rattle.dccp_packets.specs.ResetCodes.{number_of_code}
 use Rattle.dccp_packets.specs.declared.header.Kind.TheVariants as kind
@@ -32,6 +32,12 @@ pub record IsBusy (l : Listening) (peer : Peer) (deed : Deed) : Type 0 where
   pub is_table_full : l.config.most ≤ length l.flows
   pub would_stay : IsSome (chain_step l.config peer None deed).after
 
+-- The listener may have one flow more, and the peer has none and would get it.
+pub record OpensFlow (l : Listening) (peer : Peer) (deed : Deed) : Type 0 where
+  pub has_none : end_of_peer l.flows peer ≡ None
+  pub has_room : length l.flows < l.config.most
+  pub would_stay : IsSome (chain_step l.config peer None deed).after
+
 -- The Reset with the code Too Busy (RFC 4340, section 5.6), sent without a connection: its number is 0, and it acknowledges the packet
 -- with this number.
 abbrev pub busy_reset : Config → ℕ → List ℕ
@@ -53,7 +59,7 @@ Arrived before after peer iss bytes frame (Ok (heard.Flow outcome)) =
     IsStep before after peer (Arrives iss bytes) frame (Some (seen.Received outcome)) × (IsBusy before peer (Arrives iss bytes) → ⊥)
 Arrived before after peer iss bytes frame (Ok heard.Busy) =
     IsBusy before peer (Arrives iss bytes) × (after ≡ before) × (frame ≡ busy_frame (config_for before.config peer iss bytes) (decoded bytes))
-Arrived before after peer iss bytes frame (Err _) = (end_of_peer before.flows peer ≡ None) × (after ≡ before) × (frame ≡ None)
+Arrived before after peer iss bytes frame (Err _) = OpensFlow before peer (Arrives iss bytes) × (after ≡ before) × (frame ≡ None)
 
 -- what was seen of an act, which is nothing where the peer has no flow
 abbrev pub seen_if : Result Seen NoFlow → Option Seen

@@ -64,6 +64,7 @@ abbrev pub listening_through : Listening → List (Peer × Deed) → Listening
 listening_through l [] = l
 listening_through l (now ∷ later) = listening_through (listening_after l now.0 now.1) later
 
+-- what is computed of each of them, as turns
 abbrev pub turns_of : Listening → List (Peer × Deed) → List CallTurn
 turns_of l [] = []
 turns_of l (now ∷ later) = computed_turn l now.0 now.1 ∷ turns_of (listening_after l now.0 now.1) later

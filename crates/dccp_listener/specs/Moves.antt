@@ -1,11 +1,13 @@
 -- What one deed makes of a peer's end where it stands among the others, in two halves: it moves, and goes where it is over (own).
 use Rattle.std.specs.Prelude.{◌≡◌, ℕ, Bool, List, Option, Some, None}
+use Rattle.std.specs.BTreeMap.{insert_entry}
 use Rattle.std.specs.Map.{set_value}
 use Rattle.ccid_two.specs.Kinds.{Both}
 use Rattle.dccp_endpoint.specs.Controlled.{EndStep}
+use Rattle.end_answers.specs.declared.outcome.Outcome.{Outcome}
 use Rattle.dccp_listener.specs.Chain.{is_given_up, kept_until_over}
 use Rattle.dccp_listener.specs.Listens.{with_end}
-use Rattle.dccp_listener.specs.Peers.{FlowEnd, Flows, is_peer}
+use Rattle.dccp_listener.specs.Peers.{FlowEnd, Flows, end_of_peer, is_peer, peer_cmp}
 use Rattle.dccp_listener.specs.declared.peer.Peer.{Peer}
 
 -- the peer's own end after the first half, all flows, the frame, and what is shown of the answer beside whether the end is over
@@ -23,3 +25,8 @@ FlowSteps step show (Some e) own before after peer frame told =
     (own ≡ kept_until_over (step e).after) × (after ≡ with_end before peer (step e).after) × (frame ≡ (step e).frame)
     × (told ≡ Some (show (step e).answer))
 FlowSteps step show None own before after peer frame told = (own ≡ None) × (after ≡ before) × (frame ≡ None) × (told ≡ None)
+
+-- a peer that has no end gets a fresh one, which this step has left
+abbrev pub IsTakenIn : EndStep Both Outcome → (before after : Flows) → Peer → Option (List ℕ) → Outcome → Type 0
+IsTakenIn step before after peer frame outcome =
+    (end_of_peer after peer ≡ Some step.after) × (after ≡ insert_entry peer_cmp before peer step.after) × (frame ≡ step.frame) × (outcome ≡ step.answer)

@@ -30,10 +30,11 @@ told_of (Ok (heard.Flow outcome)) = Stepped (Some (seen.Received outcome))
 told_of (Ok heard.Busy) = WasBusy
 told_of (Err _) = HadNoMemory
 
--- a call `arrive`, and a call `act`
+-- a call `arrive`
 abbrev pub arrival : Peer → ℕ → List ℕ → Option (List ℕ) → Result Heard NoMemory → CallTurn
 arrival peer iss bytes frame result = record { peer = peer; deed = Arrives iss bytes; frame = frame; told = told_of result }
 
+-- a call `act`
 abbrev pub call_turn : Peer → FlowCall → Option (List ℕ) → Result Seen NoFlow → CallTurn
 call_turn peer call frame result = record { peer = peer; deed = Calls call; frame = frame; told = Stepped (seen_if result) }
 

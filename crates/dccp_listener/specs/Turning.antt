@@ -1,31 +1,21 @@
--- What a fresh end makes of a datagram, as far as that is known without one (RFC 4340, section 8.5, steps 1 to 3).
-use Rattle.std.specs.Prelude.{◌≡◌, ◌==◌, ◌&&◌, ℕ, Bool, true, false, List, [], length, Option, None}
-use Rattle.dccp_packets.specs.Grammar.{Parts}
-use Rattle.dccp_packets.specs.declared.header.Kind.{Kind}
-use Rattle.dccp_packets.specs.declared.header.Kind.TheVariants as kind
-use Rattle.dccp_endpoint.specs.End.{EndState}
-use Rattle.dccp_endpoint.specs.Receiving.{receives}
-use Rattle.dccp_endpoint.specs.Steps.{Step}
+-- What a fresh end makes of a datagram, told without the end where it does not stay (RFC 4340, section 8.5).
+use Rattle.std.specs.Prelude.{◌≡◌, ℕ, true, false, List, Option, Some, None, Result, Ok, Err}
+use Rattle.dccp_endpoint.specs.Drafts.{frame_of}
+use Rattle.dccp_endpoint.specs.End.{new_end}
+use Rattle.dccp_endpoint.specs.Steps.{Step, detail_of, next_number, reset_of}
+use Rattle.dccp_endpoint.specs.declared.config.Config.{Config}
+use Rattle.end_answers.specs.declared.outcome.Fault.{Fault}
 use Rattle.end_answers.specs.declared.outcome.Outcome.{Outcome}
+use Rattle.end_answers.specs.declared.outcome.Outcome.TheVariants.{SentReset}
 use Rattle.dccp_listener.specs.Chain.{is_flow}
-use Rattle.dccp_listener.specs.declared.strangers.Stranger.{Stranger}
-use Rattle.dccp_listener.specs.declared.strangers.Stranger.TheVariants as stranger
 
--- the end is as it was, and its congestion control heard nothing
-abbrev pub turned_away : EndState → Option (List ℕ) → Outcome → Step Outcome
-turned_away e frame outcome = record { after = e; frame = frame; calls = []; answer = outcome }
+-- what is told of the step of a fresh end, with the frame that goes out: its answer where it does not stay, and else nothing
+abbrev pub IsToldOf : Step Outcome → Option (List ℕ) → Option Outcome → Type 0
+IsToldOf step frame (Some outcome) = (step.frame ≡ frame) × (step.answer ≡ outcome) × (is_flow step.after.phase ≡ false)
+IsToldOf step frame None = (frame ≡ None) × (is_flow step.after.phase ≡ true)
 
--- a Request for this service
-abbrev pub asks_for : ℕ → Kind → Bool
-asks_for own (kind.Request service) = service == own
-asks_for own _ = false
-
--- one without options
-abbrev pub is_plain : ℕ → Parts → Bool
-is_plain own p = asks_for own p.header.kind && (length p.options == 0)
-
--- what is told of the step of a fresh end
-abbrev pub IsToldOf : EndState → List ℕ → Option (List ℕ) → Stranger → Type 0
-IsToldOf e bytes frame (stranger.TurnedAway outcome) = receives e bytes ≡ turned_away e frame outcome
-IsToldOf e bytes frame stranger.AsksPlainly = (frame ≡ None) × (is_flow (receives e bytes).after.phase ≡ true)
-IsToldOf e bytes frame stranger.Asks = frame ≡ None
+-- the same of a Request with this number for its service, by the fault of the options, if there is one
+abbrev pub IsToldOfRequest : Config → ℕ → Result (Unit {0}) Fault → Option (List ℕ) → Option Outcome → Type 0
+IsToldOfRequest config number (Ok _) frame told = (frame ≡ None) × (told ≡ None)
+IsToldOfRequest config number (Err fault) frame told =
+    (frame ≡ Some (frame_of config false (next_number (new_end config)) (reset_of number fault))) × (told ≡ Some (SentReset fault.code (detail_of fault)))

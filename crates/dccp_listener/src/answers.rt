@@ -2,37 +2,19 @@
 ghost use Rattle.std.specs.Prelude.{◌≡◌, ◌≤◌, length};
 ghost use Rattle.ccid_two.specs.Kinds.{kinds_control};
 ghost use Rattle.dccp_endpoint.specs.Feeding.{receiving};
-ghost use Rattle.two_ends.specs.World.{seen_of, send_refusal_of};
-ghost use Rattle.dccp_listener.specs.Chain.{Calls, call_of, flow_step, is_flow, is_given_up};
+ghost use Rattle.two_ends.specs.World.{seen_of};
+ghost use Rattle.dccp_listener.specs.Chain.{Calls, call_of, flow_step, is_given_up};
 
 use crate::Act;
 use ccid_two::Kinds;
-use dccp_endpoint::{AbortFault, CloseFault, Endpoint, Outbox, Outcome, Phase, SendFault};
+use dccp_endpoint::{AbortFault, CloseFault, Endpoint, Outbox, Outcome, Phase};
 use world_events::{Refusal, Seen};
-
-/// The phases in which a peer has an end.
-pub(crate) fn is_flow(phase: Phase) -> bool
-    ensures { result ≡ is_flow phase }
-{
-    !matches!(phase, Phase::Closed | Phase::Listen)
-}
 
 /// The phase in which an end is given up.
 pub(crate) fn is_given_up(phase: Phase) -> bool
     ensures { result ≡ is_given_up phase }
 {
     matches!(phase, Phase::Closed)
-}
-
-fn send_refusal_of(fault: SendFault) -> Refusal
-    ensures { result ≡ send_refusal_of fault }
-{
-    match fault {
-        SendFault::NotOpen => Refusal::NotOpen,
-        SendFault::TooLong => Refusal::TooLong,
-        SendFault::NotNegotiated => Refusal::NotNegotiated,
-        SendFault::WindowFull => Refusal::WindowFull,
-    }
 }
 
 /// The end takes a call.
@@ -44,7 +26,7 @@ pub(crate) fn call(end: &mut Endpoint<Kinds>, act: Act<'_>, out: &mut Outbox) ->
     match act {
         Act::Send(payload) => match end.send(payload, out) {
             Ok(()) => Seen::Called(Ok(())),
-            Err(fault) => Seen::Called(Err(send_refusal_of(fault))),
+            Err(fault) => Seen::Called(Err(Refusal::from(fault))),
         },
         Act::Timer(timer) => Seen::Fired(end.timer(timer, out)),
         Act::Close => match end.close(out) {

@@ -4,15 +4,16 @@ ghost use Rattle.ccid_two.specs.Kinds.{at_first, kinds_control};
 ghost use Rattle.dccp_endpoint.specs.Controlled.{begins};
 ghost use Rattle.dccp_endpoint.specs.Drafts.{frame_of};
 ghost use Rattle.dccp_endpoint.specs.Feeding.{receiving};
-ghost use Rattle.dccp_endpoint.specs.Steps.{reset_of, without_detail};
+ghost use Rattle.dccp_endpoint.specs.Steps.{detail_of, reset_of, without_detail};
 ghost use Rattle.dccp_packets.specs.Grammar.{decoded};
 ghost use Rattle.dccp_packets.specs.ResetCodes.{number_of_code};
 ghost use Rattle.dccp_sum.specs.Checksum.{sealed};
+ghost use Rattle.end_answers.specs.declared.outcome.Outcome.TheVariants.{SentReset};
 ghost use Rattle.dccp_listener.specs.Calls.{busy_frame, busy_reply};
 
 use crate::answers::receive;
 use ccid_two::Kinds;
-use dccp_endpoint::{Config, Endpoint, NoMemory, Outbox, Outcome, Pseudo, ResetCode, Seq48};
+use dccp_endpoint::{Config, Endpoint, Fault, NoMemory, Outbox, Outcome, Pseudo, ResetCode, Seq48};
 use dccp_packets::{Frame, Header, Kind, Number, decode, encode};
 use dccp_sum::seal;
 use std::alloc::Global;
@@ -43,17 +44,32 @@ fn seal_frame(pseudo: &Pseudo, frame: &mut Frame)
     let _ = seal(pseudo, bytes);
 }
 
-/// Leaves a Reset of no connection in the Outbox, between the ends of the configuration.
+/// A Reset Code without detail.
+pub(crate) fn without_detail(code: ResetCode) -> Fault
+    ensures { result ≡ without_detail (number_of_code code) }
+{
+    Fault {
+        code: code.number(),
+        first: 0,
+        second: 0,
+        third: 0,
+    }
+}
+
+/// Leaves a Reset that tells of a fault in the Outbox, between the ends of the configuration, and answers that.
 #[tactic(auto, unfolding(dccp_endpoint::specs::Drafts::framed))]
 pub(crate) fn put_reset(
     config: &Config,
     number: Seq48,
     ack: Seq48,
-    code: ResetCode,
+    fault: Fault,
     out: &mut Outbox,
-)
-    ensures { out.new ≡ Some (frame_of config.now false number (reset_of ack (without_detail (number_of_code code)))) }
+) -> Outcome
+    ensures sent { out.new ≡ Some (frame_of config.now false number (reset_of ack fault)) }
+    ensures told { result ≡ SentReset fault.code (detail_of fault) }
 {
+    let code = fault.code;
+    let detail = [fault.first, fault.second, fault.third];
     let header = Header {
         from: config.own_port,
         to: config.peer_port,
@@ -61,11 +77,7 @@ pub(crate) fn put_reset(
         cscov: 0,
         checksum: 0,
         number: Number::Long(number),
-        kind: Kind::Reset {
-            ack,
-            code: code.number(),
-            detail: [0, 0, 0],
-        },
+        kind: Kind::Reset { ack, code, detail },
     };
     let frame = out.begin();
     match encode(&header, &[], &[], frame) {
@@ -73,6 +85,7 @@ pub(crate) fn put_reset(
         Err(_) => unreachable!(),
     }
     seal_frame(&config.pseudo_out, frame);
+    Outcome::SentReset { code, detail }
 }
 
 /// The number of a packet of no connection that acknowledges nothing.
@@ -91,7 +104,10 @@ fn refuse_number(config: &Config, number: &Number, out: &mut Outbox)
     ensures { out.new ≡ busy_reply config.now number.now }
 {
     match *number {
-        Number::Long(number) => put_reset(config, zero(), number, ResetCode::TooBusy, out),
+        Number::Long(number) => {
+            let fault = without_detail(ResetCode::TooBusy);
+            let _ = put_reset(config, zero(), number, fault, out);
+        }
         Number::Short(_) => {}
     }
 }

@@ -29,8 +29,8 @@ use world_events::Seen;
 /// # Sizes
 ///
 /// A flow takes the blocks of its end and of its congestion control, about 87 KB, beside an entry of the map: 1,024 take 89 MB.
-/// Of a peer that has no flow only a Request for a service makes an end, which goes again unless it stays; while `most`
-/// flows stand, only one with options. Any other datagram is answered without one.
+/// An end is made only where it stays: any other datagram of a peer that has no flow is answered without one, takes no
+/// memory, and costs a look into the map, whose steps grow with the logarithm of the flows whichever peers are chosen.
 #[derive(Drop)]
 pub struct Listener {
     alloc: Global,
@@ -77,7 +77,7 @@ impl Listener {
     ///
     /// A peer's own end hears it, or else a fresh one. Busy comes exactly where the peer has no flow, `most` stand and the fresh end would stay:
     /// nothing changes, and a Reset with the code Too Busy goes to the peer (RFC 4340, section 5.6). NoMemory comes
-    /// only where the peer has no flow, and then nothing changes and nothing goes out.
+    /// only where the datagram would open a flow and one more may stand, and then nothing changes and nothing goes out.
     pub fn arrive(
         &mut self,
         peer: Peer,

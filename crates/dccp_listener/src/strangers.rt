@@ -1,26 +1,19 @@
-//! What is answered without an end: a datagram that opens no connection.
-ghost use Rattle.std.specs.Prelude.{◌≡◌, ◌≤◌, ℕ, List, None, IfNone, IfSome, length};
+//! What is answered without an end: a datagram that opens no connection (RFC 4340, section 8.5, steps 1 to 8).
+ghost use Rattle.std.specs.Prelude.{◌≡◌, ◌≤◌, ℕ, List, Some, None, false, length};
+ghost use Rattle.dccp_endpoint.specs.Drafts.{frame_of};
 ghost use Rattle.dccp_endpoint.specs.End.{new_end};
 ghost use Rattle.dccp_endpoint.specs.Incoming.{incoming, parts_of_packet};
-ghost use Rattle.dccp_endpoint.specs.Receiving.{checks_header, is_own_service, number_without_connection, receives, takes};
-ghost use Rattle.dccp_packets.specs.Kinds.{service_of};
-ghost use Rattle.dccp_listener.specs.Turning.{IsToldOf, is_plain, turned_away};
+ghost use Rattle.dccp_endpoint.specs.Receiving.{checks_header, fault_if, number_without_connection, reads_request, receives, takes};
+ghost use Rattle.dccp_endpoint.specs.Steps.{detail_of, reset_of, without_detail};
+ghost use Rattle.dccp_packets.specs.Forms.{ack_near};
+ghost use Rattle.dccp_packets.specs.ResetCodes.{number_of_code};
+ghost use Rattle.end_answers.specs.declared.outcome.Outcome.TheVariants.{SentReset};
+ghost use Rattle.dccp_listener.specs.Turning.{IsToldOf, IsToldOfRequest};
 
-use crate::greeting::{put_reset, zero};
-use dccp_endpoint::{Config, Outbox, Outcome, Phase, ResetCode, Role, Seq48, Why};
+use crate::greeting::{put_reset, without_detail, zero};
+use dccp_endpoint::{Config, Outbox, Outcome, ResetCode, Role, Seq48, Why, heed_request};
 use dccp_packets::{Header, Kind, Number, Packet, decode};
-use dccp_states::{Entrance, gate};
 use dccp_sum::check;
-
-/// What a fresh end would make of a datagram, as far as that is known without one.
-pub(crate) enum Stranger {
-    /// It opens no connection. This is the answer, and the end is as it was.
-    TurnedAway(Outcome),
-    /// It is a Request for the service, without options: the end stays.
-    AsksPlainly,
-    /// It is a Request for the service, and whether the end stays is for its options to say.
-    Asks,
-}
 
 // Step 1 of RFC 4340, section 8.5: the number of a packet with a long one, or why it is dropped.
 fn check_header(config: &Config, bytes: &[u8], header: &Header) -> Result<Seq48, Why>
@@ -51,18 +44,41 @@ fn number_without_connection(ack: Option<Seq48>) -> Seq48
     }
 }
 
-// The service is the one that the configuration offers.
-fn is_own_service(config: &Config, packet: &Packet<'_>) -> bool
-    ensures { result ≡ is_own_service (new_end config.now) (service_of packet.now.header.kind) }
+// A Request for the service. A fresh end hears its options (step 8), and answers it; or it closes, and tells of their
+// fault under its first number.
+fn hear_request(config: &Config, area: &[u8], number: Seq48, out: &mut Outbox) -> Option<Outcome>
+    requires empty { out.old ≡ None }
+    requires short { length area.now ≤ 1008 }
+    ensures { IsToldOfRequest config.now number (fault_if (reads_request config.now.lists area.now)) out.new result }
 {
-    match packet.header.kind.service() {
-        Some(service) => service == config.service,
-        None => false,
+    match heed_request(&config.lists, area) {
+        Ok(()) => None,
+        Err(fault) => {
+            let first = config.iss.sub(1).next();
+            Some(put_reset(config, first, number, fault, out))
+        }
     }
 }
 
-// Steps 2 and 3, where the packet leaves there: a Reset is dropped, and any other packet than a Request for the service
-// is answered with a Reset of no connection.
+// Steps 2 and 3, where the packet leaves there with a Reset of no connection.
+fn reset_stranger(
+    config: &Config,
+    packet: &Packet<'_>,
+    number: Seq48,
+    code: ResetCode,
+    out: &mut Outbox,
+) -> Outcome
+    ensures sent { out.new ≡ Some (frame_of config.now false (number_without_connection (ack_near (new_end config.now).marks.gss packet.now.header.kind)) (reset_of number (without_detail (number_of_code code)))) }
+    ensures told { result ≡ SentReset (number_of_code code) (detail_of (without_detail (number_of_code code))) }
+{
+    let ack = packet.header.kind.ack_near(config.iss.sub(1));
+    let own = number_without_connection(ack);
+    put_reset(config, own, number, without_detail(code), out)
+}
+
+// Steps 2 to 8 at a server in LISTEN: a Reset is dropped, a Request for the service has its options heard, and a Reset
+// of no connection answers any other packet.
+#[tactic(auto, using(crate::proofs::Fresh::request_told))]
 fn turn_away_packet(
     config: &Config,
     packet: &Packet<'_>,
@@ -71,62 +87,43 @@ fn turn_away_packet(
 ) -> Option<Outcome>
     requires server { config.now.role ≡ Role.Server }
     requires empty { out.old ≡ None }
-    ensures away { IfSome result (λ outcome. (bytes : List ℕ) → takes (new_end config.now) (incoming (new_end config.now) bytes (parts_of_packet packet.now) number) ≡ turned_away (new_end config.now) out.new outcome) }
-    ensures asks { IfNone result (out.new ≡ None) }
-{
-    let code = match gate(Phase::Listen, packet.header.kind.packet_type()) {
-        Entrance::Stray => return Some(Outcome::Dropped(Why::StrayReset)),
-        Entrance::NoConnection => ResetCode::NoConnection,
-        Entrance::Accept => {
-            if is_own_service(config, packet) {
-                return None;
-            }
-            ResetCode::BadServiceCode
-        }
-        _ => return None,
-    };
-    let ack = packet.header.kind.ack_near(config.iss.sub(1));
-    put_reset(config, number_without_connection(ack), number, code, out);
-    Some(Outcome::SentReset {
-        code: code.number(),
-        detail: [0, 0, 0],
-    })
-}
-
-// A Request for the service, without options.
-fn is_plain(config: &Config, packet: &Packet<'_>) -> bool
-    ensures { result ≡ is_plain config.now.service (parts_of_packet packet.now) }
+    requires short { length packet.now.options.now ≤ 1008 }
+    ensures { (bytes : List ℕ) → IsToldOf (takes (new_end config.now) (incoming (new_end config.now) bytes (parts_of_packet packet.now) number)) out.new result }
 {
     match packet.header.kind {
-        Kind::Request { service } => service == config.service && packet.options.is_empty(),
-        _ => false,
+        Kind::Request { service } => {
+            if service == config.service {
+                hear_request(config, packet.options, number, out)
+            } else {
+                let code = ResetCode::BadServiceCode;
+                let outcome = reset_stranger(config, packet, number, code, out);
+                Some(outcome)
+            }
+        }
+        Kind::Reset { .. } => Some(Outcome::Dropped(Why::StrayReset)),
+        _ => {
+            let code = ResetCode::NoConnection;
+            let outcome = reset_stranger(config, packet, number, code, out);
+            Some(outcome)
+        }
     }
 }
 
-/// Answers a datagram that opens no connection just as a fresh end would, which it leaves as it was. A Request for the
-/// service of the configuration an end has to hear.
-#[tactic(auto, unfolding(dccp_endpoint::specs::Receiving::receives), using(crate::proofs::Plain::plain_stays))]
-pub(crate) fn turn_away(config: &Config, bytes: &[u8], out: &mut Outbox) -> Stranger
+/// Answers a datagram as a fresh end would that does not stay: what it answers, with its frame in the Outbox. None where
+/// it would stay, and then nothing is sent: an end has to hear the datagram.
+#[tactic(auto, unfolding(dccp_endpoint::specs::Receiving::receives))]
+pub(crate) fn turn_away(config: &Config, bytes: &[u8], out: &mut Outbox) -> Option<Outcome>
     requires server { config.now.role ≡ Role.Server }
     requires empty { out.old ≡ None }
     requires short { length bytes.now ≤ 2044 }
-    ensures { IsToldOf (new_end config.now) bytes.now out.new result }
+    ensures { IsToldOf (receives (new_end config.now) bytes.now) out.new result }
 {
     let packet = match decode(bytes) {
         Ok(packet) => packet,
-        Err(fault) => return Stranger::TurnedAway(Outcome::Dropped(Why::Malformed(fault))),
+        Err(fault) => return Some(Outcome::Dropped(Why::Malformed(fault))),
     };
     match check_header(config, bytes, &packet.header) {
-        Ok(number) => match turn_away_packet(config, &packet, number, out) {
-            Some(outcome) => Stranger::TurnedAway(outcome),
-            None => {
-                if is_plain(config, &packet) {
-                    Stranger::AsksPlainly
-                } else {
-                    Stranger::Asks
-                }
-            }
-        },
-        Err(why) => Stranger::TurnedAway(Outcome::Dropped(why)),
+        Ok(number) => turn_away_packet(config, &packet, number, out),
+        Err(why) => Some(Outcome::Dropped(why)),
     }
 }

@@ -17,8 +17,6 @@ mod network;
 mod news;
 mod one_at_a_time;
 mod session;
-#[cfg(test)]
-mod tests;
 
 pub use crate::additive_window::AdditiveWindow;
 pub use crate::alarms::{

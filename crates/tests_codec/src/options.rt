@@ -1,125 +1,138 @@
-//! What a test tries stands in a helper that answers whether it holds: a proof follows each value that a function holds
-//! through each of its steps.
+//! Options in their areas. What a test tries stands in a helper that answers whether it holds: a proof follows each value
+//! that a function holds through each of its steps.
 ghost use Rattle.std.specs.Prelude.{◌≤◌, length};
 
+use crate::tables::{Table, holds};
 use dccp_options::kinds::{ACK_VECTOR_0, CHANGE_L};
-use dccp_options::{AckReport, Opt, OptFault, OptFull, OptList, OptWriter, ReportRuns, options};
+use dccp_options::{AckReport, Opt, OptFault, OptFull, OptWriter, options};
 use seq_circle::Seq48;
+use std::alloc::Global;
 use std::test::Fail;
 
-// As far below a number as the number above it is.
-const ABOVE: u64 = 281_474_976_710_655;
+const REPORTS: &str = "\
+    # The numbers and states of a report by the Ack Vectors in options, run by run, and at numbers so far below the acknowledgement\n\
+    Ack 260700c003400500 100 runs 0 1 2 5 6 7 12 13 281474976710655: 100-1-0 99-1-3 98-4-0 94-1-1 93-6-0 0 3 0 0 1 0 0 - -\n\
+    # Around the circle's end, with an empty vector, another option between them, and a reserved state\n\
+    Ack 260301260202270480410000 2 0 1 2 3 4 5: 0 0 3 1 1 -\n\
+    # An empty vector, no vector, and a packet that ignores Ack Vectors\n\
+    Ack 26020000 2 0: -\n\
+    Ack 02000000 2: none\n\
+    Data 260301260202270480410000 2: none\n";
 
-// The state of the number so far below the acknowledgement, by the Ack Vectors of an option area.
-fn state_below(area: &[u8], ack: u64, below: u64) -> Option<u8>
-    requires { length area.now ≤ 1008 }
-{
-    let ack = Seq48::new(ack)?;
-    AckReport::of(ack, options(area, false))?.state(ack.sub(below))
+fn tell_runs(report: &AckReport<'_>, told: &mut String) -> Result<(), Fail> {
+    for run in report.runs() {
+        let (number, count, state) = (run.hi.get(), run.count, run.state);
+        write!(told, " {number}-{count}-{state}")?;
+    }
+    Ok(())
 }
 
-// How far below it the first number stands that has another state than here.
-fn first_other_state(area: &[u8], ack: u64, states: &[(u64, Option<u8>)]) -> Option<u64>
-    requires { length area.now ≤ 1008 }
-{
-    for (below, state) in states {
-        if state_below(area, ack, *below) != *state {
-            return Some(*below);
+fn tell_state(
+    report: &AckReport<'_>,
+    ack: Seq48,
+    below: &str,
+    told: &mut String,
+) -> Result<(), Fail> {
+    let below = below.parse().ok().ok_or("a number")?;
+    match report.state(ack.sub(below)) {
+        Some(state) => Ok(write!(told, " {state}")?),
+        None => Ok(told.push_str(" -")?),
+    }
+}
+
+fn tell_report(
+    report: &AckReport<'_>,
+    ack: Seq48,
+    words: &str,
+    told: &mut String,
+) -> Result<(), Fail> {
+    for word in words.split_whitespace() {
+        if word == "runs" {
+            tell_runs(report, told)?;
+        } else {
+            tell_state(report, ack, word, told)?;
         }
     }
-    None
+    Ok(())
 }
 
-// Whether an Ack Vector stands in an option area.
-fn has_vector(area: &[u8], on_data: bool) -> bool
-    requires { length area.now ≤ 1008 }
-{
-    match Seq48::new(2) {
-        Some(ack) => AckReport::of(ack, options(area, on_data)).is_some(),
-        None => false,
+fn tell_vectors(area: &[u8], on_data: bool, words: &str, told: &mut String) -> Result<(), Fail> {
+    if 1008 < area.len() {
+        return Err(Fail::from("no area"));
+    }
+    let (ack, words) = words.split_once(" ").unwrap_or((words, ""));
+    let ack = ack.parse().ok().ok_or("a number")?;
+    let ack = Seq48::new(ack).ok_or("below 2^48")?;
+    match AckReport::of(ack, options(area, on_data)) {
+        Some(report) => tell_report(&report, ack, words, told),
+        None => Ok(told.push_str("none")?),
     }
 }
 
-// Whether the next run has this greatest number, so many numbers, and this state.
-fn gives_run(runs: &mut ReportRuns<'_>, hi: Seq48, count: u8, state: u8) -> bool {
-    match runs.next() {
-        Some(run) => run.hi == hi && run.count == count && run.state == state,
-        None => false,
+struct Reports;
+
+impl Table for Reports {
+    fn tell(&self, alloc: Global, words: &str, told: &mut String) -> Result<(), Fail> {
+        let (name, words) = words.split_once(" ").ok_or("a type")?;
+        let (area, words) = words.split_once(" ").ok_or("options")?;
+        tell_vectors(&hex::decode(alloc, area)?, name == "Data", words, told)
     }
 }
 
-// Whether the runs are these, by how far below the acknowledgement they begin.
-fn gives_runs(runs: &mut ReportRuns<'_>, ack: Seq48, wanted: &[(u64, u8, u8)]) -> bool {
-    for (below, count, state) in wanted {
-        if !gives_run(runs, ack.sub(*below), *count, *state) {
-            return false;
+#[test]
+fn reports_by_vectors(rt: HostRuntime) -> Result<(), Fail> {
+    holds(rt.alloc(), &Reports, REPORTS)
+}
+
+const AREAS: &str = "\
+    # Two options as they are written: where each begins, whether it is mandatory, its type and its data\n\
+    Ack 2603050120040601: 0 false 38 [5] 4 true 32 [6, 1]\n\
+    # No length, and one that is too long\n\
+    Ack 0226: 0 false 2 []\n\
+    Ack 260400: -\n\
+    # The same behind Mandatory\n\
+    Ack 01260400: MandatoryAtEnd\n\
+    Data 01260400: -\n\
+    # Mandatory at the end, and Padding between two\n\
+    Ack 00000001: MandatoryAtEnd\n\
+    Ack 01000101: MandatoryTwice\n\
+    # Too long, of a type that Data packets ignore\n\
+    Data 2609250301: -\n";
+
+fn tell_option(option: &Opt<'_>, told: &mut String) -> Result<(), Fail> {
+    let (place, mandatory) = (option.place, option.mandatory);
+    let (kind, body) = (option.kind, option.body);
+    Ok(write!(told, " {place} {mandatory} {kind} {body:?}")?)
+}
+
+fn tell_options(area: &[u8], on_data: bool, told: &mut String) -> Result<(), Fail> {
+    if 1008 < area.len() {
+        return Err(Fail::from("no area"));
+    }
+    for item in options(area, on_data) {
+        match item {
+            Ok(option) => tell_option(&option, told)?,
+            Err(fault) => write!(told, " {fault:?}")?,
         }
     }
-    runs.next().is_none()
+    if told.is_empty() {
+        told.push_str("-")?;
+    }
+    Ok(())
 }
 
-fn has_runs(area: &[u8], ack: u64, wanted: &[(u64, u8, u8)]) -> Option<bool>
-    requires { length area.now ≤ 1008 }
-{
-    let ack = Seq48::new(ack)?;
-    let report = AckReport::of(ack, options(area, false))?;
-    Some(gives_runs(&mut report.runs(), ack, wanted))
-}
+struct Areas;
 
-const VECTOR: [u8; 8] = [38, 7, 0x00, 0xc0, 0x03, 0x40, 0x05, 0];
-
-const STATES: [(u64, Option<u8>); 9] = [
-    (0, Some(0)),
-    (1, Some(3)),
-    (2, Some(0)),
-    (5, Some(0)),
-    (6, Some(1)),
-    (7, Some(0)),
-    (12, Some(0)),
-    (13, None),
-    (ABOVE, None),
-];
-
-// One run a byte.
-const RUNS: [(u64, u8, u8); 5] = [(0, 1, 0), (1, 1, 3), (2, 4, 0), (6, 1, 1), (7, 6, 0)];
-
-#[test]
-fn vector_states(rt: HostRuntime) {
-    let other = first_other_state(&VECTOR, 100, &STATES);
-    assert!(rt; other.is_none(), "{other:?} below the acknowledgement");
-    assert!(rt; has_runs(&VECTOR, 100, &RUNS) == Some(true), "the runs");
-}
-
-// Around the circle's end, with an empty vector, another option between them, and a reserved state.
-const VECTORS: [u8; 12] = [38, 3, 0x01, 38, 2, 2, 39, 4, 0x80, 0x41, 0, 0];
-
-const JOINED_STATES: [(u64, Option<u8>); 6] = [
-    (0, Some(0)),
-    (1, Some(0)),
-    (2, Some(3)),
-    (3, Some(1)),
-    (4, Some(1)),
-    (5, None),
-];
-
-#[test]
-fn joined_vectors(rt: HostRuntime) {
-    let other = first_other_state(&VECTORS, 2, &JOINED_STATES);
-    assert!(rt; other.is_none(), "{other:?} below the acknowledgement");
-    assert!(rt;
-        state_below(&[38, 2, 0, 0], 2, 0).is_none(),
-        "an empty vector"
-    );
+impl Table for Areas {
+    fn tell(&self, alloc: Global, words: &str, told: &mut String) -> Result<(), Fail> {
+        let (name, area) = words.split_once(" ").ok_or("a type")?;
+        tell_options(&hex::decode(alloc, area)?, name == "Data", told)
+    }
 }
 
 #[test]
-fn areas_with_a_vector(rt: HostRuntime) {
-    assert!(rt; has_vector(&VECTORS, false) && has_vector(&[38, 2, 0, 0], false));
-    assert!(rt; !has_vector(&[2, 0, 0, 0], false), "no vector");
-    assert!(rt;
-        !has_vector(&VECTORS, true),
-        "Data packets ignore Ack Vectors"
-    );
+fn options_of_areas(rt: HostRuntime) -> Result<(), Fail> {
+    holds(rt.alloc(), &Areas, AREAS)
 }
 
 // The option types of RFC 4340, section 5.8, and whether Data packets read them.
@@ -294,47 +307,6 @@ fn understood_types_and_lengths(rt: HostRuntime) {
     }
 }
 
-// What an area is, whether it is of a Data packet, and what is listed.
-const AREAS: [(&str, &[u8], bool, Listed); 7] = [
-    ("no length", &[2, 38], false, Ok(Some((0, false, 0)))),
-    ("too long", &[38, 4, 0], false, Ok(None)),
-    (
-        "Mandatory before it",
-        &[1, 38, 4, 0],
-        false,
-        Err(OptFault::MandatoryAtEnd),
-    ),
-    ("the same on Data", &[1, 38, 4, 0], true, Ok(None)),
-    (
-        "Mandatory at the end",
-        &[0, 0, 0, 1],
-        false,
-        Err(OptFault::MandatoryAtEnd),
-    ),
-    (
-        "Padding between them",
-        &[1, 0, 1, 1],
-        false,
-        Err(OptFault::MandatoryTwice),
-    ),
-    (
-        "too long, of a type that Data packets ignore",
-        &[38, 9, 37, 3, 1],
-        true,
-        Ok(None),
-    ),
-];
-
-#[test]
-fn options_beyond_the_area(rt: HostRuntime) {
-    for (what, area, on_data, listed) in AREAS {
-        assert!(rt;
-            area.len() <= 1008 && lists(area, on_data, listed),
-            "{what}"
-        );
-    }
-}
-
 // Whether an option is written.
 fn puts(writer: &mut OptWriter, mandatory: bool, kind: u8, body: &[u8]) -> bool {
     32 <= kind && body.len() <= 253 && writer.put(mandatory, kind, body).is_ok()
@@ -345,30 +317,8 @@ fn is_full(writer: &mut OptWriter, mandatory: bool, body: &[u8]) -> bool {
     body.len() <= 253 && writer.put(mandatory, CHANGE_L, body) == Err(OptFull)
 }
 
-// Whether the next option is this one.
-fn reads(list: &mut OptList<'_>, option: Opt<'_>) -> bool {
-    list.next() == Some(Ok(option))
-}
-
-// Whether two options are read, and no more.
-fn reads_both(list: &mut OptList<'_>) -> bool {
-    let first = Opt {
-        place: 0,
-        mandatory: false,
-        kind: 38,
-        body: &[0x05],
-    };
-    let second = Opt {
-        place: 4,
-        mandatory: true,
-        kind: 32,
-        body: &[6, 1],
-    };
-    reads(list, first) && reads(list, second) && list.next().is_none()
-}
-
 #[test]
-fn written_and_read(rt: HostRuntime) {
+fn written_options(rt: HostRuntime) {
     let mut writer = OptWriter::new();
     let put = puts(&mut writer, false, ACK_VECTOR_0, &[0x05])
         && puts(&mut writer, true, CHANGE_L, &[6, 1]);
@@ -377,7 +327,6 @@ fn written_and_read(rt: HostRuntime) {
         writer.bytes() == [38, 3, 0x05, 1, 32, 4, 6, 1].as_slice(),
         "the bytes"
     );
-    assert!(rt; reads_both(&mut options(writer.bytes(), false)), "read");
 }
 
 // Whether the room is for three long options, and a fourth that is not longer than this.

@@ -1,8 +1,64 @@
-//! The tables of the phases, a letter for each entry.
+//! The tables of the phases.
+use crate::tables::{Table, holds};
 use dccp_packets::PacketType;
 use dccp_states::{Entrance, Phase, Reply, Role, after, gate, unexpected};
+use std::alloc::Global;
+use std::test::Fail;
 
-// The types, in the order of the letters below.
+// What is told of a phase, by a letter for each type of packet.
+const PHASES: &str = "\
+    # A letter for each type: no connection, stray, accept, in request, packet error, check\n\
+    entrances Closed: NNNNNNNSNN\n\
+    entrances Listen: ANNNNNNSNN\n\
+    entrances Request: EIEEEEEIEE\n\
+    entrances Respond: CCCCCCCCCC\n\
+    entrances PartOpen: CCCCCCCCCC\n\
+    entrances Open: CCCCCCCCCC\n\
+    entrances CloseReq: CCCCCCCCCC\n\
+    entrances Closing: CCCCCCCCCC\n\
+    entrances TimeWait: NNNNNNNSNN\n\
+    # The phases after: closed, listen, Q request, respond, part open, open, A close request, G closing, time wait\n\
+    phases_after Closed: CCCCCCCTCC\n\
+    phases_after Listen: LLLLLLLTLL\n\
+    phases_after Request: QPQQQQQTQQ\n\
+    phases_after Respond: RRROORCTOO\n\
+    phases_after PartOpen: PPOOOGCTPO\n\
+    phases_after Open: OOOOOGCTOO\n\
+    phases_after CloseReq: AAAAAACTAA\n\
+    phases_after Closing: GGGGGGCTGG\n\
+    phases_after TimeWait: TTTTTTTTTT\n\
+    # The replies: a dot for nothing, response, ack, close, X reset, sync ack, torn\n\
+    replies Closed: .......T..\n\
+    replies Listen: .......T..\n\
+    replies Request: .A.....T..\n\
+    replies Respond: R..AA.XTSA\n\
+    replies PartOpen: .A...CXTS.\n\
+    replies Open: .....CXTS.\n\
+    replies CloseReq: ......XTS.\n\
+    replies Closing: ......XTS.\n\
+    replies TimeWait: .......T..\n\
+    # At a client: a dot where the type is in place, x where it is not, f where it is not from OSR on\n\
+    out_of_place_at_client Closed: x.........\n\
+    out_of_place_at_client Listen: x.........\n\
+    out_of_place_at_client Request: x.........\n\
+    out_of_place_at_client Respond: x.x.......\n\
+    out_of_place_at_client PartOpen: x.........\n\
+    out_of_place_at_client Open: xf........\n\
+    out_of_place_at_client CloseReq: xf........\n\
+    out_of_place_at_client Closing: xf........\n\
+    out_of_place_at_client TimeWait: xf........\n\
+    # The same at a server\n\
+    out_of_place_at_server Closed: .x...x....\n\
+    out_of_place_at_server Listen: .x...x....\n\
+    out_of_place_at_server Request: .x...x....\n\
+    out_of_place_at_server Respond: .xx..x....\n\
+    out_of_place_at_server PartOpen: .x...x....\n\
+    out_of_place_at_server Open: fx...x....\n\
+    out_of_place_at_server CloseReq: fx...x....\n\
+    out_of_place_at_server Closing: fx...x....\n\
+    out_of_place_at_server TimeWait: fx...x....\n";
+
+// The types, in the order of the letters above.
 const KINDS: [PacketType; 10] = [
     PacketType::Request,
     PacketType::Response,
@@ -14,71 +70,6 @@ const KINDS: [PacketType; 10] = [
     PacketType::Reset,
     PacketType::Sync,
     PacketType::SyncAck,
-];
-
-// A letter for each type: no connection, stray, accept, in request, packet error, check.
-const ENTRANCES: [(Phase, &str); 9] = [
-    (Phase::Closed, "NNNNNNNSNN"),
-    (Phase::Listen, "ANNNNNNSNN"),
-    (Phase::Request, "EIEEEEEIEE"),
-    (Phase::Respond, "CCCCCCCCCC"),
-    (Phase::PartOpen, "CCCCCCCCCC"),
-    (Phase::Open, "CCCCCCCCCC"),
-    (Phase::CloseReq, "CCCCCCCCCC"),
-    (Phase::Closing, "CCCCCCCCCC"),
-    (Phase::TimeWait, "NNNNNNNSNN"),
-];
-
-// The phases after: closed, listen, Q request, respond, part open, open, A close request, G closing, time wait.
-const PHASES_AFTER: [(Phase, &str); 9] = [
-    (Phase::Closed, "CCCCCCCTCC"),
-    (Phase::Listen, "LLLLLLLTLL"),
-    (Phase::Request, "QPQQQQQTQQ"),
-    (Phase::Respond, "RRROORCTOO"),
-    (Phase::PartOpen, "PPOOOGCTPO"),
-    (Phase::Open, "OOOOOGCTOO"),
-    (Phase::CloseReq, "AAAAAACTAA"),
-    (Phase::Closing, "GGGGGGCTGG"),
-    (Phase::TimeWait, "TTTTTTTTTT"),
-];
-
-// The replies: a dot for nothing, response, ack, close, X reset, sync ack, torn.
-const REPLIES: [(Phase, &str); 9] = [
-    (Phase::Closed, ".......T.."),
-    (Phase::Listen, ".......T.."),
-    (Phase::Request, ".A.....T.."),
-    (Phase::Respond, "R..AA.XTSA"),
-    (Phase::PartOpen, ".A...CXTS."),
-    (Phase::Open, ".....CXTS."),
-    (Phase::CloseReq, "......XTS."),
-    (Phase::Closing, "......XTS."),
-    (Phase::TimeWait, ".......T.."),
-];
-
-// At a client: a dot where the type is in place, x where it is not, f where it is not from OSR on.
-const OUT_OF_PLACE_AT_CLIENT: [(Phase, &str); 9] = [
-    (Phase::Closed, "x........."),
-    (Phase::Listen, "x........."),
-    (Phase::Request, "x........."),
-    (Phase::Respond, "x.x......."),
-    (Phase::PartOpen, "x........."),
-    (Phase::Open, "xf........"),
-    (Phase::CloseReq, "xf........"),
-    (Phase::Closing, "xf........"),
-    (Phase::TimeWait, "xf........"),
-];
-
-// The same at a server.
-const OUT_OF_PLACE_AT_SERVER: [(Phase, &str); 9] = [
-    (Phase::Closed, ".x...x...."),
-    (Phase::Listen, ".x...x...."),
-    (Phase::Request, ".x...x...."),
-    (Phase::Respond, ".xx..x...."),
-    (Phase::PartOpen, ".x...x...."),
-    (Phase::Open, "fx...x...."),
-    (Phase::CloseReq, "fx...x...."),
-    (Phase::Closing, "fx...x...."),
-    (Phase::TimeWait, "fx...x...."),
 ];
 
 fn entrance_letter(entrance: Entrance) -> char {
@@ -128,65 +119,45 @@ fn place_letter(role: Role, phase: Phase, kind: PacketType) -> char {
     }
 }
 
-fn entrance_is(phase: Phase, kind: PacketType, wanted: char) -> bool {
-    entrance_letter(gate(phase, kind)) == wanted
+fn phase_of(name: &str) -> Option<Phase> {
+    match name {
+        "Closed" => Some(Phase::Closed),
+        "Listen" => Some(Phase::Listen),
+        "Request" => Some(Phase::Request),
+        "Respond" => Some(Phase::Respond),
+        "PartOpen" => Some(Phase::PartOpen),
+        "Open" => Some(Phase::Open),
+        "CloseReq" => Some(Phase::CloseReq),
+        "Closing" => Some(Phase::Closing),
+        "TimeWait" => Some(Phase::TimeWait),
+        _ => None,
+    }
 }
 
-fn phase_after_is(phase: Phase, kind: PacketType, wanted: char) -> bool {
-    phase_letter(after(phase, kind).0) == wanted
+fn letter(table: &str, phase: Phase, kind: PacketType) -> char {
+    match table {
+        "entrances" => entrance_letter(gate(phase, kind)),
+        "phases_after" => phase_letter(after(phase, kind).0),
+        "replies" => reply_letter(after(phase, kind).1),
+        "out_of_place_at_client" => place_letter(Role::Client, phase, kind),
+        _ => place_letter(Role::Server, phase, kind),
+    }
 }
 
-fn reply_is(phase: Phase, kind: PacketType, wanted: char) -> bool {
-    reply_letter(after(phase, kind).1) == wanted
-}
+struct Phases;
 
-fn place_is(role: Role, phase: Phase, kind: PacketType, wanted: char) -> bool {
-    place_letter(role, phase, kind) == wanted
-}
-
-#[test]
-fn entrances(rt: HostRuntime) {
-    for (phase, row) in ENTRANCES {
-        for (kind, wanted) in KINDS.into_iter().zip(row.chars()) {
-            assert!(rt; entrance_is(phase, kind, wanted), "{kind:?} in {phase:?}");
+impl Table for Phases {
+    fn tell(&self, _alloc: Global, words: &str, told: &mut String) -> Result<(), Fail> {
+        let (table, name) = words.split_once(" ").ok_or("a table and a phase")?;
+        let phase = phase_of(name).ok_or("a phase")?;
+        for kind in KINDS {
+            told.push(letter(table, phase, kind))?;
         }
+        Ok(())
     }
 }
 
 #[test]
-fn phases_after(rt: HostRuntime) {
-    for (phase, row) in PHASES_AFTER {
-        for (kind, wanted) in KINDS.into_iter().zip(row.chars()) {
-            assert!(rt;
-                phase_after_is(phase, kind, wanted),
-                "{kind:?} in {phase:?}"
-            );
-        }
-    }
-}
-
-#[test]
-fn replies(rt: HostRuntime) {
-    for (phase, row) in REPLIES {
-        for (kind, wanted) in KINDS.into_iter().zip(row.chars()) {
-            assert!(rt; reply_is(phase, kind, wanted), "{kind:?} in {phase:?}");
-        }
-    }
-}
-
-#[test]
-fn types_out_of_place(rt: HostRuntime) {
-    for (role, rows) in [
-        (Role::Client, OUT_OF_PLACE_AT_CLIENT),
-        (Role::Server, OUT_OF_PLACE_AT_SERVER),
-    ] {
-        for (phase, row) in rows {
-            for (kind, wanted) in KINDS.into_iter().zip(row.chars()) {
-                assert!(rt;
-                    place_is(role, phase, kind, wanted),
-                    "{kind:?} in {phase:?}"
-                );
-            }
-        }
-    }
+fn tables_of_phases(rt: HostRuntime) -> Result<(), Fail> {
+    holds(rt.alloc(), &Phases, PHASES)
 }

@@ -1,6 +1,51 @@
 //! Checksums of whole packets and of their parts, over IPv4 and IPv6.
-use dccp_sum::{Pseudo, SumFault, check, checksum, covered, seal};
+use crate::tables::{Table, holds};
+use dccp_sum::{Pseudo, check, checksum, covered, seal};
+use std::alloc::Global;
 use std::test::Fail;
+
+// A packet by its way and its bytes. Behind the colon stand how many bytes its checksum covers, and that checksum; what the
+// check of the packet answers; and whether it is sealed, with its bytes 6 and 7 then.
+const PACKETS: &str = "\
+    # The plain handshake, a packet of odd length, and one byte changed\n\
+    to_server 9c401389050031ec01000000000003e80000002a: 20 31ec Ok(()) true 31 ec\n\
+    to_server 9c4013890700503609000000000003ea00000000000007d126030000aa: 29 5036 Ok(()) true 50 36\n\
+    to_client 13899c400700261403000000000007d000000000000003e80000002a: 28 2614 Ok(()) true 26 14\n\
+    to_server 9c401389050031ec01ff0000000003e80000002a: 20 30ed Err(Wrong) true 30 ed\n\
+    # Over IPv6, and sealed there\n\
+    ipv6 9c401389050031ec01000000000003e80000002a: 20 ea79 Err(Wrong) true ea 79\n\
+    ipv6 9c4013890500ea7901000000000003e80000002a: 20 ea79 Ok(()) true ea 79\n\
+    # Covered are all 29 bytes, the header alone, or a word of the data: what lies outside may change, and what lies inside may not\n\
+    to_server 9c4013890600000007000000000003e900000000000007d0aabbccddee: 29 bda1 Err(Wrong) true bd a1\n\
+    to_server 9c4013890600bda107000000000003e900000000000007d0aabbccddee: 29 bda1 Ok(()) true bd a1\n\
+    to_server 9c4013890600bda107000000000003e900000000000007d0aabbccdd00: 29 aba2 Err(Wrong) true ab a2\n\
+    to_server 9c4013890600bda107000000000003e900000000000007d1aabbccddee: 29 bda0 Err(Wrong) true bd a0\n\
+    to_server 9c4013890601000007000000000003e900000000000007d0aabbccddee: 24 233b Err(Wrong) true 23 3b\n\
+    to_server 9c4013890601233b07000000000003e900000000000007d0aabbccddee: 24 233b Ok(()) true 23 3b\n\
+    to_server 9c4013890601233b07000000000003e900000000000007d0aabbccdd00: 24 233b Ok(()) true 23 3b\n\
+    to_server 9c4013890601233b07000000000003e900000000000007d1aabbccddee: 24 233a Err(Wrong) true 23 3a\n\
+    to_server 9c4013890602000007000000000003e900000000000007d0aabbccddee: 28 aba0 Err(Wrong) true ab a0\n\
+    to_server 9c4013890602aba007000000000003e900000000000007d0aabbccddee: 28 aba0 Ok(()) true ab a0\n\
+    to_server 9c4013890602aba007000000000003e900000000000007d0aabbccdd00: 28 aba0 Ok(()) true ab a0\n\
+    to_server 9c4013890602aba007000000000003e900000000000007d1aabbccddee: 28 ab9f Err(Wrong) true ab 9f\n\
+    # A coverage past the end, one that ends just there, and one with a word more; the upper half of the byte is CCVal\n\
+    to_server 9c4013890503000001000000000003e80000002a01020304050607: none Err(CoverageTooLarge) false 0 0\n\
+    to_server 9c401389050131eb01000000000003e80000002a: 20 31eb Ok(()) true 31 eb\n\
+    to_server 9c401389050231eb01000000000003e80000002a: none Err(CoverageTooLarge) false 31 eb\n\
+    to_server 9c40138905f131eb01000000000003e80000002a: 20 30fb Err(Wrong) true 30 fb\n\
+    # All four bits of CsCov count: 4 (n - 1) bytes of data are covered (RFC 4340, section 9.2)\n\
+    to_server 0000000005040000000000000000000000000000000000000000000000000000: 32 e6b7 Err(Wrong) true e6 b7\n\
+    to_server 00000000050400000000000000000000000000000000000000000000000000: none Err(CoverageTooLarge) false 0 0\n\
+    to_server 000000000508000000000000000000000000000000000000000000000000000000000000000000000000000000000000: 48 e6a3 Err(Wrong) true e6 a3\n\
+    to_server 0000000005080000000000000000000000000000000000000000000000000000000000000000000000000000000000: none Err(CoverageTooLarge) false 0 0\n\
+    to_server 00000000050900000000000000000000000000000000000000000000000000000000000000000000000000000000000000000000: 52 e69e Err(Wrong) true e6 9e\n\
+    to_server 000000000509000000000000000000000000000000000000000000000000000000000000000000000000000000000000000000: none Err(CoverageTooLarge) false 0 0\n\
+    to_server 00000000050f00000000000000000000000000000000000000000000000000000000000000000000000000000000000000000000000000000000000000000000000000000000000000000000: 76 e680 Err(Wrong) true e6 80\n\
+    to_server 00000000050f000000000000000000000000000000000000000000000000000000000000000000000000000000000000000000000000000000000000000000000000000000000000000000: none Err(CoverageTooLarge) false 0 0\n\
+    # Both spellings of zero are accepted, and 0 is written\n\
+    to_server 9c4013890500000001000000000003e800003216: 20 0 Ok(()) true 0 0\n\
+    to_server 9c4013890500ffff01000000000003e800003216: 20 0 Ok(()) true 0 0\n\
+    to_server 9c4013890500fffe01000000000003e800003216: 20 0 Err(Wrong) true 0 0\n";
 
 const TO_SERVER: Pseudo = Pseudo::V4 {
     from: [10, 0, 0, 1],
@@ -12,202 +57,62 @@ const TO_CLIENT: Pseudo = Pseudo::V4 {
     to: [10, 0, 0, 1],
 };
 
-// The first frame of the plain handshake: Request 1000 with service code 42.
-const REQUEST: [u8; 20] = [
-    0x9c, 0x40, 0x13, 0x89, 0x05, 0x00, 0x31, 0xec, 0x01, 0x00, 0x00, 0x00, 0x00, 0x00, 0x03, 0xe8,
-    0x00, 0x00, 0x00, 0x2a,
-];
+const OVER_IPV6: Pseudo = Pseudo::V6 {
+    from: [0x20, 0x01, 0x0d, 0xb8, 0, 0, 0, 0, 0, 0, 0, 0, 0, 0, 0, 1],
+    to: [0x20, 0x01, 0x0d, 0xb8, 0, 0, 0, 0, 0, 0, 0, 0, 0, 0, 0, 2],
+};
 
-// A DataAck with an Ack Vector and one byte of data, so with an odd length.
-const DATA_ACK: [u8; 29] = [
-    0x9c, 0x40, 0x13, 0x89, 0x07, 0x00, 0x50, 0x36, 0x09, 0x00, 0x00, 0x00, 0x00, 0x00, 0x03, 0xea,
-    0x00, 0x00, 0x00, 0x00, 0x00, 0x00, 0x07, 0xd1, 0x26, 0x03, 0x00, 0x00, 0xaa,
-];
-
-// The server's Response to the Request.
-const RESPONSE: [u8; 28] = [
-    0x13, 0x89, 0x9c, 0x40, 0x07, 0x00, 0x26, 0x14, 0x03, 0x00, 0x00, 0x00, 0x00, 0x00, 0x07, 0xd0,
-    0x00, 0x00, 0x00, 0x00, 0x00, 0x00, 0x03, 0xe8, 0x00, 0x00, 0x00, 0x2a,
-];
-
-#[test]
-fn frames_of_the_handshake(rt: HostRuntime) {
-    assert_eq!(rt; checksum(&TO_SERVER, &REQUEST, 20), 0x31ec);
-    assert_eq!(rt; checksum(&TO_SERVER, &DATA_ACK, 29), 0x5036);
-    assert_eq!(rt; checksum(&TO_CLIENT, &RESPONSE, 28), 0x2614);
-    assert_eq!(rt; check(&TO_SERVER, &REQUEST), Ok(()));
-    assert_eq!(rt; check(&TO_SERVER, &DATA_ACK), Ok(()));
-    assert_eq!(rt; check(&TO_CLIENT, &RESPONSE), Ok(()));
-    let mut changed = REQUEST;
-    changed[9] = 0xff;
-    assert_eq!(rt; check(&TO_SERVER, &changed), Err(SumFault::Wrong));
-}
-
-#[test]
-fn over_ipv6(rt: HostRuntime) {
-    let mut from = [0; 16];
-    from[0] = 0x20;
-    from[1] = 0x01;
-    from[2] = 0x0d;
-    from[3] = 0xb8;
-    from[15] = 1;
-    let mut to = from;
-    to[15] = 2;
-    let pseudo = Pseudo::V6 { from, to };
-    assert_eq!(rt; checksum(&pseudo, &REQUEST, 20), 0xea79);
-    let mut sealed = REQUEST;
-    assert!(rt; seal(&pseudo, &mut sealed));
-    assert_eq!(rt; (sealed[6], sealed[7]), (0xea, 0x79));
-    assert_eq!(rt; check(&pseudo, &sealed), Ok(()));
-}
-
-#[test]
-fn partial_coverage(rt: HostRuntime) -> Result<(), Fail> {
-    let mut ack = [
-        0x9c, 0x40, 0x13, 0x89, 0x06, 0x00, 0x00, 0x00, 0x07, 0x00, 0x00, 0x00, 0x00, 0x00, 0x03,
-        0xe9, 0x00, 0x00, 0x00, 0x00, 0x00, 0x00, 0x07, 0xd0, 0xaa, 0xbb, 0xcc, 0xdd, 0xee,
-    ];
-    for (coverage, bytes, wanted) in [(0, 29, 0xbda1), (1, 24, 0x233b), (2, 28, 0xaba0)] {
-        ack[5] = coverage;
-        assert_eq!(rt;
-            covered(&ack).ok_or("covered")?,
-            bytes,
-            "with CsCov {coverage}"
-        );
-        assert_eq!(rt;
-            checksum(&TO_SERVER, &ack, bytes),
-            wanted,
-            "with CsCov {coverage}"
-        );
+fn tell_covered(pseudo: &Pseudo, packet: &[u8], told: &mut String) -> Result<(), Fail> {
+    if packet.len() < 8 || 65_535 < packet.len() {
+        return Err(Fail::from("no packet"));
     }
-    Ok(())
+    match covered(packet) {
+        Some(covered) => {
+            let sum = checksum(pseudo, packet, covered);
+            Ok(write!(told, "{covered} {sum:x}")?)
+        }
+        None => Ok(told.push_str("none")?),
+    }
 }
 
-// The packet, sealed with the coverage.
-fn sealed_with(coverage: u8) -> [u8; 29] {
-    let mut packet = [
-        0x9c, 0x40, 0x13, 0x89, 0x06, 0x00, 0x00, 0x00, 0x07, 0x00, 0x00, 0x00, 0x00, 0x00, 0x03,
-        0xe9, 0x00, 0x00, 0x00, 0x00, 0x00, 0x00, 0x07, 0xd0, 0xaa, 0xbb, 0xcc, 0xdd, 0xee,
-    ];
-    packet[5] = coverage;
-    let _ = seal(&TO_SERVER, &mut packet);
-    packet
+fn tell_sealed(pseudo: &Pseudo, packet: &mut [u8], told: &mut String) -> Result<(), Fail> {
+    if packet.len() < 8 || 65_535 < packet.len() {
+        return Err(Fail::from("no packet"));
+    }
+    let checked = check(pseudo, packet);
+    let is_sealed = seal(pseudo, packet);
+    let (high, low) = (packet[6], packet[7]);
+    Ok(write!(told, " {checked:?} {is_sealed} {high:x} {low:x}")?)
 }
 
-fn accepts(packet: &[u8; 29]) -> bool {
-    check(&TO_SERVER, packet).is_ok()
-}
+struct Packets;
 
-// Whether it is accepted with the byte at that place changed.
-fn accepts_changed(mut packet: [u8; 29], place: usize, byte: u8) -> bool {
-    packet[place.min(28)] = byte;
-    accepts(&packet)
-}
-
-// The same packet, sealed for each coverage: what lies outside may change, and what lies inside may not.
-#[test]
-fn partly_covered_packets_are_accepted(rt: HostRuntime) {
-    for (coverage, high, low, last_is_covered) in [
-        (0, 0xbd, 0xa1, true),
-        (1, 0x23, 0x3b, false),
-        (2, 0xab, 0xa0, false),
-    ] {
-        let sealed = sealed_with(coverage);
-        assert!(rt;
-            sealed[6] == high && sealed[7] == low,
-            "with CsCov {coverage}"
-        );
-        assert!(rt; accepts(&sealed), "with CsCov {coverage}");
-        assert!(rt;
-            accepts_changed(sealed, 28, 0) != last_is_covered,
-            "with CsCov {coverage}"
-        );
-        assert!(rt; !accepts_changed(sealed, 23, 0xd1), "with CsCov {coverage}");
+impl Table for Packets {
+    fn tell(&self, alloc: Global, words: &str, told: &mut String) -> Result<(), Fail> {
+        let (way, packet) = words.split_once(" ").ok_or("a way and a packet")?;
+        let pseudo = match way {
+            "to_server" => &TO_SERVER,
+            "to_client" => &TO_CLIENT,
+            _ => &OVER_IPV6,
+        };
+        let mut packet = hex::decode(alloc, packet)?;
+        tell_covered(pseudo, &packet, told)?;
+        tell_sealed(pseudo, &mut packet, told)
     }
 }
 
 #[test]
-fn coverage_too_large(rt: HostRuntime) {
-    let mut request = [
-        0x9c, 0x40, 0x13, 0x89, 0x05, 0x03, 0x00, 0x00, 0x01, 0x00, 0x00, 0x00, 0x00, 0x00, 0x03,
-        0xe8, 0x00, 0x00, 0x00, 0x2a, 0x01, 0x02, 0x03, 0x04, 0x05, 0x06, 0x07,
-    ];
-    assert_eq!(rt; covered(&request), None);
-    assert_eq!(rt;
-        check(&TO_SERVER, &request),
-        Err(SumFault::CoverageTooLarge)
-    );
-    assert!(rt; !seal(&TO_SERVER, &mut request));
+fn sums_of_packets(rt: HostRuntime) -> Result<(), Fail> {
+    holds(rt.alloc(), &Packets, PACKETS)
 }
 
-// A coverage that ends just where the packet does is whole; with one word more there is none.
+// The words of RFC 1071, section 3, stand around the checksum: their sum is ddf2, and with protocol 33 and ten bytes de1d.
 #[test]
-fn coverage_to_the_packets_end(rt: HostRuntime) {
-    let mut request = [
-        0x9c, 0x40, 0x13, 0x89, 0x05, 0x01, 0x31, 0xeb, 0x01, 0x00, 0x00, 0x00, 0x00, 0x00, 0x03,
-        0xe8, 0x00, 0x00, 0x00, 0x2a,
-    ];
-    assert_eq!(rt; covered(&request), Some(20));
-    assert_eq!(rt; check(&TO_SERVER, &request), Ok(()));
-    request[5] = 2;
-    assert_eq!(rt; covered(&request), None);
-    assert_eq!(rt;
-        check(&TO_SERVER, &request),
-        Err(SumFault::CoverageTooLarge)
-    );
-    // The upper half of the same byte is CCVal, which counts for nothing here.
-    request[5] = 0xf1;
-    assert_eq!(rt; covered(&request), Some(20));
-}
-
-// What a packet of so many bytes covers, whose data begin at byte 20.
-fn covered_of(cscov: u8, length: usize) -> Option<usize> {
-    let mut packet = [0; 80];
-    packet[4] = 5;
-    packet[5] = cscov;
-    covered(&packet[..length.clamp(8, 80)])
-}
-
-// All four bits of the field count: 4 (n - 1) bytes of data are covered (RFC 4340, section 9.2). A packet that is a byte
-// shorter has no such coverage.
-const LARGE_COVERAGES: [(u8, usize, Option<usize>); 8] = [
-    (4, 32, Some(32)),
-    (4, 31, None),
-    (8, 48, Some(48)),
-    (8, 47, None),
-    (9, 52, Some(52)),
-    (9, 51, None),
-    (15, 76, Some(76)),
-    (15, 75, None),
-];
-
-#[test]
-fn coverages_of_four_bits(rt: HostRuntime) {
-    for (cscov, length, bytes) in LARGE_COVERAGES {
-        assert!(rt;
-            covered_of(cscov, length) == bytes,
-            "CsCov {cscov}, {length} bytes"
-        );
-    }
-}
-
-#[test]
-fn both_spellings_of_zero(rt: HostRuntime) {
-    let mut request = REQUEST;
-    request[18] = 0x32;
-    request[19] = 0x16;
-    assert_eq!(rt; checksum(&TO_SERVER, &request, 20), 0);
-    for spelling in [0x00, 0xff] {
-        request[6] = spelling;
-        request[7] = spelling;
-        assert_eq!(rt; check(&TO_SERVER, &request), Ok(()), "with {spelling}");
-    }
-    request[7] = 0xfe;
-    assert_eq!(rt; check(&TO_SERVER, &request), Err(SumFault::Wrong));
-    assert!(rt; seal(&TO_SERVER, &mut request));
-    assert_eq!(rt;
-        (request[6], request[7]),
-        (0, 0),
-        "a sum of zero is written as it is"
-    );
+fn sum_of_rfc_1071(rt: HostRuntime) {
+    let nowhere = Pseudo::V4 {
+        from: [0; 4],
+        to: [0; 4],
+    };
+    let packet = [0x00, 0x01, 0xf2, 0x03, 0xf4, 0xf5, 0xff, 0xff, 0xf6, 0xf7];
+    assert!(rt; checksum(&nowhere, &packet, 10) == 0x21e2);
 }

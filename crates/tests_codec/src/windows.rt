@@ -1,12 +1,61 @@
-//! Marks and verdicts as rows of numbers, which one helper takes: a proof follows each value that a function holds
-//! through each of its steps.
+//! Marks and the verdicts on packets by them, as stories.
 ghost use Rattle.std.specs.Prelude.{true, ◌≡◌};
 ghost use Rattle.validity_windows.specs.Windows.{InRange};
 
+use crate::tables::{Table, holds};
 use dccp_packets::PacketType;
 use seq_circle::Seq48;
+use std::alloc::Global;
 use std::test::Fail;
 use validity_windows::{Marks, Verdict};
+
+// Marks by a name, and what is asked of them. A packet is its type, its number and its acknowledgement number.
+const STORIES: &str = "\
+    # SWL, SWH, AWL and AWH. By hand: 101 / 4 is 25.25, rounded down for SWL, and 303 / 4 is 75.75, rounded up for SWH\n\
+    later ends: 2976 3075 1401 1500\n\
+    wrapped ends: 2000 2076 281474976710654 0\n\
+    uneven ends: 2976 3076 1291 1500\n\
+    # Verdicts, with the number that a Sync is for: both windows\n\
+    later Data/2975/: SyncFor 2975\n\
+    later Data/2976/: Valid\n\
+    later Data/3075/: Valid\n\
+    later Data/3076/: SyncFor 3076\n\
+    later Ack/3001/1400: SyncFor 3001\n\
+    later Ack/3001/1401: Valid\n\
+    later DataAck/3001/1500: Valid\n\
+    later Response/3001/1501: SyncFor 3001\n\
+    wrapped Ack/2002/281474976710655: Valid\n\
+    wrapped Ack/2002/1: SyncFor 2002\n\
+    uneven Data/2975/: SyncFor 2975\n\
+    uneven Data/2976/: Valid\n\
+    uneven Data/3076/: Valid\n\
+    uneven Data/3077/: SyncFor 3077\n\
+    uneven Ack/3001/1290: SyncFor 3001\n\
+    uneven Ack/3001/1291: Valid\n\
+    uneven Reset/3076/1450: Valid\n\
+    uneven Reset/3077/1450: SyncFor 3000\n\
+    # A greater number than any before, for what ends the connection\n\
+    later Close/3000/1450: SyncFor 3000\n\
+    later Close/3001/1450: Valid\n\
+    later CloseReq/3001/1449: SyncFor 3001\n\
+    later Reset/3075/1500: Valid\n\
+    later Reset/3076/1500: SyncFor 3000\n\
+    # Syncs from beyond the window: the last two stand half the circle from SWL - 1, and one more\n\
+    later Sync/2975/1401: Drop\n\
+    later Sync/5000/1401: Valid\n\
+    later SyncAck/5000/1400: Drop\n\
+    later Sync/140737488358303/1401: Valid\n\
+    later Sync/140737488358304/1401: Drop\n\
+    # Valid packets that are taken, one after another: GSR and GAR behind each\n\
+    later take/Ack/3050/1480 take/Sync/3060/1490 take/DataAck/3040/1460 take/SyncAck/3061/1481 take/Response/3062/1482 take/CloseReq/3063/1483 take/Close/3064/1484: 3050 1480 3060 1480 3060 1480 3061 1481 3062 1482 3063 1483 3064 1484\n\
+    # Acknowledgement numbers, and whether what this end sent is acknowledged by them\n\
+    uneven acks/: true\n\
+    uneven acks/1290: false\n\
+    uneven acks/1291: true\n\
+    uneven acks/1500: true\n\
+    uneven acks/1501: false\n\
+    # The first packet received: the eight numbers before it and behind it\n\
+    new marks begin/Response/2000/2 marks begin/Request/7/ marks: [0, 281474976710655, 0, 0, 0, 0, 100, 100] [0, 281474976710655, 2, 2000, 2000, 2000, 100, 100] [0, 281474976710655, 2, 7, 7, 7, 100, 100]\n";
 
 // The numbers of marks: ISS, GSS, GAR, ISR, GSR, OSR, and the widths of this end's and of the peer's window.
 type Numbers = [u64; 8];
@@ -70,189 +119,77 @@ fn are_in_range(marks: &Marks) -> bool
     true
 }
 
-// The four ends: SWL, SWH, AWL and AWH.
-fn ends_of(marks: &Marks) -> Option<[u64; 4]> {
+fn named(name: &str) -> Option<Marks> {
+    match name {
+        "later" => marks_of(&LATER),
+        "wrapped" => marks_of(&AT_THE_WRAP),
+        "uneven" => marks_of(&UNEVEN),
+        "new" => Some(Marks::new(Seq48::new(0)?, 100)),
+        _ => None,
+    }
+}
+
+fn tell_ends(marks: &Marks, told: &mut String) -> Result<(), Fail> {
     if !are_in_range(marks) {
-        return None;
+        return Err(Fail::from("too wide"));
     }
     let windows = marks.windows();
-    Some([
-        windows.swl.get(),
-        windows.swh.get(),
-        windows.awl.get(),
-        windows.awh.get(),
-    ])
+    let (low, high) = (windows.swl.get(), windows.swh.get());
+    let (ack_low, ack_high) = (windows.awl.get(), windows.awh.get());
+    Ok(write!(told, " {low} {high} {ack_low} {ack_high}")?)
 }
 
-fn has_ends(numbers: &Numbers, ends: [u64; 4]) -> bool {
-    match marks_of(numbers) {
-        Some(marks) => ends_of(&marks) == Some(ends),
-        None => false,
-    }
-}
-
-fn judged_with(marks: &Marks, kind: PacketType, number: Seq48, ack: Seq48) -> Option<Verdict> {
-    if !are_in_range(marks) || !kind.has_ack() {
-        return None;
-    }
-    Some(marks.check(kind, number, Some(ack)))
-}
-
-fn judged_without(marks: &Marks, kind: PacketType, number: Seq48) -> Option<Verdict> {
-    if !are_in_range(marks) || kind.has_ack() {
-        return None;
-    }
-    Some(marks.check(kind, number, None))
-}
-
-// The verdict on a packet, if its type has an acknowledgement number exactly where one is given.
-fn judged(marks: &Marks, kind: PacketType, number: u64, ack: Option<u64>) -> Option<Verdict> {
-    let number = Seq48::new(number)?;
-    match ack {
-        Some(ack) => judged_with(marks, kind, number, Seq48::new(ack)?),
-        None => judged_without(marks, kind, number),
-    }
-}
-
-// A verdict, with the number that a Sync is for.
-#[derive(Clone, Copy)]
-enum Wanted {
-    Valid,
-    Drop,
-    SyncFor(u64),
-}
-
-fn is_sync_for(verdict: Verdict, number: u64) -> bool {
+fn tell_verdict(verdict: Verdict, told: &mut String) -> Result<(), Fail> {
     match verdict {
-        Verdict::SyncFor(wanted) => wanted.get() == number,
-        _ => false,
-    }
-}
-
-fn is_wanted(verdict: Verdict, wanted: Wanted) -> bool {
-    match wanted {
-        Wanted::Valid => verdict == Verdict::Valid,
-        Wanted::Drop => verdict == Verdict::Drop,
-        Wanted::SyncFor(number) => is_sync_for(verdict, number),
-    }
-}
-
-// A packet by its type, its number and its acknowledgement number, and the verdict on it.
-type Row = (PacketType, u64, Option<u64>, Wanted);
-
-fn is_judged(marks: &Marks, row: &Row) -> bool {
-    let (kind, number, ack, wanted) = *row;
-    match judged(marks, kind, number, ack) {
-        Some(verdict) => is_wanted(verdict, wanted),
-        None => false,
-    }
-}
-
-fn first_other_of(marks: &Marks, rows: &[Row]) -> Option<usize> {
-    for (place, row) in rows.iter().enumerate() {
-        if !is_judged(marks, row) {
-            return Some(place);
+        Verdict::Valid => told.push_str(" Valid")?,
+        Verdict::Drop => told.push_str(" Drop")?,
+        Verdict::SyncFor(number) => {
+            let number = number.get();
+            write!(told, " SyncFor {number}")?;
         }
     }
-    None
+    Ok(())
 }
 
-// The place of the first row on which the verdict is another one.
-fn first_other(numbers: &Numbers, rows: &[Row]) -> Option<usize> {
-    match marks_of(numbers) {
-        Some(marks) => first_other_of(&marks, rows),
-        None => Some(rows.len()),
+fn type_of(name: &str) -> Option<PacketType> {
+    match name {
+        "Request" => Some(PacketType::Request),
+        "Response" => Some(PacketType::Response),
+        "Data" => Some(PacketType::Data),
+        "Ack" => Some(PacketType::Ack),
+        "DataAck" => Some(PacketType::DataAck),
+        "CloseReq" => Some(PacketType::CloseReq),
+        "Close" => Some(PacketType::Close),
+        "Reset" => Some(PacketType::Reset),
+        "Sync" => Some(PacketType::Sync),
+        "SyncAck" => Some(PacketType::SyncAck),
+        _ => None,
     }
 }
 
-fn judge_all(numbers: &Numbers, rows: &[Row]) -> Result<(), Fail> {
-    match first_other(numbers, rows) {
-        None => Ok(()),
-        Some(place) => Err(Fail::new(format_args!("row {place}"))),
+// A type, a number, and the acknowledgement number that stands there exactly where the type has one.
+fn packet_of(word: &str) -> Option<(PacketType, Seq48, Option<Seq48>)> {
+    let (name, numbers) = word.split_once("/")?;
+    let (number, ack) = numbers.split_once("/")?;
+    let ack = if ack.is_empty() {
+        None
+    } else {
+        Some(Seq48::new(ack.parse().ok()?)?)
+    };
+    Some((type_of(name)?, Seq48::new(number.parse().ok()?)?, ack))
+}
+
+// The verdict, if the type has an acknowledgement number exactly where one is given.
+fn judged(marks: &Marks, kind: PacketType, number: Seq48, ack: Option<Seq48>) -> Option<Verdict> {
+    if !are_in_range(marks) || kind.has_ack() != ack.is_some() {
+        return None;
     }
+    Some(marks.check(kind, number, ack))
 }
 
-#[test]
-fn four_ends(rt: HostRuntime) {
-    assert!(rt; has_ends(&LATER, [2976, 3075, 1401, 1500]), "later");
-    assert!(rt;
-        has_ends(&AT_THE_WRAP, [2000, 2076, 281_474_976_710_654, 0]),
-        "at the wrap"
-    );
-}
-
-const IN_BOTH_WINDOWS: [Row; 8] = [
-    (PacketType::Data, 2975, None, Wanted::SyncFor(2975)),
-    (PacketType::Data, 2976, None, Wanted::Valid),
-    (PacketType::Data, 3075, None, Wanted::Valid),
-    (PacketType::Data, 3076, None, Wanted::SyncFor(3076)),
-    (PacketType::Ack, 3001, Some(1400), Wanted::SyncFor(3001)),
-    (PacketType::Ack, 3001, Some(1401), Wanted::Valid),
-    (PacketType::DataAck, 3001, Some(1500), Wanted::Valid),
-    (
-        PacketType::Response,
-        3001,
-        Some(1501),
-        Wanted::SyncFor(3001),
-    ),
-];
-
-const IN_WINDOWS_AT_THE_WRAP: [Row; 2] = [
-    (
-        PacketType::Ack,
-        2002,
-        Some(281_474_976_710_655),
-        Wanted::Valid,
-    ),
-    (PacketType::Ack, 2002, Some(1), Wanted::SyncFor(2002)),
-];
-
-#[test]
-fn both_windows() -> Result<(), Fail> {
-    judge_all(&LATER, &IN_BOTH_WINDOWS)?;
-    judge_all(&AT_THE_WRAP, &IN_WINDOWS_AT_THE_WRAP)
-}
-
-const AFTER_THE_GREATEST: [Row; 5] = [
-    (PacketType::Close, 3000, Some(1450), Wanted::SyncFor(3000)),
-    (PacketType::Close, 3001, Some(1450), Wanted::Valid),
-    (
-        PacketType::CloseReq,
-        3001,
-        Some(1449),
-        Wanted::SyncFor(3001),
-    ),
-    (PacketType::Reset, 3075, Some(1500), Wanted::Valid),
-    (PacketType::Reset, 3076, Some(1500), Wanted::SyncFor(3000)),
-];
-
-#[test]
-fn after_the_greatest() -> Result<(), Fail> {
-    judge_all(&LATER, &AFTER_THE_GREATEST)
-}
-
-// The last two stand half the circle from SWL - 1, and one more.
-const SYNCS: [Row; 5] = [
-    (PacketType::Sync, 2975, Some(1401), Wanted::Drop),
-    (PacketType::Sync, 5000, Some(1401), Wanted::Valid),
-    (PacketType::SyncAck, 5000, Some(1400), Wanted::Drop),
-    (
-        PacketType::Sync,
-        140_737_488_358_303,
-        Some(1401),
-        Wanted::Valid,
-    ),
-    (
-        PacketType::Sync,
-        140_737_488_358_304,
-        Some(1401),
-        Wanted::Drop,
-    ),
-];
-
-#[test]
-fn syncs_from_beyond_the_window() -> Result<(), Fail> {
-    judge_all(&LATER, &SYNCS)
+fn tell_judged(marks: &Marks, word: &str, told: &mut String) -> Result<(), Fail> {
+    let (kind, number, ack) = packet_of(word).ok_or("a packet")?;
+    tell_verdict(judged(marks, kind, number, ack).ok_or("a verdict")?, told)
 }
 
 // Takes a valid packet, if it is no Reset.
@@ -270,110 +207,70 @@ fn take(marks: &mut Marks, kind: PacketType, number: Seq48, ack: Seq48) -> bool 
     true
 }
 
-// A packet by its type, its number and its acknowledgement number, and GSR and GAR behind it.
-type Raise = (PacketType, u64, u64, u64, u64);
-
-fn raises(marks: &mut Marks, row: &Raise) -> Option<bool> {
-    let (kind, number, ack, gsr, gar) = *row;
-    let is_taken = take(marks, kind, Seq48::new(number)?, Seq48::new(ack)?);
-    Some(is_taken && marks.gsr.get() == gsr && marks.gar.get() == gar)
+fn tell_taken(marks: &mut Marks, word: &str, told: &mut String) -> Result<(), Fail> {
+    let (kind, number, ack) = packet_of(word).ok_or("a packet")?;
+    if !take(marks, kind, number, ack.ok_or("a number")?) {
+        return Err(Fail::from("not taken"));
+    }
+    let (greatest, acknowledged) = (marks.gsr.get(), marks.gar.get());
+    Ok(write!(told, " {greatest} {acknowledged}")?)
 }
 
-fn first_other_raise(marks: &mut Marks, rows: &[Raise]) -> Option<usize> {
-    for (place, row) in rows.iter().enumerate() {
-        if raises(marks, row) != Some(true) {
-            return Some(place);
+fn is_acknowledged(marks: &Marks, ack: &str) -> Option<bool> {
+    if !are_in_range(marks) {
+        return None;
+    }
+    if ack.is_empty() {
+        return Some(marks.acknowledges(None));
+    }
+    Some(marks.acknowledges(Some(Seq48::new(ack.parse().ok()?)?)))
+}
+
+fn tell_acknowledged(marks: &Marks, ack: &str, told: &mut String) -> Result<(), Fail> {
+    let acknowledged = is_acknowledged(marks, ack).ok_or("a number")?;
+    Ok(write!(told, " {acknowledged}")?)
+}
+
+fn begins(marks: &mut Marks, word: &str) -> Result<(), Fail> {
+    let (kind, number, ack) = packet_of(word).ok_or("a packet")?;
+    if kind.has_ack() != ack.is_some() {
+        return Err(Fail::from("no packet"));
+    }
+    marks.begin(kind, number, ack);
+    Ok(())
+}
+
+fn tell_marks(marks: &Marks, told: &mut String) -> Result<(), Fail> {
+    let numbers = numbers_of(marks);
+    Ok(write!(told, " {numbers:?}")?)
+}
+
+fn tell_word(marks: &mut Marks, word: &str, told: &mut String) -> Result<(), Fail> {
+    let (verb, rest) = word.split_once("/").unwrap_or((word, ""));
+    match verb {
+        "ends" => tell_ends(marks, told),
+        "marks" => tell_marks(marks, told),
+        "take" => tell_taken(marks, rest, told),
+        "acks" => tell_acknowledged(marks, rest, told),
+        "begin" => begins(marks, rest),
+        _ => tell_judged(marks, word, told),
+    }
+}
+
+struct Stories;
+
+impl Table for Stories {
+    fn tell(&self, _alloc: Global, words: &str, told: &mut String) -> Result<(), Fail> {
+        let (name, rest) = words.split_once(" ").ok_or("marks")?;
+        let mut marks = named(name).ok_or("a name")?;
+        for word in rest.split_whitespace() {
+            tell_word(&mut marks, word, told)?;
         }
+        Ok(())
     }
-    None
-}
-
-const RAISES: [Raise; 7] = [
-    (PacketType::Ack, 3050, 1480, 3050, 1480),
-    (PacketType::Sync, 3060, 1490, 3060, 1480),
-    (PacketType::DataAck, 3040, 1460, 3060, 1480),
-    (PacketType::SyncAck, 3061, 1481, 3061, 1481),
-    (PacketType::Response, 3062, 1482, 3062, 1482),
-    (PacketType::CloseReq, 3063, 1483, 3063, 1483),
-    (PacketType::Close, 3064, 1484, 3064, 1484),
-];
-
-#[test]
-fn what_a_packet_raises(rt: HostRuntime) -> Result<(), Fail> {
-    let mut marks = marks_of(&LATER).ok_or("below 2^48")?;
-    assert_eq!(rt; first_other_raise(&mut marks, &RAISES), None);
-    Ok(())
-}
-
-const IN_UNEVEN_WINDOWS: [Row; 8] = [
-    (PacketType::Data, 2975, None, Wanted::SyncFor(2975)),
-    (PacketType::Data, 2976, None, Wanted::Valid),
-    (PacketType::Data, 3076, None, Wanted::Valid),
-    (PacketType::Data, 3077, None, Wanted::SyncFor(3077)),
-    (PacketType::Ack, 3001, Some(1290), Wanted::SyncFor(3001)),
-    (PacketType::Ack, 3001, Some(1291), Wanted::Valid),
-    (PacketType::Reset, 3076, Some(1450), Wanted::Valid),
-    (PacketType::Reset, 3077, Some(1450), Wanted::SyncFor(3000)),
-];
-
-// By hand: 101 / 4 is 25.25, rounded down for SWL, and 303 / 4 is 75.75, rounded up for SWH.
-#[test]
-fn widths_of_both_ends(rt: HostRuntime) -> Result<(), Fail> {
-    assert!(rt; has_ends(&UNEVEN, [2976, 3076, 1291, 1500]));
-    judge_all(&UNEVEN, &IN_UNEVEN_WINDOWS)
-}
-
-fn is_acknowledged(ack: Option<u64>) -> Option<bool> {
-    let marks = marks_of(&UNEVEN)?;
-    if !are_in_range(&marks) {
-        return None;
-    }
-    match ack {
-        Some(ack) => Some(marks.acknowledges(Some(Seq48::new(ack)?))),
-        None => Some(marks.acknowledges(None)),
-    }
-}
-
-// Acknowledgement numbers, and whether what this end sent is acknowledged by them.
-const ACKS: [(Option<u64>, bool); 5] = [
-    (None, true),
-    (Some(1290), false),
-    (Some(1291), true),
-    (Some(1500), true),
-    (Some(1501), false),
-];
-
-#[test]
-fn acknowledgements_of_what_was_sent(rt: HostRuntime) {
-    for (ack, wanted) in ACKS {
-        assert!(rt; is_acknowledged(ack) == Some(wanted), "{ack:?}");
-    }
-}
-
-// Takes the first packet received, and answers the marks then.
-fn begun_with(marks: &mut Marks, kind: PacketType, number: u64, ack: u64) -> Option<Numbers> {
-    if !kind.has_ack() {
-        return None;
-    }
-    marks.begin(kind, Seq48::new(number)?, Some(Seq48::new(ack)?));
-    Some(numbers_of(marks))
-}
-
-fn begun_by_a_request(marks: &mut Marks, number: u64) -> Option<Numbers> {
-    marks.begin(PacketType::Request, Seq48::new(number)?, None);
-    Some(numbers_of(marks))
 }
 
 #[test]
-fn how_marks_begin(rt: HostRuntime) -> Result<(), Fail> {
-    let mut marks = Marks::new(Seq48::new(0).ok_or("below 2^48")?, 100);
-    let before = [0, 281_474_976_710_655, 0, 0, 0, 0, 100, 100];
-    assert!(rt; numbers_of(&marks) == before, "new ones");
-    let begun = begun_with(&mut marks, PacketType::Response, 2000, 2);
-    let after = [0, 281_474_976_710_655, 2, 2000, 2000, 2000, 100, 100];
-    assert!(rt; begun == Some(after), "by a Response");
-    let begun = begun_by_a_request(&mut marks, 7);
-    let after = [0, 281_474_976_710_655, 2, 7, 7, 7, 100, 100];
-    assert!(rt; begun == Some(after), "by a Request");
-    Ok(())
+fn stories_of_marks(rt: HostRuntime) -> Result<(), Fail> {
+    holds(rt.alloc(), &Stories, STORIES)
 }

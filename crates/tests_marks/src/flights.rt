@@ -1,5 +1,5 @@
-//! Cases as lists of calls, each with its answer. One helper makes all calls: a proof follows each value that a function
-//! holds through each of its steps.
+//! Flight lists and the fixed window: what is sent, reported and lost, as lists of calls, each with its
+//! answer. One helper makes all calls: a proof follows each value that a function holds through each of its steps.
 use congestion_trait::{Congestion, FixedWindow, Flight, FlightNews};
 use dccp_options::{AckReport, options};
 use seq_circle::Seq48;

@@ -1,5 +1,5 @@
-//! Cases as lists of calls, each with its answer. One helper makes all calls: a proof follows each value that a function
-//! holds through each of its steps.
+//! Sets of numbers as runs, linked and plain: marks and floors, as lists of calls, each with its
+//! answer. One helper makes all calls: a proof follows each value that a function holds through each of its steps.
 use run_list::{Marked, PlainRuns, RunCall, RunList, Runs, Stretch, replay_runs};
 use seq_circle::Seq48;
 use std::alloc::Global;

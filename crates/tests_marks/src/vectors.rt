@@ -1,5 +1,5 @@
-//! Cases as lists of calls, each with its answer. One helper makes all calls: a proof follows each value that a function
-//! holds through each of its steps.
+//! Received numbers: marks, Ack Vectors and the records that raise the floor, as lists of calls, each with its
+//! answer. One helper makes all calls: a proof follows each value that a function holds through each of its steps.
 use ack_vectors::{Received, VectorBytes, Vectors};
 use run_list::Marked;
 use seq_circle::Seq48;

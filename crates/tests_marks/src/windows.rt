@@ -1,5 +1,5 @@
-//! Cases as lists of calls, each with its answer. One helper makes all calls: a proof follows each value that a function
-//! holds through each of its steps.
+//! Windows of CCID 2, and a change of the kind: how they open and are halved, as lists of calls, each with its
+//! answer. One helper makes all calls: a proof follows each value that a function holds through each of its steps.
 use ccid_two::{Ccid2, Kinds};
 use congestion_trait::Congestion;
 use dccp_options::{AckReport, options};

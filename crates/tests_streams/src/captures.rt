@@ -1,5 +1,6 @@
-//! A reader stands in a helper, and a call of it in one of its own that answers whether it holds. For a proof follows
-//! each value that a function holds through each of its steps.
+//! Captures in both byte orders and resolutions, cut anywhere, and at their limits. A reader stands in a helper, and a call
+//! of it in one of its own that answers whether it holds. For a proof follows each value that a function holds through
+//! each of its steps.
 use capture_reader::{CaptureFault, Captures, Record};
 use dccp_io::{MemorySource, Source};
 use std::alloc::Global;

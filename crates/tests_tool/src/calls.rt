@@ -1,12 +1,12 @@
 //! Calls of the tool over streams in memory, for the tests.
 //!
-//! A case is a row of a table, and one function alone calls the tool: a proof takes the longer, the more values live
-//! beside the streams.
+//! Cases stand in texts, since a row of a text costs no proof, and one function alone calls the tool: a proof takes the
+//! longer, the more values live beside the streams. A case is `~ ` with its words, parted by commas; from the next line
+//! on its input; behind `=> ` the status; and from the next line on all that it writes.
 use dccp_command::{Status, dccp};
 use dccp_io::{MemorySink, MemorySource};
 use fault_campaign::{Gate, OpenGate};
 use std::alloc::Global;
-use std::process::Abort;
 use std::test::Fail;
 use std::thread::Threads;
 
@@ -50,25 +50,21 @@ impl Answer {
     }
 }
 
-/// The words of a call, parted by commas, with its input and what has to come of it.
-#[derive(Clone, Copy)]
-pub(crate) struct Case {
-    pub(crate) words: &'static str,
-    pub(crate) input: &'static str,
-    pub(crate) status: Status,
-    pub(crate) text: &'static str,
+fn status_of(name: &str) -> Option<Status> {
+    match name {
+        "Done" => Some(Status::Done),
+        "Words" => Some(Status::Words),
+        "Input" => Some(Status::Input),
+        _ => None,
+    }
 }
 
-impl Case {
-    /// Words over no input.
-    pub(crate) fn done(words: &'static str, text: &'static str) -> Case {
-        Case {
-            words,
-            input: "",
-            status: Status::Done,
-            text,
-        }
-    }
+/// The words of a case, its input, how it ends and what it writes.
+pub(crate) fn parts_of(case: &str) -> Option<(&str, &str, Status, &str)> {
+    let (words, rest) = case.split_once("\n")?;
+    let (input, answer) = rest.split_once("=> ")?;
+    let (status, text) = answer.split_once("\n")?;
+    Some((words, input, status_of(status)?, text))
 }
 
 fn words_in(alloc: Global, line: &str) -> Result<Vec<String>, Fail> {
@@ -124,29 +120,67 @@ pub(crate) fn answer_to<R: Threads + Sync, G: Gate + Sync>(
     })
 }
 
-/// Whether a case comes out over these streams.
+/// Whether a call with these words, over this input, ends so and writes this text.
 pub(crate) fn comes<R: Threads + Sync>(
     rt: &R,
     alloc: Global,
     streams: &Streams,
-    case: &Case,
+    (words, input): (&str, &str),
+    (status, text): (Status, &str),
 ) -> Result<bool, Fail> {
-    let bytes = case.input.as_bytes();
-    let answer = answer_to(rt, alloc, &OpenGate, streams, case.words, bytes)?;
-    Ok(answer.is(case.status, case.text))
+    let answer = answer_to(rt, alloc, &OpenGate, streams, words, input.as_bytes())?;
+    Ok(answer.is(status, text))
 }
 
-/// A case over streams of 1, 7 and 4,096 bytes a call.
-pub(crate) fn expect_in_pieces<R: Threads + Sync + Abort>(
+/// Fails at the first line of words that does not end so, over this input, with this text.
+pub(crate) fn lines_come<R: Threads + Sync>(
     rt: &R,
     alloc: Global,
-    case: &Case,
+    streams: &Streams,
+    (lines, input): (&str, &str),
+    (status, text): (Status, &str),
+) -> Result<(), Fail> {
+    for words in lines.lines() {
+        if !comes(rt, alloc, streams, (words, input), (status, text))? {
+            return Err(Fail::new(format_args!("{words}")));
+        }
+    }
+    Ok(())
+}
+
+fn case_comes<R: Threads + Sync>(
+    rt: &R,
+    alloc: Global,
+    streams: &Streams,
+    case: &str,
+) -> Result<bool, Fail> {
+    let (words, input, status, text) = parts_of(case).ok_or("a case")?;
+    comes(rt, alloc, streams, (words, input), (status, text))
+}
+
+/// Fails at the first case of a text that does not come out over streams of so many bytes a call.
+pub(crate) fn cases_come<R: Threads + Sync>(
+    rt: &R,
+    alloc: Global,
+    most: usize,
+    cases: &str,
+) -> Result<(), Fail> {
+    for case in cases.split("~ ") {
+        if !case.is_empty() && !case_comes(rt, alloc, &Streams::of(most), case)? {
+            return Err(Fail::new(format_args!("{most} bytes a call: {case}")));
+        }
+    }
+    Ok(())
+}
+
+/// The same over streams of 1, 7 and 4,096 bytes a call.
+pub(crate) fn cases_come_in_pieces<R: Threads + Sync>(
+    rt: &R,
+    alloc: Global,
+    cases: &str,
 ) -> Result<(), Fail> {
     for most in [1, 7, 4096] {
-        assert!(rt;
-            comes(rt, alloc, &Streams::of(most), case)?,
-            "{most} bytes a call"
-        );
+        cases_come(rt, alloc, most, cases)?;
     }
     Ok(())
 }

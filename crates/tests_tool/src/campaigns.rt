@@ -1,7 +1,7 @@
 //! Worked campaigns, the words of the form, and workers that run beside each other.
-use crate::calls::{Case, Streams, answer_to, comes};
+use crate::calls::{Streams, answer_to, lines_come};
 use crate::gates::HoldFirst;
-use crate::schedules::shows_usage;
+use crate::schedules::show_usage;
 use dccp_command::Status;
 use std::test::Fail;
 
@@ -23,51 +23,25 @@ const FOUR_SEEDS: &str =
     "seeds 4\nevents 480\nclient_frames 74\nserver_frames 82\ntook 347\ndelivered 22\ndropped 0\n\
 synced 2\nwas_reset 0\nsent_reset 0\nrefused 7\nsettled 62\n";
 
-// The ways to write a figure, and some orders; the first and the last seed that there is; and some numbers of workers.
-const WORDS: [(&str, &str); 8] = [
-    (
-        "campaign,--first,1,--seeds,3,--events,1,--workers,2",
-        OPENINGS,
-    ),
-    (
-        "campaign,--workers=2,--events=1,--seeds=3,--first=1",
-        OPENINGS,
-    ),
-    (
-        "campaign,--seeds,3,--first=1,--workers,16,--events=1",
-        OPENINGS,
-    ),
-    (
-        "campaign,--events=1,--workers=1,--first,18446744073709551613,--seeds=3",
-        OPENINGS,
-    ),
-    (
-        "campaign,--first,0,--seeds,3,--events,1,--workers,2",
-        OPENINGS,
-    ),
-    (
-        "campaign,--first,5,--seeds,4,--events,120,--workers,1",
-        FOUR_SEEDS,
-    ),
-    (
-        "campaign,--first,5,--seeds,4,--events,120,--workers,3",
-        FOUR_SEEDS,
-    ),
-    (
-        "campaign,--first,5,--seeds,4,--events,120,--workers,16",
-        FOUR_SEEDS,
-    ),
-];
+// The ways to write a figure, and some orders; the first and the last seed that there is.
+const WORDS: &str = "\
+    campaign,--first,1,--seeds,3,--events,1,--workers,2\n\
+    campaign,--workers=2,--events=1,--seeds=3,--first=1\n\
+    campaign,--seeds,3,--first=1,--workers,16,--events=1\n\
+    campaign,--events=1,--workers=1,--first,18446744073709551613,--seeds=3\n\
+    campaign,--first,0,--seeds,3,--events,1,--workers,2\n";
+
+// Some numbers of workers.
+const WORKERS: &str = "\
+    campaign,--first,5,--seeds,4,--events,120,--workers,1\n\
+    campaign,--first,5,--seeds,4,--events,120,--workers,3\n\
+    campaign,--first,5,--seeds,4,--events,120,--workers,16\n";
 
 #[test]
 fn campaign_totals(rt: HostRuntime) -> Result<(), Fail> {
-    for (words, text) in WORDS {
-        assert!(rt;
-            comes(&rt, rt.alloc(), &UNREAD, &Case::done(words, text))?,
-            "{words}"
-        );
-    }
-    Ok(())
+    let done = Status::Done;
+    lines_come(&rt, rt.alloc(), &UNREAD, (WORDS, ""), (done, OPENINGS))?;
+    lines_come(&rt, rt.alloc(), &UNREAD, (WORKERS, ""), (done, FOUR_SEEDS))
 }
 
 const FAILING_SINK: Streams = Streams {
@@ -77,26 +51,16 @@ const FAILING_SINK: Streams = Streams {
     taken: 7,
 };
 
-const CUT: Case = Case {
-    words: "campaign,--first,1,--seeds,3,--events,1,--workers,2",
-    input: "",
-    status: Status::Write,
-    text: "seeds 3\nevents",
-};
+const CUT: &str = "campaign,--first,1,--seeds,3,--events,1,--workers,2";
 
 #[test]
 fn failing_sink_of_a_campaign(rt: HostRuntime) -> Result<(), Fail> {
-    assert!(rt; comes(&rt, rt.alloc(), &FAILING_SINK, &CUT)?);
-    Ok(())
+    let cut = (Status::Write, "seeds 3\nevents");
+    lines_come(&rt, rt.alloc(), &FAILING_SINK, (CUT, ""), cut)
 }
 
 // The sink fails behind the two counts that the words give.
-const MOST_EVENTS: Case = Case {
-    words: "campaign,--first=0,--seeds=1,--events=4096,--workers=1",
-    input: "",
-    status: Status::Write,
-    text: "seeds 1\nevents 4096\n",
-};
+const MOST_EVENTS: &str = "campaign,--first=0,--seeds=1,--events=4096,--workers=1";
 
 const FAILS_BEHIND_TWO_LINES: Streams = Streams {
     failing_read: Some(1),
@@ -107,46 +71,48 @@ const FAILS_BEHIND_TWO_LINES: Streams = Streams {
 
 #[test]
 fn most_events_of_a_campaign(rt: HostRuntime) -> Result<(), Fail> {
-    assert!(rt; comes(&rt, rt.alloc(), &FAILS_BEHIND_TWO_LINES, &MOST_EVENTS)?);
-    Ok(())
+    let cut = (Status::Write, "seeds 1\nevents 4096\n");
+    lines_come(
+        &rt,
+        rt.alloc(),
+        &FAILS_BEHIND_TWO_LINES,
+        (MOST_EVENTS, ""),
+        cut,
+    )
 }
 
 // What comes close to the words of a campaign.
-const OTHER_WORDS: [&str; 26] = [
-    "campaign",
-    "campaign,--first,1,--seeds,1,--events,1",
-    "campaign,--first=1,--seeds=1,--events=1,--workers",
-    "campaign,--first=1,--seeds=1,--events=1,--workers=",
-    "campaign,--first=1,--seeds=1,--events=1,--workers=1,--",
-    "campaign,--,--first=1,--seeds=1,--events=1,--workers=1",
-    "campaign,--first=1,--seeds=1,--events=1,--workers=1,-h",
-    "campaign,--first=1,--seeds=1,--events=1,--workers=1,--help",
-    "campaign,--first=1,--seeds=1,--events=1,--workers=1,1",
-    "campaign,--first=1,--seeds=1,--events=1,--workers=1,",
-    "campaign,--first=1,--seeds=1,--events=1,--workers=1,--first=1",
-    "campaign,--first=1,--seeds=1,--events=1,--events,1",
-    "campaign,--first=+1,--seeds=1,--events=1,--workers=1",
-    "campaign,--first=01,--seeds=1,--events=1,--workers=1",
-    "campaign,--first=-1,--seeds=1,--events=1,--workers=1",
-    "campaign,--first==1,--seeds=1,--events=1,--workers=1",
-    "campaign,--First=1,--seeds=1,--events=1,--workers=1",
-    "campaign,-first=1,--seeds=1,--events=1,--workers=1",
-    "campaign,--first=18446744073709551616,--seeds=1,--events=1,--workers=1",
-    "campaign,--first=18446744073709551615,--seeds=2,--events=1,--workers=1",
-    "campaign,--first=1,--seeds=0,--events=1,--workers=1",
-    "campaign,--first=1,--seeds=100001,--events=1,--workers=1",
-    "campaign,--first=1,--seeds=1,--events=0,--workers=1",
-    "campaign,--first=1,--seeds=1,--events=4097,--workers=1",
-    "campaign,--first=1,--seeds=1,--events=1,--workers=0",
-    "campaign,--first=1,--seeds=1,--events=1,--workers=17",
-];
+const OTHER_WORDS: &str = "\
+    campaign\n\
+    campaign,--first,1,--seeds,1,--events,1\n\
+    campaign,--first=1,--seeds=1,--events=1,--workers\n\
+    campaign,--first=1,--seeds=1,--events=1,--workers=\n\
+    campaign,--first=1,--seeds=1,--events=1,--workers=1,--\n\
+    campaign,--,--first=1,--seeds=1,--events=1,--workers=1\n\
+    campaign,--first=1,--seeds=1,--events=1,--workers=1,-h\n\
+    campaign,--first=1,--seeds=1,--events=1,--workers=1,--help\n\
+    campaign,--first=1,--seeds=1,--events=1,--workers=1,1\n\
+    campaign,--first=1,--seeds=1,--events=1,--workers=1,\n\
+    campaign,--first=1,--seeds=1,--events=1,--workers=1,--first=1\n\
+    campaign,--first=1,--seeds=1,--events=1,--events,1\n\
+    campaign,--first=+1,--seeds=1,--events=1,--workers=1\n\
+    campaign,--first=01,--seeds=1,--events=1,--workers=1\n\
+    campaign,--first=-1,--seeds=1,--events=1,--workers=1\n\
+    campaign,--first==1,--seeds=1,--events=1,--workers=1\n\
+    campaign,--First=1,--seeds=1,--events=1,--workers=1\n\
+    campaign,-first=1,--seeds=1,--events=1,--workers=1\n\
+    campaign,--first=18446744073709551616,--seeds=1,--events=1,--workers=1\n\
+    campaign,--first=18446744073709551615,--seeds=2,--events=1,--workers=1\n\
+    campaign,--first=1,--seeds=0,--events=1,--workers=1\n\
+    campaign,--first=1,--seeds=100001,--events=1,--workers=1\n\
+    campaign,--first=1,--seeds=1,--events=0,--workers=1\n\
+    campaign,--first=1,--seeds=1,--events=4097,--workers=1\n\
+    campaign,--first=1,--seeds=1,--events=1,--workers=0\n\
+    campaign,--first=1,--seeds=1,--events=1,--workers=17\n";
 
 #[test]
 fn refused_words_of_campaigns(rt: HostRuntime) -> Result<(), Fail> {
-    for words in OTHER_WORDS {
-        assert!(rt; shows_usage(&rt, rt.alloc(), words)?, "{words}");
-    }
-    Ok(())
+    show_usage(&rt, rt.alloc(), OTHER_WORDS)
 }
 
 // Two workers run beside each other and claim as they go: one alone, or two with two seeds each from the start, would

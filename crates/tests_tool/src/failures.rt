@@ -2,28 +2,20 @@
 //!
 //! The streams tell whether one of their calls failed. Exactly where one did, the tool ends with the status of a failed
 //! read or write and has written a front of its text; else it ends as ever.
-use crate::calls::{Answer, Streams, answer_to};
+use crate::calls::{Answer, Streams, answer_to, parts_of};
 use dccp_command::Status;
 use fault_campaign::OpenGate;
 use std::alloc::Global;
 use std::test::Fail;
 use std::thread::Threads;
 
-// A call of the tool, and what comes of it where nothing fails.
-struct Form {
-    words: &'static str,
-    input: &'static [u8],
-    status: Status,
-    text: &'static str,
-}
-
-// Of each form calls that are done, and where there is one, one whose input is refused.
-const FORMS: [Form; 14] = [
-    Form {
-        words: "run",
-        input: b"plain\nopen\ndeliver c0\ndeliver s0\ndeliver c1\n",
-        status: Status::Done,
-        text: "2 open: ok\n\
+// Of each form calls that are done, and where there is one, one whose input is refused: what comes of them where nothing
+// fails. Captures are in hexadecimal. In the third Mandatory stands at the end of the options, with nothing behind it.
+const FORMS: &str = "\
+~ run\n\
+plain\nopen\ndeliver c0\ndeliver s0\ndeliver c1\n\
+=> Done\n\
+2 open: ok\n\
 sent c0 9c401389050031ec01000000000003e80000002a\n\
 3 deliver c0: took\n\
 sent s0 13899c400700261403000000000007d000000000000003e80000002a\n\
@@ -32,112 +24,82 @@ sent c1 9c4013890600234107000000000003e900000000000007d0\n\
 5 deliver c1: took\n\
 sent s1 13899c400600234007000000000007d100000000000003e9\n\
 end client PARTOPEN window 4 flight 0 1=2/2 2=0/0 3=100/100 4=0/0 5=2/2 6=0/0 7=0/0 8=0/0 9=0/0\n\
-end server OPEN window 4 flight 0 1=2/2 2=0/0 3=100/100 4=0/0 5=2/2 6=0/0 7=0/0 8=0/0 9=0/0\n",
-    },
-    Form {
-        words: "run",
-        input: b"plain\nopen\nplain\nopen\nopen\nopen\n",
-        status: Status::Input,
-        text: "2 open: ok\n\
+end server OPEN window 4 flight 0 1=2/2 2=0/0 3=100/100 4=0/0 5=2/2 6=0/0 7=0/0 8=0/0 9=0/0\n\
+~ run\n\
+plain\nopen\nplain\nopen\nopen\nopen\n\
+=> Input\n\
+2 open: ok\n\
 sent c0 9c401389050031ec01000000000003e80000002a\n\
-line 3 column 1: HeaderLate\n",
-    },
-    // Mandatory at the end of the options, with nothing that it could stand for.
-    Form {
-        words: "replay,--side,server,--plain",
-        input: b"seal 9c4013890600000001000000000003e80000002a00000001\n",
-        status: Status::Done,
-        text: "1: sent reset 5 1 0 0\n\
+line 3 column 1: HeaderLate\n\
+~ replay,--side,server,--plain\n\
+seal 9c4013890600000001000000000003e80000002a00000001\n\
+=> Done\n\
+1: sent reset 5 1 0 0\n\
 sent s0 13899c400700153d0f000000000007d000000000000003e805010000\n\
-end server CLOSED window 4 flight 0 1=2/2 2=0/0 3=100/100 4=0/0 5=2/2 6=0/0 7=0/0 8=0/0 9=0/0\n",
-    },
-    Form {
-        words: "replay,--side,server,--plain",
-        input: b"seal 9c4013890600000001000000000003e80000002a01000000\n",
-        status: Status::Done,
-        text: "1: took\n\
+end server CLOSED window 4 flight 0 1=2/2 2=0/0 3=100/100 4=0/0 5=2/2 6=0/0 7=0/0 8=0/0 9=0/0\n\
+~ replay,--side,server,--plain\n\
+seal 9c4013890600000001000000000003e80000002a01000000\n\
+=> Done\n\
+1: took\n\
 sent s0 13899c400700261403000000000007d000000000000003e80000002a\n\
-end server RESPOND window 4 flight 0 1=2/2 2=0/0 3=100/100 4=0/0 5=2/2 6=0/0 7=0/0 8=0/0 9=0/0\n",
-    },
-    Form {
-        words: "replay,--side,server,--plain",
-        input: b"seal 9c4013890600000001000000000003e80000002a20010000\n",
-        status: Status::Done,
-        text: "1: took\n\
+end server RESPOND window 4 flight 0 1=2/2 2=0/0 3=100/100 4=0/0 5=2/2 6=0/0 7=0/0 8=0/0 9=0/0\n\
+~ replay,--side,server,--plain\n\
+seal 9c4013890600000001000000000003e80000002a20010000\n\
+=> Done\n\
+1: took\n\
 sent s0 13899c400700261403000000000007d000000000000003e80000002a\n\
-end server RESPOND window 4 flight 0 1=2/2 2=0/0 3=100/100 4=0/0 5=2/2 6=0/0 7=0/0 8=0/0 9=0/0\n",
-    },
-    Form {
-        words: "replay,--side,server,--plain",
-        input: b"9c4013890503000001000000000003e80000002a01020304050607\n",
-        status: Status::Done,
-        text: "1: dropped CoverageTooLarge\n\
-end server LISTEN window 4 flight 0 1=2/2 2=0/0 3=100/100 4=0/0 5=2/2 6=0/0 7=0/0 8=0/0 9=0/0\n",
-    },
-    Form {
-        words: "replay,--side=server",
-        input: b"00\nseal 0011223344556\nseal 00\n",
-        status: Status::Input,
-        text: "1: dropped Short\nline 2 column 19: BadHex\n",
-    },
-    Form {
-        words: "show",
-        input: b"\xd4\xc3\xb2\xa1\x02\x00\x04\x00\x00\x00\x00\x00\x00\x00\x00\x00\xff\xff\x00\x00\x65\x00\x00\x00\
-\x01\x00\x00\x00\x20\xa1\x07\x00\x28\x00\x00\x00\x28\x00\x00\x00\
-\x45\x00\x00\x28\x00\x01\x00\x00\x40\x21\x66\xb2\x0a\x00\x00\x01\x0a\x00\x00\x02\
-\x9c\x40\x13\x89\x05\x00\x31\xec\x01\x00\x00\x00\x00\x00\x03\xe8\x00\x00\x00\x2a",
-        status: Status::Done,
-        text: "1 1.500000 flow 1 10.0.0.1 40000 > 10.0.0.2 5001 Request seq 1000 service 42 data 0 sum ok\n\
-records 1 shown 1 skipped 0 flows 1\n",
-    },
-    Form {
-        words: "show",
-        input: b"\xd4\xc3\xb2\xa1\x02\x00\x04\x00\x00\x00\x00\x00\x00\x00\x00\x00\xff\xff\x00\x00\x65\x00\x00\x00\
-\x01\x00\x00\x00\x20\xa1\x07\x00\x28\x00\x00\x00\x28\x00\x00\x00\
-\x45\x00",
-        status: Status::Input,
-        text: "capture CutShort after record 0\n",
-    },
-    Form {
-        words: "listen,--most,1",
-        input: b"10.0.0.3:40000 close\n10.0.0.1:40000 seal 9c4013890500000001000000000003e80000002a\n",
-        status: Status::Done,
-        text: "1 10.0.0.3:40000: refused NoFlow\n\
+end server RESPOND window 4 flight 0 1=2/2 2=0/0 3=100/100 4=0/0 5=2/2 6=0/0 7=0/0 8=0/0 9=0/0\n\
+~ replay,--side,server,--plain\n\
+9c4013890503000001000000000003e80000002a01020304050607\n\
+=> Done\n\
+1: dropped CoverageTooLarge\n\
+end server LISTEN window 4 flight 0 1=2/2 2=0/0 3=100/100 4=0/0 5=2/2 6=0/0 7=0/0 8=0/0 9=0/0\n\
+~ replay,--side=server\n\
+00\nseal 0011223344556\nseal 00\n\
+=> Input\n\
+1: dropped Short\nline 2 column 19: BadHex\n\
+~ show\n\
+d4c3b2a1020004000000000000000000ffff000065000000\
+0100000020a107002800000028000000\
+4500002800010000402166b20a0000010a000002\
+9c401389050031ec01000000000003e80000002a\
+=> Done\n\
+1 1.500000 flow 1 10.0.0.1 40000 > 10.0.0.2 5001 Request seq 1000 service 42 data 0 sum ok\n\
+records 1 shown 1 skipped 0 flows 1\n\
+~ show\n\
+d4c3b2a1020004000000000000000000ffff000065000000\
+0100000020a107002800000028000000\
+4500\
+=> Input\n\
+capture CutShort after record 0\n\
+~ listen,--most,1\n\
+10.0.0.3:40000 close\n10.0.0.1:40000 seal 9c4013890500000001000000000003e80000002a\n\
+=> Done\n\
+1 10.0.0.3:40000: refused NoFlow\n\
 2 10.0.0.1:40000: took\n\
 sent 10.0.0.1:40000 13899c400700261403000000000007d000000000000003e80000002a\n\
 flows 1\n\
-flow 10.0.0.1:40000 RESPOND\n",
-    },
-    Form {
-        words: "listen,--most=1",
-        input: b"10.0.0.3:40000 close\n10.0.0.3 close\n10.0.0.3:40000 walk\n",
-        status: Status::Input,
-        text: "1 10.0.0.3:40000: refused NoFlow\nline 2 column 1: BadPeer\n",
-    },
-    Form {
-        words: "ecn",
-        input: b"send 1\ndeliver 0\nreport\nforge 0\n",
-        status: Status::Done,
-        text: "1 send 1: ok\n\
+flow 10.0.0.1:40000 RESPOND\n\
+~ listen,--most=1\n\
+10.0.0.3:40000 close\n10.0.0.3 close\n10.0.0.3:40000 walk\n\
+=> Input\n\
+1 10.0.0.3:40000: refused NoFlow\nline 2 column 1: BadPeer\n\
+~ ecn\n\
+send 1\ndeliver 0\nreport\nforge 0\n\
+=> Done\n\
+1 send 1: ok\n\
 2 deliver 0: new\n\
 3 report: vector 39 00\n\
 4 forge 0: unfit\n\
-sent 1 reports 1\n",
-    },
-    Form {
-        words: "ecn",
-        input: b"send 1\nmark 1\nsend 2\n",
-        status: Status::Input,
-        text: "1 send 1: ok\nline 2 column 6: NoSuchFrame\n",
-    },
-    Form {
-        words: "campaign,--first,1,--seeds,3,--events,1,--workers,2",
-        input: b"",
-        status: Status::Done,
-        text: "seeds 3\nevents 3\nclient_frames 3\nserver_frames 0\ntook 0\ndelivered 0\ndropped 0\n\
-synced 0\nwas_reset 0\nsent_reset 0\nrefused 0\nsettled 48\n",
-    },
-];
+sent 1 reports 1\n\
+~ ecn\n\
+send 1\nmark 1\nsend 2\n\
+=> Input\n\
+1 send 1: ok\nline 2 column 6: NoSuchFrame\n\
+~ campaign,--first,1,--seeds,3,--events,1,--workers,2\n\
+=> Done\n\
+seeds 3\nevents 3\nclient_frames 3\nserver_frames 0\ntook 0\ndelivered 0\ndropped 0\n\
+synced 0\nwas_reset 0\nsent_reset 0\nrefused 0\nsettled 48\n";
 
 // More than any call here reads or writes.
 const MOST_CALLS: u64 = 1000;
@@ -146,32 +108,31 @@ fn has_failed(answer: &Answer) -> bool {
     answer.failed_reads != 0 || answer.failed_writes != 0
 }
 
-// The status that a call has to end with whose reads and writes failed so often.
-fn wanted(form: &Form, answer: &Answer) -> Status {
+// The status that a call has to end with whose reads and writes failed so often, if it ends with this one where none does.
+fn wanted(answer: &Answer, status: Status) -> Status {
     if answer.failed_reads != 0 {
         Status::Read
     } else if answer.failed_writes != 0 {
         Status::Write
     } else {
-        form.status
+        status
     }
 }
 
 // Whether a call ended as it has to: with a front of the text that lacks something where a read or a write failed, and else
 // with all of it.
-fn holds(form: &Form, answer: &Answer) -> bool {
-    let is_front = form.text.as_bytes().starts_with(answer.text.as_slice());
-    let is_whole = answer.text.len() == form.text.len();
-    answer.status == wanted(form, answer) && is_front && is_whole != has_failed(answer)
+fn holds(answer: &Answer, status: Status, text: &str) -> bool {
+    let is_front = text.as_bytes().starts_with(answer.text.as_slice());
+    let is_whole = answer.text.len() == text.len();
+    answer.status == wanted(answer, status) && is_front && is_whole != has_failed(answer)
 }
 
-fn answer<R: Threads + Sync>(
-    rt: &R,
-    alloc: Global,
-    form: &Form,
-    streams: &Streams,
-) -> Result<Answer, Fail> {
-    answer_to(rt, alloc, &OpenGate, streams, form.words, form.input)
+fn input_of(alloc: Global, words: &str, input: &str) -> Result<Vec<u8>, Fail> {
+    if words == "show" {
+        Ok(hex::decode(alloc, input)?)
+    } else {
+        Ok(input.as_bytes().to_vec(alloc)?)
+    }
 }
 
 // Seven bytes a call, of which the read or the write with this number fails.
@@ -188,17 +149,29 @@ fn failing(read: Option<u64>, write: Option<u64>) -> Streams {
 fn holds_over<R: Threads + Sync>(
     rt: &R,
     alloc: Global,
-    form: &Form,
+    form: &str,
     streams: &Streams,
 ) -> Result<(bool, bool), Fail> {
-    let answer = answer(rt, alloc, form, streams)?;
-    Ok((holds(form, &answer), has_failed(&answer)))
+    let (words, input, status, text) = parts_of(form).ok_or("a form")?;
+    let bytes = input_of(alloc, words, input)?;
+    let answer = answer_to(rt, alloc, &OpenGate, streams, words, &bytes)?;
+    Ok((holds(&answer, status, text), has_failed(&answer)))
 }
 
-// Whether each read fails in turn, up to the first number that no read has.
-fn holds_for_reads<R: Threads + Sync>(rt: &R, alloc: Global, form: &Form) -> Result<bool, Fail> {
+// Whether each read fails in turn, or each write, up to the first number that none has.
+fn holds_in_turn<R: Threads + Sync>(
+    rt: &R,
+    alloc: Global,
+    form: &str,
+    of_reads: bool,
+) -> Result<bool, Fail> {
     for number in 1..MOST_CALLS {
-        let (holds, failed) = holds_over(rt, alloc, form, &failing(Some(number), None))?;
+        let streams = if of_reads {
+            failing(Some(number), None)
+        } else {
+            failing(None, Some(number))
+        };
+        let (holds, failed) = holds_over(rt, alloc, form, &streams)?;
         if !holds || !failed {
             return Ok(holds);
         }
@@ -206,31 +179,23 @@ fn holds_for_reads<R: Threads + Sync>(rt: &R, alloc: Global, form: &Form) -> Res
     Ok(false)
 }
 
-// Whether each write fails in turn, up to the first number that no write has.
-fn holds_for_writes<R: Threads + Sync>(rt: &R, alloc: Global, form: &Form) -> Result<bool, Fail> {
-    for number in 1..MOST_CALLS {
-        let (holds, failed) = holds_over(rt, alloc, form, &failing(None, Some(number)))?;
-        if !holds || !failed {
-            return Ok(holds);
+fn all_hold_in_turn<R: Threads + Sync>(rt: &R, alloc: Global, of_reads: bool) -> Result<(), Fail> {
+    for form in FORMS.split("~ ") {
+        if !form.is_empty() && !holds_in_turn(rt, alloc, form, of_reads)? {
+            return Err(Fail::new(format_args!("{form}")));
         }
     }
-    Ok(false)
+    Ok(())
 }
 
 #[test]
 fn each_read_fails_in_turn(rt: HostRuntime) -> Result<(), Fail> {
-    for form in &FORMS {
-        assert!(rt; holds_for_reads(&rt, rt.alloc(), form)?, "{}", form.words);
-    }
-    Ok(())
+    all_hold_in_turn(&rt, rt.alloc(), true)
 }
 
 #[test]
 fn each_write_fails_in_turn(rt: HostRuntime) -> Result<(), Fail> {
-    for form in &FORMS {
-        assert!(rt; holds_for_writes(&rt, rt.alloc(), form)?, "{}", form.words);
-    }
-    Ok(())
+    all_hold_in_turn(&rt, rt.alloc(), false)
 }
 
 // A sink that takes one byte a call, and whose call with this number fails.
@@ -244,12 +209,9 @@ fn by_the_byte(write: u64) -> Streams {
 }
 
 // Whether the last byte fails behind all the others, and one write more is not made.
-fn holds_for_last_byte<R: Threads + Sync>(
-    rt: &R,
-    alloc: Global,
-    form: &Form,
-) -> Result<bool, Fail> {
-    let size = form.text.len() as u64;
+fn holds_for_last_byte<R: Threads + Sync>(rt: &R, alloc: Global, form: &str) -> Result<bool, Fail> {
+    let (_, _, _, text) = parts_of(form).ok_or("a form")?;
+    let size = text.len() as u64;
     let last = holds_over(rt, alloc, form, &by_the_byte(size))?;
     let more = holds_over(rt, alloc, form, &by_the_byte(size.saturating_add(1)))?;
     Ok(last == (true, true) && more == (true, false))
@@ -257,12 +219,10 @@ fn holds_for_last_byte<R: Threads + Sync>(
 
 #[test]
 fn the_last_byte_fails(rt: HostRuntime) -> Result<(), Fail> {
-    for form in &FORMS {
-        assert!(rt;
-            holds_for_last_byte(&rt, rt.alloc(), form)?,
-            "{}",
-            form.words
-        );
+    for form in FORMS.split("~ ") {
+        if !form.is_empty() {
+            assert!(rt; holds_for_last_byte(&rt, rt.alloc(), form)?, "{form}");
+        }
     }
     Ok(())
 }

@@ -1,6 +1,6 @@
 //! Whole calls of the forms `run` and `show`: pieces of any length, lines that are refused, and streams that fail. What
 //! a text can say by itself is played from `examples/`.
-use crate::calls::{Answer, Case, Streams, answer_to, comes, expect_in_pieces};
+use crate::calls::{Answer, Streams, answer_to, cases_come_in_pieces, comes, lines_come};
 use dccp_command::Status;
 use fault_campaign::OpenGate;
 use std::alloc::Global;
@@ -14,12 +14,11 @@ pub(crate) const USAGE: &str =
 pub(crate) const HANDSHAKE: &str = "plain\nopen\ndeliver c0\ndeliver s0\ndeliver c1\n";
 
 // With a newline at the end, and without.
-const HANDSHAKES: [Case; 2] = [
-    Case {
-        words: "run",
-        input: HANDSHAKE,
-        status: Status::Done,
-        text: "2 open: ok\n\
+const HANDSHAKES: &str = "\
+~ run\n\
+plain\nopen\ndeliver c0\ndeliver s0\ndeliver c1\n\
+=> Done\n\
+2 open: ok\n\
 sent c0 9c401389050031ec01000000000003e80000002a\n\
 3 deliver c0: took\n\
 sent s0 13899c400700261403000000000007d000000000000003e80000002a\n\
@@ -28,13 +27,11 @@ sent c1 9c4013890600234107000000000003e900000000000007d0\n\
 5 deliver c1: took\n\
 sent s1 13899c400600234007000000000007d100000000000003e9\n\
 end client PARTOPEN window 4 flight 0 1=2/2 2=0/0 3=100/100 4=0/0 5=2/2 6=0/0 7=0/0 8=0/0 9=0/0\n\
-end server OPEN window 4 flight 0 1=2/2 2=0/0 3=100/100 4=0/0 5=2/2 6=0/0 7=0/0 8=0/0 9=0/0\n",
-    },
-    Case {
-        words: "run",
-        input: "plain\nopen\ndeliver c0\ndeliver s0\ndeliver c1\ndeliver s1",
-        status: Status::Done,
-        text: "2 open: ok\n\
+end server OPEN window 4 flight 0 1=2/2 2=0/0 3=100/100 4=0/0 5=2/2 6=0/0 7=0/0 8=0/0 9=0/0\n\
+~ run\n\
+plain\nopen\ndeliver c0\ndeliver s0\ndeliver c1\ndeliver s1\
+=> Done\n\
+2 open: ok\n\
 sent c0 9c401389050031ec01000000000003e80000002a\n\
 3 deliver c0: took\n\
 sent s0 13899c400700261403000000000007d000000000000003e80000002a\n\
@@ -44,159 +41,98 @@ sent c1 9c4013890600234107000000000003e900000000000007d0\n\
 sent s1 13899c400600234007000000000007d100000000000003e9\n\
 6 deliver s1: took\n\
 end client OPEN window 4 flight 0 1=2/2 2=0/0 3=100/100 4=0/0 5=2/2 6=0/0 7=0/0 8=0/0 9=0/0\n\
-end server OPEN window 4 flight 0 1=2/2 2=0/0 3=100/100 4=0/0 5=2/2 6=0/0 7=0/0 8=0/0 9=0/0\n",
-    },
-];
+end server OPEN window 4 flight 0 1=2/2 2=0/0 3=100/100 4=0/0 5=2/2 6=0/0 7=0/0 8=0/0 9=0/0\n";
 
 #[test]
 fn plain_handshake(rt: HostRuntime) -> Result<(), Fail> {
-    for case in &HANDSHAKES {
-        expect_in_pieces(&rt, rt.alloc(), case)?;
+    cases_come_in_pieces(&rt, rt.alloc(), HANDSHAKES)
+}
+
+// Whether each schedule of a text is refused, and its answer ends with the line behind `=> `: the first that does not.
+fn are_refused<R: Threads + Sync>(rt: &R, alloc: Global, rows: &str) -> Result<(), Fail> {
+    for row in rows.split("~ ") {
+        if !row.is_empty() && !is_refused(rt, alloc, row)? {
+            return Err(Fail::new(format_args!("{row}")));
+        }
     }
     Ok(())
 }
 
-// Whether a schedule is refused and its answer ends with this line.
-fn is_refused<R: Threads + Sync>(
-    rt: &R,
-    alloc: Global,
-    schedule: &str,
-    want: &str,
-) -> Result<bool, Fail> {
+fn is_refused<R: Threads + Sync>(rt: &R, alloc: Global, row: &str) -> Result<bool, Fail> {
+    let (schedule, wanted) = row.split_once("=> ").ok_or("a line")?;
     let bytes = schedule.as_bytes();
     let answer = answer_to(rt, alloc, &OpenGate, &Streams::of(4096), "run", bytes)?;
-    Ok(answer.status == Status::Input && answer.text.ends_with(want.as_bytes()))
+    Ok(answer.status == Status::Input && answer.text.ends_with(wanted.as_bytes()))
 }
 
 // The faults of a line by itself, some behind a schedule that has begun.
-const LINES: [(&str, &str); 18] = [
-    ("version 0\n", "line 1 column 9: BadNumber\n"),
-    ("plain\n#\t\n", "line 2 column 2: NotText\n"),
-    ("set\x7f", "line 1 column 4: NotText\n"),
-    ("send\n", "line 1 column 6: Missing\n"),
-    ("#\nsend client  x\n", "line 2 column 13: Missing\n"),
-    ("send client abc\n", "line 1 column 16: BadHex\n"),
-    ("set\n", "line 1 column 5: Missing\n"),
-    ("#\nprefer client  x\n", "line 2 column 15: Missing\n"),
-    ("settle\n", "line 1 column 1: UnknownWord\n"),
-    ("set client here 1 3\n", "line 1 column 19: BadList\n"),
-    (
-        "plain\nset client there 3 200\n",
-        "line 2 column 20: NotOurs\n",
-    ),
-    (
-        "offer server there 5 mandatory\n",
-        "line 1 column 20: NotOurs\n",
-    ),
-    (" plain\n", "line 1 column 1: Missing\n"),
-    ("deliver\n", "line 1 column 9: Missing\n"),
-    ("deliver x0\n", "line 1 column 9: UnknownWord\n"),
-    ("deliver c00\n", "line 1 column 9: BadNumber\n"),
-    (
-        "iss server 281474976710656",
-        "line 1 column 12: BadNumber\n",
-    ),
-    ("plain\nopen \n", "line 2 column 6: Trailing\n"),
-];
+const LINES: &str = "\
+    ~ version 0\n=> line 1 column 9: BadNumber\n\
+    ~ plain\n#\t\n=> line 2 column 2: NotText\n\
+    ~ set\x7f=> line 1 column 4: NotText\n\
+    ~ send\n=> line 1 column 6: Missing\n\
+    ~ #\nsend client  x\n=> line 2 column 13: Missing\n\
+    ~ send client abc\n=> line 1 column 16: BadHex\n\
+    ~ set\n=> line 1 column 5: Missing\n\
+    ~ #\nprefer client  x\n=> line 2 column 15: Missing\n\
+    ~ settle\n=> line 1 column 1: UnknownWord\n\
+    ~ set client here 1 3\n=> line 1 column 19: BadList\n\
+    ~ plain\nset client there 3 200\n=> line 2 column 20: NotOurs\n\
+    ~ offer server there 5 mandatory\n=> line 1 column 20: NotOurs\n\
+    ~  plain\n=> line 1 column 1: Missing\n\
+    ~ deliver\n=> line 1 column 9: Missing\n\
+    ~ deliver x0\n=> line 1 column 9: UnknownWord\n\
+    ~ deliver c00\n=> line 1 column 9: BadNumber\n\
+    ~ iss server 281474976710656=> line 1 column 12: BadNumber\n\
+    ~ plain\nopen \n=> line 2 column 6: Trailing\n";
 
 #[test]
 fn faults_of_a_line(rt: HostRuntime) -> Result<(), Fail> {
-    for (schedule, want) in &LINES {
-        assert!(rt; is_refused(&rt, rt.alloc(), schedule, want)?, "{schedule}");
-    }
-    Ok(())
+    are_refused(&rt, rt.alloc(), LINES)
 }
 
 // The faults that need the lines before, and which of two comes first.
-const PLACES: [(&str, &str); 18] = [
-    ("plain\nversion 2\n", "line 2 column 1: HeaderLate\n"),
-    ("version 1\nversion 2\n", "line 2 column 1: HeaderLate\n"),
-    ("open\nversion 1\n", "line 2 column 1: HeaderLate\n"),
-    ("open\nversion 3\n", "line 2 column 9: BadNumber\n"),
-    ("plain\nopen\nplain\n", "line 3 column 1: HeaderLate\n"),
-    (
-        "plain\nopen\niss client 1\n",
-        "line 3 column 1: HeaderLate\n",
-    ),
-    (
-        "plain\nopen\niss client 1 2\n",
-        "line 3 column 14: Trailing\n",
-    ),
-    (
-        "open\nset client here 3 200\n",
-        "line 2 column 1: HeaderLate\n",
-    ),
-    (
-        "open\nset client there 3 200\n",
-        "line 2 column 1: HeaderLate\n",
-    ),
-    (
-        "open\nset client here 1 3\n",
-        "line 2 column 1: HeaderLate\n",
-    ),
-    (
-        "open\nset client here 1 3 x\n",
-        "line 2 column 21: Trailing\n",
-    ),
-    (
-        "open\noffer client there 3\n",
-        "line 2 column 1: HeaderLate\n",
-    ),
-    (
-        "open\noffer client here 1 mandatory\n",
-        "line 2 column 1: HeaderLate\n",
-    ),
-    (
-        "send client 00\niss client 1\n",
-        "line 2 column 1: HeaderLate\n",
-    ),
-    (
-        "timer server rto\ndeliver s0\n",
-        "line 2 column 9: NoSuchFrame\n",
-    ),
-    ("timer server rto 1\n", "line 1 column 18: Trailing\n"),
-    (
-        "deliver c140737488355327\n",
-        "line 1 column 9: NoSuchFrame\n",
-    ),
-    (
-        "close client\ndeliver s0\n",
-        "line 2 column 9: NoSuchFrame\n",
-    ),
-];
+const PLACES: &str = "\
+    ~ plain\nversion 2\n=> line 2 column 1: HeaderLate\n\
+    ~ version 1\nversion 2\n=> line 2 column 1: HeaderLate\n\
+    ~ open\nversion 1\n=> line 2 column 1: HeaderLate\n\
+    ~ open\nversion 3\n=> line 2 column 9: BadNumber\n\
+    ~ plain\nopen\nplain\n=> line 3 column 1: HeaderLate\n\
+    ~ plain\nopen\niss client 1\n=> line 3 column 1: HeaderLate\n\
+    ~ plain\nopen\niss client 1 2\n=> line 3 column 14: Trailing\n\
+    ~ open\nset client here 3 200\n=> line 2 column 1: HeaderLate\n\
+    ~ open\nset client there 3 200\n=> line 2 column 1: HeaderLate\n\
+    ~ open\nset client here 1 3\n=> line 2 column 1: HeaderLate\n\
+    ~ open\nset client here 1 3 x\n=> line 2 column 21: Trailing\n\
+    ~ open\noffer client there 3\n=> line 2 column 1: HeaderLate\n\
+    ~ open\noffer client here 1 mandatory\n=> line 2 column 1: HeaderLate\n\
+    ~ send client 00\niss client 1\n=> line 2 column 1: HeaderLate\n\
+    ~ timer server rto\ndeliver s0\n=> line 2 column 9: NoSuchFrame\n\
+    ~ timer server rto 1\n=> line 1 column 18: Trailing\n\
+    ~ deliver c140737488355327\n=> line 1 column 9: NoSuchFrame\n\
+    ~ close client\ndeliver s0\n=> line 2 column 9: NoSuchFrame\n";
 
 #[test]
 fn faults_of_a_place(rt: HostRuntime) -> Result<(), Fail> {
-    for (schedule, want) in &PLACES {
-        assert!(rt; is_refused(&rt, rt.alloc(), schedule, want)?, "{schedule}");
-    }
-    Ok(())
+    are_refused(&rt, rt.alloc(), PLACES)
 }
 
-/// Whether words over the handshake come to the usage line.
-pub(crate) fn shows_usage<R: Threads + Sync>(
+/// Fails at the first line of words that does not come to the usage line over the handshake.
+pub(crate) fn show_usage<R: Threads + Sync>(
     rt: &R,
     alloc: Global,
-    words: &'static str,
-) -> Result<bool, Fail> {
-    let case = Case {
-        words,
-        input: HANDSHAKE,
-        status: Status::Words,
-        text: USAGE,
-    };
-    comes(rt, alloc, &Streams::of(7), &case)
+    lines: &str,
+) -> Result<(), Fail> {
+    let answer = (Status::Words, USAGE);
+    lines_come(rt, alloc, &Streams::of(7), (lines, HANDSHAKE), answer)
 }
 
 // None, and what comes close to a form without options.
-const OTHER_WORDS: [&str; 5] = ["", "walk", "run,x", "Run", "show,x"];
+const OTHER_WORDS: &str = "\nwalk\nrun,x\nRun\nshow,x\n";
 
 #[test]
 fn refused_words(rt: HostRuntime) -> Result<(), Fail> {
-    for words in &OTHER_WORDS {
-        assert!(rt; shows_usage(&rt, rt.alloc(), words)?, "{words}");
-    }
-    Ok(())
+    show_usage(&rt, rt.alloc(), OTHER_WORDS)
 }
 
 // Streams that fail, with the status and the text of the handshake over them.
@@ -256,13 +192,7 @@ fn ends<R: Threads + Sync>(
     status: Status,
     text: &'static str,
 ) -> Result<bool, Fail> {
-    let case = Case {
-        words: "run",
-        input: HANDSHAKE,
-        status,
-        text,
-    };
-    comes(rt, alloc, streams, &case)
+    comes(rt, alloc, streams, ("run", HANDSHAKE), (status, text))
 }
 
 #[test]

@@ -1,14 +1,12 @@
 //! The worked cases that have words and an input, one after another over the tool's one call. `tools/worked_cases.py`
-//! writes these tables from examples/, where the cases are told.
-use crate::calls::{Case, Streams, comes, expect_in_pieces};
-use dccp_command::Status;
+//! writes these texts from examples/, where the cases are told.
+use crate::calls::{cases_come, cases_come_in_pieces};
 use std::test::Fail;
 
 // Data of which one packet is overtaken, and options in a Request, in pieces of any length.
-const IN_PIECES: [Case; 13] = [
-    Case {
-        words: "run",
-        input: "# The usual ends, and data of the client. The frame c4 overtakes c3, which then comes below the floor of the Ack Vectors:\n\
+const IN_PIECES: &str = "\
+~ run\n\
+# The usual ends, and data of the client. The frame c4 overtakes c3, which then comes below the floor of the Ack Vectors:\n\
 # it is taken, and its data is not delivered. Two data packets are in flight at the end.\n\
 open\n\
 deliver c0\n\
@@ -24,9 +22,9 @@ deliver s2\n\
 send client dd\n\
 deliver c5\n\
 deliver c3\n\
-timer server ack\n",
-        status: Status::Done,
-        text: "3 open: ok\n\
+timer server ack\n\
+=> Done\n\
+3 open: ok\n\
 sent c0 9c401389080000b601000000000003e80000002a012004040101220406010000\n\
 4 deliver c0: took\n\
 sent s0 13899c400d00a1c303000000000007d000000000000003e80000002a230604010100210606010100012004040101220406010000\n\
@@ -52,44 +50,36 @@ sent c5 9c40138907001c3209000000000003ed00000000000007d226030100dd\n\
 17 timer server ack: fired\n\
 sent s3 13899c400700fc3207000000000007d300000000000003ed26030000\n\
 end client OPEN window 5 flight 2 1=2/2 2=0/0 3=100/100 4=1/1 5=2/2 6=1/1 7=0/0 8=0/0 9=0/0\n\
-end server OPEN window 4 flight 0 1=2/2 2=0/0 3=100/100 4=1/1 5=2/2 6=1/1 7=0/0 8=0/0 9=0/0\n",
-    },
-    Case {
-        words: "replay,--side,server,--plain",
-        input: "# replay --side server --plain\n\
+end server OPEN window 4 flight 0 1=2/2 2=0/0 3=100/100 4=1/1 5=2/2 6=1/1 7=0/0 8=0/0 9=0/0\n\
+~ replay,--side,server,--plain\n\
+# replay --side server --plain\n\
 seal 9c4013890600000001000000000003e80000002a00000001\n\
-\n",
-        status: Status::Done,
-        text: "2: sent reset 5 1 0 0\n\
+\n\
+=> Done\n\
+2: sent reset 5 1 0 0\n\
 sent s0 13899c400700153d0f000000000007d000000000000003e805010000\n\
-end server CLOSED window 4 flight 0 1=2/2 2=0/0 3=100/100 4=0/0 5=2/2 6=0/0 7=0/0 8=0/0 9=0/0\n",
-    },
-    Case {
-        words: "replay,--side,server,--plain",
-        input: "\n\n\n\
+end server CLOSED window 4 flight 0 1=2/2 2=0/0 3=100/100 4=0/0 5=2/2 6=0/0 7=0/0 8=0/0 9=0/0\n\
+~ replay,--side,server,--plain\n\
+\n\n\n\
 # replay --side server --plain\n\
 # Mandatory before Padding is no fault.\n\
 seal 9c4013890600000001000000000003e80000002a01000000\n\
-\n",
-        status: Status::Done,
-        text: "6: took\n\
+\n\
+=> Done\n\
+6: took\n\
 sent s0 13899c400700261403000000000007d000000000000003e80000002a\n\
-end server RESPOND window 4 flight 0 1=2/2 2=0/0 3=100/100 4=0/0 5=2/2 6=0/0 7=0/0 8=0/0 9=0/0\n",
-    },
-    Case {
-        words: "replay,--side,server,--plain",
-        input: "\n\n\n\n\n\n\n\
+end server RESPOND window 4 flight 0 1=2/2 2=0/0 3=100/100 4=0/0 5=2/2 6=0/0 7=0/0 8=0/0 9=0/0\n\
+~ replay,--side,server,--plain\n\
+\n\n\n\n\n\n\n\
 # replay --side server --plain\n\
 # An option 32 of length 1 ends the list.\n\
-seal 9c4013890600000001000000000003e80000002a20010000\n",
-        status: Status::Done,
-        text: "10: took\n\
+seal 9c4013890600000001000000000003e80000002a20010000\n\
+=> Done\n\
+10: took\n\
 sent s0 13899c400700261403000000000007d000000000000003e80000002a\n\
-end server RESPOND window 4 flight 0 1=2/2 2=0/0 3=100/100 4=0/0 5=2/2 6=0/0 7=0/0 8=0/0 9=0/0\n",
-    },
-    Case {
-        words: "replay,--side,server,--plain",
-        input: "# replay --side server --plain\n\
+end server RESPOND window 4 flight 0 1=2/2 2=0/0 3=100/100 4=0/0 5=2/2 6=0/0 7=0/0 8=0/0 9=0/0\n\
+~ replay,--side,server,--plain\n\
+# replay --side server --plain\n\
 # Options that change nothing: without Mandatory those that are not understood, and those that are understood but have no effect here.\n\
 \n\
 # Each Request is answered by a Response without options.\n\
@@ -170,9 +160,9 @@ end server RESPOND window 4 flight 0 1=2/2 2=0/0 3=100/100 4=0/0 5=2/2 6=0/0 7=0
 9c40138906000fc401000000000004060000002a20040102\n\
 # Reset 1031 of 2014, code 2, Change L 1 of 2\n\
 9c4013890800f6060f0000000000040700000000000007de0200000020040102\n\
-\n",
-        status: Status::Done,
-        text: "7: took\n\
+\n\
+=> Done\n\
+7: took\n\
 sent s0 13899c400700261403000000000007d000000000000003e80000002a\n\
 9: took\n\
 sent s1 13899c400700261203000000000007d100000000000003e90000002a\n\
@@ -219,11 +209,9 @@ sent s13 13899c400700f51007000000000007dd000000000000040523030a00\n\
 79: synced 1030\n\
 sent s14 13899c400600191611000000000007de0000000000000406\n\
 81: was reset 2\n\
-end server TIMEWAIT window 4 flight 0 1=2/2 2=0/0 3=100/100 4=0/0 5=2/2 6=0/0 7=0/0 8=0/0 9=0/0\n",
-    },
-    Case {
-        words: "replay,--side,server,--plain",
-        input: "\n\n\n\n\n\n\n\n\n\n\n\n\n\n\n\n\n\n\n\n\n\n\n\n\n\n\n\n\n\n\n\n\n\n\n\n\n\n\n\n\
+end server TIMEWAIT window 4 flight 0 1=2/2 2=0/0 3=100/100 4=0/0 5=2/2 6=0/0 7=0/0 8=0/0 9=0/0\n\
+~ replay,--side,server,--plain\n\
+\n\n\n\n\n\n\n\n\n\n\n\n\n\n\n\n\n\n\n\n\n\n\n\n\n\n\n\n\n\n\n\n\n\n\n\n\n\n\n\n\
 \n\n\n\n\n\n\n\n\n\n\n\n\n\n\n\n\n\n\n\n\n\n\n\n\n\n\n\n\n\n\n\n\n\n\n\n\n\n\n\n\
 \n\n\
 # replay --side server --plain\n\
@@ -231,17 +219,15 @@ end server TIMEWAIT window 4 flight 0 1=2/2 2=0/0 3=100/100 4=0/0 5=2/2 6=0/0 7=
 9c401389050031ec01000000000003e80000002a\n\
 # Ack 1001 of 2000: opens alike\n\
 9c4013890600234107000000000003e900000000000007d0\n\
-\n",
-        status: Status::Done,
-        text: "85: took\n\
+\n\
+=> Done\n\
+85: took\n\
 sent s0 13899c400700261403000000000007d000000000000003e80000002a\n\
 87: took\n\
 sent s1 13899c400600234007000000000007d100000000000003e9\n\
-end server OPEN window 4 flight 0 1=2/2 2=0/0 3=100/100 4=0/0 5=2/2 6=0/0 7=0/0 8=0/0 9=0/0\n",
-    },
-    Case {
-        words: "replay,--side,server,--plain",
-        input: "\n\n\n\n\n\n\n\n\n\n\n\n\n\n\n\n\n\n\n\n\n\n\n\n\n\n\n\n\n\n\n\n\n\n\n\n\n\n\n\n\
+end server OPEN window 4 flight 0 1=2/2 2=0/0 3=100/100 4=0/0 5=2/2 6=0/0 7=0/0 8=0/0 9=0/0\n\
+~ replay,--side,server,--plain\n\
+\n\n\n\n\n\n\n\n\n\n\n\n\n\n\n\n\n\n\n\n\n\n\n\n\n\n\n\n\n\n\n\n\n\n\n\n\n\n\n\n\
 \n\n\n\n\n\n\n\n\n\n\n\n\n\n\n\n\n\n\n\n\n\n\n\n\n\n\n\n\n\n\n\n\n\n\n\n\n\n\n\n\
 \n\n\n\n\n\n\n\n\
 # replay --side server --plain\n\
@@ -249,17 +235,15 @@ end server OPEN window 4 flight 0 1=2/2 2=0/0 3=100/100 4=0/0 5=2/2 6=0/0 7=0/0 
 9c401389050031ec01000000000003e80000002a\n\
 # Ack 1001 of 2000, vector 00 of nonce 1: opens alike\n\
 9c4013890700fb3907000000000003e900000000000007d027030000\n\
-\n",
-        status: Status::Done,
-        text: "91: took\n\
+\n\
+=> Done\n\
+91: took\n\
 sent s0 13899c400700261403000000000007d000000000000003e80000002a\n\
 93: took\n\
 sent s1 13899c400600234007000000000007d100000000000003e9\n\
-end server OPEN window 4 flight 0 1=2/2 2=0/0 3=100/100 4=0/0 5=2/2 6=0/0 7=0/0 8=0/0 9=0/0\n",
-    },
-    Case {
-        words: "replay,--side,server,--plain",
-        input: "\n\n\n\n\n\n\n\n\n\n\n\n\n\n\n\n\n\n\n\n\n\n\n\n\n\n\n\n\n\n\n\n\n\n\n\n\n\n\n\n\
+end server OPEN window 4 flight 0 1=2/2 2=0/0 3=100/100 4=0/0 5=2/2 6=0/0 7=0/0 8=0/0 9=0/0\n\
+~ replay,--side,server,--plain\n\
+\n\n\n\n\n\n\n\n\n\n\n\n\n\n\n\n\n\n\n\n\n\n\n\n\n\n\n\n\n\n\n\n\n\n\n\n\n\n\n\n\
 \n\n\n\n\n\n\n\n\n\n\n\n\n\n\n\n\n\n\n\n\n\n\n\n\n\n\n\n\n\n\n\n\n\n\n\n\n\n\n\n\
 \n\n\n\n\n\n\n\n\n\n\n\n\n\n\
 # replay --side server --plain\n\
@@ -267,17 +251,15 @@ end server OPEN window 4 flight 0 1=2/2 2=0/0 3=100/100 4=0/0 5=2/2 6=0/0 7=0/0 
 9c401389050031ec01000000000003e80000002a\n\
 # Ack 1001 of 2000, Mandatory vector 00: opens alike\n\
 9c40138907001e1707000000000003e900000000000007d001260300\n\
-\n",
-        status: Status::Done,
-        text: "97: took\n\
+\n\
+=> Done\n\
+97: took\n\
 sent s0 13899c400700261403000000000007d000000000000003e80000002a\n\
 99: took\n\
 sent s1 13899c400600234007000000000007d100000000000003e9\n\
-end server OPEN window 4 flight 0 1=2/2 2=0/0 3=100/100 4=0/0 5=2/2 6=0/0 7=0/0 8=0/0 9=0/0\n",
-    },
-    Case {
-        words: "replay,--side,server,--plain",
-        input: "\n\n\n\n\n\n\n\n\n\n\n\n\n\n\n\n\n\n\n\n\n\n\n\n\n\n\n\n\n\n\n\n\n\n\n\n\n\n\n\n\
+end server OPEN window 4 flight 0 1=2/2 2=0/0 3=100/100 4=0/0 5=2/2 6=0/0 7=0/0 8=0/0 9=0/0\n\
+~ replay,--side,server,--plain\n\
+\n\n\n\n\n\n\n\n\n\n\n\n\n\n\n\n\n\n\n\n\n\n\n\n\n\n\n\n\n\n\n\n\n\n\n\n\n\n\n\n\
 \n\n\n\n\n\n\n\n\n\n\n\n\n\n\n\n\n\n\n\n\n\n\n\n\n\n\n\n\n\n\n\n\n\n\n\n\n\n\n\n\
 \n\n\n\n\n\n\n\n\n\n\n\n\n\n\n\n\n\n\n\n\
 # replay --side server --plain\n\
@@ -285,226 +267,188 @@ end server OPEN window 4 flight 0 1=2/2 2=0/0 3=100/100 4=0/0 5=2/2 6=0/0 7=0/0 
 \n\
 # Request 1000, Change L 1 of 2\n\
 9c40138906000fe201000000000003e80000002a20040102\n\
-\n",
-        status: Status::Done,
-        text: "105: took\n\
+\n\
+=> Done\n\
+105: took\n\
 sent s0 13899c400900fd0b03000000000007d000000000000003e80000002a2306010202f80000\n\
-end server RESPOND window 4 flight 0 1=2/2 2=0/0 3=100/100 4=0/0 5=2/2 6=0/0 7=0/0 8=0/0 9=0/0\n",
-    },
-    Case {
-        words: "replay,--side,server,--plain",
-        input: "\n\n\n\n\n\n\n\n\n\n\n\n\n\n\n\n\n\n\n\n\n\n\n\n\n\n\n\n\n\n\n\n\n\n\n\n\n\n\n\n\
+end server RESPOND window 4 flight 0 1=2/2 2=0/0 3=100/100 4=0/0 5=2/2 6=0/0 7=0/0 8=0/0 9=0/0\n\
+~ replay,--side,server,--plain\n\
+\n\n\n\n\n\n\n\n\n\n\n\n\n\n\n\n\n\n\n\n\n\n\n\n\n\n\n\n\n\n\n\n\n\n\n\n\n\n\n\n\
 \n\n\n\n\n\n\n\n\n\n\n\n\n\n\n\n\n\n\n\n\n\n\n\n\n\n\n\n\n\n\n\n\n\n\n\n\n\n\n\n\
 \n\n\n\n\n\n\n\n\n\n\n\n\n\n\n\n\n\n\n\n\n\n\n\n\n\n\
 # replay --side server --plain\n\
 # Request 1000, Confirm L 1 of 2\n\
 9c40138906000ee201000000000003e80000002a21040102\n\
-\n",
-        status: Status::Done,
-        text: "109: took\n\
+\n\
+=> Done\n\
+109: took\n\
 sent s0 13899c400700261403000000000007d000000000000003e80000002a\n\
-end server RESPOND window 4 flight 0 1=2/2 2=0/0 3=100/100 4=0/0 5=2/2 6=0/0 7=0/0 8=0/0 9=0/0\n",
-    },
-    Case {
-        words: "replay,--side,server,--plain",
-        input: "\n\n\n\n\n\n\n\n\n\n\n\n\n\n\n\n\n\n\n\n\n\n\n\n\n\n\n\n\n\n\n\n\n\n\n\n\n\n\n\n\
+end server RESPOND window 4 flight 0 1=2/2 2=0/0 3=100/100 4=0/0 5=2/2 6=0/0 7=0/0 8=0/0 9=0/0\n\
+~ replay,--side,server,--plain\n\
+\n\n\n\n\n\n\n\n\n\n\n\n\n\n\n\n\n\n\n\n\n\n\n\n\n\n\n\n\n\n\n\n\n\n\n\n\n\n\n\n\
 \n\n\n\n\n\n\n\n\n\n\n\n\n\n\n\n\n\n\n\n\n\n\n\n\n\n\n\n\n\n\n\n\n\n\n\n\n\n\n\n\
 \n\n\n\n\n\n\n\n\n\n\n\n\n\n\n\n\n\n\n\n\n\n\n\n\n\n\n\n\n\n\
 # replay --side server --plain\n\
 # Request 1000, Change R 1 of 2\n\
 9c40138906000de201000000000003e80000002a22040102\n\
-\n",
-        status: Status::Done,
-        text: "113: took\n\
+\n\
+=> Done\n\
+113: took\n\
 sent s0 13899c400900ff0b03000000000007d000000000000003e80000002a2106010202f80000\n\
-end server RESPOND window 4 flight 0 1=2/2 2=0/0 3=100/100 4=0/0 5=2/2 6=0/0 7=0/0 8=0/0 9=0/0\n",
-    },
-    Case {
-        words: "replay,--side,server,--plain",
-        input: "\n\n\n\n\n\n\n\n\n\n\n\n\n\n\n\n\n\n\n\n\n\n\n\n\n\n\n\n\n\n\n\n\n\n\n\n\n\n\n\n\
+end server RESPOND window 4 flight 0 1=2/2 2=0/0 3=100/100 4=0/0 5=2/2 6=0/0 7=0/0 8=0/0 9=0/0\n\
+~ replay,--side,server,--plain\n\
+\n\n\n\n\n\n\n\n\n\n\n\n\n\n\n\n\n\n\n\n\n\n\n\n\n\n\n\n\n\n\n\n\n\n\n\n\n\n\n\n\
 \n\n\n\n\n\n\n\n\n\n\n\n\n\n\n\n\n\n\n\n\n\n\n\n\n\n\n\n\n\n\n\n\n\n\n\n\n\n\n\n\
 \n\n\n\n\n\n\n\n\n\n\n\n\n\n\n\n\n\n\n\n\n\n\n\n\n\n\n\n\n\n\n\n\n\n\
 # replay --side server --plain\n\
 # Request 1000, Confirm R 1 of 2\n\
 9c40138906000ce201000000000003e80000002a23040102\n\
-\n",
-        status: Status::Done,
-        text: "117: took\n\
+\n\
+=> Done\n\
+117: took\n\
 sent s0 13899c400700261403000000000007d000000000000003e80000002a\n\
-end server RESPOND window 4 flight 0 1=2/2 2=0/0 3=100/100 4=0/0 5=2/2 6=0/0 7=0/0 8=0/0 9=0/0\n",
-    },
-    Case {
-        words: "replay,--side,client,--plain",
-        input: "\n\n\n\n\n\n\n\n\n\n\n\n\n\n\n\n\n\n\n\n\n\n\n\n\n\n\n\n\n\n\n\n\n\n\n\n\n\n\n\n\
+end server RESPOND window 4 flight 0 1=2/2 2=0/0 3=100/100 4=0/0 5=2/2 6=0/0 7=0/0 8=0/0 9=0/0\n\
+~ replay,--side,client,--plain\n\
+\n\n\n\n\n\n\n\n\n\n\n\n\n\n\n\n\n\n\n\n\n\n\n\n\n\n\n\n\n\n\n\n\n\n\n\n\n\n\n\n\
 \n\n\n\n\n\n\n\n\n\n\n\n\n\n\n\n\n\n\n\n\n\n\n\n\n\n\n\n\n\n\n\n\n\n\n\n\n\n\n\n\
 \n\n\n\n\n\n\n\n\n\n\n\n\n\n\n\n\n\n\n\n\n\n\n\n\n\n\n\n\n\n\n\n\n\n\n\n\n\n\
 # replay --side client --plain\n\
 # Change L on the Response: the Ack confirms.\n\
 \n\
 # Response 2000 of 1000, Change L 1 of 2\n\
-13899c400800040a03000000000007d000000000000003e80000002a20040102\n",
-        status: Status::Done,
-        text: "open: ok\n\
+13899c400800040a03000000000007d000000000000003e80000002a20040102\n\
+=> Done\n\
+open: ok\n\
 sent c0 9c401389050031ec01000000000003e80000002a\n\
 123: took\n\
 sent c1 9c4013890800fa3807000000000003e900000000000007d02306010202f80000\n\
-end client PARTOPEN window 4 flight 0 1=2/2 2=0/0 3=100/100 4=0/0 5=2/2 6=0/0 7=0/0 8=0/0 9=0/0\n",
-    },
-];
-
-// Options that end the connection, as two tables: the proof of a longer one comes to no end.
-const FAULTS: [Case; 15] = [
-    Case {
-        words: "replay,--side,server,--plain",
-        input: "# replay --side server --plain\n\
+end client PARTOPEN window 4 flight 0 1=2/2 2=0/0 3=100/100 4=0/0 5=2/2 6=0/0 7=0/0 8=0/0 9=0/0\n\
+~ replay,--side,server,--plain\n\
+# replay --side server --plain\n\
 # Options that are faults. The first one is answered by its Reset: 5 for a Mandatory that marks nothing, and 6 for what Mandatory marks and\n\
 # is not understood, with the option's type and the first two bytes of its data. The server is CLOSED then.\n\
 \n\
 # Request 1000, Mandatory at the end: nothing stands behind it\n\
 9c401389060030e701000000000003e80000002a00000001\n\
-\n",
-        status: Status::Done,
-        text: "6: sent reset 5 1 0 0\n\
+\n\
+=> Done\n\
+6: sent reset 5 1 0 0\n\
 sent s0 13899c400700153d0f000000000007d000000000000003e805010000\n\
-end server CLOSED window 4 flight 0 1=2/2 2=0/0 3=100/100 4=0/0 5=2/2 6=0/0 7=0/0 8=0/0 9=0/0\n",
-    },
-    Case {
-        words: "replay,--side,server,--plain",
-        input: "\n\n\n\n\n\n\n\
+end server CLOSED window 4 flight 0 1=2/2 2=0/0 3=100/100 4=0/0 5=2/2 6=0/0 7=0/0 8=0/0 9=0/0\n\
+~ replay,--side,server,--plain\n\
+\n\n\n\n\n\n\n\
 # replay --side server --plain\n\
 # Request 1000, Mandatory twice, Slow Receiver: it marks itself\n\
 9c40138906002de701000000000003e80000002a01010200\n\
-\n",
-        status: Status::Done,
-        text: "10: sent reset 5 1 0 0\n\
+\n\
+=> Done\n\
+10: sent reset 5 1 0 0\n\
 sent s0 13899c400700153d0f000000000007d000000000000003e805010000\n\
-end server CLOSED window 4 flight 0 1=2/2 2=0/0 3=100/100 4=0/0 5=2/2 6=0/0 7=0/0 8=0/0 9=0/0\n",
-    },
-    Case {
-        words: "replay,--side,server,--plain",
-        input: "\n\n\n\n\n\n\n\n\n\n\n\
+end server CLOSED window 4 flight 0 1=2/2 2=0/0 3=100/100 4=0/0 5=2/2 6=0/0 7=0/0 8=0/0 9=0/0\n\
+~ replay,--side,server,--plain\n\
+\n\n\n\n\n\n\n\n\n\n\n\
 # replay --side server --plain\n\
 # Request 1000, Mandatory Elapsed Time of length 1: that option ends the list, as its length counts these two bytes too\n\
 9c40138906002ebd01000000000003e80000002a012b0100\n\
-\n",
-        status: Status::Done,
-        text: "14: sent reset 5 1 0 0\n\
+\n\
+=> Done\n\
+14: sent reset 5 1 0 0\n\
 sent s0 13899c400700153d0f000000000007d000000000000003e805010000\n\
-end server CLOSED window 4 flight 0 1=2/2 2=0/0 3=100/100 4=0/0 5=2/2 6=0/0 7=0/0 8=0/0 9=0/0\n",
-    },
-    Case {
-        words: "replay,--side,server,--plain",
-        input: "\n\n\n\n\n\n\n\n\n\n\n\n\n\n\n\
+end server CLOSED window 4 flight 0 1=2/2 2=0/0 3=100/100 4=0/0 5=2/2 6=0/0 7=0/0 8=0/0 9=0/0\n\
+~ replay,--side,server,--plain\n\
+\n\n\n\n\n\n\n\n\n\n\n\n\n\n\n\
 # replay --side server --plain\n\
 # Request 1000, Mandatory Elapsed Time of length 9: that option ends the list: its length goes beyond the area\n\
 9c401389060026bd01000000000003e80000002a012b0900\n\
-\n",
-        status: Status::Done,
-        text: "18: sent reset 5 1 0 0\n\
+\n\
+=> Done\n\
+18: sent reset 5 1 0 0\n\
 sent s0 13899c400700153d0f000000000007d000000000000003e805010000\n\
-end server CLOSED window 4 flight 0 1=2/2 2=0/0 3=100/100 4=0/0 5=2/2 6=0/0 7=0/0 8=0/0 9=0/0\n",
-    },
-    Case {
-        words: "replay,--side,server,--plain",
-        input: "\n\n\n\n\n\n\n\n\n\n\n\n\n\n\n\n\n\n\n\
+end server CLOSED window 4 flight 0 1=2/2 2=0/0 3=100/100 4=0/0 5=2/2 6=0/0 7=0/0 8=0/0 9=0/0\n\
+~ replay,--side,server,--plain\n\
+\n\n\n\n\n\n\n\n\n\n\n\n\n\n\n\n\n\n\n\
 # replay --side server --plain\n\
 # Request 1000, Mandatory Change L of no feature: it names no feature\n\
 9c40138906002dc801000000000003e80000002a01200200\n\
-\n",
-        status: Status::Done,
-        text: "22: sent reset 6 32 0 0\n\
+\n\
+=> Done\n\
+22: sent reset 6 32 0 0\n\
 sent s0 13899c400700141e0f000000000007d000000000000003e806200000\n\
-end server CLOSED window 4 flight 0 1=2/2 2=0/0 3=100/100 4=0/0 5=2/2 6=0/0 7=0/0 8=0/0 9=0/0\n",
-    },
-    Case {
-        words: "replay,--side,server,--plain",
-        input: "\n\n\n\n\n\n\n\n\n\n\n\n\n\n\n\n\n\n\n\n\n\n\n\
+end server CLOSED window 4 flight 0 1=2/2 2=0/0 3=100/100 4=0/0 5=2/2 6=0/0 7=0/0 8=0/0 9=0/0\n\
+~ replay,--side,server,--plain\n\
+\n\n\n\n\n\n\n\n\n\n\n\n\n\n\n\n\n\n\n\n\n\n\n\
 # replay --side server --plain\n\
 # Request 1000, Mandatory Confirm R of no feature: it names no feature\n\
 9c40138906002dc501000000000003e80000002a01230200\n\
-\n",
-        status: Status::Done,
-        text: "26: sent reset 6 35 0 0\n\
+\n\
+=> Done\n\
+26: sent reset 6 35 0 0\n\
 sent s0 13899c400700141b0f000000000007d000000000000003e806230000\n\
-end server CLOSED window 4 flight 0 1=2/2 2=0/0 3=100/100 4=0/0 5=2/2 6=0/0 7=0/0 8=0/0 9=0/0\n",
-    },
-    Case {
-        words: "replay,--side,server,--plain",
-        input: "\n\n\n\n\n\n\n\n\n\n\n\n\n\n\n\n\n\n\n\n\n\n\n\n\n\n\n\
+end server CLOSED window 4 flight 0 1=2/2 2=0/0 3=100/100 4=0/0 5=2/2 6=0/0 7=0/0 8=0/0 9=0/0\n\
+~ replay,--side,server,--plain\n\
+\n\n\n\n\n\n\n\n\n\n\n\n\n\n\n\n\n\n\n\n\n\n\n\n\n\n\n\
 # replay --side server --plain\n\
 # Request 1000, Mandatory Elapsed Time of 1 byte: one of 2 or 4 is understood\n\
 9c40138906002cb601000000000003e80000002a012b0307\n\
-\n",
-        status: Status::Done,
-        text: "30: sent reset 6 43 7 0\n\
+\n\
+=> Done\n\
+30: sent reset 6 43 7 0\n\
 sent s0 13899c4007000d130f000000000007d000000000000003e8062b0700\n\
-end server CLOSED window 4 flight 0 1=2/2 2=0/0 3=100/100 4=0/0 5=2/2 6=0/0 7=0/0 8=0/0 9=0/0\n",
-    },
-    Case {
-        words: "replay,--side,server,--plain",
-        input: "\n\n\n\n\n\n\n\n\n\n\n\n\n\n\n\n\n\n\n\n\n\n\n\n\n\n\n\n\n\n\n\
+end server CLOSED window 4 flight 0 1=2/2 2=0/0 3=100/100 4=0/0 5=2/2 6=0/0 7=0/0 8=0/0 9=0/0\n\
+~ replay,--side,server,--plain\n\
+\n\n\n\n\n\n\n\n\n\n\n\n\n\n\n\n\n\n\n\n\n\n\n\n\n\n\n\n\n\n\n\
 # replay --side server --plain\n\
 # Request 1000, Mandatory NDP Count of 7 bytes: one of 1 to 6 is understood\n\
 9c401389080018ab01000000000003e80000002a012509010203040506070000\n\
-\n",
-        status: Status::Done,
-        text: "34: sent reset 6 37 1 2\n\
+\n\
+=> Done\n\
+34: sent reset 6 37 1 2\n\
 sent s0 13899c40070013170f000000000007d000000000000003e806250102\n\
-end server CLOSED window 4 flight 0 1=2/2 2=0/0 3=100/100 4=0/0 5=2/2 6=0/0 7=0/0 8=0/0 9=0/0\n",
-    },
-    Case {
-        words: "replay,--side,server,--plain",
-        input: "\n\n\n\n\n\n\n\n\n\n\n\n\n\n\n\n\n\n\n\n\n\n\n\n\n\n\n\n\n\n\n\n\n\n\n\
+end server CLOSED window 4 flight 0 1=2/2 2=0/0 3=100/100 4=0/0 5=2/2 6=0/0 7=0/0 8=0/0 9=0/0\n\
+~ replay,--side,server,--plain\n\
+\n\n\n\n\n\n\n\n\n\n\n\n\n\n\n\n\n\n\n\n\n\n\n\n\n\n\n\n\n\n\n\n\n\n\n\
 # replay --side server --plain\n\
 # Request 1000, Mandatory Init Cookie of 2 bytes: not understood\n\
 9c40138907001fb601000000000003e80000002a0124040a0b000000\n\
-\n",
-        status: Status::Done,
-        text: "38: sent reset 6 36 10 11\n\
+\n\
+=> Done\n\
+38: sent reset 6 36 10 11\n\
 sent s0 13899c4007000a0f0f000000000007d000000000000003e806240a0b\n\
-end server CLOSED window 4 flight 0 1=2/2 2=0/0 3=100/100 4=0/0 5=2/2 6=0/0 7=0/0 8=0/0 9=0/0\n",
-    },
-    Case {
-        words: "replay,--side,server,--plain",
-        input: "\n\n\n\n\n\n\n\n\n\n\n\n\n\n\n\n\n\n\n\n\n\n\n\n\n\n\n\n\n\n\n\n\n\n\n\n\n\n\n\
+end server CLOSED window 4 flight 0 1=2/2 2=0/0 3=100/100 4=0/0 5=2/2 6=0/0 7=0/0 8=0/0 9=0/0\n\
+~ replay,--side,server,--plain\n\
+\n\n\n\n\n\n\n\n\n\n\n\n\n\n\n\n\n\n\n\n\n\n\n\n\n\n\n\n\n\n\n\n\n\n\n\n\n\n\n\
 # replay --side server --plain\n\
 # Request 1000, Mandatory option 128 of 0 bytes: those from 128 on belong to a congestion control\n\
 9c40138906002d6801000000000003e80000002a01800200\n\
-\n",
-        status: Status::Done,
-        text: "42: sent reset 6 128 0 0\n\
+\n\
+=> Done\n\
+42: sent reset 6 128 0 0\n\
 sent s0 13899c40070013be0f000000000007d000000000000003e806800000\n\
-end server CLOSED window 4 flight 0 1=2/2 2=0/0 3=100/100 4=0/0 5=2/2 6=0/0 7=0/0 8=0/0 9=0/0\n",
-    },
-    Case {
-        words: "replay,--side,server,--plain",
-        input: "\n\n\n\n\n\n\n\n\n\n\n\n\n\n\n\n\n\n\n\n\n\n\n\n\n\n\n\n\n\n\n\n\n\n\n\n\n\n\n\n\
+end server CLOSED window 4 flight 0 1=2/2 2=0/0 3=100/100 4=0/0 5=2/2 6=0/0 7=0/0 8=0/0 9=0/0\n\
+~ replay,--side,server,--plain\n\
+\n\n\n\n\n\n\n\n\n\n\n\n\n\n\n\n\n\n\n\n\n\n\n\n\n\n\n\n\n\n\n\n\n\n\n\n\n\n\n\n\
 \n\n\n\
 # replay --side server --plain\n\
 # Request 1000, Mandatory option 3: not known, and of one byte\n\
 9c40138906002fe501000000000003e80000002a01030000\n\
-\n",
-        status: Status::Done,
-        text: "46: sent reset 6 3 0 0\n\
+\n\
+=> Done\n\
+46: sent reset 6 3 0 0\n\
 sent s0 13899c400700143b0f000000000007d000000000000003e806030000\n\
-end server CLOSED window 4 flight 0 1=2/2 2=0/0 3=100/100 4=0/0 5=2/2 6=0/0 7=0/0 8=0/0 9=0/0\n",
-    },
-    Case {
-        words: "replay,--side,server,--plain",
-        input: "\n\n\n\n\n\n\n\n\n\n\n\n\n\n\n\n\n\n\n\n\n\n\n\n\n\n\n\n\n\n\n\n\n\n\n\n\n\n\n\n\
+end server CLOSED window 4 flight 0 1=2/2 2=0/0 3=100/100 4=0/0 5=2/2 6=0/0 7=0/0 8=0/0 9=0/0\n\
+~ replay,--side,server,--plain\n\
+\n\n\n\n\n\n\n\n\n\n\n\n\n\n\n\n\n\n\n\n\n\n\n\n\n\n\n\n\n\n\n\n\n\n\n\n\n\n\n\n\
 \n\n\n\n\n\n\n\
 # replay --side server --plain\n\
 # Request 1000, Mandatory option 99 of 2 bytes: not known\n\
 9c4013890700217a01000000000003e80000002a0163040709000000\n\
-\n",
-        status: Status::Done,
-        text: "50: sent reset 6 99 7 9\n\
+\n\
+=> Done\n\
+50: sent reset 6 99 7 9\n\
 sent s0 13899c4007000cd20f000000000007d000000000000003e806630709\n\
-end server CLOSED window 4 flight 0 1=2/2 2=0/0 3=100/100 4=0/0 5=2/2 6=0/0 7=0/0 8=0/0 9=0/0\n",
-    },
-    Case {
-        words: "replay,--side,server,--plain",
-        input: "\n\n\n\n\n\n\n\n\n\n\n\n\n\n\n\n\n\n\n\n\n\n\n\n\n\n\n\n\n\n\n\n\n\n\n\n\n\n\n\n\
+end server CLOSED window 4 flight 0 1=2/2 2=0/0 3=100/100 4=0/0 5=2/2 6=0/0 7=0/0 8=0/0 9=0/0\n\
+~ replay,--side,server,--plain\n\
+\n\n\n\n\n\n\n\n\n\n\n\n\n\n\n\n\n\n\n\n\n\n\n\n\n\n\n\n\n\n\n\n\n\n\n\n\n\n\n\n\
 \n\n\n\n\n\n\n\n\n\n\n\
 # replay --side server --plain\n\
 # The same on the Ack that would have opened: its number is received, but opens nothing.\n\
@@ -515,90 +459,77 @@ end server CLOSED window 4 flight 0 1=2/2 2=0/0 3=100/100 4=0/0 5=2/2 6=0/0 7=0/
 9c40138907001f1907000000000003ed00000000000007d001200200\n\
 # Ack 1006 of 2001: there is no connection any more\n\
 9c4013890600233b07000000000003ee00000000000007d1\n\
-\n",
-        status: Status::Done,
-        text: "56: took\n\
+\n\
+=> Done\n\
+56: took\n\
 sent s0 13899c400700261403000000000007d000000000000003e80000002a\n\
 58: sent reset 6 32 0 0\n\
 sent s1 13899c40070014180f000000000007d100000000000003ed06200000\n\
 60: sent reset 3 0 0 0\n\
 sent s2 13899c40070017360f000000000007d200000000000003ee03000000\n\
-end server CLOSED window 4 flight 0 1=2/2 2=0/0 3=100/100 4=0/0 5=2/2 6=0/0 7=0/0 8=0/0 9=0/0\n",
-    },
-    Case {
-        words: "replay,--side,server,--plain",
-        input: "\n\n\n\n\n\n\n\n\n\n\n\n\n\n\n\n\n\n\n\n\n\n\n\n\n\n\n\n\n\n\n\n\n\n\n\n\n\n\n\n\
+end server CLOSED window 4 flight 0 1=2/2 2=0/0 3=100/100 4=0/0 5=2/2 6=0/0 7=0/0 8=0/0 9=0/0\n\
+~ replay,--side,server,--plain\n\
+\n\n\n\n\n\n\n\n\n\n\n\n\n\n\n\n\n\n\n\n\n\n\n\n\n\n\n\n\n\n\n\n\n\n\n\n\n\n\n\n\
 \n\n\n\n\n\n\n\n\n\n\n\n\n\n\n\n\n\n\n\n\n\
 # replay --side server --plain\n\
 # Request 1000\n\
 9c401389050031ec01000000000003e80000002a\n\
 # Ack 1001 of 2000, Mandatory NDP Count of 0 bytes: one of 1 to 6 is understood\n\
 9c40138907001f1807000000000003e900000000000007d001250200\n\
-\n",
-        status: Status::Done,
-        text: "64: took\n\
+\n\
+=> Done\n\
+64: took\n\
 sent s0 13899c400700261403000000000007d000000000000003e80000002a\n\
 66: sent reset 6 37 0 0\n\
 sent s1 13899c40070014170f000000000007d100000000000003e906250000\n\
-end server CLOSED window 4 flight 0 1=2/2 2=0/0 3=100/100 4=0/0 5=2/2 6=0/0 7=0/0 8=0/0 9=0/0\n",
-    },
-    Case {
-        words: "replay,--side,server,--plain",
-        input: "\n\n\n\n\n\n\n\n\n\n\n\n\n\n\n\n\n\n\n\n\n\n\n\n\n\n\n\n\n\n\n\n\n\n\n\n\n\n\n\n\
+end server CLOSED window 4 flight 0 1=2/2 2=0/0 3=100/100 4=0/0 5=2/2 6=0/0 7=0/0 8=0/0 9=0/0\n\
+~ replay,--side,server,--plain\n\
+\n\n\n\n\n\n\n\n\n\n\n\n\n\n\n\n\n\n\n\n\n\n\n\n\n\n\n\n\n\n\n\n\n\n\n\n\n\n\n\n\
 \n\n\n\n\n\n\n\n\n\n\n\n\n\n\n\n\n\n\n\n\n\n\n\n\n\n\n\
 # replay --side server --plain\n\
 # Request 1000\n\
 9c401389050031ec01000000000003e80000002a\n\
 # Ack 1001 of 2000, Mandatory NDP Count of 7 bytes\n\
 9c4013890900f7e707000000000003e900000000000007d00125090708090a0b0c0d0000\n\
-\n",
-        status: Status::Done,
-        text: "70: took\n\
+\n\
+=> Done\n\
+70: took\n\
 sent s0 13899c400700261403000000000007d000000000000003e80000002a\n\
 72: sent reset 6 37 7 8\n\
 sent s1 13899c4007000d0f0f000000000007d100000000000003e906250708\n\
-end server CLOSED window 4 flight 0 1=2/2 2=0/0 3=100/100 4=0/0 5=2/2 6=0/0 7=0/0 8=0/0 9=0/0\n",
-    },
-];
-
-const MORE_FAULTS: [Case; 15] = [
-    Case {
-        words: "replay,--side,server,--plain",
-        input: "\n\n\n\n\n\n\n\n\n\n\n\n\n\n\n\n\n\n\n\n\n\n\n\n\n\n\n\n\n\n\n\n\n\n\n\n\n\n\n\n\
+end server CLOSED window 4 flight 0 1=2/2 2=0/0 3=100/100 4=0/0 5=2/2 6=0/0 7=0/0 8=0/0 9=0/0\n\
+~ replay,--side,server,--plain\n\
+\n\n\n\n\n\n\n\n\n\n\n\n\n\n\n\n\n\n\n\n\n\n\n\n\n\n\n\n\n\n\n\n\n\n\n\n\n\n\n\n\
 \n\n\n\n\n\n\n\n\n\n\n\n\n\n\n\n\n\n\n\n\n\n\n\n\n\n\n\n\n\n\n\n\n\
 # replay --side server --plain\n\
 # Request 1000\n\
 9c401389050031ec01000000000003e80000002a\n\
 # Ack 1001 of 2000, Mandatory Timestamp of 3 bytes: one of 4 is understood\n\
 9c4013890800130007000000000003e900000000000007d00129050708090000\n\
-\n",
-        status: Status::Done,
-        text: "76: took\n\
+\n\
+=> Done\n\
+76: took\n\
 sent s0 13899c400700261403000000000007d000000000000003e80000002a\n\
 78: sent reset 6 41 7 8\n\
 sent s1 13899c4007000d0b0f000000000007d100000000000003e906290708\n\
-end server CLOSED window 4 flight 0 1=2/2 2=0/0 3=100/100 4=0/0 5=2/2 6=0/0 7=0/0 8=0/0 9=0/0\n",
-    },
-    Case {
-        words: "replay,--side,server,--plain",
-        input: "\n\n\n\n\n\n\n\n\n\n\n\n\n\n\n\n\n\n\n\n\n\n\n\n\n\n\n\n\n\n\n\n\n\n\n\n\n\n\n\n\
+end server CLOSED window 4 flight 0 1=2/2 2=0/0 3=100/100 4=0/0 5=2/2 6=0/0 7=0/0 8=0/0 9=0/0\n\
+~ replay,--side,server,--plain\n\
+\n\n\n\n\n\n\n\n\n\n\n\n\n\n\n\n\n\n\n\n\n\n\n\n\n\n\n\n\n\n\n\n\n\n\n\n\n\n\n\n\
 \n\n\n\n\n\n\n\n\n\n\n\n\n\n\n\n\n\n\n\n\n\n\n\n\n\n\n\n\n\n\n\n\n\n\n\n\n\n\n\
 # replay --side server --plain\n\
 # Request 1000\n\
 9c401389050031ec01000000000003e80000002a\n\
 # Ack 1001 of 2000, Mandatory Timestamp of 5 bytes\n\
 9c401389080006f507000000000003e900000000000007d00129070708090a0b\n\
-\n",
-        status: Status::Done,
-        text: "82: took\n\
+\n\
+=> Done\n\
+82: took\n\
 sent s0 13899c400700261403000000000007d000000000000003e80000002a\n\
 84: sent reset 6 41 7 8\n\
 sent s1 13899c4007000d0b0f000000000007d100000000000003e906290708\n\
-end server CLOSED window 4 flight 0 1=2/2 2=0/0 3=100/100 4=0/0 5=2/2 6=0/0 7=0/0 8=0/0 9=0/0\n",
-    },
-    Case {
-        words: "replay,--side,server,--plain",
-        input: "\n\n\n\n\n\n\n\n\n\n\n\n\n\n\n\n\n\n\n\n\n\n\n\n\n\n\n\n\n\n\n\n\n\n\n\n\n\n\n\n\
+end server CLOSED window 4 flight 0 1=2/2 2=0/0 3=100/100 4=0/0 5=2/2 6=0/0 7=0/0 8=0/0 9=0/0\n\
+~ replay,--side,server,--plain\n\
+\n\n\n\n\n\n\n\n\n\n\n\n\n\n\n\n\n\n\n\n\n\n\n\n\n\n\n\n\n\n\n\n\n\n\n\n\n\n\n\n\
 \n\n\n\n\n\n\n\n\n\n\n\n\n\n\n\n\n\n\n\n\n\n\n\n\n\n\n\n\n\n\n\n\n\n\n\n\n\n\n\n\
 \n\n\n\n\n\
 # replay --side server --plain\n\
@@ -606,17 +537,15 @@ end server CLOSED window 4 flight 0 1=2/2 2=0/0 3=100/100 4=0/0 5=2/2 6=0/0 7=0/
 9c401389050031ec01000000000003e80000002a\n\
 # Ack 1001 of 2000, Mandatory Timestamp Echo of 3 bytes: one of 4, 6 or 8 is understood\n\
 9c401389080012ff07000000000003e900000000000007d0012a050708090000\n\
-\n",
-        status: Status::Done,
-        text: "88: took\n\
+\n\
+=> Done\n\
+88: took\n\
 sent s0 13899c400700261403000000000007d000000000000003e80000002a\n\
 90: sent reset 6 42 7 8\n\
 sent s1 13899c4007000d0a0f000000000007d100000000000003e9062a0708\n\
-end server CLOSED window 4 flight 0 1=2/2 2=0/0 3=100/100 4=0/0 5=2/2 6=0/0 7=0/0 8=0/0 9=0/0\n",
-    },
-    Case {
-        words: "replay,--side,server,--plain",
-        input: "\n\n\n\n\n\n\n\n\n\n\n\n\n\n\n\n\n\n\n\n\n\n\n\n\n\n\n\n\n\n\n\n\n\n\n\n\n\n\n\n\
+end server CLOSED window 4 flight 0 1=2/2 2=0/0 3=100/100 4=0/0 5=2/2 6=0/0 7=0/0 8=0/0 9=0/0\n\
+~ replay,--side,server,--plain\n\
+\n\n\n\n\n\n\n\n\n\n\n\n\n\n\n\n\n\n\n\n\n\n\n\n\n\n\n\n\n\n\n\n\n\n\n\n\n\n\n\n\
 \n\n\n\n\n\n\n\n\n\n\n\n\n\n\n\n\n\n\n\n\n\n\n\n\n\n\n\n\n\n\n\n\n\n\n\n\n\n\n\n\
 \n\n\n\n\n\n\n\n\n\n\n\
 # replay --side server --plain\n\
@@ -624,17 +553,15 @@ end server CLOSED window 4 flight 0 1=2/2 2=0/0 3=100/100 4=0/0 5=2/2 6=0/0 7=0/
 9c401389050031ec01000000000003e80000002a\n\
 # Ack 1001 of 2000, Mandatory Timestamp Echo of 5 bytes\n\
 9c401389080006f407000000000003e900000000000007d0012a070708090a0b\n\
-\n",
-        status: Status::Done,
-        text: "94: took\n\
+\n\
+=> Done\n\
+94: took\n\
 sent s0 13899c400700261403000000000007d000000000000003e80000002a\n\
 96: sent reset 6 42 7 8\n\
 sent s1 13899c4007000d0a0f000000000007d100000000000003e9062a0708\n\
-end server CLOSED window 4 flight 0 1=2/2 2=0/0 3=100/100 4=0/0 5=2/2 6=0/0 7=0/0 8=0/0 9=0/0\n",
-    },
-    Case {
-        words: "replay,--side,server,--plain",
-        input: "\n\n\n\n\n\n\n\n\n\n\n\n\n\n\n\n\n\n\n\n\n\n\n\n\n\n\n\n\n\n\n\n\n\n\n\n\n\n\n\n\
+end server CLOSED window 4 flight 0 1=2/2 2=0/0 3=100/100 4=0/0 5=2/2 6=0/0 7=0/0 8=0/0 9=0/0\n\
+~ replay,--side,server,--plain\n\
+\n\n\n\n\n\n\n\n\n\n\n\n\n\n\n\n\n\n\n\n\n\n\n\n\n\n\n\n\n\n\n\n\n\n\n\n\n\n\n\n\
 \n\n\n\n\n\n\n\n\n\n\n\n\n\n\n\n\n\n\n\n\n\n\n\n\n\n\n\n\n\n\n\n\n\n\n\n\n\n\n\n\
 \n\n\n\n\n\n\n\n\n\n\n\n\n\n\n\n\n\
 # replay --side server --plain\n\
@@ -642,17 +569,15 @@ end server CLOSED window 4 flight 0 1=2/2 2=0/0 3=100/100 4=0/0 5=2/2 6=0/0 7=0/
 9c401389050031ec01000000000003e80000002a\n\
 # Ack 1001 of 2000, Mandatory Timestamp Echo of 7 bytes\n\
 9c4013890900f7e207000000000003e900000000000007d0012a090708090a0b0c0d0000\n\
-\n",
-        status: Status::Done,
-        text: "100: took\n\
+\n\
+=> Done\n\
+100: took\n\
 sent s0 13899c400700261403000000000007d000000000000003e80000002a\n\
 102: sent reset 6 42 7 8\n\
 sent s1 13899c4007000d0a0f000000000007d100000000000003e9062a0708\n\
-end server CLOSED window 4 flight 0 1=2/2 2=0/0 3=100/100 4=0/0 5=2/2 6=0/0 7=0/0 8=0/0 9=0/0\n",
-    },
-    Case {
-        words: "replay,--side,server,--plain",
-        input: "\n\n\n\n\n\n\n\n\n\n\n\n\n\n\n\n\n\n\n\n\n\n\n\n\n\n\n\n\n\n\n\n\n\n\n\n\n\n\n\n\
+end server CLOSED window 4 flight 0 1=2/2 2=0/0 3=100/100 4=0/0 5=2/2 6=0/0 7=0/0 8=0/0 9=0/0\n\
+~ replay,--side,server,--plain\n\
+\n\n\n\n\n\n\n\n\n\n\n\n\n\n\n\n\n\n\n\n\n\n\n\n\n\n\n\n\n\n\n\n\n\n\n\n\n\n\n\n\
 \n\n\n\n\n\n\n\n\n\n\n\n\n\n\n\n\n\n\n\n\n\n\n\n\n\n\n\n\n\n\n\n\n\n\n\n\n\n\n\n\
 \n\n\n\n\n\n\n\n\n\n\n\n\n\n\n\n\n\n\n\n\n\n\n\
 # replay --side server --plain\n\
@@ -660,17 +585,15 @@ end server CLOSED window 4 flight 0 1=2/2 2=0/0 3=100/100 4=0/0 5=2/2 6=0/0 7=0/
 9c401389050031ec01000000000003e80000002a\n\
 # Ack 1001 of 2000, Mandatory Timestamp Echo of 9 bytes\n\
 9c4013890900e7d307000000000003e900000000000007d0012a0b0708090a0b0c0d0e0f\n\
-\n",
-        status: Status::Done,
-        text: "106: took\n\
+\n\
+=> Done\n\
+106: took\n\
 sent s0 13899c400700261403000000000007d000000000000003e80000002a\n\
 108: sent reset 6 42 7 8\n\
 sent s1 13899c4007000d0a0f000000000007d100000000000003e9062a0708\n\
-end server CLOSED window 4 flight 0 1=2/2 2=0/0 3=100/100 4=0/0 5=2/2 6=0/0 7=0/0 8=0/0 9=0/0\n",
-    },
-    Case {
-        words: "replay,--side,server,--plain",
-        input: "\n\n\n\n\n\n\n\n\n\n\n\n\n\n\n\n\n\n\n\n\n\n\n\n\n\n\n\n\n\n\n\n\n\n\n\n\n\n\n\n\
+end server CLOSED window 4 flight 0 1=2/2 2=0/0 3=100/100 4=0/0 5=2/2 6=0/0 7=0/0 8=0/0 9=0/0\n\
+~ replay,--side,server,--plain\n\
+\n\n\n\n\n\n\n\n\n\n\n\n\n\n\n\n\n\n\n\n\n\n\n\n\n\n\n\n\n\n\n\n\n\n\n\n\n\n\n\n\
 \n\n\n\n\n\n\n\n\n\n\n\n\n\n\n\n\n\n\n\n\n\n\n\n\n\n\n\n\n\n\n\n\n\n\n\n\n\n\n\n\
 \n\n\n\n\n\n\n\n\n\n\n\n\n\n\n\n\n\n\n\n\n\n\n\n\n\n\n\n\n\
 # replay --side server --plain\n\
@@ -678,17 +601,15 @@ end server CLOSED window 4 flight 0 1=2/2 2=0/0 3=100/100 4=0/0 5=2/2 6=0/0 7=0/
 9c401389050031ec01000000000003e80000002a\n\
 # Ack 1001 of 2000, Mandatory Elapsed Time of 1 byte: one of 2 or 4 is understood\n\
 9c40138907001e0b07000000000003e900000000000007d0012b0307\n\
-\n",
-        status: Status::Done,
-        text: "112: took\n\
+\n\
+=> Done\n\
+112: took\n\
 sent s0 13899c400700261403000000000007d000000000000003e80000002a\n\
 114: sent reset 6 43 7 0\n\
 sent s1 13899c4007000d110f000000000007d100000000000003e9062b0700\n\
-end server CLOSED window 4 flight 0 1=2/2 2=0/0 3=100/100 4=0/0 5=2/2 6=0/0 7=0/0 8=0/0 9=0/0\n",
-    },
-    Case {
-        words: "replay,--side,server,--plain",
-        input: "\n\n\n\n\n\n\n\n\n\n\n\n\n\n\n\n\n\n\n\n\n\n\n\n\n\n\n\n\n\n\n\n\n\n\n\n\n\n\n\n\
+end server CLOSED window 4 flight 0 1=2/2 2=0/0 3=100/100 4=0/0 5=2/2 6=0/0 7=0/0 8=0/0 9=0/0\n\
+~ replay,--side,server,--plain\n\
+\n\n\n\n\n\n\n\n\n\n\n\n\n\n\n\n\n\n\n\n\n\n\n\n\n\n\n\n\n\n\n\n\n\n\n\n\n\n\n\n\
 \n\n\n\n\n\n\n\n\n\n\n\n\n\n\n\n\n\n\n\n\n\n\n\n\n\n\n\n\n\n\n\n\n\n\n\n\n\n\n\n\
 \n\n\n\n\n\n\n\n\n\n\n\n\n\n\n\n\n\n\n\n\n\n\n\n\n\n\n\n\n\n\n\n\n\n\n\
 # replay --side server --plain\n\
@@ -696,17 +617,15 @@ end server CLOSED window 4 flight 0 1=2/2 2=0/0 3=100/100 4=0/0 5=2/2 6=0/0 7=0/
 9c401389050031ec01000000000003e80000002a\n\
 # Ack 1001 of 2000, Mandatory Elapsed Time of 3 bytes\n\
 9c401389080012fe07000000000003e900000000000007d0012b050708090000\n\
-\n",
-        status: Status::Done,
-        text: "118: took\n\
+\n\
+=> Done\n\
+118: took\n\
 sent s0 13899c400700261403000000000007d000000000000003e80000002a\n\
 120: sent reset 6 43 7 8\n\
 sent s1 13899c4007000d090f000000000007d100000000000003e9062b0708\n\
-end server CLOSED window 4 flight 0 1=2/2 2=0/0 3=100/100 4=0/0 5=2/2 6=0/0 7=0/0 8=0/0 9=0/0\n",
-    },
-    Case {
-        words: "replay,--side,server,--plain",
-        input: "\n\n\n\n\n\n\n\n\n\n\n\n\n\n\n\n\n\n\n\n\n\n\n\n\n\n\n\n\n\n\n\n\n\n\n\n\n\n\n\n\
+end server CLOSED window 4 flight 0 1=2/2 2=0/0 3=100/100 4=0/0 5=2/2 6=0/0 7=0/0 8=0/0 9=0/0\n\
+~ replay,--side,server,--plain\n\
+\n\n\n\n\n\n\n\n\n\n\n\n\n\n\n\n\n\n\n\n\n\n\n\n\n\n\n\n\n\n\n\n\n\n\n\n\n\n\n\n\
 \n\n\n\n\n\n\n\n\n\n\n\n\n\n\n\n\n\n\n\n\n\n\n\n\n\n\n\n\n\n\n\n\n\n\n\n\n\n\n\n\
 \n\n\n\n\n\n\n\n\n\n\n\n\n\n\n\n\n\n\n\n\n\n\n\n\n\n\n\n\n\n\n\n\n\n\n\n\n\n\n\n\
 \n\
@@ -715,17 +634,15 @@ end server CLOSED window 4 flight 0 1=2/2 2=0/0 3=100/100 4=0/0 5=2/2 6=0/0 7=0/
 9c401389050031ec01000000000003e80000002a\n\
 # Ack 1001 of 2000, Mandatory Elapsed Time of 5 bytes\n\
 9c401389080006f307000000000003e900000000000007d0012b070708090a0b\n\
-\n",
-        status: Status::Done,
-        text: "124: took\n\
+\n\
+=> Done\n\
+124: took\n\
 sent s0 13899c400700261403000000000007d000000000000003e80000002a\n\
 126: sent reset 6 43 7 8\n\
 sent s1 13899c4007000d090f000000000007d100000000000003e9062b0708\n\
-end server CLOSED window 4 flight 0 1=2/2 2=0/0 3=100/100 4=0/0 5=2/2 6=0/0 7=0/0 8=0/0 9=0/0\n",
-    },
-    Case {
-        words: "replay,--side,server,--plain",
-        input: "\n\n\n\n\n\n\n\n\n\n\n\n\n\n\n\n\n\n\n\n\n\n\n\n\n\n\n\n\n\n\n\n\n\n\n\n\n\n\n\n\
+end server CLOSED window 4 flight 0 1=2/2 2=0/0 3=100/100 4=0/0 5=2/2 6=0/0 7=0/0 8=0/0 9=0/0\n\
+~ replay,--side,server,--plain\n\
+\n\n\n\n\n\n\n\n\n\n\n\n\n\n\n\n\n\n\n\n\n\n\n\n\n\n\n\n\n\n\n\n\n\n\n\n\n\n\n\n\
 \n\n\n\n\n\n\n\n\n\n\n\n\n\n\n\n\n\n\n\n\n\n\n\n\n\n\n\n\n\n\n\n\n\n\n\n\n\n\n\n\
 \n\n\n\n\n\n\n\n\n\n\n\n\n\n\n\n\n\n\n\n\n\n\n\n\n\n\n\n\n\n\n\n\n\n\n\n\n\n\n\n\
 \n\n\n\n\n\n\n\
@@ -734,17 +651,15 @@ end server CLOSED window 4 flight 0 1=2/2 2=0/0 3=100/100 4=0/0 5=2/2 6=0/0 7=0/
 9c401389050031ec01000000000003e80000002a\n\
 # Ack 1001 of 2000, Mandatory Data Checksum of 3 bytes: one of 4 is understood\n\
 9c401389080012fd07000000000003e900000000000007d0012c050708090000\n\
-\n",
-        status: Status::Done,
-        text: "130: took\n\
+\n\
+=> Done\n\
+130: took\n\
 sent s0 13899c400700261403000000000007d000000000000003e80000002a\n\
 132: sent reset 6 44 7 8\n\
 sent s1 13899c4007000d080f000000000007d100000000000003e9062c0708\n\
-end server CLOSED window 4 flight 0 1=2/2 2=0/0 3=100/100 4=0/0 5=2/2 6=0/0 7=0/0 8=0/0 9=0/0\n",
-    },
-    Case {
-        words: "replay,--side,server,--plain",
-        input: "\n\n\n\n\n\n\n\n\n\n\n\n\n\n\n\n\n\n\n\n\n\n\n\n\n\n\n\n\n\n\n\n\n\n\n\n\n\n\n\n\
+end server CLOSED window 4 flight 0 1=2/2 2=0/0 3=100/100 4=0/0 5=2/2 6=0/0 7=0/0 8=0/0 9=0/0\n\
+~ replay,--side,server,--plain\n\
+\n\n\n\n\n\n\n\n\n\n\n\n\n\n\n\n\n\n\n\n\n\n\n\n\n\n\n\n\n\n\n\n\n\n\n\n\n\n\n\n\
 \n\n\n\n\n\n\n\n\n\n\n\n\n\n\n\n\n\n\n\n\n\n\n\n\n\n\n\n\n\n\n\n\n\n\n\n\n\n\n\n\
 \n\n\n\n\n\n\n\n\n\n\n\n\n\n\n\n\n\n\n\n\n\n\n\n\n\n\n\n\n\n\n\n\n\n\n\n\n\n\n\n\
 \n\n\n\n\n\n\n\n\n\n\n\n\n\
@@ -753,17 +668,15 @@ end server CLOSED window 4 flight 0 1=2/2 2=0/0 3=100/100 4=0/0 5=2/2 6=0/0 7=0/
 9c401389050031ec01000000000003e80000002a\n\
 # Ack 1001 of 2000, Mandatory Data Checksum of 5 bytes\n\
 9c401389080006f207000000000003e900000000000007d0012c070708090a0b\n\
-\n",
-        status: Status::Done,
-        text: "136: took\n\
+\n\
+=> Done\n\
+136: took\n\
 sent s0 13899c400700261403000000000007d000000000000003e80000002a\n\
 138: sent reset 6 44 7 8\n\
 sent s1 13899c4007000d080f000000000007d100000000000003e9062c0708\n\
-end server CLOSED window 4 flight 0 1=2/2 2=0/0 3=100/100 4=0/0 5=2/2 6=0/0 7=0/0 8=0/0 9=0/0\n",
-    },
-    Case {
-        words: "replay,--side,server,--plain",
-        input: "\n\n\n\n\n\n\n\n\n\n\n\n\n\n\n\n\n\n\n\n\n\n\n\n\n\n\n\n\n\n\n\n\n\n\n\n\n\n\n\n\
+end server CLOSED window 4 flight 0 1=2/2 2=0/0 3=100/100 4=0/0 5=2/2 6=0/0 7=0/0 8=0/0 9=0/0\n\
+~ replay,--side,server,--plain\n\
+\n\n\n\n\n\n\n\n\n\n\n\n\n\n\n\n\n\n\n\n\n\n\n\n\n\n\n\n\n\n\n\n\n\n\n\n\n\n\n\n\
 \n\n\n\n\n\n\n\n\n\n\n\n\n\n\n\n\n\n\n\n\n\n\n\n\n\n\n\n\n\n\n\n\n\n\n\n\n\n\n\n\
 \n\n\n\n\n\n\n\n\n\n\n\n\n\n\n\n\n\n\n\n\n\n\n\n\n\n\n\n\n\n\n\n\n\n\n\n\n\n\n\n\
 \n\n\n\n\n\n\n\n\n\n\n\n\n\n\n\n\n\n\n\
@@ -772,15 +685,13 @@ end server CLOSED window 4 flight 0 1=2/2 2=0/0 3=100/100 4=0/0 5=2/2 6=0/0 7=0/
 \n\
 # Request 1000, Mandatory option 128 of 0 bytes, Mandatory Init Cookie of 0 bytes, Mandatory before Padding\n\
 9c4013890800065d01000000000003e80000002a018002012402000001000000\n\
-\n",
-        status: Status::Done,
-        text: "144: sent reset 6 128 0 0\n\
+\n\
+=> Done\n\
+144: sent reset 6 128 0 0\n\
 sent s0 13899c40070013be0f000000000007d000000000000003e806800000\n\
-end server CLOSED window 4 flight 0 1=2/2 2=0/0 3=100/100 4=0/0 5=2/2 6=0/0 7=0/0 8=0/0 9=0/0\n",
-    },
-    Case {
-        words: "replay,--side,server,--plain",
-        input: "\n\n\n\n\n\n\n\n\n\n\n\n\n\n\n\n\n\n\n\n\n\n\n\n\n\n\n\n\n\n\n\n\n\n\n\n\n\n\n\n\
+end server CLOSED window 4 flight 0 1=2/2 2=0/0 3=100/100 4=0/0 5=2/2 6=0/0 7=0/0 8=0/0 9=0/0\n\
+~ replay,--side,server,--plain\n\
+\n\n\n\n\n\n\n\n\n\n\n\n\n\n\n\n\n\n\n\n\n\n\n\n\n\n\n\n\n\n\n\n\n\n\n\n\n\n\n\n\
 \n\n\n\n\n\n\n\n\n\n\n\n\n\n\n\n\n\n\n\n\n\n\n\n\n\n\n\n\n\n\n\n\n\n\n\n\n\n\n\n\
 \n\n\n\n\n\n\n\n\n\n\n\n\n\n\n\n\n\n\n\n\n\n\n\n\n\n\n\n\n\n\n\n\n\n\n\n\n\n\n\n\
 \n\n\n\n\n\n\n\n\n\n\n\n\n\n\n\n\n\n\n\n\n\n\n\n\n\
@@ -795,20 +706,18 @@ end server CLOSED window 4 flight 0 1=2/2 2=0/0 3=100/100 4=0/0 5=2/2 6=0/0 7=0/
 9c4013890600233a07000000000003ef00000000000007d1\n\
 # Ack 1003 of 2001, Mandatory Init Cookie of 1 byte: not understood, on an older packet too\n\
 9c40138907001e0f07000000000003eb00000000000007d101240307\n\
-\n",
-        status: Status::Done,
-        text: "150: took\n\
+\n\
+=> Done\n\
+150: took\n\
 sent s0 13899c400700261403000000000007d000000000000003e80000002a\n\
 152: took\n\
 sent s1 13899c400600234007000000000007d100000000000003e9\n\
 154: took\n\
 156: sent reset 6 36 7 0\n\
 sent s2 13899c4007000d110f000000000007d200000000000003ef06240700\n\
-end server CLOSED window 4 flight 0 1=2/2 2=0/0 3=100/100 4=0/0 5=2/2 6=0/0 7=0/0 8=0/0 9=0/0\n",
-    },
-    Case {
-        words: "replay,--side,client,--plain",
-        input: "\n\n\n\n\n\n\n\n\n\n\n\n\n\n\n\n\n\n\n\n\n\n\n\n\n\n\n\n\n\n\n\n\n\n\n\n\n\n\n\n\
+end server CLOSED window 4 flight 0 1=2/2 2=0/0 3=100/100 4=0/0 5=2/2 6=0/0 7=0/0 8=0/0 9=0/0\n\
+~ replay,--side,client,--plain\n\
+\n\n\n\n\n\n\n\n\n\n\n\n\n\n\n\n\n\n\n\n\n\n\n\n\n\n\n\n\n\n\n\n\n\n\n\n\n\n\n\n\
 \n\n\n\n\n\n\n\n\n\n\n\n\n\n\n\n\n\n\n\n\n\n\n\n\n\n\n\n\n\n\n\n\n\n\n\n\n\n\n\n\
 \n\n\n\n\n\n\n\n\n\n\n\n\n\n\n\n\n\n\n\n\n\n\n\n\n\n\n\n\n\n\n\n\n\n\n\n\n\n\n\n\
 \n\n\n\n\n\n\n\n\n\n\n\n\n\n\n\n\n\n\n\n\n\n\n\n\n\n\n\n\n\n\n\n\n\n\n\n\n\
@@ -823,9 +732,9 @@ end server CLOSED window 4 flight 0 1=2/2 2=0/0 3=100/100 4=0/0 5=2/2 6=0/0 7=0/
 13899c4008001b0c07000000000007d300000000000003e90120040a01000000\n\
 # Ack 2004 of 1001, Mandatory Change L of no feature: it names no feature, so it is not understood\n\
 13899c4007001f1907000000000007d400000000000003e901200200\n\
-\n",
-        status: Status::Done,
-        text: "open: ok\n\
+\n\
+=> Done\n\
+open: ok\n\
 sent c0 9c401389050031ec01000000000003e80000002a\n\
 160: took\n\
 sent c1 9c4013890600234107000000000003e900000000000007d0\n\
@@ -835,11 +744,9 @@ sent c2 9c40138906001d3e0d000000000003ea00000000000007d2\n\
 166: took\n\
 168: sent reset 6 32 0 0\n\
 sent c3 9c401389070014170f000000000003eb00000000000007d406200000\n\
-end client CLOSED window 4 flight 0 1=2/2 2=0/0 3=100/100 4=0/0 5=2/2 6=0/0 7=0/0 8=0/0 9=0/0\n",
-    },
-    Case {
-        words: "replay,--side,client,--plain",
-        input: "\n\n\n\n\n\n\n\n\n\n\n\n\n\n\n\n\n\n\n\n\n\n\n\n\n\n\n\n\n\n\n\n\n\n\n\n\n\n\n\n\
+end client CLOSED window 4 flight 0 1=2/2 2=0/0 3=100/100 4=0/0 5=2/2 6=0/0 7=0/0 8=0/0 9=0/0\n\
+~ replay,--side,client,--plain\n\
+\n\n\n\n\n\n\n\n\n\n\n\n\n\n\n\n\n\n\n\n\n\n\n\n\n\n\n\n\n\n\n\n\n\n\n\n\n\n\n\n\
 \n\n\n\n\n\n\n\n\n\n\n\n\n\n\n\n\n\n\n\n\n\n\n\n\n\n\n\n\n\n\n\n\n\n\n\n\n\n\n\n\
 \n\n\n\n\n\n\n\n\n\n\n\n\n\n\n\n\n\n\n\n\n\n\n\n\n\n\n\n\n\n\n\n\n\n\n\n\n\n\n\n\
 \n\n\n\n\n\n\n\n\n\n\n\n\n\n\n\n\n\n\n\n\n\n\n\n\n\n\n\n\n\n\n\n\n\n\n\n\n\n\n\n\
@@ -850,67 +757,45 @@ end client CLOSED window 4 flight 0 1=2/2 2=0/0 3=100/100 4=0/0 5=2/2 6=0/0 7=0/
 # Response 2000 of 1000\n\
 13899c400700261403000000000007d000000000000003e80000002a\n\
 # Data 2001, Mandatory option 128 of 0 bytes, Mandatory Change L 1 of 9, Mandatory at the end\n\
-13899c4007007a2905000000000007d1018002012004010900000001686921\n",
-        status: Status::Done,
-        text: "open: ok\n\
+13899c4007007a2905000000000007d1018002012004010900000001686921\n\
+=> Done\n\
+open: ok\n\
 sent c0 9c401389050031ec01000000000003e80000002a\n\
 174: took\n\
 sent c1 9c4013890600234107000000000003e900000000000007d0\n\
 176: took data 686921\n\
-end client OPEN window 4 flight 0 1=2/2 2=0/0 3=100/100 4=0/0 5=2/2 6=0/0 7=0/0 8=0/0 9=0/0\n",
-    },
-];
+end client OPEN window 4 flight 0 1=2/2 2=0/0 3=100/100 4=0/0 5=2/2 6=0/0 7=0/0 8=0/0 9=0/0\n";
 
-// All others, by their names.
-const WHOLE: [(&str, Case); 34] = [
-    (
-        "empty",
-        Case {
-            words: "run",
-            input: "",
-            status: Status::Done,
-            text: "end client CLOSED window 4 flight 0 1=2/2 2=0/0 3=100/100 4=0/0 5=2/2 6=0/0 7=0/0 8=0/0 9=0/0\n\
-end server LISTEN window 4 flight 0 1=2/2 2=0/0 3=100/100 4=0/0 5=2/2 6=0/0 7=0/0 8=0/0 9=0/0\n",
-        },
-    ),
-    (
-        "comments_alone",
-        Case {
-            words: "run",
-            input: "\n\
+// All others.
+const WHOLE: &str = "\
+~ run\n\
+=> Done\n\
+end client CLOSED window 4 flight 0 1=2/2 2=0/0 3=100/100 4=0/0 5=2/2 6=0/0 7=0/0 8=0/0 9=0/0\n\
+end server LISTEN window 4 flight 0 1=2/2 2=0/0 3=100/100 4=0/0 5=2/2 6=0/0 7=0/0 8=0/0 9=0/0\n\
+~ run\n\
+\n\
 #\n\
 \n\
 # said\n\
-################################################################################################################################################################################################################################################################################################################################################################################################################################################################################################################################################################################################################################################################################################################################################################################################################################################################################################################################################################################################################################################################################################################################################################################################################################################################################################################################################################################################################################################################################################################################################################################################################################################################################################################################################################################################################################################################################################################################################################################################################################################################################################################################################################################################################################################################################################################################################################################################################################################################################################################################################################################################################################################################################################################################################################################################################################################################################################################################################################################################################################################################################################################################################################################################################################################################################################################################################################################################################################################################################################################################################################################################################################################################################################################################################################################################################################################################################################################################################################################################################################################################################################################################################################################################################################################################",
-            status: Status::Done,
-            text: "end client CLOSED window 4 flight 0 1=2/2 2=0/0 3=100/100 4=0/0 5=2/2 6=0/0 7=0/0 8=0/0 9=0/0\n\
-end server LISTEN window 4 flight 0 1=2/2 2=0/0 3=100/100 4=0/0 5=2/2 6=0/0 7=0/0 8=0/0 9=0/0\n",
-        },
-    ),
-    (
-        "no_such_frame",
-        Case {
-            words: "run",
-            input: "plain\n\
+################################################################################################################################################################################################################################################################################################################################################################################################################################################################################################################################################################################################################################################################################################################################################################################################################################################################################################################################################################################################################################################################################################################################################################################################################################################################################################################################################################################################################################################################################################################################################################################################################################################################################################################################################################################################################################################################################################################################################################################################################################################################################################################################################################################################################################################################################################################################################################################################################################################################################################################################################################################################################################################################################################################################################################################################################################################################################################################################################################################################################################################################################################################################################################################################################################################################################################################################################################################################################################################################################################################################################################################################################################################################################################################################################################################################################################################################################################################################################################################################################################################################################################################################################################################################################################################################=> Done\n\
+end client CLOSED window 4 flight 0 1=2/2 2=0/0 3=100/100 4=0/0 5=2/2 6=0/0 7=0/0 8=0/0 9=0/0\n\
+end server LISTEN window 4 flight 0 1=2/2 2=0/0 3=100/100 4=0/0 5=2/2 6=0/0 7=0/0 8=0/0 9=0/0\n\
+~ run\n\
+plain\n\
 open\n\
-deliver c1\n",
-            status: Status::Input,
-            text: "2 open: ok\n\
+deliver c1\n\
+=> Input\n\
+2 open: ok\n\
 sent c0 9c401389050031ec01000000000003e80000002a\n\
-line 3 column 9: NoSuchFrame\n",
-        },
-    ),
-    (
-        "handshake",
-        Case {
-            words: "run",
-            input: "plain\n\
+line 3 column 9: NoSuchFrame\n\
+~ run\n\
+plain\n\
 open\n\
 deliver c0\n\
 deliver s0\n\
-deliver c1\n",
-            status: Status::Done,
-            text: "2 open: ok\n\
+deliver c1\n\
+=> Done\n\
+2 open: ok\n\
 sent c0 9c401389050031ec01000000000003e80000002a\n\
 3 deliver c0: took\n\
 sent s0 13899c400700261403000000000007d000000000000003e80000002a\n\
@@ -919,21 +804,16 @@ sent c1 9c4013890600234107000000000003e900000000000007d0\n\
 5 deliver c1: took\n\
 sent s1 13899c400600234007000000000007d100000000000003e9\n\
 end client PARTOPEN window 4 flight 0 1=2/2 2=0/0 3=100/100 4=0/0 5=2/2 6=0/0 7=0/0 8=0/0 9=0/0\n\
-end server OPEN window 4 flight 0 1=2/2 2=0/0 3=100/100 4=0/0 5=2/2 6=0/0 7=0/0 8=0/0 9=0/0\n",
-        },
-    ),
-    (
-        "open_both_ways",
-        Case {
-            words: "run",
-            input: "plain\n\
+end server OPEN window 4 flight 0 1=2/2 2=0/0 3=100/100 4=0/0 5=2/2 6=0/0 7=0/0 8=0/0 9=0/0\n\
+~ run\n\
+plain\n\
 open\n\
 deliver c0\n\
 deliver s0\n\
 deliver c1\n\
-deliver s1\n",
-            status: Status::Done,
-            text: "2 open: ok\n\
+deliver s1\n\
+=> Done\n\
+2 open: ok\n\
 sent c0 9c401389050031ec01000000000003e80000002a\n\
 3 deliver c0: took\n\
 sent s0 13899c400700261403000000000007d000000000000003e80000002a\n\
@@ -943,14 +823,9 @@ sent c1 9c4013890600234107000000000003e900000000000007d0\n\
 sent s1 13899c400600234007000000000007d100000000000003e9\n\
 6 deliver s1: took\n\
 end client OPEN window 4 flight 0 1=2/2 2=0/0 3=100/100 4=0/0 5=2/2 6=0/0 7=0/0 8=0/0 9=0/0\n\
-end server OPEN window 4 flight 0 1=2/2 2=0/0 3=100/100 4=0/0 5=2/2 6=0/0 7=0/0 8=0/0 9=0/0\n",
-        },
-    ),
-    (
-        "number_wrap",
-        Case {
-            words: "run",
-            input: "plain\n\
+end server OPEN window 4 flight 0 1=2/2 2=0/0 3=100/100 4=0/0 5=2/2 6=0/0 7=0/0 8=0/0 9=0/0\n\
+~ run\n\
+plain\n\
 iss client 281474976710654\n\
 open\n\
 deliver c0\n\
@@ -958,9 +833,9 @@ deliver s0\n\
 deliver c1\n\
 deliver s1\n\
 timer client ack\n\
-deliver c2\n",
-            status: Status::Done,
-            text: "3 open: ok\n\
+deliver c2\n\
+=> Done\n\
+3 open: ok\n\
 sent c0 9c401389050035d50100fffffffffffe0000002a\n\
 4 deliver c0: took\n\
 sent s0 13899c40070029fd03000000000007d00000fffffffffffe0000002a\n\
@@ -973,23 +848,18 @@ sent s1 13899c400600272907000000000007d10000ffffffffffff\n\
 sent c2 9c40138906002729070000000000000000000000000007d1\n\
 9 deliver c2: took\n\
 end client OPEN window 4 flight 0 1=2/2 2=0/0 3=100/100 4=0/0 5=2/2 6=0/0 7=0/0 8=0/0 9=0/0\n\
-end server OPEN window 4 flight 0 1=2/2 2=0/0 3=100/100 4=0/0 5=2/2 6=0/0 7=0/0 8=0/0 9=0/0\n",
-        },
-    ),
-    (
-        "server_number_wrap",
-        Case {
-            words: "run",
-            input: "# The server's first number is the greatest, and its next is 0. \n\
+end server OPEN window 4 flight 0 1=2/2 2=0/0 3=100/100 4=0/0 5=2/2 6=0/0 7=0/0 8=0/0 9=0/0\n\
+~ run\n\
+# The server's first number is the greatest, and its next is 0. \n\
 plain\n\
 iss server 281474976710655\n\
 open\n\
 deliver c0\n\
 deliver s0\n\
 deliver c1\n\
-deliver s1\n",
-            status: Status::Done,
-            text: "4 open: ok\n\
+deliver s1\n\
+=> Done\n\
+4 open: ok\n\
 sent c0 9c401389050031ec01000000000003e80000002a\n\
 5 deliver c0: took\n\
 sent s0 13899c4007002de40300ffffffffffff00000000000003e80000002a\n\
@@ -999,20 +869,15 @@ sent c1 9c40138906002b1107000000000003e90000ffffffffffff\n\
 sent s1 13899c4006002b11070000000000000000000000000003e9\n\
 8 deliver s1: took\n\
 end client OPEN window 4 flight 0 1=2/2 2=0/0 3=100/100 4=0/0 5=2/2 6=0/0 7=0/0 8=0/0 9=0/0\n\
-end server OPEN window 4 flight 0 1=2/2 2=0/0 3=100/100 4=0/0 5=2/2 6=0/0 7=0/0 8=0/0 9=0/0\n",
-        },
-    ),
-    (
-        "older_request_last",
-        Case {
-            words: "run",
-            input: "plain\n\
+end server OPEN window 4 flight 0 1=2/2 2=0/0 3=100/100 4=0/0 5=2/2 6=0/0 7=0/0 8=0/0 9=0/0\n\
+~ run\n\
+plain\n\
 open\n\
 timer client request\n\
 deliver c1\n\
-deliver c0\n",
-            status: Status::Done,
-            text: "2 open: ok\n\
+deliver c0\n\
+=> Done\n\
+2 open: ok\n\
 sent c0 9c401389050031ec01000000000003e80000002a\n\
 3 timer client request: fired\n\
 sent c1 9c401389050031eb01000000000003e90000002a\n\
@@ -1021,72 +886,52 @@ sent s0 13899c400700261303000000000007d000000000000003e90000002a\n\
 5 deliver c0: synced 1000\n\
 sent s1 13899c400600194111000000000007d100000000000003e8\n\
 end client REQUEST window 4 flight 0 1=2/2 2=0/0 3=100/100 4=0/0 5=2/2 6=0/0 7=0/0 8=0/0 9=0/0\n\
-end server RESPOND window 4 flight 0 1=2/2 2=0/0 3=100/100 4=0/0 5=2/2 6=0/0 7=0/0 8=0/0 9=0/0\n",
-        },
-    ),
-    (
-        "data_in_request",
-        Case {
-            words: "replay,--side,client,--plain",
-            input: "# replay --side client --plain\n\
+end server RESPOND window 4 flight 0 1=2/2 2=0/0 3=100/100 4=0/0 5=2/2 6=0/0 7=0/0 8=0/0 9=0/0\n\
+~ replay,--side,client,--plain\n\
+# replay --side client --plain\n\
 # Data comes before the answer to the Request.\n\
-seal 13899c400400000005000000000007d0\n",
-            status: Status::Done,
-            text: "open: ok\n\
+seal 13899c400400000005000000000007d0\n\
+=> Done\n\
+open: ok\n\
 sent c0 9c401389050031ec01000000000003e80000002a\n\
 3: sent reset 4 2 0 0\n\
 sent c1 9c4013890700163b0f000000000003e900000000000007d004020000\n\
-end client REQUEST window 4 flight 0 1=2/2 2=0/0 3=100/100 4=0/0 5=2/2 6=0/0 7=0/0 8=0/0 9=0/0\n",
-        },
-    ),
-    (
-        "server_order_wins",
-        Case {
-            words: "run",
-            input: "# The client offers 2 before 248 for its CCID; the server's list has 248 first, and the server's order decides.\n\
+end client REQUEST window 4 flight 0 1=2/2 2=0/0 3=100/100 4=0/0 5=2/2 6=0/0 7=0/0 8=0/0 9=0/0\n\
+~ run\n\
+# The client offers 2 before 248 for its CCID; the server's list has 248 first, and the server's order decides.\n\
 plain\n\
 set server there 1 248,2\n\
 offer client here 1\n\
 open\n\
 deliver c0\n\
-deliver s0\n",
-            status: Status::Done,
-            text: "5 open: ok\n\
+deliver s0\n\
+=> Done\n\
+5 open: ok\n\
 sent c0 9c401389070016dc01000000000003e80000002a20050102f8000000\n\
 6 deliver c0: took\n\
 sent s0 13899c400900070b03000000000007d000000000000003e80000002a230601f8f8020000\n\
 7 deliver s0: took\n\
 sent c1 9c4013890600234107000000000003e900000000000007d0\n\
 end client PARTOPEN window 8 flight 0 1=248/2 2=0/0 3=100/100 4=0/0 5=2/2 6=0/0 7=0/0 8=0/0 9=0/0\n\
-end server RESPOND window 4 flight 0 1=2/248 2=0/0 3=100/100 4=0/0 5=2/2 6=0/0 7=0/0 8=0/0 9=0/0\n",
-        },
-    ),
-    (
-        "mandatory_unshared",
-        Case {
-            words: "run",
-            input: "# The client must have Ack Vectors from the server, which accepts none: Mandatory Error.\n\
+end server RESPOND window 4 flight 0 1=2/248 2=0/0 3=100/100 4=0/0 5=2/2 6=0/0 7=0/0 8=0/0 9=0/0\n\
+~ run\n\
+# The client must have Ack Vectors from the server, which accepts none: Mandatory Error.\n\
 plain\n\
 set server here 6 0\n\
 offer client there 6 mandatory\n\
 open\n\
 deliver c0\n\
-deliver s0\n",
-            status: Status::Done,
-            text: "5 open: ok\n\
+deliver s0\n\
+=> Done\n\
+5 open: ok\n\
 sent c0 9c401389070029bc01000000000003e80000002a0122040601000000\n\
 6 deliver c0: sent reset 6 34 6 1\n\
 sent s0 13899c4007000e1b0f000000000007d000000000000003e806220601\n\
 7 deliver s0: was reset 6\n\
 end client TIMEWAIT window 4 flight 0 1=2/2 2=0/0 3=100/100 4=0/0 5=2/2 6=0/0* 7=0/0 8=0/0 9=0/0\n\
-end server CLOSED window 4 flight 0 1=2/2 2=0/0 3=100/100 4=0/0 5=2/2 6=0/0 7=0/0 8=0/0 9=0/0\n",
-        },
-    ),
-    (
-        "crossing_changes",
-        Case {
-            words: "run",
-            input: "# Both ends ask for feature 8 at once. The client takes the server's Confirm of 1 late, and holds 1 in STABLE while the server\n\
+end server CLOSED window 4 flight 0 1=2/2 2=0/0 3=100/100 4=0/0 5=2/2 6=0/0 7=0/0 8=0/0 9=0/0\n\
+~ run\n\
+# Both ends ask for feature 8 at once. The client takes the server's Confirm of 1 late, and holds 1 in STABLE while the server\n\
 # holds 2 in CHANGING. The server asks again, since its own Change was never confirmed, and both hold 2.\n\
 plain\n\
 set server there 8 1,2\n\
@@ -1103,9 +948,9 @@ deliver c3\n\
 deliver s2\n\
 timer server negotiate\n\
 deliver s5\n\
-deliver c4\n",
-            status: Status::Done,
-            text: "5 open: ok\n\
+deliver c4\n\
+=> Done\n\
+5 open: ok\n\
 sent c0 9c401389050031ec01000000000003e80000002a\n\
 6 deliver c0: took\n\
 sent s0 13899c400700261403000000000007d000000000000003e80000002a\n\
@@ -1131,14 +976,9 @@ sent s5 13899c400800f62a07000000000007d500000000000003eb2205080201000000\n\
 sent c4 9c4013890800f72607000000000003ec00000000000007d52106080201020000\n\
 18 deliver c4: took\n\
 end client OPEN window 4 flight 0 1=2/2 2=0/0 3=100/100 4=0/0 5=2/2 6=0/0 7=0/0 8=2/0 9=0/0\n\
-end server OPEN window 4 flight 0 1=2/2 2=0/0 3=100/100 4=0/0 5=2/2 6=0/0 7=0/0 8=0/2 9=0/0\n",
-        },
-    ),
-    (
-        "late_changes",
-        Case {
-            words: "run",
-            input: "# The client changes its mind twice while its Change is under way. Its last Change arrives first, and the older ones count no more.\n\
+end server OPEN window 4 flight 0 1=2/2 2=0/0 3=100/100 4=0/0 5=2/2 6=0/0 7=0/0 8=0/2 9=0/0\n\
+~ run\n\
+# The client changes its mind twice while its Change is under way. Its last Change arrives first, and the older ones count no more.\n\
 plain\n\
 set server there 8 1,2\n\
 open\n\
@@ -1154,9 +994,9 @@ timer client negotiate\n\
 deliver c4\n\
 deliver c2\n\
 deliver c3\n\
-deliver s2\n",
-            status: Status::Done,
-            text: "4 open: ok\n\
+deliver s2\n\
+=> Done\n\
+4 open: ok\n\
 sent c0 9c401389050031ec01000000000003e80000002a\n\
 5 deliver c0: took\n\
 sent s0 13899c400700261403000000000007d000000000000003e80000002a\n\
@@ -1179,14 +1019,9 @@ sent s2 13899c400800f52907000000000007d200000000000003ec2306080201020000\n\
 16 deliver c3: took\n\
 17 deliver s2: took\n\
 end client OPEN window 4 flight 0 1=2/2 2=0/0 3=100/100 4=0/0 5=2/2 6=0/0 7=0/0 8=2/0 9=0/0\n\
-end server OPEN window 4 flight 0 1=2/2 2=0/0 3=100/100 4=0/0 5=2/2 6=0/0 7=0/0 8=0/2 9=0/0\n",
-        },
-    ),
-    (
-        "late_confirm",
-        Case {
-            words: "run",
-            input: "# The Confirm of an older list comes after a newer Change was sent: it acknowledges a number before that Change, and is ignored.\n\
+end server OPEN window 4 flight 0 1=2/2 2=0/0 3=100/100 4=0/0 5=2/2 6=0/0 7=0/0 8=0/2 9=0/0\n\
+~ run\n\
+# The Confirm of an older list comes after a newer Change was sent: it acknowledges a number before that Change, and is ignored.\n\
 plain\n\
 set server there 8 1,2\n\
 open\n\
@@ -1200,9 +1035,9 @@ prefer client here 8 2,1\n\
 timer client negotiate\n\
 prefer client here 8 2\n\
 timer client negotiate\n\
-deliver s2\n",
-            status: Status::Done,
-            text: "4 open: ok\n\
+deliver s2\n\
+=> Done\n\
+4 open: ok\n\
 sent c0 9c401389050031ec01000000000003e80000002a\n\
 5 deliver c0: took\n\
 sent s0 13899c400700261403000000000007d000000000000003e80000002a\n\
@@ -1223,14 +1058,9 @@ sent c3 9c4013890800f82e07000000000003eb00000000000007d12005080201000000\n\
 sent c4 9c4013890700fa3207000000000003ec00000000000007d120040802\n\
 15 deliver s2: took\n\
 end client OPEN window 4 flight 0 1=2/2 2=0/0 3=100/100 4=0/0 5=2/2 6=0/0 7=0/0 8=0*/0 9=0/0\n\
-end server OPEN window 4 flight 0 1=2/2 2=0/0 3=100/100 4=0/0 5=2/2 6=0/0 7=0/0 8=0/1 9=0/0\n",
-        },
-    ),
-    (
-        "nothing_shared",
-        Case {
-            words: "run",
-            input: "# The lists come to share no value. The client's Confirm names what it holds, 0, but the server holds 1: Option Error.\n\
+end server OPEN window 4 flight 0 1=2/2 2=0/0 3=100/100 4=0/0 5=2/2 6=0/0 7=0/0 8=0/1 9=0/0\n\
+~ run\n\
+# The lists come to share no value. The client's Confirm names what it holds, 0, but the server holds 1: Option Error.\n\
 plain\n\
 set server there 8 1,2\n\
 open\n\
@@ -1243,9 +1073,9 @@ deliver c2\n\
 prefer server there 8 3\n\
 deliver s3\n\
 deliver c3\n\
-deliver s4\n",
-            status: Status::Done,
-            text: "4 open: ok\n\
+deliver s4\n\
+=> Done\n\
+4 open: ok\n\
 sent c0 9c401389050031ec01000000000003e80000002a\n\
 5 deliver c0: took\n\
 sent s0 13899c400700261403000000000007d000000000000003e80000002a\n\
@@ -1266,57 +1096,37 @@ sent c3 9c4013890800f72b07000000000003eb00000000000007d32106080001020000\n\
 sent s4 13899c4007000d160f000000000007d400000000000003eb05210800\n\
 14 deliver s4: was reset 5\n\
 end client TIMEWAIT window 4 flight 0 1=2/2 2=0/0 3=100/100 4=0/0 5=2/2 6=0/0 7=0/0 8=0*/0 9=0/0\n\
-end server CLOSED window 4 flight 0 1=2/2 2=0/0 3=100/100 4=0/0 5=2/2 6=0/0 7=0/0 8=0/1* 9=0/0\n",
-        },
-    ),
-    (
-        "invalid_value",
-        Case {
-            words: "replay,--side,server,--plain",
-            input: "# replay --side server --plain\n\
+end server CLOSED window 4 flight 0 1=2/2 2=0/0 3=100/100 4=0/0 5=2/2 6=0/0 7=0/0 8=0/1* 9=0/0\n\
+~ replay,--side,server,--plain\n\
+# replay --side server --plain\n\
 # The client asks for the Sequence Window 31, which is not permitted: an empty Confirm answers.\n\
 seal 9c4013890800000001000000000003e80000002a20090300000000001f000000\n\
-\n",
-            status: Status::Done,
-            text: "3: took\n\
+\n\
+=> Done\n\
+3: took\n\
 sent s0 13899c400800ff0c03000000000007d000000000000003e80000002a23030300\n\
-end server RESPOND window 4 flight 0 1=2/2 2=0/0 3=100/100 4=0/0 5=2/2 6=0/0 7=0/0 8=0/0 9=0/0\n",
-        },
-    ),
-    (
-        "invalid_value",
-        Case {
-            words: "replay,--side,server,--plain",
-            input: "\n\n\n\n\
+end server RESPOND window 4 flight 0 1=2/2 2=0/0 3=100/100 4=0/0 5=2/2 6=0/0 7=0/0 8=0/0 9=0/0\n\
+~ replay,--side,server,--plain\n\
+\n\n\n\n\
 # replay --side server --plain\n\
 # The Sequence Window 32, the least that is permitted.\n\
 seal 9c4013890800000001000000000003e80000002a200903000000000020000000\n\
-\n",
-            status: Status::Done,
-            text: "7: took\n\
+\n\
+=> Done\n\
+7: took\n\
 sent s0 13899c400a00dcfe03000000000007d000000000000003e80000002a230903000000000020000000\n\
-end server RESPOND window 4 flight 0 1=2/2 2=0/0 3=100/32 4=0/0 5=2/2 6=0/0 7=0/0 8=0/0 9=0/0\n",
-        },
-    ),
-    (
-        "invalid_value",
-        Case {
-            words: "replay,--side,server,--plain",
-            input: "\n\n\n\n\n\n\n\n\
+end server RESPOND window 4 flight 0 1=2/2 2=0/0 3=100/32 4=0/0 5=2/2 6=0/0 7=0/0 8=0/0 9=0/0\n\
+~ replay,--side,server,--plain\n\
+\n\n\n\n\n\n\n\n\
 # replay --side server --plain\n\
 # The Sequence Window 2^46 - 1, the greatest.\n\
-seal 9c4013890800000001000000000003e80000002a2009033fffffffffff000000\n",
-            status: Status::Done,
-            text: "11: took\n\
+seal 9c4013890800000001000000000003e80000002a2009033fffffffffff000000\n\
+=> Done\n\
+11: took\n\
 sent s0 13899c400a00fdbe03000000000007d000000000000003e80000002a2309033fffffffffff000000\n\
-end server RESPOND window 4 flight 0 1=2/2 2=0/0 3=100/70368744177663 4=0/0 5=2/2 6=0/0 7=0/0 8=0/0 9=0/0\n",
-        },
-    ),
-    (
-        "vector_of_received",
-        Case {
-            words: "replay,--side,server,--plain",
-            input: "# replay --side server --plain\n\
+end server RESPOND window 4 flight 0 1=2/2 2=0/0 3=100/70368744177663 4=0/0 5=2/2 6=0/0 7=0/0 8=0/0 9=0/0\n\
+~ replay,--side,server,--plain\n\
+# replay --side server --plain\n\
 # The client asks for Ack Vectors, and for one Ack for every two data packets. It begins at 88; its number 99 is lost.\n\
 # The Request 88, and the Ack 89.\n\
 seal 9c4013890800000001000000000000580000002a220406012005050002000000\n\
@@ -1331,9 +1141,9 @@ seal 9c40138904000000050000000000005f5f\n\
 seal 9c40138904000000050000000000006060\n\
 seal 9c40138904000000050000000000006161\n\
 seal 9c40138904000000050000000000006262\n\
-seal 9c40138904000000050000000000006464\n",
-            status: Status::Done,
-            text: "4: took\n\
+seal 9c40138904000000050000000000006464\n\
+=> Done\n\
+4: took\n\
 sent s0 13899c400a00d48b03000000000007d000000000000000580000002a210606010100230505000200\n\
 5: took\n\
 sent s1 13899c400700fec807000000000007d1000000000000005926030100\n\
@@ -1352,14 +1162,9 @@ sent s5 13899c400700f6bc07000000000007d5000000000000006126030900\n\
 15: took data 62\n\
 16: took data 64\n\
 sent s6 13899c400800f3f207000000000007d60000000000000064260500c00a000000\n\
-end server OPEN window 4 flight 0 1=2/2 2=0/0 3=100/100 4=0/0 5=2/2 6=1/0 7=0/0 8=0/0 9=0/0\n",
-        },
-    ),
-    (
-        "full_run_of_64",
-        Case {
-            words: "replay,--side,server,--plain",
-            input: "# replay --side server --plain\n\
+end server OPEN window 4 flight 0 1=2/2 2=0/0 3=100/100 4=0/0 5=2/2 6=1/0 7=0/0 8=0/0 9=0/0\n\
+~ replay,--side,server,--plain\n\
+# replay --side server --plain\n\
 # The client asks for Ack Vectors, and for an Ack for each data packet. It begins at 1.\n\
 # The Request 1, and the Ack 2.\n\
 seal 9c4013890800000001000000000000010000002a220406012005050001000000\n\
@@ -1427,9 +1232,9 @@ seal 9c40138904000000050000000000003d\n\
 seal 9c40138904000000050000000000003e\n\
 seal 9c40138904000000050000000000003f\n\
 seal 9c401389040000000500000000000040\n\
-seal 9c401389040000000500000000000041\n",
-            status: Status::Done,
-            text: "4: took\n\
+seal 9c401389040000000500000000000041\n\
+=> Done\n\
+4: took\n\
 sent s0 13899c400a00d5e203000000000007d000000000000000010000002a210606010100230505000100\n\
 5: took\n\
 sent s1 13899c400700ff1f07000000000007d1000000000000000226030100\n\
@@ -1559,14 +1364,9 @@ sent s62 13899c400700c1a5070000000000080e000000000000003f26033e00\n\
 sent s63 13899c400700c0a3070000000000080f000000000000004026033f00\n\
 69: took data -\n\
 sent s64 13899c400700c0a00700000000000810000000000000004126043f00\n\
-end server OPEN window 4 flight 0 1=2/2 2=0/0 3=100/100 4=0/0 5=2/1 6=1/0 7=0/0 8=0/0 9=0/0\n",
-        },
-    ),
-    (
-        "floor_rises_by_record",
-        Case {
-            words: "replay,--side,server,--plain",
-            input: "# replay --side server --plain\n\
+end server OPEN window 4 flight 0 1=2/2 2=0/0 3=100/100 4=0/0 5=2/1 6=1/0 7=0/0 8=0/0 9=0/0\n\
+~ replay,--side,server,--plain\n\
+# replay --side server --plain\n\
 # The client asks for Ack Vectors, and for an Ack for each data packet. It begins at 10; its number 12 is late.\n\
 # The Request 10, and the Ack 11.\n\
 seal 9c40138908000000010000000000000a0000002a220406012005050001000000\n\
@@ -1582,9 +1382,9 @@ seal 9c40138906000000070000000000000b00000000000007d2\n\
 # The Data 12 stands below the floor: it is taken, and its data is not delivered.\n\
 seal 9c40138904000000050000000000000c0c\n\
 # The Data 15: its Ack has the vector 00 c0.\n\
-seal 9c40138904000000050000000000000f0f\n",
-            status: Status::Done,
-            text: "4: took\n\
+seal 9c40138904000000050000000000000f0f\n\
+=> Done\n\
+4: took\n\
 sent s0 13899c400a00d5d903000000000007d0000000000000000a0000002a210606010100230505000100\n\
 5: took\n\
 sent s1 13899c400700ff1607000000000007d1000000000000000b26030100\n\
@@ -1596,26 +1396,16 @@ sent s2 13899c400800fd4d07000000000007d2000000000000000d260500c001000000\n\
 15: took\n\
 17: took data 0f\n\
 sent s3 13899c400700ff4f07000000000007d3000000000000000f260400c0\n\
-end server OPEN window 4 flight 0 1=2/2 2=0/0 3=100/100 4=0/0 5=2/1 6=1/0 7=0/0 8=0/0 9=0/0\n",
-        },
-    ),
-    (
-        "coverage_too_large",
-        Case {
-            words: "replay,--side,server,--plain",
-            input: "# replay --side server --plain\n\
+end server OPEN window 4 flight 0 1=2/2 2=0/0 3=100/100 4=0/0 5=2/1 6=1/0 7=0/0 8=0/0 9=0/0\n\
+~ replay,--side,server,--plain\n\
+# replay --side server --plain\n\
 # The checksum of the frame covers 8 bytes of data, and there are 7.\n\
-9c4013890503000001000000000003e80000002a01020304050607\n",
-            status: Status::Done,
-            text: "3: dropped CoverageTooLarge\n\
-end server LISTEN window 4 flight 0 1=2/2 2=0/0 3=100/100 4=0/0 5=2/2 6=0/0 7=0/0 8=0/0 9=0/0\n",
-        },
-    ),
-    (
-        "window_of_ccid_two",
-        Case {
-            words: "run",
-            input: "# CCID 2 step by step. A send that is refused with WindowFull shows that as many packets are in flight as the window has.\n\
+9c4013890503000001000000000003e80000002a01020304050607\n\
+=> Done\n\
+3: dropped CoverageTooLarge\n\
+end server LISTEN window 4 flight 0 1=2/2 2=0/0 3=100/100 4=0/0 5=2/2 6=0/0 7=0/0 8=0/0 9=0/0\n\
+~ run\n\
+# CCID 2 step by step. A send that is refused with WindowFull shows that as many packets are in flight as the window has.\n\
 # The first four packets fill the window of 4.\n\
 open\n\
 deliver c0\n\
@@ -1658,9 +1448,9 @@ deliver s7\n\
 send client 0c\n\
 deliver c13\n\
 timer server ack\n\
-deliver s8\n",
-            status: Status::Done,
-            text: "3 open: ok\n\
+deliver s8\n\
+=> Done\n\
+3 open: ok\n\
 sent c0 9c401389080000b601000000000003e80000002a012004040101220406010000\n\
 4 deliver c0: took\n\
 sent s0 13899c400d00a1c303000000000007d000000000000003e80000002a230604010100210606010100012004040101220406010000\n\
@@ -1723,14 +1513,9 @@ sent c13 9c4013890700ee2509000000000003f500000000000007d7260300000c\n\
 sent s8 13899c400700fc2507000000000007d800000000000003f526030000\n\
 44 deliver s8: took\n\
 end client OPEN window 3 flight 0 1=2/2 2=0/0 3=100/100 4=1/1 5=2/2 6=1/1 7=0/0 8=0/0 9=0/0\n\
-end server OPEN window 4 flight 0 1=2/2 2=0/0 3=100/100 4=1/1 5=2/2 6=1/1 7=0/0 8=0/0 9=0/0\n",
-        },
-    ),
-    (
-        "refused_calls_and_closing",
-        Case {
-            words: "run",
-            input: "plain\n\
+end server OPEN window 4 flight 0 1=2/2 2=0/0 3=100/100 4=1/1 5=2/2 6=1/1 7=0/0 8=0/0 9=0/0\n\
+~ run\n\
+plain\n\
 open\n\
 deliver c0\n\
 deliver s0\n\
@@ -1746,9 +1531,9 @@ deliver c2\n\
 deliver s2\n\
 timer client timewait\n\
 abort client\n\
-close server\n",
-            status: Status::Done,
-            text: "2 open: ok\n\
+close server\n\
+=> Done\n\
+2 open: ok\n\
 sent c0 9c401389050031ec01000000000003e80000002a\n\
 3 deliver c0: took\n\
 sent s0 13899c400700261403000000000007d000000000000003e80000002a\n\
@@ -1771,23 +1556,18 @@ sent s2 13899c400700193a0f000000000007d200000000000003ea01000000\n\
 16 abort client: refused NotLive\n\
 17 close server: refused NotOpen\n\
 end client CLOSED window 4 flight 0 1=2/2 2=0/0 3=100/100 4=0/0 5=2/2 6=0/0 7=0/0 8=0/0 9=0/0\n\
-end server CLOSED window 4 flight 0 1=2/2 2=0/0 3=100/100 4=0/0 5=2/2 6=0/0 7=0/0 8=0/0 9=0/0\n",
-        },
-    ),
-    (
-        "repeated_request",
-        Case {
-            words: "run",
-            input: "plain\n\
+end server CLOSED window 4 flight 0 1=2/2 2=0/0 3=100/100 4=0/0 5=2/2 6=0/0 7=0/0 8=0/0 9=0/0\n\
+~ run\n\
+plain\n\
 open\n\
 deliver c0\n\
 deliver c0\n\
 deliver s1\n\
 deliver s0\n\
 deliver c2\n\
-deliver s2\n",
-            status: Status::Done,
-            text: "2 open: ok\n\
+deliver s2\n\
+=> Done\n\
+2 open: ok\n\
 sent c0 9c401389050031ec01000000000003e80000002a\n\
 3 deliver c0: took\n\
 sent s0 13899c400700261403000000000007d000000000000003e80000002a\n\
@@ -1801,14 +1581,9 @@ sent c2 9c4013890600194011000000000003ea00000000000007d0\n\
 sent s2 13899c400600173e13000000000007d200000000000003ea\n\
 8 deliver s2: took\n\
 end client OPEN window 4 flight 0 1=2/2 2=0/0 3=100/100 4=0/0 5=2/2 6=0/0 7=0/0 8=0/0 9=0/0\n\
-end server OPEN window 4 flight 0 1=2/2 2=0/0 3=100/100 4=0/0 5=2/2 6=0/0 7=0/0 8=0/0 9=0/0\n",
-        },
-    ),
-    (
-        "vector_cut_at_253",
-        Case {
-            words: "replay,--side,server,--plain",
-            input: "# replay --side server --plain\n\
+end server OPEN window 4 flight 0 1=2/2 2=0/0 3=100/100 4=0/0 5=2/2 6=0/0 7=0/0 8=0/0 9=0/0\n\
+~ replay,--side,server,--plain\n\
+# replay --side server --plain\n\
 # A vector has at most 253 bytes. The client asks for Ack Vectors and for no Acks; each Change that it repeats brings one.\n\
 # The Request 1000, and the Ack 1001.\n\
 seal 9c4013890800000001000000000003e80000002a220406012005050000000000\n\
@@ -1948,9 +1723,9 @@ seal 9c4013890800000007000000000004e900000000000007d32005050000000000\n\
 # The Ack 1259 acknowledges 2002, which was whole up to 1253: the floor is 1254, and the vector of 2005 is 00 c0 00 c0 00 c0.\n\
 seal 9c4013890800000007000000000004eb00000000000007d22005050000000000\n\
 # The Ack 1261 acknowledges 2004, whose vector was cut: the vector of 2006 still ends at 1254.\n\
-seal 9c4013890800000007000000000004ed00000000000007d42005050000000000\n",
-            status: Status::Done,
-            text: "4: took\n\
+seal 9c4013890800000007000000000004ed00000000000007d42005050000000000\n\
+=> Done\n\
+4: took\n\
 sent s0 13899c400a00d2fb03000000000007d000000000000003e80000002a210606010100230505000000\n\
 5: took\n\
 sent s1 13899c400700fb3807000000000007d100000000000003e926030100\n\
@@ -2089,16 +1864,11 @@ sent s4 13899c404700559107000000000007d400000000000004e926ff00c000c000c000c000c0
 sent s5 13899c400a00cddc07000000000007d500000000000004eb260800c000c000c02305050000000000\n\
 141: took\n\
 sent s6 13899c400a00cd1707000000000007d600000000000004ed260a00c000c000c000c0230505000000\n\
-end server OPEN window 4 flight 0 1=2/2 2=0/0 3=100/100 4=0/0 5=2/0 6=1/0 7=0/0 8=0/0 9=0/0\n",
-        },
-    ),
-    (
-        "three_openings",
-        Case {
-            words: "campaign,--first,1,--seeds,3,--events,1,--workers,2",
-            input: "# campaign --first 1 --seeds 3 --events 1 --workers 2\n",
-            status: Status::Done,
-            text: "seeds 3\n\
+end server OPEN window 4 flight 0 1=2/2 2=0/0 3=100/100 4=0/0 5=2/0 6=1/0 7=0/0 8=0/0 9=0/0\n\
+~ campaign,--first,1,--seeds,3,--events,1,--workers,2\n\
+# campaign --first 1 --seeds 3 --events 1 --workers 2\n\
+=> Done\n\
+seeds 3\n\
 events 3\n\
 client_frames 3\n\
 server_frames 0\n\
@@ -2109,16 +1879,11 @@ synced 0\n\
 was_reset 0\n\
 sent_reset 0\n\
 refused 0\n\
-settled 48\n",
-        },
-    ),
-    (
-        "twelve_events",
-        Case {
-            words: "campaign,--first,1,--seeds,1,--events,12,--workers,1",
-            input: "# campaign --first 1 --seeds 1 --events 12 --workers 1\n",
-            status: Status::Done,
-            text: "seeds 1\n\
+settled 48\n\
+~ campaign,--first,1,--seeds,1,--events,12,--workers,1\n\
+# campaign --first 1 --seeds 1 --events 12 --workers 1\n\
+=> Done\n\
+seeds 1\n\
 events 12\n\
 client_frames 8\n\
 server_frames 1\n\
@@ -2129,16 +1894,11 @@ synced 0\n\
 was_reset 0\n\
 sent_reset 0\n\
 refused 2\n\
-settled 16\n",
-        },
-    ),
-    (
-        "eight_seeds",
-        Case {
-            words: "campaign,--first,1,--seeds,8,--events,250,--workers,3",
-            input: "# campaign --first 1 --seeds 8 --events 250 --workers 3\n",
-            status: Status::Done,
-            text: "seeds 8\n\
+settled 16\n\
+~ campaign,--first,1,--seeds,8,--events,250,--workers,3\n\
+# campaign --first 1 --seeds 8 --events 250 --workers 3\n\
+=> Done\n\
+seeds 8\n\
 events 2000\n\
 client_frames 252\n\
 server_frames 320\n\
@@ -2149,16 +1909,11 @@ synced 20\n\
 was_reset 2\n\
 sent_reset 78\n\
 refused 61\n\
-settled 118\n",
-        },
-    ),
-    (
-        "last_seeds",
-        Case {
-            words: "campaign,--workers=3,--events=500,--seeds=4,--first=18446744073709551612",
-            input: "# campaign --workers=3 --events=500 --seeds=4 --first=18446744073709551612\n",
-            status: Status::Done,
-            text: "seeds 4\n\
+settled 118\n\
+~ campaign,--workers=3,--events=500,--seeds=4,--first=18446744073709551612\n\
+# campaign --workers=3 --events=500 --seeds=4 --first=18446744073709551612\n\
+=> Done\n\
+seeds 4\n\
 events 2000\n\
 client_frames 275\n\
 server_frames 253\n\
@@ -2169,21 +1924,16 @@ synced 10\n\
 was_reset 0\n\
 sent_reset 0\n\
 refused 23\n\
-settled 58\n",
-        },
-    ),
-    (
-        "two_flows",
-        Case {
-            words: "listen,--most,2",
-            input: "# listen --most 2\n\
+settled 58\n\
+~ listen,--most,2\n\
+# listen --most 2\n\
 # A peer asks for a service that is not there, asks again for one that is, and opens; another peer asks meanwhile.\n\
 10.0.0.1:40000 seal 9c4013890500000001000000000003e80000002c\n\
 10.0.0.1:40000 seal 9c4013890500000001000000000003e80000002a\n\
 10.0.0.3:40000 seal 9c4013890500000001000000000003e80000002b\n\
-10.0.0.1:40000 seal 9c4013890600000007000000000003e900000000000007d0\n",
-            status: Status::Done,
-            text: "3 10.0.0.1:40000: sent reset 8 0 0 0\n\
+10.0.0.1:40000 seal 9c4013890600000007000000000003e900000000000007d0\n\
+=> Done\n\
+3 10.0.0.1:40000: sent reset 8 0 0 0\n\
 sent 10.0.0.1:40000 13899c4007001a0e0f0000000000000000000000000003e808000000\n\
 4 10.0.0.1:40000: took\n\
 sent 10.0.0.1:40000 13899c400700261403000000000007d000000000000003e80000002a\n\
@@ -2193,33 +1943,23 @@ sent 10.0.0.3:40000 13899c400700261103000000000007d000000000000003e80000002b\n\
 sent 10.0.0.1:40000 13899c400600234007000000000007d100000000000003e9\n\
 flows 2\n\
 flow 10.0.0.1:40000 OPEN\n\
-flow 10.0.0.3:40000 RESPOND\n",
-        },
-    ),
-    (
-        "full_listener",
-        Case {
-            words: "listen,--most,1",
-            input: "# listen --most 1\n\
+flow 10.0.0.3:40000 RESPOND\n\
+~ listen,--most,1\n\
+# listen --most 1\n\
 # One flow may stand. The second peer is told that the listener is busy, and has no end that could close.\n\
 10.0.0.1:40000 seal 9c4013890500000001000000000003e80000002a\n\
 10.0.0.3:40000 seal 9c4013890500000001000000000003e80000002b\n\
-10.0.0.3:40000 close\n",
-            status: Status::Done,
-            text: "3 10.0.0.1:40000: took\n\
+10.0.0.3:40000 close\n\
+=> Done\n\
+3 10.0.0.1:40000: took\n\
 sent 10.0.0.1:40000 13899c400700261403000000000007d000000000000003e80000002a\n\
 4 10.0.0.3:40000: busy\n\
 sent 10.0.0.3:40000 13899c400700190c0f0000000000000000000000000003e809000000\n\
 5 10.0.0.3:40000: refused NoFlow\n\
 flows 1\n\
-flow 10.0.0.1:40000 RESPOND\n",
-        },
-    ),
-    (
-        "nonces_checked",
-        Case {
-            words: "ecn",
-            input: "# ecn\n\
+flow 10.0.0.1:40000 RESPOND\n\
+~ ecn\n\
+# ecn\n\
 # One packet of three is marked on its way: its nonce is lost, and those of the others are 0 together.\n\
 send 1\n\
 send 0\n\
@@ -2229,9 +1969,9 @@ mark 1\n\
 deliver 2\n\
 report\n\
 check 0\n\
-forge 0\n",
-            status: Status::Done,
-            text: "3 send 1: ok\n\
+forge 0\n\
+=> Done\n\
+3 send 1: ok\n\
 4 send 0: ok\n\
 5 send 1: ok\n\
 6 deliver 0: new\n\
@@ -2240,61 +1980,31 @@ forge 0\n",
 9 report: vector 38 004000\n\
 10 check 0: fits\n\
 11 forge 0: unfit\n\
-sent 3 reports 1\n",
-        },
-    ),
-    (
-        "marked_first",
-        Case {
-            words: "ecn",
-            input: "# ecn\n\
+sent 3 reports 1\n\
+~ ecn\n\
+# ecn\n\
 # A packet comes marked, and then again, unmarked: the first receipt counts. Before it there is nothing to report.\n\
 send 1\n\
 report\n\
 mark 0\n\
 deliver 0\n\
 report\n\
-check 0\n",
-            status: Status::Done,
-            text: "3 send 1: ok\n\
+check 0\n\
+=> Done\n\
+3 send 1: ok\n\
 4 report: nothing\n\
 5 mark 0: new\n\
 6 deliver 0: again\n\
 7 report: vector 38 40\n\
 8 check 0: fits\n\
-sent 1 reports 1\n",
-        },
-    ),
-];
+sent 1 reports 1\n";
 
 #[test]
 fn worked_cases_in_pieces(rt: HostRuntime) -> Result<(), Fail> {
-    for case in &IN_PIECES {
-        expect_in_pieces(&rt, rt.alloc(), case)?;
-    }
-    Ok(())
-}
-
-#[test]
-fn option_faults_in_pieces(rt: HostRuntime) -> Result<(), Fail> {
-    for case in &FAULTS {
-        expect_in_pieces(&rt, rt.alloc(), case)?;
-    }
-    Ok(())
-}
-
-#[test]
-fn more_option_faults_in_pieces(rt: HostRuntime) -> Result<(), Fail> {
-    for case in &MORE_FAULTS {
-        expect_in_pieces(&rt, rt.alloc(), case)?;
-    }
-    Ok(())
+    cases_come_in_pieces(&rt, rt.alloc(), IN_PIECES)
 }
 
 #[test]
 fn worked_cases(rt: HostRuntime) -> Result<(), Fail> {
-    for (name, case) in &WHOLE {
-        assert!(rt; comes(&rt, rt.alloc(), &Streams::of(4096), case)?, "{name}");
-    }
-    Ok(())
+    cases_come(&rt, rt.alloc(), 4096, WHOLE)
 }

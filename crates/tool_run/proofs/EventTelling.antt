@@ -5,7 +5,8 @@ use Rattle.dccp_endpoint.specs.Calling.{aborts, closes, opens, prefers, sends_pa
 use Rattle.dccp_endpoint.specs.Early.{sends_early}
 use Rattle.dccp_endpoint.specs.Inputs as input
 use Rattle.two_ends.specs.Controlled.{Controlled, ControlledStep, congestion_of, controlled, controls, happens_to, said_by}
-use Rattle.two_ends.specs.World.{Half, HalfStep, Said, WorldState, WorldStep, delivers_frame as arrives_at, half_of, half_steps, happens, is_far_frame, is_full, in_world, refusal_of, seen_of_call, send_refusal_of, unless_far, with_half}
+use Rattle.two_ends.specs.World.{Half, HalfStep, Said, WorldState, WorldStep, delivers_frame as arrives_at, half_of, half_steps, happens, is_far_frame, is_full, in_world, seen_of_call, unless_far, with_half}
+use Rattle.world_events.specs.Refusals.{refusal_of, send_refusal_of}
 use Rattle.world_events.specs.Actors.{actor, other}
 use Rattle.world_events.specs.declared.event.Event.{Event}
 use Rattle.world_events.specs.declared.event.Event.TheVariants as event

@@ -52,7 +52,8 @@ use Rattle.world_events.specs.declared.event.WorldFault.{WorldFault}
 use Rattle.world_events.specs.declared.event.WorldFault.TheVariants as fault
 use Rattle.two_ends.specs.Controlled.{Controlled, ControlledStep, begins_with, congestion_of, controlled, controlled_after, controls, happens_to, plays, said_by}
 use Rattle.two_ends.specs.Preferred.{AsksFor, AsksNothing, IsAccepted, IsLastAsked, WantsValues, row_of, values_configured}
-use Rattle.two_ends.specs.World.{Half, HalfStep, Said, WorldState, WorldStep, delivers_frame, half_of, half_steps, happens, is_far_frame, is_full, refusal_of, seen_of_call, unless_far, unless_full, with_half, world_after}
+use Rattle.two_ends.specs.World.{Half, HalfStep, Said, WorldState, WorldStep, delivers_frame, half_of, half_steps, happens, is_far_frame, is_full, seen_of_call, unless_far, unless_full, with_half, world_after}
+use Rattle.world_events.specs.Refusals.{refusal_of}
 use Rattle.two_ends.specs.declared.frames.SentFrame.{SentFrame}
 use Rattle.two_ends.proofs.Acting.{IsHeld, event-taken}
 use Rattle.two_ends.proofs.Asking.{none-pending}

@@ -7,12 +7,9 @@ use Rattle.dccp_endpoint.specs.Inputs as input
 use Rattle.dccp_endpoint.specs.Receiving.{takes_short}
 use Rattle.dccp_endpoint.specs.Steps.{Step}
 use Rattle.congestion_trait.specs.Calls.{Call}
-use Rattle.end_answers.specs.declared.calls.SendFault.{SendFault}
-use Rattle.end_answers.specs.declared.calls.SendFault.TheVariants as send
 use Rattle.dccp_endpoint.specs.declared.config.Config.{Config}
-use Rattle.feature_lists.specs.declared.wishes.PreferFault.{PreferFault}
-use Rattle.feature_lists.specs.declared.wishes.PreferFault.TheVariants as prefer
 use Rattle.world_events.specs.Actors.{actor, other}
+use Rattle.world_events.specs.Refusals.{refusal_of, send_refusal_of}
 use Rattle.seq_circle.specs.Circle.{is_ack_far, is_far}
 use Rattle.two_ends.specs.Frames.{ack_in_full, is_short_packet, number_in_full, packet_of}
 use Rattle.validity_windows.specs.declared.marks.Marks.{Marks}
@@ -90,19 +87,6 @@ moved half arrived step = half_with half.frames step.after (half.processed ++ ne
 abbrev pub seen_of_call : {Fault : Type 0} → (Fault → Refusal) → Result (Unit {0}) Fault → Seen
 seen_of_call named (Ok _) = seen.Called (Ok tt)
 seen_of_call named (Err fault) = seen.Called (Err (named fault))
-
--- why data are not sent
-abbrev pub send_refusal_of : SendFault → Refusal
-send_refusal_of send.NotOpen = refusal.NotOpen
-send_refusal_of send.TooLong = refusal.TooLong
-send_refusal_of send.NotNegotiated = refusal.NotNegotiated
-send_refusal_of send.WindowFull = refusal.WindowFull
-
--- why a wish is refused
-abbrev pub refusal_of : PreferFault → Refusal
-refusal_of prefer.NotOpen = refusal.NotOpen
-refusal_of prefer.BadList = refusal.BadList
-refusal_of prefer.NotOurs = refusal.NotOurs
 
 -- an outcome, the result of a call, or whether a timer applied
 abbrev pub seen_of : Answer → Seen

@@ -4,7 +4,8 @@ ghost use Rattle.dccp_endpoint.specs.Controlled.{after_calls, with_control};
 ghost use Rattle.dccp_endpoint.specs.Inputs.{end_stepped};
 ghost use Rattle.dccp_endpoint.specs.Receiving.{receives};
 ghost use Rattle.two_ends.specs.Controlled.{said_by};
-ghost use Rattle.two_ends.specs.World.{input_of, number_if, refusal_of, seen_of, seen_of_call, send_refusal_of};
+ghost use Rattle.two_ends.specs.World.{input_of, number_if, seen_of, seen_of_call};
+ghost use Rattle.world_events.specs.Refusals.{send_refusal_of};
 
 use crate::frames::{keep_frame, take_memory};
 use crate::{Payload, Refusal, Seen, SentFrame, Values};
@@ -13,7 +14,7 @@ use dccp_endpoint::{
     AbortFault, CloseFault, Config, Endpoint, OpenFault, Outcome, SendFault, Timer,
 };
 use dccp_packets::Outbox;
-use feature_lists::{Feature, Place, PreferFault};
+use feature_lists::{Feature, Place};
 use seq_circle::{NoMemory, Seq48};
 use std::alloc::Global;
 use std::marker::Model;
@@ -158,34 +159,13 @@ impl<C: Congestion> HalfWorld<C> {
     }
 }
 
-fn refusal_of(fault: PreferFault) -> Refusal
-    ensures { result ≡ refusal_of fault }
-{
-    match fault {
-        PreferFault::NotOpen => Refusal::NotOpen,
-        PreferFault::BadList => Refusal::BadList,
-        PreferFault::NotOurs => Refusal::NotOurs,
-    }
-}
-
-fn send_refusal_of(fault: SendFault) -> Refusal
-    ensures { result ≡ send_refusal_of fault }
-{
-    match fault {
-        SendFault::NotOpen => Refusal::NotOpen,
-        SendFault::TooLong => Refusal::TooLong,
-        SendFault::NotNegotiated => Refusal::NotNegotiated,
-        SendFault::WindowFull => Refusal::WindowFull,
-    }
-}
-
 // What is seen of data that were sent or refused.
 fn sent(answered: Result<(), SendFault>) -> Seen
     ensures { result ≡ seen_of_call send_refusal_of answered }
 {
     match answered {
         Ok(()) => Seen::Called(Ok(())),
-        Err(fault) => Seen::Called(Err(send_refusal_of(fault))),
+        Err(fault) => Seen::Called(Err(Refusal::from(fault))),
     }
 }
 
@@ -209,7 +189,7 @@ fn answer<C: Congestion>(end: &mut Endpoint<C>, asked: Asked<'_>, out: &mut Outb
             values,
         } => match end.prefer(feature, place, values.numbers(), out) {
             Ok(()) => Seen::Called(Ok(())),
-            Err(fault) => Seen::Called(Err(refusal_of(fault))),
+            Err(fault) => Seen::Called(Err(Refusal::from(fault))),
         },
         Asked::Close => match end.close(out) {
             Ok(()) => Seen::Called(Ok(())),

@@ -3,8 +3,8 @@ ghost use Rattle.std.specs.Prelude.{◌≡◌, ◌<◌, ◌≤◌, ◌↔◌, []
 ghost use Rattle.world_events.specs.Actors.{actor, other};
 
 use arrayvec::ArrayVec;
-use end_answers::{Outcome, Timer};
-use feature_lists::{Feature, Place};
+use end_answers::{Outcome, SendFault, Timer};
+use feature_lists::{Feature, Place, PreferFault};
 use std::marker::Model;
 
 // The most numbers of a list: one more than an end takes.
@@ -171,6 +171,37 @@ pub enum Refusal {
     NotOurs,
     /// `abort`: the phase is CLOSED, LISTEN or TIMEWAIT.
     NotLive,
+}
+
+impl From<SendFault> for Refusal {
+    ghost use Rattle.std.specs.Prelude.{◌≡◌};
+    ghost use Rattle.world_events.specs.Refusals.{send_refusal_of};
+
+    ghost from_gives = { λ fault refusal. refusal ≡ send_refusal_of fault };
+
+    fn from(fault: SendFault) -> Refusal {
+        match fault {
+            SendFault::NotOpen => Refusal::NotOpen,
+            SendFault::TooLong => Refusal::TooLong,
+            SendFault::NotNegotiated => Refusal::NotNegotiated,
+            SendFault::WindowFull => Refusal::WindowFull,
+        }
+    }
+}
+
+impl From<PreferFault> for Refusal {
+    ghost use Rattle.std.specs.Prelude.{◌≡◌};
+    ghost use Rattle.world_events.specs.Refusals.{refusal_of};
+
+    ghost from_gives = { λ fault refusal. refusal ≡ refusal_of fault };
+
+    fn from(fault: PreferFault) -> Refusal {
+        match fault {
+            PreferFault::NotOpen => Refusal::NotOpen,
+            PreferFault::BadList => Refusal::BadList,
+            PreferFault::NotOurs => Refusal::NotOurs,
+        }
+    }
 }
 
 /// What was seen of an event.

@@ -8,16 +8,15 @@ ghost use Rattle.dccp_endpoint.specs.Calling.{has_keys};
 ghost use Rattle.dccp_endpoint.specs.Heeding.{due_of};
 ghost use Rattle.dccp_endpoint.specs.ShortForm.{is_settled_on_one};
 ghost use Rattle.dccp_endpoint.specs.Speaking.{has_confirms};
-ghost use Rattle.dccp_sum.specs.Checksum.{sealed};
 
 use super::receiving::is_open;
 use super::{Connection, fit};
+use crate::sealing::seal_frame;
 use crate::speaking::{asking, open_offers, put_changes, put_confirms, send_all};
 use ack_vectors::VectorBytes;
 use dccp_options::OptWriter;
 use dccp_options::kinds::ACK_VECTOR_0;
-use dccp_packets::{Frame, Header, Kind, Number, Outbox, encode};
-use dccp_sum::{Pseudo, seal};
+use dccp_packets::{Header, Kind, Number, Outbox, encode};
 use feature_lists::{Feature, Place};
 use feature_machine::{ConfirmOut, Held, Stand};
 use seq_circle::Seq48;
@@ -413,13 +412,4 @@ impl Connection {
         }
         seal_frame(&self.config.pseudo_out, frame);
     }
-}
-
-// Writes the frame's checksum.
-fn seal_frame(pseudo: &Pseudo, frame: &mut Frame)
-    requires { 8 ≤ length frame.old }
-    ensures { frame.new ≡ sealed pseudo.now frame.old }
-{
-    let bytes = frame.bytes_mut();
-    let _ = seal(pseudo, bytes);
 }

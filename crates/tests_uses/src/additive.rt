@@ -1,7 +1,7 @@
 //! A window that grows and is halved, by reports alone.
-use crate::AdditiveWindow;
 use dccp_endpoint::{Congestion, Seq48};
 use dccp_options::{AckReport, options};
+use dccp_uses::AdditiveWindow;
 use std::test::Fail;
 
 fn take_report<C: Congestion>(kind: &mut C, ack: u64, byte: u8) -> Result<(u32, u32), Fail> {

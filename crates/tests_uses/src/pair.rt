@@ -1,9 +1,9 @@
 //! A client and a server with a wire in each direction, as their two owners drive them. Where a call answers a bool, it
 //! is whether the step went as it has to.
-use super::wire::Wire;
-use crate::{Alarms, News, Session, accept};
+use crate::wire::Wire;
 use ccid_two::Kinds;
 use dccp_endpoint::{Config, Congestion, Feature, Held, Phase, Place, Role, SendFault, Timer};
+use dccp_uses::{Alarms, News, Session, accept};
 use std::alloc::Global;
 
 // How many milliseconds a turn takes.

@@ -1,5 +1,5 @@
 //! A wire between two sessions, in memory.
-use crate::Network;
+use dccp_uses::Network;
 use std::alloc::Global;
 
 /// Keeps frames until they are taken. It loses one of four, and gives them in any order, by these draws; or loses none,

@@ -2,7 +2,7 @@
 use Rattle.std.proofs.Common.{◌≡◌, ◌∙◌, ap, length}
 use Rattle.dccp_sum.specs.Checksum.{sealed}
 use Rattle.dccp_endpoint.proofs.Frames.{refill-same}
-use Rattle.dccp_endpoint.proofs.connection.sending.seal_frame.Goals as goal
+use Rattle.dccp_endpoint.proofs.sealing.seal_frame.Goals as goal
 
 pub returns : goal.returns
 returns c =

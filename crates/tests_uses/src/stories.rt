@@ -3,17 +3,12 @@
 //!
 //! A story is told by a function that borrows its pair. A test holds no pair: the proof of a loop that does takes many
 //! times as long.
-use crate::{News, OneAtATime};
+use crate::pair::Pair;
+use crate::wire::Wire;
 use ccid_two::Kinds;
 use dccp_endpoint::{Congestion, Feature, Held, Phase, Role, Stand, Timer};
+use dccp_uses::{News, OneAtATime};
 use std::alloc::Global;
-
-mod additive;
-mod pair;
-mod wire;
-
-use pair::Pair;
-use wire::Wire;
 
 #[derive(Clone, Copy)]
 enum Story {

@@ -1,0 +1,87 @@
+-- The calls of an end with an inbox are calls of the inbox.
+use Rattle.std.proofs.Common.{◌≡◌, ℕ, ◌||◌, Bool, true, false, List, [], ◌∷◌, Some, None, refl, ap, sym, subst}
+use Rattle.std.specs.Prelude.{slice_range}
+use Rattle.std.specs.List.{list_any}
+use Rattle.congestion_trait.specs.Control.{Control}
+use Rattle.dccp_endpoint.specs.Controlled.{EndStep, with_control}
+use Rattle.dccp_endpoint.specs.Receiving.{receives}
+use Rattle.dccp_endpoint.specs.declared.config.Config.{Config}
+use Rattle.end_answers.specs.declared.outcome.Outcome.{Outcome}
+use Rattle.end_answers.specs.declared.outcome.Outcome.TheVariants.{Took, Dropped, Synced, WasReset, SentReset}
+use Rattle.data_dropped.specs.Buffering.{arriving_number, buffers, delivery_by, data_delivered}
+use Rattle.data_dropped.specs.Drops.{HaveCodes}
+use Rattle.data_dropped.specs.EndHistory.{BufferedPast, EndCall, EndOpens, EndReceives, EndTakes, EndStops, buffered_now, calls_by, data_call, is_end_stop, no_past, past_after, past_all}
+use Rattle.data_dropped.specs.History.{History, IsAccounted, Takes, Stops, history_after, history_after_all, is_stop}
+use Rattle.data_dropped.specs.Inbox.{InboxState, fits_item}
+use Rattle.data_dropped.proofs.History.{all-accounted, history_after-accounted, counted-codes, first-accounted}
+
+-- data of any length
+held-data : (h : History) (n : ℕ) (payload : List ℕ) (short : Bool) → (data_delivered short h.held n payload).inbox ≡ (history_after h (data_call short n payload)).held
+held-data h n payload true = refl
+held-data h n payload false = refl
+
+held-by : (h : History) (n : ℕ) (bytes : List ℕ) (outcome : Outcome) → (delivery_by h.held n bytes outcome).inbox ≡ (history_after_all h (calls_by n bytes outcome)).held
+held-by h n bytes (Took None) = refl
+held-by h n bytes (Took (Some place)) = held-data h n (slice_range bytes place.0 place.1) (fits_item (slice_range bytes place.0 place.1))
+held-by h n bytes (Dropped why) = refl
+held-by h n bytes (Synced number) = refl
+held-by h n bytes (WasReset code) = refl
+held-by h n bytes (SentReset code detail) = refl
+
+module _ {C : Type 0} (control : Control C) where
+  -- receiving is what the definitions of one step say
+  pub receives-held : (p : BufferedPast C) (bytes : List ℕ) → (buffers control (buffered_now p) bytes).after ≡ buffered_now (past_after control p (EndReceives bytes))
+  receives-held p bytes =
+      let n : ℕ = arriving_number p.end.state.marks.gsr bytes in
+      let step : EndStep C Outcome = with_control control p.end.congestion (receives p.end.state bytes) in
+      ap (λ (inbox : InboxState). record { end = step.after; inbox = inbox }) (held-by p.past n bytes step.answer)
+
+  data_call-goes_on : (short : Bool) (n : ℕ) (payload : List ℕ) → is_stop (data_call short n payload) ≡ false
+  data_call-goes_on true n payload = refl
+  data_call-goes_on false n payload = refl
+
+  none-stops : (n : ℕ) (bytes : List ℕ) (outcome : Outcome) → list_any is_stop (calls_by n bytes outcome) ≡ false
+  none-stops n bytes (Took None) = refl
+  none-stops n bytes (Took (Some place)) =
+      ap (λ (b : Bool). b || false) (data_call-goes_on (fits_item (slice_range bytes place.0 place.1)) n (slice_range bytes place.0 place.1))
+  none-stops n bytes (Dropped why) = refl
+  none-stops n bytes (Synced number) = refl
+  none-stops n bytes (WasReset code) = refl
+  none-stops n bytes (SentReset code detail) = refl
+
+  or-false : (b : Bool) → (b || false) ≡ b
+  or-false true = refl
+  or-false false = refl
+
+  after-accounted : (capacity : ℕ) (stopped : Bool) (p : BufferedPast C) (call : EndCall) → IsAccounted capacity stopped p.past
+      → IsAccounted capacity (stopped || is_end_stop call) (past_after control p call).past
+  after-accounted capacity stopped p EndOpens before = subst (λ (b : Bool). IsAccounted capacity b p.past) (sym (or-false stopped)) before
+  after-accounted capacity stopped p (EndReceives bytes) before =
+      let n : ℕ = arriving_number p.end.state.marks.gsr bytes in
+      let outcome : Outcome = (receives p.end.state bytes).answer in
+      subst (λ (b : Bool). IsAccounted capacity (stopped || b) (history_after_all p.past (calls_by n bytes outcome))) (none-stops n bytes outcome)
+      (all-accounted capacity stopped p.past (calls_by n bytes outcome) before)
+  after-accounted capacity stopped p EndTakes before = history_after-accounted capacity stopped p.past Takes before
+  after-accounted capacity stopped p EndStops before = history_after-accounted capacity stopped p.past Stops before
+
+  or-assoc : (a b c : Bool) → ((a || b) || c) ≡ (a || (b || c))
+  or-assoc true b c = refl
+  or-assoc false b c = refl
+
+  pub past-accounted : (capacity : ℕ) (stopped : Bool) (p : BufferedPast C) (calls : List EndCall) → IsAccounted capacity stopped p.past
+      → IsAccounted capacity (stopped || list_any is_end_stop calls) (past_all control p calls).past
+  past-accounted capacity stopped p [] before = subst (λ (b : Bool). IsAccounted capacity b p.past) (sym (or-false stopped)) before
+  past-accounted capacity stopped p (call ∷ calls) before =
+      subst (λ (b : Bool). IsAccounted capacity b (past_all control (past_after control p call) calls).past) (or-assoc stopped (is_end_stop call) (list_any is_end_stop calls))
+      (past-accounted capacity (stopped || is_end_stop call) (past_after control p call) calls (after-accounted capacity stopped p call before))
+
+  pub every-past : (config : Config) (congestion : C) (capacity : ℕ) (calls : List EndCall)
+      → IsAccounted capacity (list_any is_end_stop calls) (past_all control (no_past control config congestion capacity) calls).past
+  every-past config congestion capacity calls =
+      past-accounted capacity false (no_past control config congestion capacity) calls (first-accounted capacity)
+
+  pub every-past-codes : (config : Config) (congestion : C) (capacity : ℕ) (calls : List EndCall)
+      → HaveCodes (past_all control (no_past control config congestion capacity) calls).past.held.drops
+  every-past-codes config congestion capacity calls =
+      counted-codes capacity (list_any is_end_stop calls) (past_all control (no_past control config congestion capacity) calls).past
+      (every-past config congestion capacity calls)

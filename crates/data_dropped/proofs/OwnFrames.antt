@@ -1,0 +1,214 @@
+-- The frames of an end tell the drops of its inbox.
+use Rattle.std.proofs.Common.{◌≡◌, ℕ, ◌-◌, ◌%◌, ◌^◌, ◌==◌, ◌&&◌, not, Bool, true, false, IsTrue, List, [], ◌∷◌, ◌++◌, length, map, Option, Some, None, Result, refl, ap, sym, ◌∙◌, subst, All}
+use Rattle.ack_vectors.specs.declared.room.Vectors.{Vectors}
+use Rattle.std.specs.List.{list_any}
+use Rattle.std.proofs.Math.Nat.{mod-mod}
+use Rattle.std.proofs.lemmas.Bool.{and_parts}
+use Rattle.std.proofs.lemmas.List.Elements.{All-append, All-cons, All-nil}
+use Rattle.std.proofs.lemmas.Option.{same_Some}
+use Rattle.dccp_options.specs.Grammar.{options_of}
+use Rattle.dccp_options.specs.Kinds.{data_dropped}
+use Rattle.dccp_options.specs.Written.{Item, written}
+use Rattle.dccp_packets.specs.Forms.{in_form, may_be_short, number_in_form}
+use Rattle.dccp_packets.specs.Grammar.{Parts, has_forms, is_long, is_valid, packet_type, padded}
+use Rattle.dccp_packets.specs.Kinds.{is_data}
+use Rattle.dccp_packets.specs.Widths.{in_widths, kind_in_widths, number_in_width}
+use Rattle.dccp_packets.specs.declared.header.Header.{Header}
+use Rattle.dccp_packets.specs.declared.header.Kind.{Kind}
+use Rattle.dccp_packets.specs.declared.header.Kind.TheVariants as kind
+use Rattle.dccp_packets.specs.declared.header.Number.{Number}
+use Rattle.dccp_packets.specs.declared.header.Number.TheVariants.{Long, Short}
+use Rattle.dccp_packets.specs.declared.reading.Malformed.{Malformed}
+use Rattle.dccp_sum.specs.declared.pseudo_header.Pseudo.{Pseudo}
+use Rattle.run_list.specs.MarkedSet.{MarkedSet}
+use Rattle.seq_circle.specs.Circle.{extended}
+use Rattle.dccp_endpoint.specs.Causes.{HasEffect, HasFrame, Says, SaysNothing, SaysAll, SaysApart, vector_of}
+use Rattle.dccp_endpoint.specs.Drafts.{Draft, IsSendable, ReadsAs, alone, frame_of, own_header}
+use Rattle.dccp_endpoint.specs.Effects.{Effect, Sending, end_after, frame_by, greatest_by, rows_by, told_by}
+use Rattle.dccp_endpoint.specs.End.{EndState, IsProper}
+use Rattle.dccp_endpoint.specs.Heeding.{Due}
+use Rattle.dccp_endpoint.specs.Inputs.{Arrives}
+use Rattle.dccp_endpoint.specs.Receiving.{receives}
+use Rattle.dccp_endpoint.specs.Reporting.{is_acking, sends_vectors, vector_item, vector_items}
+use Rattle.dccp_endpoint.specs.Steps.{next_number}
+use Rattle.dccp_endpoint.specs.ShortForm.{allows_short, goes_short, is_negotiating}
+use Rattle.dccp_endpoint.specs.Speaking.{change_item, change_items, change_type, confirm_item, confirm_items, confirm_type}
+use Rattle.dccp_endpoint.specs.Turns.{Key}
+use Rattle.dccp_endpoint.specs.declared.config.Config.{Config}
+use Rattle.dccp_endpoint.proofs.Calling.{every_step_has_an_effect}
+use Rattle.dccp_endpoint.proofs.OwnFrames.{own_frames_read_in_widths}
+use Rattle.dccp_endpoint.proofs.OwnPackets.{parts-are, vector_parts}
+use Rattle.dccp_endpoint.proofs.Short.{is_formed}
+use Rattle.feature_lists.specs.declared.features.Place.{Place}
+use Rattle.feature_lists.specs.declared.features.Place.TheVariants.{Here, There}
+use Rattle.feature_machine.specs.Negotiating.{row_at}
+use Rattle.feature_machine.specs.declared.row.Row.{Row}
+use Rattle.data_dropped.specs.Drops.{drop_bytes}
+use Rattle.data_dropped.specs.Frames.{acknowledged_by, buffered, buffered_ack, buffered_packet, lengthened, lengthened_if, said, says_more}
+use Rattle.data_dropped.specs.Inbox.{InboxState}
+use Rattle.data_dropped.specs.Reports.{drop_options}
+use Rattle.data_dropped.specs.Telling.{TellsItsDrops, told_by_ack, told_if}
+use Rattle.data_dropped.proofs.Behind.{IsOther, area-tells, others-tell_nothing}
+use Rattle.data_dropped.proofs.Frames.{lengthened-read}
+
+-- an end's own options are of other types
+parts-other : (parts : List (List ℕ)) → All IsOther (map vector_item parts)
+parts-other [] = All-nil IsOther
+parts-other (part ∷ parts) = All-cons IsOther (vector_item part) (map vector_item parts) refl (parts-other parts)
+
+vector-other : (has_vector : Bool) (vectors : Vectors) (set : MarkedSet) (greatest : ℕ) → All IsOther (vector_items has_vector vectors set greatest)
+vector-other has_vector vectors set greatest =
+    subst (λ (items : List Item). All IsOther items) (sym (parts-are has_vector vectors set greatest)) (parts-other (vector_parts has_vector vectors set greatest))
+
+confirm-other : (left : Bool) → (confirm_type left == data_dropped) ≡ false
+confirm-other true = refl
+confirm-other false = refl
+
+confirms-other : (confirms : List Due) → All IsOther (confirm_items confirms)
+confirms-other [] = All-nil IsOther
+confirms-other (due ∷ rest) = All-cons IsOther (confirm_item due) (confirm_items rest) (confirm-other due.left) (confirms-other rest)
+
+change-other : (place : Place) → (change_type place == data_dropped) ≡ false
+change-other Here = refl
+change-other There = refl
+
+changes-other : (rows : List Row) (keys : List Key) → All IsOther (change_items rows keys)
+changes-other rows [] = All-nil IsOther
+changes-other rows (k ∷ keys) =
+    All-cons IsOther (change_item k (row_at rows k.0 k.1)) (change_items rows keys) (change-other k.1) (changes-other rows keys)
+
+own-other : (e : EndState) (f : Effect) (k : Kind) (confirms : List Due) (keys : List Key)
+    → All IsOther (vector_of e f k ++ (confirm_items confirms ++ change_items (rows_by e.rows f) keys))
+own-other e f k confirms keys =
+    All-append IsOther (vector_of e f k) (confirm_items confirms ++ change_items (rows_by e.rows f) keys)
+    (vector-other (is_acking (packet_type k) && sends_vectors (rows_by e.rows f)) e.config.vectors (told_by e.received f).set (greatest_by e.marks.gsr f.hearing))
+    (All-append IsOther (confirm_items confirms) (change_items (rows_by e.rows f) keys) (confirms-other confirms) (changes-other (rows_by e.rows f) keys))
+
+-- the header of an own frame is valid as it is read
+long-kept : (n : Number) → is_long (number_in_width n) ≡ is_long n
+long-kept (Long n) = refl
+long-kept (Short n) = refl
+
+forms-kept : (long : Bool) (k : Kind) → has_forms long (kind_in_widths k) ≡ has_forms long k
+forms-kept long (kind.Ack (Long n)) = refl
+forms-kept long (kind.Ack (Short n)) = refl
+forms-kept long (kind.DataAck (Long n)) = refl
+forms-kept long (kind.DataAck (Short n)) = refl
+forms-kept long kind.Data = refl
+forms-kept long _ = refl
+
+valid-read : (short : Bool) (number : ℕ) (k : Kind) → has_forms true k ≡ true → (short ≡ true → may_be_short (packet_type k) ≡ true)
+    → has_forms (is_long (number_in_width (number_in_form short number))) (kind_in_widths (in_form short k)) ≡ true
+valid-read short number k long may =
+    ap (λ (b : Bool). has_forms b (kind_in_widths (in_form short k))) (long-kept (number_in_form short number))
+    ∙ forms-kept (is_long (number_in_form short number)) (in_form short k) ∙ is_formed short number k long may
+
+-- read once more, it acknowledges the same
+ack-kept : (gsr : ℕ) (k : Kind) → acknowledged_by gsr (kind_in_widths (kind_in_widths k)) ≡ acknowledged_by gsr (kind_in_widths k)
+ack-kept gsr (kind.Ack (Long n)) = ap Some (mod-mod n (2 ^ 48))
+ack-kept gsr (kind.Ack (Short n)) = ap (λ (s : ℕ). Some (extended s gsr)) (mod-mod n (2 ^ 24))
+ack-kept gsr (kind.DataAck (Long n)) = ap Some (mod-mod n (2 ^ 48))
+ack-kept gsr (kind.DataAck (Short n)) = ap (λ (s : ℕ). Some (extended s gsr)) (mod-mod n (2 ^ 24))
+ack-kept gsr kind.Data = refl
+ack-kept gsr _ = refl
+
+acking-no_data : (gsr ack : ℕ) (k : Kind) → acknowledged_by gsr k ≡ Some ack → is_data (packet_type (kind_in_widths k)) ≡ false
+acking-no_data gsr ack kind.Data is = absurd cc
+acking-no_data gsr ack _ is = refl
+
+module _ (config : Config) (short : Bool) (number gsr : ℕ) (draft : Draft) (held : InboxState) (sendable : IsSendable draft)
+    (may : short ≡ true → may_be_short (packet_type draft.kind) ≡ true) (others : All IsOther draft.options) where
+  abbrev header : Header
+  header = in_widths (own_header config short number draft.kind)
+
+  abbrev own : List ℕ
+  own = frame_of config short number draft
+
+  abbrev parts : ℕ → Parts
+  parts sum = record { header = record header { checksum = sum }; options = padded (written draft.options); payload = draft.payload }
+
+  -- it goes out as it is
+  stays-telling : (read : ReadsAs header config.pseudo_out draft own) (told : List (List ℕ))
+      → told ≡ told_by_ack held (parts read.sum) (acknowledged_by gsr header.kind) → told ≡ [] → TellsItsDrops config.pseudo_out gsr held own own
+  stays-telling read told is none =
+      record {
+        before = parts read.sum;
+        packet = parts read.sum;
+        was_packet = read.is_packet;
+        is_packet = read.is_packet;
+        is_accepted = read.is_accepted;
+        same_ack = refl;
+        tells = ap drop_options read.are_listed ∙ others-tell_nothing 0 draft.options others ∙ sym none ∙ is;
+      }
+
+  -- it goes out with more options
+  longer-telling : (read : ReadsAs header config.pseudo_out draft own) (ack : ℕ) → acknowledged_by gsr header.kind ≡ Some ack
+      → says_more (parts read.sum) (said held ack) ≡ true
+      → TellsItsDrops config.pseudo_out gsr held own (lengthened config.pseudo_out (parts read.sum) (said held ack))
+  longer-telling read ack acks says =
+      let p : Parts = parts read.sum in
+      let valid : IsTrue (is_valid p.header) = valid-read short number draft.kind sendable.is_long may in
+      let sealed = lengthened-read config.pseudo_out gsr ack p (said held ack) acks refl valid says in
+      let area : List ℕ = padded (p.options ++ said held ack) in
+      record {
+        before = p;
+        packet = record { header = record (in_widths p.header) { checksum = sealed.sum }; options = area; payload = p.payload };
+        was_packet = read.is_packet;
+        is_packet = sealed.is_packet;
+        is_accepted = sealed.is_accepted;
+        same_ack = ack-kept gsr (in_form short draft.kind);
+        tells = ap (λ (b : Bool). drop_options (options_of area b)) (acking-no_data gsr ack header.kind acks)
+            ∙ area-tells draft.options ((4 - length (written draft.options) % 4) % 4) held ack sendable.items others
+            ∙ sym (ap (λ (b : Bool). told_if b (drop_bytes held.drops ack)) says)
+            ∙ sym (ap (told_by_ack held p) acks);
+      }
+
+  by-says : (read : ReadsAs header config.pseudo_out draft own) (ack : ℕ) (says : Bool) → acknowledged_by gsr header.kind ≡ Some ack
+      → says_more (parts read.sum) (said held ack) ≡ says
+      → TellsItsDrops config.pseudo_out gsr held own (lengthened_if says config.pseudo_out (parts read.sum) own (said held ack))
+  by-says read ack true acks says = longer-telling read ack acks says
+  by-says read ack false acks says =
+      stays-telling read (told_if false (drop_bytes held.drops ack))
+      (sym (ap (λ (b : Bool). told_if b (drop_bytes held.drops ack)) says) ∙ sym (ap (told_by_ack held (parts read.sum)) acks)) refl
+
+  by-ack : (read : ReadsAs header config.pseudo_out draft own) (ack : Option ℕ) → acknowledged_by gsr header.kind ≡ ack
+      → TellsItsDrops config.pseudo_out gsr held own (buffered_ack config.pseudo_out held (parts read.sum) own ack)
+  by-ack read None acks = stays-telling read [] (sym (ap (told_by_ack held (parts read.sum)) acks)) refl
+  by-ack read (Some ack) acks = by-says read ack (says_more (parts read.sum) (said held ack)) acks refl
+
+  -- the frame of a draft, as it goes out
+  pub draft-tells : TellsItsDrops config.pseudo_out gsr held own (buffered config.pseudo_out gsr held own)
+  draft-tells =
+      let read = own_frames_read_in_widths config short number draft sendable may in
+      subst (λ (frame : List ℕ). TellsItsDrops config.pseudo_out gsr held own frame)
+      (sym (ap (λ (packet : Result Parts Malformed). buffered_packet config.pseudo_out gsr held own packet) read.is_packet))
+      (by-ack read (acknowledged_by gsr header.kind) refl)
+
+short-may : (e : EndState) (draft : Draft) → goes_short e draft ≡ true → may_be_short (packet_type draft.kind) ≡ true
+short-may e draft is = (and_parts (may_be_short (packet_type draft.kind)) (allows_short e && not (list_any is_negotiating draft.options)) is).0
+
+never : (draft : Draft) → false ≡ true → may_be_short (packet_type draft.kind) ≡ true
+never draft is = absurd cc
+
+-- what is sent
+sending-tells : (gsr : ℕ) (held : InboxState) {e : EndState} {f : Effect} {confirms : List Due} {keys : List Key} {sending : Sending}
+    → Says e f confirms keys sending → HasFrame sending → (own : List ℕ) → frame_by e f sending ≡ Some own
+    → TellsItsDrops e.config.pseudo_out gsr held own (buffered e.config.pseudo_out gsr held own)
+sending-tells gsr held (SaysNothing no_confirms no_keys) framed sent is = absurd cc
+sending-tells gsr held {e} {f} {confirms} {keys} (SaysAll packet options_are acks) framed sent is =
+    subst (λ (bytes : List ℕ). TellsItsDrops e.config.pseudo_out gsr held bytes (buffered e.config.pseudo_out gsr held bytes)) (same_Some _ sent is)
+    (draft-tells e.config (goes_short (end_after e f) packet) (next_number e) gsr packet held framed (short-may (end_after e f) packet)
+    (subst (λ (items : List Item). All IsOther items) (sym options_are) (own-other e f packet.kind confirms keys)))
+sending-tells gsr held {e} (SaysApart number packet no_confirms no_keys) framed sent is =
+    subst (λ (bytes : List ℕ). TellsItsDrops e.config.pseudo_out gsr held bytes (buffered e.config.pseudo_out gsr held bytes)) (same_Some _ sent is)
+    (draft-tells e.config false number gsr (alone packet) held framed (never (alone packet)) (All-nil IsOther))
+
+-- The frame of a step, by the effect that the step has.
+pub step-tells : (e : EndState) (bytes own : List ℕ) (gsr : ℕ) (held : InboxState) → IsProper e → (receives e bytes).frame ≡ Some own
+    → TellsItsDrops (receives e bytes).after.config.pseudo_out gsr held own (buffered (receives e bytes).after.config.pseudo_out gsr held own)
+step-tells e bytes own gsr held proper is =
+    let step : HasEffect e (Arrives bytes) (receives e bytes).after (receives e bytes).frame (receives e bytes).calls =
+    every_step_has_an_effect e (Arrives bytes) proper in
+    let same : (receives e bytes).after.config.pseudo_out ≡ e.config.pseudo_out = ap (λ (x : EndState). x.config.pseudo_out) step.after_is in
+    subst (λ (pseudo : Pseudo). TellsItsDrops pseudo gsr held own (buffered pseudo gsr held own)) (sym same)
+    (sending-tells gsr held step.because.says step.because.framed own (sym step.frame_is ∙ is))

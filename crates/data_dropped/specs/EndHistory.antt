@@ -1,0 +1,74 @@
+-- An end with an inbox, call by call (own).
+use Rattle.std.specs.Prelude.{ℕ, Bool, true, false, List, [], ◌∷◌, Option, Some, None, slice_range}
+use Rattle.congestion_trait.specs.Control.{Control}
+use Rattle.dccp_endpoint.specs.Calling.{opens}
+use Rattle.dccp_endpoint.specs.Controlled.{End, EndStep, begins, with_control}
+use Rattle.dccp_endpoint.specs.Receiving.{receives}
+use Rattle.dccp_endpoint.specs.declared.config.Config.{Config}
+use Rattle.end_answers.specs.declared.outcome.Outcome.{Outcome}
+use Rattle.end_answers.specs.declared.outcome.Outcome.TheVariants.{Took, Dropped, Synced, WasReset, SentReset}
+use Rattle.data_dropped.specs.Buffering.{Buffered, arriving_number}
+use Rattle.data_dropped.specs.History.{History, InboxCall, DataArrive, LongDataArrive, Takes, Stops, history_after, history_after_all, no_history}
+use Rattle.data_dropped.specs.Inbox.{fits_item}
+
+-- a call of an end with an inbox that changes it
+pub data EndCall : Type 0 where
+  EndOpens : EndCall
+  EndReceives : (bytes : List ℕ) → EndCall
+  EndTakes EndStops : EndCall
+
+-- an end, and the history of its inbox
+pub record BufferedPast (C : Type 0) : Type 0 where
+  pub end : End C
+  pub past : History
+
+-- the end and the inbox as they are
+abbrev pub buffered_now : {C : Type 0} → BufferedPast C → Buffered C
+buffered_now p = record { end = p.end; inbox = p.past.held }
+
+-- before all calls
+abbrev pub no_past : {C : Type 0} → Control C → Config → C → ℕ → BufferedPast C
+no_past control config congestion capacity = record { end = begins control config congestion; past = no_history capacity }
+
+-- data that were delivered are a call of the inbox, by their length
+abbrev pub data_call : Bool → ℕ → List ℕ → InboxCall
+data_call true n payload = DataArrive n payload
+data_call false n payload = LongDataArrive n
+
+-- the calls of the inbox by the place of data that were delivered
+abbrev pub calls_from : ℕ → List ℕ → Option (ℕ × ℕ) → List InboxCall
+calls_from n bytes None = []
+calls_from n bytes (Some place) =
+    data_call (fits_item (slice_range bytes place.0 place.1)) n (slice_range bytes place.0 place.1) ∷ []
+
+-- by the outcome of a packet of this number
+abbrev pub calls_by : ℕ → List ℕ → Outcome → List InboxCall
+calls_by n bytes (Took delivered) = calls_from n bytes delivered
+calls_by n bytes (Dropped why) = []
+calls_by n bytes (Synced number) = []
+calls_by n bytes (WasReset code) = []
+calls_by n bytes (SentReset code detail) = []
+
+-- an end's step, and the calls that it makes of the inbox
+abbrev pub past_step : {C : Type 0} → History → ℕ → List ℕ → EndStep C Outcome → BufferedPast C
+past_step past n bytes step = record { end = step.after; past = history_after_all past (calls_by n bytes step.answer) }
+
+-- one call more: the end's step is that of any end
+abbrev pub past_after : {C : Type 0} → Control C → BufferedPast C → EndCall → BufferedPast C
+past_after control p EndOpens = record p { end = (with_control control p.end.congestion (opens p.end.state)).after }
+past_after control p (EndReceives bytes) =
+    past_step p.past (arriving_number p.end.state.marks.gsr bytes) bytes (with_control control p.end.congestion (receives p.end.state bytes))
+past_after control p EndTakes = record p { past = history_after p.past Takes }
+past_after control p EndStops = record p { past = history_after p.past Stops }
+
+-- these calls, in order
+abbrev pub past_all : {C : Type 0} → Control C → BufferedPast C → List EndCall → BufferedPast C
+past_all control p [] = p
+past_all control p (call ∷ calls) = past_all control (past_after control p call) calls
+
+-- the application stopped listening by this call
+abbrev pub is_end_stop : EndCall → Bool
+is_end_stop EndOpens = false
+is_end_stop (EndReceives bytes) = false
+is_end_stop EndTakes = false
+is_end_stop EndStops = true

@@ -1,0 +1,69 @@
+-- What an end with a bounded inbox says behind the options of its acknowledgements (own; RFC 4340, sections 11.6 and 11.7).
+use Rattle.std.specs.Prelude.{ℕ, ◌+◌, ◌==◌, ◌&&◌, not, nat_le, Bool, true, false, List, [], ◌∷◌, ◌++◌, length, Option, Some, None, Result, Ok, Err, if◌then◌else◌}
+use Rattle.dccp_options.specs.Kinds.{data_dropped, slow_receiver}
+use Rattle.dccp_options.specs.Written.{spelled}
+use Rattle.dccp_packets.specs.Forms.{near}
+use Rattle.dccp_packets.specs.Grammar.{Parts, decoded, header_length, padded, spelling}
+use Rattle.dccp_packets.specs.declared.header.Kind.{Kind}
+use Rattle.dccp_packets.specs.declared.header.Kind.TheVariants as kind
+use Rattle.dccp_packets.specs.declared.reading.Malformed.{Malformed}
+use Rattle.dccp_sum.specs.Checksum.{sealed}
+use Rattle.dccp_sum.specs.declared.pseudo_header.Pseudo.{Pseudo}
+use Rattle.data_dropped.specs.Drops.{drop_bytes}
+use Rattle.data_dropped.specs.Inbox.{InboxState, is_slow}
+
+-- the Data Dropped option of a report, if that has a byte
+abbrev pub drops_said : List ℕ → List ℕ
+drops_said bytes = if length bytes == 0 then [] else spelled false data_dropped bytes
+
+-- Slow Receiver, which is one byte
+abbrev pub slow_said : Bool → List ℕ
+slow_said false = []
+slow_said true = slow_receiver ∷ []
+
+-- what an inbox has to say at an acknowledgement number
+abbrev pub said : InboxState → ℕ → List ℕ
+said held ack = drops_said (drop_bytes held.drops ack) ++ slow_said (is_slow held)
+
+-- the acknowledgement number of an Ack or a DataAck in full, which is near GSR (section 7.6)
+abbrev pub acknowledged_by : ℕ → Kind → Option ℕ
+acknowledged_by gsr (kind.Ack ack) = Some (near gsr ack)
+acknowledged_by gsr (kind.DataAck ack) = Some (near gsr ack)
+acknowledged_by gsr _ = None
+
+-- The packet has room for these options behind its own: a Data Offset counts 1,020 bytes at most (section 5.1), and a frame has room for
+-- 1,024 bytes of data (own).
+abbrev pub has_room_for : Parts → List ℕ → Bool
+has_room_for p more = nat_le (header_length p.header + length (padded (p.options ++ more))) 1020 && nat_le (length p.payload) 1024
+
+-- something is to be said, and the packet has room for it
+abbrev pub says_more : Parts → List ℕ → Bool
+says_more p more = not (length more == 0) && has_room_for p more
+
+-- the packet with these options behind its own, and its checksum made anew
+abbrev pub lengthened : Pseudo → Parts → List ℕ → List ℕ
+lengthened pseudo p more = sealed pseudo (spelling p.header (p.options ++ more) p.payload)
+
+-- the packet lengthened, or the frame as it is
+abbrev pub lengthened_if : Bool → Pseudo → Parts → List ℕ → List ℕ → List ℕ
+lengthened_if true pseudo p frame more = lengthened pseudo p more
+lengthened_if false pseudo p frame more = frame
+
+-- a frame that is this packet, by the number that it acknowledges: what is not an Ack or a DataAck goes out as it is
+abbrev pub buffered_ack : Pseudo → InboxState → Parts → List ℕ → Option ℕ → List ℕ
+buffered_ack pseudo held p frame None = frame
+buffered_ack pseudo held p frame (Some ack) = lengthened_if (says_more p (said held ack)) pseudo p frame (said held ack)
+
+-- the same, by the packet that it is
+abbrev pub buffered_packet : Pseudo → ℕ → InboxState → List ℕ → Result Parts Malformed → List ℕ
+buffered_packet pseudo gsr held frame (Ok p) = buffered_ack pseudo held p frame (acknowledged_by gsr p.header.kind)
+buffered_packet pseudo gsr held frame (Err fault) = frame
+
+-- A frame of an end as it goes out.
+abbrev pub buffered : Pseudo → ℕ → InboxState → List ℕ → List ℕ
+buffered pseudo gsr held frame = buffered_packet pseudo gsr held frame (decoded frame)
+
+-- the frame that goes out, if one does
+abbrev pub buffered_frame : Pseudo → ℕ → InboxState → Option (List ℕ) → Option (List ℕ)
+buffered_frame pseudo gsr held None = None
+buffered_frame pseudo gsr held (Some frame) = Some (buffered pseudo gsr held frame)

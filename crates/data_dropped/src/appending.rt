@@ -1,0 +1,121 @@
+//! What the acknowledgements of an end with a bounded inbox say behind their own options.
+//!
+//! A frame is read, and its packet written again with a longer option area. So no byte is moved by hand, and what was
+//! said before is read as it was: the end's options are filled up with zeros, which list nothing.
+ghost use Rattle.std.specs.Prelude.{◌≡◌, ◌≤◌, [], IsTrue, length};
+ghost use Rattle.std.specs.Bool.{OnFalse, OnTrue};
+ghost use Rattle.dccp_endpoint.specs.Incoming.{parts_of_packet};
+ghost use Rattle.dccp_packets.specs.Grammar.{HeaderFits, is_valid};
+ghost use Rattle.data_dropped.specs.Frames.{acknowledged_by, buffered, buffered_frame, drops_said, lengthened, said, says_more};
+
+use crate::drops::DropBytes;
+use crate::inbox::Inbox;
+use crate::item::MOST_DATA;
+use arrayvec::ArrayVec;
+use dccp_endpoint::seal_frame;
+use dccp_options::kinds::{DATA_DROPPED, SLOW_RECEIVER};
+use dccp_packets::{Frame, Kind, Outbox, Packet, decode, encode};
+use dccp_sum::Pseudo;
+use seq_circle::Seq48;
+
+// A full Data Dropped option and Slow Receiver.
+type Said = ArrayVec<u8, 256>;
+
+// An option area with what is said behind it.
+type Area = ArrayVec<u8, 1264>;
+
+// The acknowledgement number of an Ack or a DataAck in full.
+fn acknowledged_by(kind: &Kind, gsr: Seq48) -> Option<Seq48>
+    ensures { result ≡ acknowledged_by gsr kind.now }
+{
+    match kind {
+        Kind::Ack { ack } | Kind::DataAck { ack } => Some(ack.near(gsr)),
+        _ => None,
+    }
+}
+
+// Writes the Data Dropped option of a report, if that has a byte.
+fn put_drops(out: &mut Said, bytes: &[u8])
+    requires empty { out.old.items ≡ [] }
+    requires fits { length bytes.now ≤ 253 }
+    ensures value { out.new.items ≡ drops_said bytes.now }
+    ensures short { length out.new.items ≤ 255 }
+{
+    if bytes.is_empty() {
+        return;
+    }
+    out.push(DATA_DROPPED);
+    out.push((bytes.len() + 2) as u8);
+    let _ = out.try_extend_from_slice(bytes);
+}
+
+// Writes what the inbox has to say at this acknowledgement number.
+fn put_said(out: &mut Said, inbox: &Inbox, ack: Seq48)
+    requires { out.old.items ≡ [] }
+    ensures { out.new.items ≡ said inbox.now ack }
+{
+    let mut bytes = DropBytes::new();
+    let _whole = inbox.write(&mut bytes, ack);
+    put_drops(out, bytes.as_slice());
+    if inbox.slow() {
+        out.push(SLOW_RECEIVER);
+    }
+}
+
+// Writes the packet with more options behind its own, and its checksum anew, where there are any and it has room; tells
+// whether it did.
+fn lengthen(packet: &Packet<'_>, more: &[u8], pseudo: &Pseudo, longer: &mut Frame) -> bool
+    requires valid { IsTrue (is_valid packet.now.header) }
+    requires area { length packet.now.options.now ≤ 1008 }
+    requires short { length more.now ≤ 256 }
+    ensures says { result ≡ says_more (parts_of_packet packet.now) more.now }
+    ensures written { OnTrue result (longer.new ≡ lengthened pseudo.now (parts_of_packet packet.now) more.now) }
+{
+    if more.is_empty() || MOST_DATA < packet.payload.len() {
+        return false;
+    }
+    let mut area = Area::new();
+    let _ = area.try_extend_from_slice(packet.options);
+    let _ = area.try_extend_from_slice(more);
+    let Ok(()) = encode(&packet.header, area.as_slice(), packet.payload, longer) else {
+        return false;
+    };
+    seal_frame(pseudo, longer);
+    true
+}
+
+// Writes a frame with what is to be said behind its options, where anything is and it has room; tells whether it did.
+fn write_buffered(
+    frame: &[u8],
+    inbox: &Inbox,
+    gsr: Seq48,
+    pseudo: &Pseudo,
+    longer: &mut Frame,
+) -> bool
+    ensures longer { OnTrue result (longer.new ≡ buffered pseudo.now gsr inbox.now frame.now) }
+    ensures same { OnFalse result (buffered pseudo.now gsr inbox.now frame.now ≡ frame.now) }
+{
+    let packet = match decode(frame) {
+        Ok(packet) => packet,
+        Err(_) => return false,
+    };
+    let Some(ack) = acknowledged_by(&packet.header.kind, gsr) else {
+        return false;
+    };
+    let mut more = Said::new();
+    put_said(&mut more, inbox, ack);
+    lengthen(&packet, more.as_slice(), pseudo, longer)
+}
+
+/// The frame in the box as it goes out: an Ack or a DataAck says behind its options what the inbox has to say.
+pub(crate) fn buffer(out: &mut Outbox, inbox: &Inbox, gsr: Seq48, pseudo: &Pseudo)
+    ensures { out.new ≡ buffered_frame pseudo.now gsr inbox.now out.old }
+{
+    let Some(frame) = out.frame() else {
+        return;
+    };
+    let mut longer = Frame::new();
+    if write_buffered(frame.bytes(), inbox, gsr, pseudo, &mut longer) {
+        out.put(longer);
+    }
+}

@@ -1,0 +1,232 @@
+//! A server of many peers and two of them in one process: the first sends a greeting and closes, and the second finds
+//! the server busy, since one flow may stand here. What the server got and what the second was told is printed.
+//!
+//! It is the second program of docs/USING.md, to be read whole and copied from, and has no contract of its own. Its
+//! wires are in memory, since this repository opens no socket. It takes memory for each frame on them.
+#![tactic(auto)]
+
+use arrayvec::ArrayVec;
+use ccid_two::Kinds;
+use dccp_endpoint::{
+    Config, Lists, MOST_FRAME_BYTES, Outbox, Outcome, Ports, Pseudo, Seq48, Timer,
+};
+use dccp_listener::{Act, Heard, ListenConfig, Listener, Peer};
+use dccp_uses::{Network, News, Session};
+use std::alloc::Global;
+use std::process::ExitCode;
+
+// The Service Code that is asked for.
+const SERVICE: u32 = 42;
+
+const SERVER: Peer = Peer {
+    address: [192, 0, 2, 2],
+    port: 5_001,
+};
+
+// In place of a socket: frames stand here until the other side takes them.
+#[derive(Drop)]
+struct Wire {
+    alloc: Global,
+    frames: Vec<Vec<u8>>,
+}
+
+impl Wire {
+    fn new(alloc: Global) -> Wire {
+        Wire {
+            alloc,
+            frames: Vec::new(alloc),
+        }
+    }
+
+    fn take(&mut self) -> Option<Vec<u8>> {
+        if self.frames.is_empty() {
+            return None;
+        }
+        Some(self.frames.remove(0))
+    }
+}
+
+impl Network for Wire {
+    // What contracts may say of a wire by a frame: nothing.
+    ghost sends = { λ _ _ _. Unit {0} };
+
+    fn send(&mut self, frame: &[u8]) {
+        let mut datagram = Vec::new(self.alloc);
+        if datagram.extend_from_slice(frame).is_ok() {
+            // A frame that finds no memory is a lost one.
+            let _ = self.frames.push(datagram);
+        }
+    }
+}
+
+// The server's side: all its peers, and what came of them.
+#[derive(Drop)]
+struct Server {
+    listener: Listener,
+    out: Outbox,
+    got: Vec<u8>,
+}
+
+impl Server {
+    fn new(alloc: Global) -> Server {
+        let mut services = ArrayVec::new();
+        let _ = services.try_push(SERVICE);
+        let config = ListenConfig {
+            own_address: SERVER.address,
+            own_port: SERVER.port,
+            services,
+            lists: Lists::usual(),
+            most: 1,
+        };
+        Server {
+            listener: Listener::new(alloc, config),
+            out: Outbox::new(),
+            got: Vec::new(alloc),
+        }
+    }
+
+    // A datagram of a peer, whose address and port a socket tells. A real server draws the number.
+    fn arrived(&mut self, peer: Peer, datagram: &[u8], network: &mut Wire) -> Option<()> {
+        if MOST_FRAME_BYTES < datagram.len() {
+            return Some(());
+        }
+        let first = Seq48::new(2_000)?;
+        let heard = self.listener.arrive(peer, first, datagram, &mut self.out);
+        self.send(network);
+        let Ok(Heard::Flow(outcome)) = heard else {
+            // One flow too many, of which the peer was told; or no memory, and the datagram counts as lost.
+            return Some(());
+        };
+        self.take(&outcome, datagram)
+    }
+
+    // Data stand in the datagram that brought them.
+    fn take(&mut self, outcome: &Outcome, datagram: &[u8]) -> Option<()> {
+        match *outcome {
+            Outcome::Took {
+                delivered: Some((first, past)),
+            } => self.got.extend_from_slice(datagram.get(first..past)?).ok(),
+            _ => Some(()),
+        }
+    }
+
+    // The timers of a peer's end, all at one pace; those that do not run do nothing. A server that sends data has Rto
+    // too, and TimeWait where it closes first.
+    fn tick(&mut self, peer: Peer, network: &mut Wire) {
+        for timer in [Timer::Ack, Timer::Negotiate, Timer::Close] {
+            let _ = self.listener.act(peer, Act::Timer(timer), &mut self.out);
+            self.send(network);
+        }
+    }
+
+    // What a call has left in the box goes to the peer of the call.
+    fn send(&self, network: &mut Wire) {
+        if let Some(frame) = self.out.frame() {
+            network.send(frame.bytes());
+        }
+    }
+}
+
+// A peer's side.
+#[derive(Drop)]
+struct Guest {
+    peer: Peer,
+    session: Session<Kinds>,
+    to_server: Wire,
+    to_guest: Wire,
+    is_sent: bool,
+    // The code of the Reset that has ended its connection.
+    ended: Option<u8>,
+}
+
+impl Guest {
+    // The one whose address ends with this byte.
+    fn new(alloc: Global, last: u8) -> Option<Guest> {
+        let peer = Peer {
+            address: [192, 0, 2, last],
+            port: 40_000,
+        };
+        let addresses = Pseudo::V4 {
+            from: peer.address,
+            to: SERVER.address,
+        };
+        let ports = Ports {
+            own: peer.port,
+            peer: SERVER.port,
+        };
+        let config = Config::client(addresses, ports, SERVICE, Seq48::new(1_000)?);
+        let session = Session::new(alloc, config, Kinds::new(alloc).ok()?).ok()?;
+        Some(Guest {
+            peer,
+            session,
+            to_server: Wire::new(alloc),
+            to_guest: Wire::new(alloc),
+            is_sent: false,
+            ended: None,
+        })
+    }
+
+    // Sends the greeting once it may, and closes once that has arrived.
+    fn talk(&mut self, now: u64) {
+        if !self.is_sent {
+            self.is_sent = self
+                .session
+                .send(b"hello", now, &mut self.to_server)
+                .is_ok();
+        } else if self.session.end().in_flight() == 0 {
+            let _ = self.session.close(now, &mut self.to_server);
+        }
+    }
+
+    // A datagram each way.
+    fn turn(&mut self, server: &mut Server, now: u64) -> Option<()> {
+        if let Some(datagram) = self.to_server.take() {
+            server.arrived(self.peer, &datagram, &mut self.to_guest)?;
+        }
+        if let Some(datagram) = self.to_guest.take() {
+            let news = self.session.arrived(&datagram, now, &mut self.to_server);
+            if let News::Ended { code } = news {
+                self.ended = Some(code);
+            }
+        }
+        self.talk(now);
+        self.session.tick(now, &mut self.to_server);
+        Some(())
+    }
+}
+
+// Lets both talk until the first has ended. What the server got, and what the second was told.
+fn talk(alloc: Global) -> Option<(Vec<u8>, u8)> {
+    let mut server = Server::new(alloc);
+    let mut first = Guest::new(alloc, 1)?;
+    let mut second = Guest::new(alloc, 3)?;
+    first.session.open(0, &mut first.to_server).ok()?;
+    second.session.open(0, &mut second.to_server).ok()?;
+    for turn in 0..1_000 {
+        let now = turn * 10;
+        first.turn(&mut server, now)?;
+        second.turn(&mut server, now)?;
+        if turn % 20 == 19 {
+            server.tick(first.peer, &mut first.to_guest);
+        }
+        if first.ended.is_some() {
+            return Some((server.got, second.ended?));
+        }
+    }
+    None
+}
+
+fn main(rt: HostRuntime) -> ExitCode {
+    let Some((got, code)) = talk(rt.alloc()) else {
+        return ExitCode::FAILURE;
+    };
+    match println!(rt;
+        "{} bytes: {:?}; the other was told {}",
+        got.len(),
+        got,
+        code
+    ) {
+        Ok(()) => ExitCode::SUCCESS,
+        Err(_) => ExitCode::FAILURE,
+    }
+}

@@ -1,0 +1,45 @@
+#!/usr/bin/env python3
+"""Prints what each example is about: its row in the index of examples/, or the comment with which its text begins.
+
+    tools/stories.py FOLDER..      these folders of examples/; with no name all of them
+"""
+import re
+import sys
+from pathlib import Path
+
+EXAMPLES = Path(__file__).resolve().parent.parent / "examples"
+# The line that has an input's words.
+WORDS = re.compile(r"# (run|ecn|(?:replay|campaign|listen) .*)$")
+
+
+def rows():
+    """Returns the examples of the index by folder and name, each with its story there, which is empty where its own text tells it."""
+    page, stories = (EXAMPLES / "INDEX.md").read_text(encoding="utf-8"), {}
+    for folder, section in re.findall(r"^## (\w+)/.*\n((?:(?!## ).*\n)*)", page, flags=re.M):
+        for part in re.split(r"\n(?=\n|- |\| )", section):
+            it = re.match(r"\s*(?:- |\| )?((?:`\w+`(?:,\s+)?)+)(?::| \| \w+ \|)?(.*)", part, flags=re.S)
+            for name in re.findall(r"\w+", it[1]) if it else ():
+                stories[f"{folder}/{name}"] = " ".join(it[2].strip(" |\n").split())
+    return stories
+
+
+def head(path):
+    """Returns the comment with which a text begins, behind the line of its words."""
+    said = []
+    for line in path.read_text(encoding="utf-8", errors="replace").splitlines():
+        if not line.startswith("# "):
+            break
+        if not WORDS.match(line):
+            said.append(line[2:])
+    return " ".join(said)
+
+
+def main():
+    for name, story in rows().items():
+        if not sys.argv[1:] or name.partition("/")[0] in sys.argv[1:]:
+            path = next(it for it in EXAMPLES.glob(f"{name}.*") if it.suffix != ".expected")
+            print(f"{path.relative_to(EXAMPLES)}: {story or head(path)}")
+
+
+if __name__ == "__main__":
+    main()
