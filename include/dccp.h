@@ -229,8 +229,8 @@ uint32_t dccp_abort(dccp_end *end, uint64_t now, dccp_frame *frame);
 uint32_t dccp_prefer(dccp_end *end, uint32_t feature, bool at_peer, const uint64_t *values, size_t count, uint64_t now,
                      dccp_frame *frame);
 
-/* Tells the end the first of its timers that has run out. DCCP_OK, also where that leaves no frame: call it again, until it answers
- * DCCP_NOTHING_DUE, where none has run out; DCCP_NOT_MADE. */
+/* Tells the end the first of its timers that has run out. DCCP_OK, also where that leaves no frame: call it again, at most six times at one
+ * time, until it answers DCCP_NOTHING_DUE, where none has run out; DCCP_NOT_MADE. */
 uint32_t dccp_tick(dccp_end *end, uint64_t now, dccp_frame *frame);
 
 /* How many milliseconds it is until dccp_tick has something to do; DCCP_NEVER where no timer runs, or there is no end. Ask again after every

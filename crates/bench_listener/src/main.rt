@@ -1,12 +1,13 @@
 //! A listener at which as many flows stand as may, to which datagrams of 100,000 peers come: `bench/listener` measures
 //! the time and the memory of it. The first word says what is sent, the second how many datagrams come.
 //!
-//! `requests`, `options`, `faults` and `acks` come at the listener; `end` is as many Requests at one end, and `frames`
-//! what making the datagrams takes alone. How many were answered goes to standard error, so that none is left out.
-//! Nothing is claimed of it.
+//! `requests`, `options`, `faults` and `acks` come at the listener; `end` and `end-options` are as many Requests at one
+//! end, and `frames` is what making the datagrams takes alone. How many were answered goes to standard error, so that
+//! none is left out. Nothing is claimed of it.
 #![tactic(auto)]
 
 use arrayvec::ArrayVec;
+use byteorder::{BigEndian, ByteOrder};
 use ccid_two::Kinds;
 use dccp_endpoint::{Config, Endpoint, Frame, Lists, Outbox, Outcome, Ports, Pseudo, Seq48};
 use dccp_listener::{Heard, ListenConfig, Listener, Peer};
@@ -68,13 +69,14 @@ fn from(place: u32) -> Pseudo {
     }
 }
 
-// What it sends, with its checksum.
-fn datagram(place: u32, packet: &[u8]) -> Frame {
+// What it sends under this number, with its checksum.
+fn datagram(place: u32, packet: &[u8], number: u32) -> Frame {
     let Some(mut frame) = Frame::of(packet) else {
         return Frame::new();
     };
-    if packet.len() >= 8 {
-        let bytes = frame.bytes_mut();
+    let bytes = frame.bytes_mut();
+    if bytes.len() >= 16 {
+        BigEndian::write_u32(&mut bytes[12..16], number);
         let _ = seal(&from(place), bytes);
     }
     frame
@@ -95,23 +97,30 @@ fn listening(alloc: Global) -> Listener {
     )
 }
 
-// A packet of the peer at this place arrives. Tells whether it was answered.
-fn hear(
-    listener: &mut Listener,
+// What arrives: a packet of the peer at this place, under this number.
+#[derive(Clone, Copy)]
+struct Arrival<'a> {
     place: u32,
-    packet: &[u8],
-    first: Seq48,
-    out: &mut Outbox,
-) -> bool {
-    let frame = datagram(place, packet);
-    let heard = listener.arrive(peer(place), first, frame.bytes(), out);
+    packet: &'a [u8],
+    number: u32,
+}
+
+// It arrives at the listener. Tells whether it was answered.
+fn hear(listener: &mut Listener, arrival: Arrival<'_>, first: Seq48, out: &mut Outbox) -> bool {
+    let frame = datagram(arrival.place, arrival.packet, arrival.number);
+    let heard = listener.arrive(peer(arrival.place), first, frame.bytes(), out);
     matches!(heard, Ok(Heard::Busy)) || out.frame().is_some()
 }
 
 // The first peers have their flows.
 fn fill(listener: &mut Listener, first: Seq48, out: &mut Outbox) {
     for place in 0..FLOWS {
-        let _ = hear(listener, place, &REQUEST, first, out);
+        let arrival = Arrival {
+            place,
+            packet: &REQUEST,
+            number: 0,
+        };
+        let _ = hear(listener, arrival, first, out);
     }
 }
 
@@ -125,9 +134,14 @@ fn hear_all(
 ) -> u32 {
     let mut answered = 0u32;
     let mut place = 0u32;
-    for _ in 0..count {
+    for number in 0..count {
         place = place.wrapping_add(STEP) % PEERS;
-        if hear(listener, place, packet, first, out) {
+        let arrival = Arrival {
+            place,
+            packet,
+            number,
+        };
+        if hear(listener, arrival, first, out) {
             answered = answered.wrapping_add(1);
         }
     }
@@ -158,33 +172,33 @@ fn end(alloc: Global, first: Seq48) -> Option<Endpoint<Kinds>> {
 }
 
 // A Request of the first peer arrives at its end. Tells whether it was answered.
-fn hear_alone(end: &mut Endpoint<Kinds>, out: &mut Outbox) -> bool {
-    let frame = datagram(0, &REQUEST);
+fn hear_alone(end: &mut Endpoint<Kinds>, packet: &[u8], number: u32, out: &mut Outbox) -> bool {
+    let frame = datagram(0, packet, number);
     matches!(end.receive(frame.bytes(), out), Outcome::Took { .. })
 }
 
 // So many Requests at one end.
-fn at_end(alloc: Global, count: u32, first: Seq48) -> u32 {
+fn at_end(alloc: Global, packet: &[u8], count: u32, first: Seq48) -> u32 {
     let Some(mut end) = end(alloc, first) else {
         return 0;
     };
     let mut out = Outbox::new();
     let mut answered = 0u32;
-    for _ in 0..count {
-        if hear_alone(&mut end, &mut out) {
+    for number in 0..count {
+        if hear_alone(&mut end, packet, number, &mut out) {
             answered = answered.wrapping_add(1);
         }
     }
     answered
 }
 
-// So many datagrams that nobody hears. Gives how many have a checksum of their own.
+// So many datagrams that nobody hears. Gives how many have a number of their own.
 fn nowhere(count: u32) -> u32 {
     let mut made = 0u32;
     let mut place = 0u32;
-    for _ in 0..count {
+    for number in 0..count {
         place = place.wrapping_add(STEP) % PEERS;
-        let frame = datagram(place, &REQUEST);
+        let frame = datagram(place, &REQUEST, number);
         if frame.bytes() != REQUEST.as_slice() {
             made = made.wrapping_add(1);
         }
@@ -199,7 +213,8 @@ fn answered(alloc: Global, what: &str, count: u32, first: Seq48) -> u32 {
         "options" => at_listener(alloc, &REQUEST_WITH_OPTIONS, count, first),
         "faults" => at_listener(alloc, &REQUEST_WITH_FAULT, count, first),
         "acks" => at_listener(alloc, &ACK, count, first),
-        "end" => at_end(alloc, count, first),
+        "end" => at_end(alloc, &REQUEST, count, first),
+        "end-options" => at_end(alloc, &REQUEST_WITH_OPTIONS, count, first),
         _ => nowhere(count),
     }
 }

@@ -1,5 +1,5 @@
 -- The calls of an end with an inbox are calls of the inbox.
-use Rattle.std.proofs.Common.{◌≡◌, ℕ, ◌||◌, Bool, true, false, List, [], ◌∷◌, Option, Some, None, refl, ap, sym, subst, ◌∙◌}
+use Rattle.std.proofs.Common.{◌≡◌, ℕ, ◌||◌, Bool, true, false, List, [], ◌∷◌, Some, None, refl, ap, sym, subst}
 use Rattle.std.specs.Prelude.{slice_range}
 use Rattle.std.specs.List.{list_any}
 use Rattle.congestion_trait.specs.Control.{Control}
@@ -8,10 +8,10 @@ use Rattle.dccp_endpoint.specs.Receiving.{receives}
 use Rattle.dccp_endpoint.specs.declared.config.Config.{Config}
 use Rattle.end_answers.specs.declared.outcome.Outcome.{Outcome}
 use Rattle.end_answers.specs.declared.outcome.Outcome.TheVariants.{Took, Dropped, Synced, WasReset, SentReset}
-use Rattle.data_dropped.specs.Buffering.{Buffered, arriving_number, buffers, delivery_by, data_delivered}
+use Rattle.data_dropped.specs.Buffering.{arriving_number, buffers, delivery_by, data_delivered}
 use Rattle.data_dropped.specs.Drops.{HaveCodes}
-use Rattle.data_dropped.specs.EndHistory.{BufferedPast, EndCall, EndOpens, EndReceives, EndTakes, EndStops, buffered_now, calls_by, calls_from, data_call, is_end_stop, no_past, past_after, past_all, past_step}
-use Rattle.data_dropped.specs.History.{History, InboxCall, IsAccounted, Takes, Stops, history_after, history_after_all, is_stop}
+use Rattle.data_dropped.specs.EndHistory.{BufferedPast, EndCall, EndOpens, EndReceives, EndTakes, EndStops, buffered_now, calls_by, data_call, is_end_stop, no_past, past_after, past_all}
+use Rattle.data_dropped.specs.History.{History, IsAccounted, Takes, Stops, history_after, history_after_all, is_stop}
 use Rattle.data_dropped.specs.Inbox.{InboxState, fits_item}
 use Rattle.data_dropped.proofs.History.{all-accounted, history_after-accounted, counted-codes, first-accounted}
 

@@ -1,5 +1,5 @@
 -- A packet with more options behind its own is read as such.
-use Rattle.std.proofs.Common.{◌≡◌, ℕ, ◌+◌, ◌≤◌, ◌==◌, ◌&&◌, not, nat_le, Bool, true, false, IsTrue, List, ◌++◌, length, Some, None, refl, arith}
+use Rattle.std.proofs.Common.{◌≡◌, ℕ, ◌+◌, ◌==◌, not, nat_le, true, IsTrue, List, ◌++◌, length, Some}
 use Rattle.std.proofs.lemmas.Bool.{and_parts, leb-true}
 use Rattle.dccp_packets.specs.Grammar.{Parts, header_length, is_valid, padded}
 use Rattle.dccp_packets.specs.Widths.{HasDetail, in_widths}

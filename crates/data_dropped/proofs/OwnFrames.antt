@@ -1,5 +1,5 @@
 -- The frames of an end tell the drops of its inbox.
-use Rattle.std.proofs.Common.{◌≡◌, ℕ, ◌+◌, ◌-◌, ◌%◌, ◌^◌, ◌≤◌, ◌==◌, ◌&&◌, not, Bool, true, false, IsTrue, List, [], ◌∷◌, ◌++◌, length, map, Option, Some, None, Result, Ok, refl, ap, sym, ◌∙◌, subst, inl, inr, arith, All}
+use Rattle.std.proofs.Common.{◌≡◌, ℕ, ◌-◌, ◌%◌, ◌^◌, ◌==◌, ◌&&◌, not, Bool, true, false, IsTrue, List, [], ◌∷◌, ◌++◌, length, map, Option, Some, None, Result, refl, ap, sym, ◌∙◌, subst, All}
 use Rattle.ack_vectors.specs.declared.room.Vectors.{Vectors}
 use Rattle.std.specs.List.{list_any}
 use Rattle.std.proofs.Math.Nat.{mod-mod}
@@ -8,9 +8,9 @@ use Rattle.std.proofs.lemmas.List.Elements.{All-append, All-cons, All-nil}
 use Rattle.std.proofs.lemmas.Option.{same_Some}
 use Rattle.dccp_options.specs.Grammar.{options_of}
 use Rattle.dccp_options.specs.Kinds.{data_dropped}
-use Rattle.dccp_options.specs.Written.{Item, IsWritable, entries_at, written}
-use Rattle.dccp_packets.specs.Forms.{in_form, may_be_short, near, number_in_form}
-use Rattle.dccp_packets.specs.Grammar.{Parts, decoded, has_forms, is_long, is_valid, packet_type, padded}
+use Rattle.dccp_options.specs.Written.{Item, written}
+use Rattle.dccp_packets.specs.Forms.{in_form, may_be_short, number_in_form}
+use Rattle.dccp_packets.specs.Grammar.{Parts, has_forms, is_long, is_valid, packet_type, padded}
 use Rattle.dccp_packets.specs.Kinds.{is_data}
 use Rattle.dccp_packets.specs.Widths.{in_widths, kind_in_widths, number_in_width}
 use Rattle.dccp_packets.specs.declared.header.Header.{Header}
@@ -22,20 +22,19 @@ use Rattle.dccp_packets.specs.declared.reading.Malformed.{Malformed}
 use Rattle.dccp_sum.specs.declared.pseudo_header.Pseudo.{Pseudo}
 use Rattle.run_list.specs.MarkedSet.{MarkedSet}
 use Rattle.seq_circle.specs.Circle.{extended}
-use Rattle.dccp_endpoint.specs.Causes.{EveryStepHasOneEffect, HasEffect, HasFrame, Says, SaysNothing, SaysAll, SaysApart, vector_of}
+use Rattle.dccp_endpoint.specs.Causes.{HasEffect, HasFrame, Says, SaysNothing, SaysAll, SaysApart, vector_of}
 use Rattle.dccp_endpoint.specs.Drafts.{Draft, IsSendable, ReadsAs, alone, frame_of, own_header}
-use Rattle.dccp_endpoint.specs.Effects.{Effect, Sending, Silent, Next, WithoutConnection, end_after, frame_by, rows_by}
+use Rattle.dccp_endpoint.specs.Effects.{Effect, Sending, end_after, frame_by, greatest_by, rows_by, told_by}
 use Rattle.dccp_endpoint.specs.End.{EndState, IsProper}
 use Rattle.dccp_endpoint.specs.Heeding.{Due}
 use Rattle.dccp_endpoint.specs.Inputs.{Arrives}
 use Rattle.dccp_endpoint.specs.Receiving.{receives}
-use Rattle.dccp_endpoint.specs.Reporting.{vector_item, vector_items}
+use Rattle.dccp_endpoint.specs.Reporting.{is_acking, sends_vectors, vector_item, vector_items}
 use Rattle.dccp_endpoint.specs.Steps.{next_number}
 use Rattle.dccp_endpoint.specs.ShortForm.{allows_short, goes_short, is_negotiating}
 use Rattle.dccp_endpoint.specs.Speaking.{change_item, change_items, change_type, confirm_item, confirm_items, confirm_type}
 use Rattle.dccp_endpoint.specs.Turns.{Key}
 use Rattle.dccp_endpoint.specs.declared.config.Config.{Config}
-use Rattle.dccp_endpoint.proofs.AnyFrames.{IsSealed}
 use Rattle.dccp_endpoint.proofs.Calling.{every_step_has_an_effect}
 use Rattle.dccp_endpoint.proofs.OwnFrames.{own_frames_read_in_widths}
 use Rattle.dccp_endpoint.proofs.OwnPackets.{parts-are, vector_parts}
@@ -48,7 +47,7 @@ use Rattle.data_dropped.specs.Drops.{drop_bytes}
 use Rattle.data_dropped.specs.Frames.{acknowledged_by, buffered, buffered_ack, buffered_packet, lengthened, lengthened_if, said, says_more}
 use Rattle.data_dropped.specs.Inbox.{InboxState}
 use Rattle.data_dropped.specs.Reports.{drop_options}
-use Rattle.data_dropped.specs.Telling.{TellsItsDrops, drops_in_packet, told_by_ack, told_if}
+use Rattle.data_dropped.specs.Telling.{TellsItsDrops, told_by_ack, told_if}
 use Rattle.data_dropped.proofs.Behind.{IsOther, area-tells, others-tell_nothing}
 use Rattle.data_dropped.proofs.Frames.{lengthened-read}
 
@@ -81,7 +80,8 @@ changes-other rows (k ∷ keys) =
 own-other : (e : EndState) (f : Effect) (k : Kind) (confirms : List Due) (keys : List Key)
     → All IsOther (vector_of e f k ++ (confirm_items confirms ++ change_items (rows_by e.rows f) keys))
 own-other e f k confirms keys =
-    All-append IsOther (vector_of e f k) (confirm_items confirms ++ change_items (rows_by e.rows f) keys) (vector-other _ _ _ _)
+    All-append IsOther (vector_of e f k) (confirm_items confirms ++ change_items (rows_by e.rows f) keys)
+    (vector-other (is_acking (packet_type k) && sends_vectors (rows_by e.rows f)) e.config.vectors (told_by e.received f).set (greatest_by e.marks.gsr f.hearing))
     (All-append IsOther (confirm_items confirms) (change_items (rows_by e.rows f) keys) (confirms-other confirms) (changes-other (rows_by e.rows f) keys))
 
 -- the header of an own frame is valid as it is read
@@ -194,13 +194,13 @@ never draft is = absurd cc
 sending-tells : (gsr : ℕ) (held : InboxState) {e : EndState} {f : Effect} {confirms : List Due} {keys : List Key} {sending : Sending}
     → Says e f confirms keys sending → HasFrame sending → (own : List ℕ) → frame_by e f sending ≡ Some own
     → TellsItsDrops e.config.pseudo_out gsr held own (buffered e.config.pseudo_out gsr held own)
-sending-tells gsr held (SaysNothing none no) framed own is = absurd cc
-sending-tells gsr held {e} {f} {confirms} {keys} (SaysAll packet options_are acks) framed own is =
-    subst (λ (bytes : List ℕ). TellsItsDrops e.config.pseudo_out gsr held bytes (buffered e.config.pseudo_out gsr held bytes)) (same_Some _ own is)
+sending-tells gsr held (SaysNothing no_confirms no_keys) framed sent is = absurd cc
+sending-tells gsr held {e} {f} {confirms} {keys} (SaysAll packet options_are acks) framed sent is =
+    subst (λ (bytes : List ℕ). TellsItsDrops e.config.pseudo_out gsr held bytes (buffered e.config.pseudo_out gsr held bytes)) (same_Some _ sent is)
     (draft-tells e.config (goes_short (end_after e f) packet) (next_number e) gsr packet held framed (short-may (end_after e f) packet)
     (subst (λ (items : List Item). All IsOther items) (sym options_are) (own-other e f packet.kind confirms keys)))
-sending-tells gsr held {e} (SaysApart number packet none no) framed own is =
-    subst (λ (bytes : List ℕ). TellsItsDrops e.config.pseudo_out gsr held bytes (buffered e.config.pseudo_out gsr held bytes)) (same_Some _ own is)
+sending-tells gsr held {e} (SaysApart number packet no_confirms no_keys) framed sent is =
+    subst (λ (bytes : List ℕ). TellsItsDrops e.config.pseudo_out gsr held bytes (buffered e.config.pseudo_out gsr held bytes)) (same_Some _ sent is)
     (draft-tells e.config false number gsr (alone packet) held framed (never (alone packet)) (All-nil IsOther))
 
 -- The frame of a step, by the effect that the step has.

@@ -1,10 +1,9 @@
 -- What is read of a frame that tells its drops.
-use Rattle.std.proofs.Common.{◌≡◌, ℕ, ◌^◌, ◌<◌, ◌==◌, Bool, true, false, List, [], ◌∷◌, ◌++◌, length, Option, Some, None, ap, sym, subst, ◌∙◌, inl, inr, append-nil}
+use Rattle.std.proofs.Common.{◌≡◌, ℕ, ◌^◌, ◌<◌, Bool, true, false, List, [], ◌++◌, length, Option, Some, None, ap, sym, subst, ◌∙◌, inl, inr, append-nil}
 use Rattle.std.proofs.lemmas.Bool.{cases_eq, eq-eqb, ne_eqb}
 use Rattle.std.proofs.lemmas.Option.{same_Some}
 use Rattle.congestion_trait.specs.Control.{Control}
 use Rattle.dccp_options.specs.Vectors.{Report, joined_report}
-use Rattle.dccp_packets.specs.Grammar.{Parts}
 use Rattle.dccp_sum.specs.declared.pseudo_header.Pseudo.{Pseudo}
 use Rattle.dccp_endpoint.specs.End.{IsProper}
 use Rattle.dccp_endpoint.specs.Receiving.{receives}

@@ -34,12 +34,7 @@ fn deliver(inbox: &mut Inbox, number: Seq48, payload: &[u8]) -> Arrival
 }
 
 // What the outcome of a packet of this number means for the inbox.
-fn settle(
-    inbox: &mut Inbox,
-    number: Seq48,
-    bytes: &[u8],
-    outcome: &Outcome,
-) -> Option<Arrival>
+fn settle(inbox: &mut Inbox, number: Seq48, bytes: &[u8], outcome: &Outcome) -> Option<Arrival>
     requires { HasDataWithin bytes.now outcome.now }
     ensures { record { inbox = inbox.new; arrival = result } ≡ delivery_by inbox.old number bytes.now outcome.now }
 {

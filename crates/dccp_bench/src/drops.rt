@@ -78,7 +78,13 @@ fn turn(rt: &HostRuntime, capacity: u16, rounds: u32) -> io::Result<()>
     let mut inbox = filled(rt.alloc(), capacity)?;
     let start = Instant::now(rt)?;
     let sum = turns(&mut inbox, rounds);
-    told(rt, ("turn", u32::from(capacity)), spent(rt, start)?, rounds, sum)
+    told(
+        rt,
+        ("turn", u32::from(capacity)),
+        spent(rt, start)?,
+        rounds,
+        sum,
+    )
 }
 
 /// Prints the nanoseconds of so many reports of 512 drops and of 2,048, and of so many turns of an inbox for 1 packet and for

@@ -78,7 +78,7 @@ first_due alarms now (timer ∷ rest) = if has_run_out (alarm_of alarms timer) n
 
 -- a timer that has run out is told, and the answer is true; where there is none, nothing happens
 abbrev pub c_tells : ℕ → CEnd → Option Timer → SessionStep Both Bool
-c_tells now s None = done s.end s.alarms None false
+c_tells now s None = record { session = s; frame = None; answer = false }
 c_tells now s (Some timer) = record { session = (c_fires timer now s).session; frame = (c_fires timer now s).frame; answer = true }
 
 -- the first of the six timers that has run out is told

@@ -5,3 +5,4 @@ pub mod Keeping
 pub mod Making
 pub mod Seeing
 pub mod Telling
+pub mod Ticking

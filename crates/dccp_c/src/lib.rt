@@ -18,12 +18,14 @@ mod end;
 mod frame;
 mod held;
 mod kept;
+mod laws;
 mod making;
 mod readers;
 mod told;
 
 pub use crate::end::End;
 pub use crate::frame::Frame;
+pub use crate::laws::ticks_are_a_tick;
 pub use crate::making::{Settings, Wish};
 pub use crate::readers::{FeatureState, View};
 pub use crate::told::Told;

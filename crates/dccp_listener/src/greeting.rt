@@ -7,15 +7,15 @@ ghost use Rattle.dccp_endpoint.specs.Feeding.{receiving};
 ghost use Rattle.dccp_endpoint.specs.Steps.{detail_of, reset_of, without_detail};
 ghost use Rattle.dccp_packets.specs.Grammar.{decoded};
 ghost use Rattle.dccp_packets.specs.ResetCodes.{number_of_code};
-ghost use Rattle.dccp_sum.specs.Checksum.{sealed};
 ghost use Rattle.end_answers.specs.declared.outcome.Outcome.TheVariants.{SentReset};
 ghost use Rattle.dccp_listener.specs.Calls.{busy_frame, busy_reply};
 
 use crate::answers::receive;
 use ccid_two::Kinds;
-use dccp_endpoint::{Config, Endpoint, Fault, NoMemory, Outbox, Outcome, Pseudo, ResetCode, Seq48};
-use dccp_packets::{Frame, Header, Kind, Number, decode, encode};
-use dccp_sum::seal;
+use dccp_endpoint::{
+    Config, Endpoint, Fault, NoMemory, Outbox, Outcome, ResetCode, Seq48, seal_frame,
+};
+use dccp_packets::{Header, Kind, Number, decode, encode};
 use std::alloc::Global;
 
 /// A fresh end hears a datagram. NoMemory where none is to be had for it, and then nothing goes out.
@@ -33,15 +33,6 @@ pub(crate) fn greet(
     let mut end = Endpoint::new(alloc, *config, congestion)?;
     let outcome = receive(&mut end, bytes, out);
     Ok((end, outcome))
-}
-
-// Writes the frame's checksum.
-fn seal_frame(pseudo: &Pseudo, frame: &mut Frame)
-    requires { 8 ≤ length frame.old }
-    ensures { frame.new ≡ sealed pseudo.now frame.old }
-{
-    let bytes = frame.bytes_mut();
-    let _ = seal(pseudo, bytes);
 }
 
 /// A Reset Code without detail.

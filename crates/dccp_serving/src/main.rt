@@ -18,10 +18,9 @@ use std::process::ExitCode;
 // The Service Code that is asked for.
 const SERVICE: u32 = 42;
 
-const SERVER: Peer = Peer {
-    address: [192, 0, 2, 2],
-    port: 5_001,
-};
+const OWN_ADDRESS: [u8; 4] = [192, 0, 2, 2];
+
+const OWN_PORT: u16 = 5_001;
 
 // In place of a socket: frames stand here until the other side takes them.
 #[derive(Drop)]
@@ -72,8 +71,8 @@ impl Server {
         let mut services = ArrayVec::new();
         let _ = services.try_push(SERVICE);
         let config = ListenConfig {
-            own_address: SERVER.address,
-            own_port: SERVER.port,
+            own_address: OWN_ADDRESS,
+            own_port: OWN_PORT,
             services,
             lists: Lists::usual(),
             most: 1,
@@ -146,13 +145,14 @@ impl Guest {
             address: [192, 0, 2, last],
             port: 40_000,
         };
+        let address = peer.address;
         let addresses = Pseudo::V4 {
-            from: peer.address,
-            to: SERVER.address,
+            from: address,
+            to: OWN_ADDRESS,
         };
         let ports = Ports {
             own: peer.port,
-            peer: SERVER.port,
+            peer: OWN_PORT,
         };
         let config = Config::client(addresses, ports, SERVICE, Seq48::new(1_000)?);
         let session = Session::new(alloc, config, Kinds::new(alloc).ok()?).ok()?;
@@ -178,6 +178,10 @@ impl Guest {
         }
     }
 
+    fn open(&mut self) -> Option<()> {
+        self.session.open(0, &mut self.to_server).ok()
+    }
+
     // A datagram each way.
     fn turn(&mut self, server: &mut Server, now: u64) -> Option<()> {
         if let Some(datagram) = self.to_server.take() {
@@ -195,31 +199,36 @@ impl Guest {
     }
 }
 
-// Lets both talk until the first has ended. What the server got, and what the second was told.
-fn talk(alloc: Global) -> Option<(Vec<u8>, u8)> {
-    let mut server = Server::new(alloc);
-    let mut first = Guest::new(alloc, 1)?;
-    let mut second = Guest::new(alloc, 3)?;
-    first.session.open(0, &mut first.to_server).ok()?;
-    second.session.open(0, &mut second.to_server).ok()?;
+// Both talk until the first has ended. What the second was told.
+fn exchange(server: &mut Server, first: &mut Guest, second: &mut Guest) -> Option<u8> {
+    first.open()?;
+    second.open()?;
     for turn in 0..1_000 {
         let now = turn * 10;
-        first.turn(&mut server, now)?;
-        second.turn(&mut server, now)?;
+        first.turn(server, now)?;
+        second.turn(server, now)?;
         if turn % 20 == 19 {
             server.tick(first.peer, &mut first.to_guest);
         }
         if first.ended.is_some() {
-            return Some((server.got, second.ended?));
+            return second.ended;
         }
     }
     None
 }
 
+fn talk(alloc: Global, server: &mut Server) -> Option<u8> {
+    let mut first = Guest::new(alloc, 1)?;
+    let mut second = Guest::new(alloc, 3)?;
+    exchange(server, &mut first, &mut second)
+}
+
 fn main(rt: HostRuntime) -> ExitCode {
-    let Some((got, code)) = talk(rt.alloc()) else {
+    let mut server = Server::new(rt.alloc());
+    let Some(code) = talk(rt.alloc(), &mut server) else {
         return ExitCode::FAILURE;
     };
+    let got = server.got.as_slice();
     match println!(rt;
         "{} bytes: {:?}; the other was told {}",
         got.len(),

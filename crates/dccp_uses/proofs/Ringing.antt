@@ -51,8 +51,8 @@ module _ {C : Type 0} (control : Control C) (now : ℕ) where
       arranged-runs (rung s.alarms timer now) timer (condition_of control (tells_end control now s timer).session.end) now (own-runs s.alarms timer now)
   told-runs s timer false is = is
 
-  rung-runs : (s : SessionState C) (timer : Timer) → has_run_out (alarm_of (rings control now s timer).session.alarms timer) now ≡ false
-  rung-runs s timer = told-runs s timer (has_run_out (alarm_of s.alarms timer) now) refl
+  pub told_is_quiet : (s : SessionState C) (timer : Timer) → has_run_out (alarm_of (rings control now s timer).session.alarms timer) now ≡ false
+  told_is_quiet s timer = told-runs s timer (has_run_out (alarm_of s.alarms timer) now) refl
 
   -- and another timer's alarm is not touched by that
   other-told : (s : SessionState C) (timer other : Timer) (due : Bool) → alarm_of (rung s.alarms timer now) other ≡ alarm_of s.alarms other
@@ -63,9 +63,9 @@ module _ {C : Type 0} (control : Control C) (now : ℕ) where
       (subst (λ (alarm : Option Alarm). has_run_out alarm now ≡ false) (sym same) quiet)
   other-told s timer other false same quiet = quiet
 
-  other-runs : (s : SessionState C) (timer other : Timer) → alarm_of (rung s.alarms timer now) other ≡ alarm_of s.alarms other
+  pub other_stays_quiet : (s : SessionState C) (timer other : Timer) → alarm_of (rung s.alarms timer now) other ≡ alarm_of s.alarms other
       → has_run_out (alarm_of s.alarms other) now ≡ false → has_run_out (alarm_of (rings control now s timer).session.alarms other) now ≡ false
-  other-runs s timer other same quiet = other-told s timer other (has_run_out (alarm_of s.alarms timer) now) same quiet
+  other_stays_quiet s timer other same quiet = other-told s timer other (has_run_out (alarm_of s.alarms timer) now) same quiet
 
   -- Once each timer was told, none has run out.
   pub nothing_is_due : (s : SessionState C) → NothingIsDue now (rings_each control now s every_timer).session.alarms
@@ -76,16 +76,16 @@ module _ {C : Type 0} (control : Control C) (now : ℕ) where
       let d = (rings control now c timers.Rto).session in
       let e = (rings control now d timers.Close).session in
       elim timer as (λ (t : Timer). has_run_out (alarm_of (rings control now e timers.TimeWait).session.alarms t) now ≡ false) [
-        | timers.Request ↦ other-runs e timers.TimeWait timers.Request refl (other-runs d timers.Close timers.Request refl
-            (other-runs c timers.Rto timers.Request refl (other-runs b timers.Negotiate timers.Request refl (other-runs a timers.Ack timers.Request refl
-            (rung-runs s timers.Request)))))
-        | timers.Ack ↦ other-runs e timers.TimeWait timers.Ack refl (other-runs d timers.Close timers.Ack refl (other-runs c timers.Rto timers.Ack refl
-            (other-runs b timers.Negotiate timers.Ack refl (rung-runs a timers.Ack))))
-        | timers.Negotiate ↦ other-runs e timers.TimeWait timers.Negotiate refl (other-runs d timers.Close timers.Negotiate refl
-            (other-runs c timers.Rto timers.Negotiate refl (rung-runs b timers.Negotiate)))
-        | timers.Rto ↦ other-runs e timers.TimeWait timers.Rto refl (other-runs d timers.Close timers.Rto refl (rung-runs c timers.Rto))
-        | timers.Close ↦ other-runs e timers.TimeWait timers.Close refl (rung-runs d timers.Close)
-        | timers.TimeWait ↦ rung-runs e timers.TimeWait
+        | timers.Request ↦ other_stays_quiet e timers.TimeWait timers.Request refl (other_stays_quiet d timers.Close timers.Request refl
+            (other_stays_quiet c timers.Rto timers.Request refl (other_stays_quiet b timers.Negotiate timers.Request refl (other_stays_quiet a timers.Ack timers.Request refl
+            (told_is_quiet s timers.Request)))))
+        | timers.Ack ↦ other_stays_quiet e timers.TimeWait timers.Ack refl (other_stays_quiet d timers.Close timers.Ack refl (other_stays_quiet c timers.Rto timers.Ack refl
+            (other_stays_quiet b timers.Negotiate timers.Ack refl (told_is_quiet a timers.Ack))))
+        | timers.Negotiate ↦ other_stays_quiet e timers.TimeWait timers.Negotiate refl (other_stays_quiet d timers.Close timers.Negotiate refl
+            (other_stays_quiet c timers.Rto timers.Negotiate refl (told_is_quiet b timers.Negotiate)))
+        | timers.Rto ↦ other_stays_quiet e timers.TimeWait timers.Rto refl (other_stays_quiet d timers.Close timers.Rto refl (told_is_quiet c timers.Rto))
+        | timers.Close ↦ other_stays_quiet e timers.TimeWait timers.Close refl (told_is_quiet d timers.Close)
+        | timers.TimeWait ↦ told_is_quiet e timers.TimeWait
       ]
 
 abbrev both : {C : Type 0} → End C → Alarms → SessionState C

@@ -35,7 +35,7 @@ impl Model for Seq48 {
 }
 
 impl Seq48 {
-    /// The sequence number `n`, or None exactly where it is 2^48 or more.
+    /// The sequence number `n`, or None exactly where it is 2^48 or more (RFC 4340, section 3.1).
     pub fn new(n: u64) -> Option<Seq48>
         ensures made { IsSome result ↔ (n < 2 ^ 48) }
         ensures value { IfSome result (λ s. s ≡ n) }
@@ -62,7 +62,7 @@ impl Seq48 {
         self.add(1)
     }
 
-    /// `n` steps up the circle, for any `n`: 2^48 steps lead back to this number.
+    /// `n` steps up the circle, for any `n`: 2^48 steps lead back to this number (RFC 4340, section 3.1).
     pub fn add(self, n: u64) -> Seq48
         ensures { result ≡ residue (self + n) }
     {
@@ -71,7 +71,7 @@ impl Seq48 {
         }
     }
 
-    /// `n` steps down the circle, for any `n`: 2^48 steps lead back to this number.
+    /// `n` steps down the circle, for any `n`: 2^48 steps lead back to this number (RFC 4340, section 3.1).
     pub fn sub(self, n: u64) -> Seq48
         ensures { result ≡ down self n }
     {
@@ -80,7 +80,7 @@ impl Seq48 {
         }
     }
 
-    /// How many steps lead from this number up to `to`: `(to - self) mod 2^48`.
+    /// How many steps lead from this number up to `to`: `(to - self) mod 2^48` (RFC 4340, section 3.1).
     pub fn distance(self, to: Seq48) -> u64
         ensures value { result ≡ distance self to }
         ensures fits { result < 2 ^ 48 }
@@ -97,7 +97,7 @@ impl Seq48 {
         0 < ahead && ahead < HALF
     }
 
-    /// The later of the two: `other` where this number is before it, else this one.
+    /// The later of the two: `other` where this number is before it, else this one (own).
     pub fn max_of(self, other: Seq48) -> Seq48
         ensures { result ≡ later_of self other }
     {
@@ -115,14 +115,15 @@ impl Seq48 {
     }
 
     /// The upper end of the interval that begins at this number and has no upper end: 2^47 - 1 steps up, so that
-    /// `is_from` and `within` tell the same.
+    /// `is_from` and `within` tell the same (own).
     pub fn open_end(self) -> Seq48
         ensures { result ≡ open_end self }
     {
         self.add(HALF - 1)
     }
 
-    /// Tells whether this number lies in the interval that begins at `lo` and goes up to `hi`, both included.
+    /// Tells whether this number lies in the interval that begins at `lo` and goes up to `hi`, both included, as a packet's
+    /// numbers lie in a window (RFC 4340, section 7.5.1).
     pub fn within(self, lo: Seq48, hi: Seq48) -> bool
         ensures value { result ≡ is_within self lo hi }
         ensures meaning { IsTrue result ↔ IsWithin self lo hi }

@@ -21,7 +21,8 @@ pub fn from_is_the_order_of_counts()
         → IsFrom (residue a) (residue b) ↔ (a ≤ b) }
 {}
 
-/// Steps down undo steps up (`back`), and of whole numbers they are their difference (`difference`).
+/// Steps down undo steps up (`back`), and of whole numbers they are their difference (`difference`; RFC 4340, section
+/// 3.1).
 pub fn down_is_the_way_back()
     ensures back { (n steps : ℕ) → n < 2 ^ 48 → residue (down n steps + steps) ≡ n }
     ensures difference { (n steps : ℕ) → steps ≤ n → down (residue n) steps ≡ residue (n - steps) }

@@ -29,7 +29,7 @@ impl Model for Seq24 {
 }
 
 impl Seq24 {
-    /// The short number `n`, or None exactly where it is 2^24 or more.
+    /// The short number `n`, or None exactly where it is 2^24 or more (RFC 4340, section 7.6).
     pub fn new(n: u32) -> Option<Seq24>
         ensures made { IsSome result ↔ (n < 2 ^ 24) }
         ensures value { IfSome result (λ s. s ≡ n) }

@@ -37,7 +37,9 @@ fn config() -> Option<Config> {
     config.vectors = Vectors::Two;
     let coverages = [0, 1, 2, 3, 4, 5, 6, 7];
     config.set(Feature::MinCsCov, Place::Here, &coverages).ok()?;
-    config.set(Feature::MinCsCov, Place::There, &coverages).ok()?;
+    config
+        .set(Feature::MinCsCov, Place::There, &coverages)
+        .ok()?;
     Some(config)
 }
 

@@ -17,7 +17,7 @@ use Rattle.world_events.specs.declared.event.WorldFault.{WorldFault}
 use Rattle.world_events.specs.declared.event.WorldFault.TheVariants as fault
 use Rattle.two_ends.specs.declared.frames.SentFrame.{SentFrame}
 use Rattle.dccp_endpoint.specs.Drafts.{Fits}
-use Rattle.two_ends.specs.World.{Half, WorldState, WorldStep, Happening, Calls, Delivers, Said, Occurrence, happening_of, as_sent, acting_side, half_with, moved, newly_processed, half_of, half_at_start, half_steps, with_half, happens, delivers_frame, is_far_frame, in_world, takes_place, unless_far, unless_full, is_full, world_after, world_after_all, at_start}
+use Rattle.two_ends.specs.World.{Half, WorldState, WorldStep, Happening, Calls, Delivers, Said, Occurrence, happening_of, as_sent, acting_side, half_with, moved, newly_processed, half_of, half_at_start, half_steps, with_half, happens, delivers_frame, is_far_frame, in_world, takes_place, unless_far, is_full, world_after, world_after_all, at_start}
 use Rattle.world_events.specs.Actors.{actor, other}
 use Rattle.two_ends.proofs.Logged.{Logged}
 use Rattle.two_ends.proofs.ReadBack.{AreNumbers, IsFromPeer}

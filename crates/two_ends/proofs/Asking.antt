@@ -1,13 +1,12 @@
 -- What no frame asks for stays, and the last lists that were sent are the active ones.
 use Rattle.std.proofs.Common.{◌≡◌, refl, ap, sym, ◌∙◌, ℕ, ◌||◌, Bool, true, false, List, Option, Some, None, inl, inr}
-use Rattle.dccp_endpoint.specs.Turns.{Key}
 use Rattle.feature_agreement.proofs.Facts.{Kept}
 use Rattle.feature_agreement.proofs.Frames.{change_seen}
-use Rattle.feature_agreement.proofs.Steps.{reached_keeps, turned}
+use Rattle.feature_agreement.proofs.Steps.{reached_keeps}
 use Rattle.feature_agreement.proofs.Values.{reached_given}
 use Rattle.feature_agreement.specs.Agreement.{IsGiven}
 use Rattle.feature_agreement.specs.Agreement.IsGiven.{Initial, Ruled}
-use Rattle.feature_agreement.specs.Moves.{Pair, Reached, Rule, swapped}
+use Rattle.feature_agreement.specs.Moves.{Pair, Reached, Rule}
 use Rattle.feature_agreement.specs.Rows.{entries_of, pair_by, pair_of}
 use Rattle.feature_agreement.specs.View.{Carried, FeatureSide, carried_at, carries_change, has_change, wish_carried}
 use Rattle.feature_agreement.specs.View.Carried.{Nothing, Change, Confirm}

@@ -34,7 +34,7 @@ use Rattle.two_ends.specs.declared.frames.SentFrame.{SentFrame}
 use Rattle.two_ends.proofs.Acting.{IsHeld, Party, config_of, end_of, party_of}
 use Rattle.two_ends.proofs.Hearing.{IsHearingPeer}
 use Rattle.two_ends.proofs.Keeping.{SideInvariant, run-kept}
-use Rattle.two_ends.proofs.Logged.{AtPlace, Found, IsLogged, Logged, Nowhere, found, logged-few}
+use Rattle.two_ends.proofs.Logged.{AtPlace, Found, Logged, Nowhere, found, logged-few}
 use Rattle.two_ends.proofs.Marking.{IsMarking}
 use Rattle.two_ends.proofs.Numbering.{IsOrdered, others-near}
 use Rattle.two_ends.proofs.Preferring.{plays-held}

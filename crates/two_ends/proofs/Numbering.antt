@@ -29,7 +29,7 @@ use Rattle.two_ends.specs.declared.frames.SentFrame.{SentFrame}
 use Rattle.two_ends.specs.World.{as_sent}
 use Rattle.two_ends.proofs.Acting.{Act, Keeps, NoFact, Party, acted, config_of, drafted_by, end_of, logged_by, processed_by, sent_by}
 use Rattle.two_ends.proofs.Logged.{AreLogged, Logged, NoFrames, Numbered, Unnumbered, logged-append, logged-few}
-use Rattle.two_ends.proofs.ReadBack.{AreNear, AreNumbers, IsFromLog, ack-kept, arrived-so, from-log, kept-frame}
+use Rattle.two_ends.proofs.ReadBack.{AreNumbers, IsFromLog, ack-kept, arrived-so, from-log, kept-frame}
 
 pub record IsOrdered (x : Party) : Type 0 where
   pub proper : IsProper (end_of x)

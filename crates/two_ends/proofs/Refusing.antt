@@ -1,10 +1,9 @@
 -- Why a delivery is refused: from what the code tells of a frame and of the side at which it arrives to what `happens_to` says.
-use Rattle.std.proofs.Common.{◌≡◌, ◌↔◌, refl, ap, sym, ◌∙◌, subst, ℕ, ◌-◌, ◌^◌, ◌<◌, ◌≤◌, nat_le, Bool, true, false, if◌then◌else◌, List, Option, Some, None, Result, Ok, Err, slice_get, length, arith, ◌⊎◌, inl, inr, IfOk, IfSome}
+use Rattle.std.proofs.Common.{◌≡◌, ◌↔◌, refl, ap, sym, ◌∙◌, subst, ℕ, ◌-◌, ◌^◌, ◌<◌, ◌≤◌, Bool, true, false, if◌then◌else◌, List, Option, Some, None, Result, Ok, Err, slice_get, length, arith, ◌⊎◌, inl, inr, IfOk, IfSome}
 use Rattle.std.specs.Prelude.{get_or, is_some}
 use Rattle.std.proofs.lemmas.Bool.{le-leb, leb-true}
 use Rattle.std.proofs.lemmas.Option.{slice_get_cases}
 use Rattle.congestion_trait.specs.Control.{Control}
-use Rattle.dccp_endpoint.specs.End.{EndState}
 use Rattle.dccp_endpoint.specs.Inputs.{Arrives}
 use Rattle.world_events.specs.Actors.{other}
 use Rattle.world_events.specs.declared.event.Event.TheVariants as event
@@ -15,7 +14,7 @@ use Rattle.world_events.specs.declared.event.WorldFault.{WorldFault}
 use Rattle.world_events.specs.declared.event.WorldFault.TheVariants as fault
 use Rattle.two_ends.specs.declared.frames.SentFrame.{SentFrame}
 use Rattle.two_ends.specs.Controlled.{Controlled, ControlledHalf, ControlledHalfStep, ControlledStep, controlled_half_steps, controls, happens_to}
-use Rattle.two_ends.specs.World.{ActorIsFull, DeliversFar, Half, LacksFrame, WorldState, delivers_frame, half_of, is_far_at, is_far_frame, is_full, in_world, unless_far}
+use Rattle.two_ends.specs.World.{ActorIsFull, DeliversFar, Half, LacksFrame, delivers_frame, half_of, is_far_at, is_far_frame, is_full, in_world, unless_far}
 
 -- where a list has nothing
 past-end : {A : Type 0} (xs : List A) (index : ℕ) → slice_get xs index ≡ None → length xs ≤ index
@@ -138,6 +137,52 @@ module _ {C : Type 0} (control : Control C) (w : Controlled C) (from : Side) whe
               λ all. far.1 (roomy to all.1, all.2),
             );
           }
+
+-- What the code tells of a frame that it looked up by its index, from what it tells of one that is there.
+module _ {C : Type 0} (control : Control C) (old : ControlledHalf C) where
+  abbrev Handed : ControlledHalf C → SentFrame → Seen → Type 0
+  Handed new frame seen =
+      (is_full old.half ≡ false) × (is_far_frame old.half.end frame ≡ false)
+      × (record { after = new; seen = seen } ≡ controlled_half_steps control old (Some frame.number) (Arrives frame.bytes))
+
+  pub record IsHanded (new : ControlledHalf C) (found : Option SentFrame) (result : Result Seen WorldFault) : Type 0 where
+    pub ok : IfOk result (λ seen. IfSome found (λ frame. Handed new frame seen))
+    pub no_such_frame : (result ≡ Err fault.NoSuchFrame) ↔ (found ≡ None)
+    pub full : (result ≡ Err fault.Full) ↔ ((is_some found ≡ true) × (is_full old.half ≡ true))
+    pub far_short : (result ≡ Err fault.FarShort) ↔ ((is_full old.half ≡ false) × (is_far_at old.half.end found ≡ true))
+
+  -- one that is there
+  found-so : (new : ControlledHalf C) (frame : SentFrame) (result : Result Seen WorldFault)
+      → IfOk result (Handed new frame) → ((result ≡ Err fault.Full) ↔ (is_full old.half ≡ true))
+      → ((result ≡ Err fault.FarShort) ↔ ((is_full old.half ≡ false) × (is_far_frame old.half.end frame ≡ true)))
+      → (result ≡ Err fault.NoSuchFrame → ⊥) → IsHanded new (Some frame) result
+  found-so new frame result ok full far there =
+      record {
+        ok = ok;
+        no_such_frame = (λ is. absurd (there is), λ none. cc none);
+        full = (λ is. (refl, full.0 is), λ both. full.1 both.1);
+        far_short = far;
+      }
+
+  pub handed-so : (new : ControlledHalf C) (found : Option SentFrame) (frame : SentFrame) (result : Result Seen WorldFault) → found ≡ Some frame
+      → IfOk result (Handed new frame) → ((result ≡ Err fault.Full) ↔ (is_full old.half ≡ true))
+      → ((result ≡ Err fault.FarShort) ↔ ((is_full old.half ≡ false) × (is_far_frame old.half.end frame ≡ true)))
+      → (result ≡ Err fault.NoSuchFrame → ⊥) → IsHanded new found result
+  handed-so new found frame result is ok full far there =
+      subst (λ (o : Option SentFrame). IsHanded new o result) (sym is) (found-so new frame result ok full far there)
+
+  lacking-so : IsHanded old None (Err fault.NoSuchFrame)
+  lacking-so =
+      record {
+        ok = tt;
+        no_such_frame = (λ is. refl, λ none. refl);
+        full = (λ is. cc is, λ both. (let some = both.0 in cc some));
+        far_short = (λ is. cc is, λ both. (let far = both.1 in cc far));
+      }
+
+  -- none
+  pub none-handed : (found : Option SentFrame) → found ≡ None → IsHanded old found (Err fault.NoSuchFrame)
+  none-handed found is = subst (λ (o : Option SentFrame). IsHanded old o (Err fault.NoSuchFrame)) (sym is) lacking-so
 
 -- the world with what a step makes of one side
 abbrev server-made : {C : Type 0} → Controlled C → ControlledHalfStep C → Result (ControlledStep C) WorldFault

@@ -1,6 +1,5 @@
 -- A Reset that arrives moves nothing that was received, acknowledged or marked, and no row.
 use Rattle.std.proofs.Common.{◌≡◌, refl, ap, sym, ◌∙◌, subst, ℕ, ◌&&◌, List, Some, Bool, true, false}
-use Rattle.ack_vectors.specs.Kept.{Kept}
 use Rattle.dccp_packets.specs.Grammar.{Parts, packet_type}
 use Rattle.dccp_packets.specs.declared.header.Kind.{Kind}
 use Rattle.dccp_packets.specs.declared.header.Kind.TheVariants as kind
@@ -18,7 +17,7 @@ use Rattle.dccp_endpoint.specs.Inputs.{Arrives, Input}
 use Rattle.dccp_endpoint.specs.Outcomes.{AnswersClose, Faulted, HasCause, HasForm, IsReset, IsSynced, NoAnswer, NoConnection, OtherService, OutOfWindow, Unexpected, WrongService, effect_of_reset, effect_of_sync, hears_first}
 use Rattle.dccp_endpoint.specs.Receiving.{receives}
 use Rattle.dccp_endpoint.specs.Reporting.{recorded_by, sends_vectors}
-use Rattle.dccp_endpoint.specs.Steps.{Step, next_number}
+use Rattle.dccp_endpoint.specs.Steps.{next_number}
 use Rattle.end_answers.specs.declared.outcome.Fault.{Fault}
 use Rattle.end_answers.specs.declared.outcome.Outcome.{Outcome}
 use Rattle.end_answers.specs.declared.outcome.Outcome.TheVariants.{Took, Dropped, Synced, WasReset, SentReset}

@@ -134,6 +134,19 @@ fn a_stranger_is_answered_by_a_reset_and_makes_no_connection() -> Result<(), Box
 }
 
 #[test]
+fn a_connection_that_was_not_opened_is_not_told_that_it_has_ended() -> Result<(), Box<dyn Error>> {
+    let (_, mut other, now) = open_pair()?;
+    other.send(b"stray", now)?;
+    let stray = other.poll_transmit().ok_or("data")?;
+    let mut fresh = Connection::new(&client())?;
+    fresh.handle_datagram(&stray.bytes, now);
+    let answer = fresh.poll_transmit().ok_or("a Reset")?;
+    assert_eq!((kind(&answer), fresh.phase()), (7, Phase::Closed));
+    assert_eq!(fresh.poll_event(), None);
+    Ok(())
+}
+
+#[test]
 fn data_come_once_and_a_window_is_settled_where_frames_are_lost() -> Result<(), Box<dyn Error>> {
     let (mut one, mut other, mut now) = open_pair()?;
     let (mut counts, mut got) = ([0; 2], [const { Vec::new() }; 2]);

@@ -1,0 +1,8 @@
+//! What the definitions of the calls mean.
+ghost use Rattle.dccp_c.specs.Ticking.{TicksAreATick};
+
+/// Ticks at one time, told one by one, are what a session's own tick does: each timer that has run out is told once, in
+/// its order; after six of them none is left (own).
+pub fn ticks_are_a_tick()
+    ensures { TicksAreATick }
+{}
