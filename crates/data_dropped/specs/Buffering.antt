@@ -30,6 +30,7 @@ abbrev pub number_of_packet : ℕ → Result Parts Malformed → ℕ
 number_of_packet gsr (Ok p) = near gsr p.header.number
 number_of_packet gsr (Err fault) = gsr
 
+-- the same of bytes
 abbrev pub arriving_number : ℕ → List ℕ → ℕ
 arriving_number gsr bytes = number_of_packet gsr (decoded bytes)
 

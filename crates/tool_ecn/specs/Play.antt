@@ -8,14 +8,10 @@ use Rattle.tool_words.specs.declared.faults.LineFault.{LineFault}
 use Rattle.tool_words.specs.declared.faults.LineWhy.TheVariants as why
 use Rattle.tool_words.specs.Refusals.{fault_at, whole_line}
 use Rattle.tool_words.specs.Words.{word_at, words_of}
-use Rattle.tool_lines.specs.Jobs.{Accepted, Gone, Job, Refused, Verdict, gone_through, text_of_job}
+use Rattle.tool_lines.specs.Jobs.{Accepted, Gone, Job, Refused, Verdict, gone_through, text_of_job, most_events}
 use Rattle.tool_ecn.specs.declared.play.EcnPlay.{EcnPlay}
 use Rattle.tool_ecn.specs.Forms.{read_ecn_line}
 use Rattle.tool_ecn.specs.SeenText.{ecn_ending, ecn_event_line}
-
--- The most events of a schedule.
-abbrev pub most_events : ℕ
-most_events = 16384
 
 -- before all: nothing was sent, and no event took place
 abbrev pub first_ecn_play : EcnPlay

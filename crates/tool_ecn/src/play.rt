@@ -8,11 +8,8 @@ use crate::seen_text::{put_ending, put_event_line};
 use dccp_ecn::{EcnEvent, EcnFault, EcnWorld};
 use seq_circle::NoMemory;
 use std::alloc::Global;
-use tool_lines::LineJob;
+use tool_lines::{LineJob, MOST_EVENTS};
 use tool_words::{LineFault, LineWhy, Words, whole_line};
-
-// The most events of an input (own).
-const MOST_EVENTS: u32 = 16_384;
 
 /// Where an input stands.
 #[derive(Drop)]

@@ -29,6 +29,10 @@ abbrev pub Judges : {P V : Type 0} → Job P V → Verdict P V → List ℕ → 
 Judges job (Accepted deed next) old new after answer = (new ≡ old ++ line_text job deed) × (after ≡ next) × (answer ≡ Ok tt)
 Judges job (Refused fault) old new after answer = (new ≡ old) × (answer ≡ Err fault)
 
+-- So many events a job over lines of events plays at most (own).
+abbrev pub most_events : ℕ
+most_events = 16384
+
 -- The fault of a line with a 4,097th byte, at that byte.
 abbrev pub too_long : LineFault
 too_long = record { column = 4097; why = why.LineTooLong }

@@ -6,6 +6,9 @@ use seq_circle::NoMemory;
 use std::alloc::Global;
 use tool_words::LineFault;
 
+/// So many events a job over lines of events plays at most (own): what comes behind is refused as TooManyEvents.
+pub const MOST_EVENTS: u32 = 16_384;
+
 /// A job over the lines of an input (own). Contracts see what a line does, and what a job makes of lines: what each comes
 /// to by the job's state, the text of what it does, and the text at the input's end.
 pub trait LineJob {

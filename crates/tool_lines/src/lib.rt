@@ -10,5 +10,5 @@ mod loops;
 mod refusals;
 mod turns;
 
-pub use crate::job::LineJob;
+pub use crate::job::{LineJob, MOST_EVENTS};
 pub use crate::loops::run_lines;

@@ -9,7 +9,7 @@ use Rattle.dccp_listener.specs.declared.peer.Peer.{Peer}
 use Rattle.dccp_sum.specs.declared.pseudo_header.Pseudo.{Pseudo}
 use Rattle.dccp_sum.specs.declared.pseudo_header.Pseudo.TheVariants.{V4}
 use Rattle.feature_machine.specs.Lists.{usual_lists}
-use Rattle.tool_lines.specs.Jobs.{Accepted, Gone, Job, Refused, Verdict, gone_through, text_of_job}
+use Rattle.tool_lines.specs.Jobs.{Accepted, Gone, Job, Refused, Verdict, gone_through, text_of_job, most_events}
 use Rattle.tool_replay.specs.Replay.{arriving}
 use Rattle.tool_words.specs.Refusals.{whole_line}
 use Rattle.tool_words.specs.declared.faults.LineFault.{LineFault}
@@ -19,10 +19,6 @@ use Rattle.tool_listen.specs.Telling.{Exchange, exchange_text, flow_lines}
 use Rattle.tool_listen.specs.declared.calls.PeerCall.{PeerCall}
 use Rattle.tool_listen.specs.declared.calls.PeerCall.TheVariants as call
 use Rattle.tool_listen.specs.declared.serving.Serving.{Serving}
-
--- The most events of a schedule, and as many lines of `listen` by which something happens.
-abbrev pub most_events : ℕ
-most_events = 16384
 
 -- the initial sequence number of each end
 abbrev pub first_number : ℕ

@@ -1,8 +1,8 @@
 //! Where `listen` stands: one listener, and how much has happened.
 ghost use Rattle.std.specs.Prelude.{◌≡◌, ℕ, ◌≤◌, [], ◌∷◌, IfOk, Ok};
-ghost use Rattle.tool_lines.specs.Jobs.{Judges};
+ghost use Rattle.tool_lines.specs.Jobs.{Judges, most_events};
 ghost use Rattle.tool_listen.specs.Calls.{SealsInFull};
-ghost use Rattle.tool_listen.specs.Listen.{by_call, first_serving, listen_config, listen_job, most_events};
+ghost use Rattle.tool_listen.specs.Listen.{by_call, first_serving, listen_config, listen_job};
 ghost use Rattle.tool_listen.specs.Telling.{Exchange};
 
 use crate::calls::{PeerCall, read_call};
@@ -13,10 +13,8 @@ use dccp_endpoint::Lists;
 use dccp_listener::{ListenConfig, Listener, Peer};
 use seq_circle::NoMemory;
 use std::alloc::Global;
-use tool_lines::LineJob;
+use tool_lines::{LineJob, MOST_EVENTS};
 use tool_words::{LineFault, LineWhy, whole_line};
-
-const MOST_EVENTS: u32 = 16_384;
 
 // The Service Codes that are served.
 fn services() -> ArrayVec<u32, 16>

@@ -3,9 +3,9 @@ use Rattle.std.proofs.Common.{◌≡◌, ap, sym, ◌∙◌, subst, ℕ, ◌+◌
 use Rattle.std.proofs.lemmas.Bool.{lt-ltb}
 use Rattle.std.specs.Prelude.{is_ok}
 use Rattle.ccid_two.specs.Kinds.{Both}
-use Rattle.tool_lines.specs.Jobs.{Judges, Refused, Verdict}
+use Rattle.tool_lines.specs.Jobs.{Judges, Refused, Verdict, most_events}
 use Rattle.tool_run.specs.Scenes.{Scene}
-use Rattle.tool_run.specs.Transcript.{ShowsEvent, by_scene, event_shown, most_events, run_job, says_event, world_of}
+use Rattle.tool_run.specs.Transcript.{ShowsEvent, by_scene, event_shown, run_job, says_event, world_of}
 use Rattle.tool_run.specs.declared.play.Play.{Play}
 use Rattle.tool_words.specs.Refusals.{whole_line}
 use Rattle.tool_words.specs.declared.faults.LineFault.{LineFault}

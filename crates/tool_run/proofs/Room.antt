@@ -8,13 +8,13 @@ use Rattle.dccp_endpoint.specs.Inputs.{Input, end_stepped}
 use Rattle.dccp_endpoint.specs.Inputs as input
 use Rattle.dccp_endpoint.specs.declared.config.Config.{Config}
 use Rattle.dccp_io.specs.Lines.{lines_of, next_in_lines}
-use Rattle.tool_lines.specs.Jobs.{Gone, Verdict, Accepted, Refused, by_next, gone_by, gone_from}
+use Rattle.tool_lines.specs.Jobs.{Gone, Verdict, Accepted, Refused, by_next, gone_by, gone_from, most_events}
 use Rattle.tool_words.specs.declared.faults.LineFault.{LineFault}
 use Rattle.dccp_endpoint.specs.Drafts.{Fits}
 use Rattle.tool_run.proofs.Peers.{peers-last}
 use Rattle.tool_run.proofs.Running.{Turns, every-run, next-turns, run-last}
 use Rattle.tool_run.specs.Scenes.{Scene, scene_events}
-use Rattle.tool_run.specs.Transcript.{IsPlayable, SentFew, ShowsEvent, by_step, event_shown, first_play, most_events, performed, run_job, world_at_first, world_of, world_or_start}
+use Rattle.tool_run.specs.Transcript.{IsPlayable, SentFew, ShowsEvent, by_step, event_shown, first_play, performed, run_job, world_at_first, world_of, world_or_start}
 use Rattle.tool_run.specs.declared.play.Play.{Play}
 use Rattle.two_ends.proofs.Numbering.{sent-few}
 use Rattle.two_ends.specs.Controlled.{Controlled, ControlledStep, begins_with, congestion_of, controlled, controls, happens_to, plays, said_by}

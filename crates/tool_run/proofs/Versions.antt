@@ -17,9 +17,9 @@ use Rattle.feature_machine.specs.Lists.{with_offer}
 use Rattle.schedule_text.specs.Reading.{read_line}
 use Rattle.schedule_text.specs.declared.line.Line as words
 use Rattle.schedule_text.specs.declared.line.Line.TheVariants as line
-use Rattle.tool_lines.specs.Jobs.{Gone, Verdict, Accepted, Refused, by_next, gone_by, gone_from}
+use Rattle.tool_lines.specs.Jobs.{Gone, Verdict, Accepted, Refused, by_next, gone_by, gone_from, most_events}
 use Rattle.tool_run.specs.Scenes.{Scene}
-use Rattle.tool_run.specs.Transcript.{by_line, by_scene, config_of, configures, event_shown, first_play, judged_line, most_events, offering, performed, run_job, says_event, says_plain, says_version, vectors_of, wishing, with_config, with_header, with_iss, with_offered, with_set, with_vectors, world_of}
+use Rattle.tool_run.specs.Transcript.{by_line, by_scene, config_of, configures, event_shown, first_play, judged_line, offering, performed, run_job, says_event, says_plain, says_version, vectors_of, wishing, with_config, with_header, with_iss, with_offered, with_set, with_vectors, world_of}
 use Rattle.tool_run.specs.Versions.{HaveVectors, vectors_by, vectors_next, vectors_said}
 use Rattle.tool_run.specs.declared.play.Play.{Play}
 use Rattle.tool_words.specs.Refusals.{whole_line}

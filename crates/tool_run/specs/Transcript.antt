@@ -30,13 +30,9 @@ use Rattle.tool_words.specs.declared.faults.LineWhy.{LineWhy}
 use Rattle.tool_words.specs.declared.faults.LineWhy.TheVariants as why
 use Rattle.tool_run.specs.declared.play.Play.{Play}
 use Rattle.tool_replay.specs.Replay.{config_without_offers}
-use Rattle.tool_lines.specs.Jobs.{Gone, Job, Verdict, Accepted, Refused, gone_through, text_of_job}
+use Rattle.tool_lines.specs.Jobs.{Gone, Job, Verdict, Accepted, Refused, gone_through, text_of_job, most_events}
 use Rattle.tool_run.specs.Scenes.{Scene, scene_text}
 use Rattle.tool_run.specs.WorldLines.{end_lines}
-
--- The most events of a schedule.
-abbrev pub most_events : ℕ
-most_events = 16384
 
 -- Where a schedule stands before its first line: the two usual ends are configured.
 abbrev pub first_play : Play

@@ -1,10 +1,10 @@
 //! A schedule while it is played.
 ghost use Rattle.std.specs.Prelude.{◌≡◌, ◌++◌, ℕ, List, is_some, if◌then◌else◌, IfOk, OnErr, OnOk, Some, Ok, Err};
 ghost use Rattle.tool_run.specs.WorldLines.{end_lines};
-ghost use Rattle.tool_lines.specs.Jobs.{Judges};
+ghost use Rattle.tool_lines.specs.Jobs.{Judges, most_events};
 ghost use Rattle.tool_words.specs.Refusals.{whole_line};
 ghost use Rattle.tool_replay.specs.Replay.{config_without_offers};
-ghost use Rattle.tool_run.specs.Transcript.{first_play, starts, world_of, ArePeers, IsPlayable, SentFew, ShowsEvent, event_shown, most_events, by_line, run_job};
+ghost use Rattle.tool_run.specs.Transcript.{first_play, starts, world_of, ArePeers, IsPlayable, SentFew, ShowsEvent, event_shown, by_line, run_job};
 ghost use Rattle.tool_run.specs.Transcript.{with_header, configures, says_plain, says_version, vectors_of, with_iss, with_set, with_offered, wishing, offering, in_place, says_event, no_such_frame};
 ghost use Rattle.dccp_endpoint.specs.Drafts.{Fits};
 ghost use Rattle.feature_lists.specs.Wishes.{wish_of};
@@ -18,10 +18,9 @@ use feature_lists::{Feature, Place};
 use schedule_text::{Line, print_seen};
 use seq_circle::{NoMemory, Seq48};
 use std::alloc::Global;
+use tool_lines::MOST_EVENTS;
 use tool_words::{LineFault, LineWhy, whole_line};
 use two_ends::{Event, Side, World, WorldFault};
-
-const MOST_EVENTS: u32 = 16_384;
 
 /// Where a schedule stands.
 #[derive(Drop)]

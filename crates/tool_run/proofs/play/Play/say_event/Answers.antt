@@ -1,12 +1,13 @@
 -- Behind an event each side has sent one frame more at most, and its line was judged as it was shown.
 use Rattle.std.proofs.Common.{rules, ◌≡◌, ◌<◌, subst, sym, true, false, Some}
 use Rattle.std.specs.Prelude.{is_ok}
-use Rattle.tool_run.specs.Transcript.{SentFew, ShowsEvent, event_shown, most_events, world_of}
+use Rattle.tool_run.specs.Transcript.{SentFew, ShowsEvent, event_shown, world_of}
 use Rattle.tool_run.proofs.Judging.{judged-else, judged-then}
 use Rattle.tool_run.proofs.Room.{few-at, shown-few, playable-behind}
 use Rattle.two_ends.specs.Controlled.{Controlled}
 use Rattle.ccid_two.specs.Kinds.{Both}
 use Rattle.tool_run.proofs.play.Play.say_event.Goals as goal
+use Rattle.tool_lines.specs.Jobs.{most_events}
 
 pub returns-then-is_ok-clause-playable : goal.returns-then-is_ok-clause-playable
 returns-then-is_ok-clause-playable c = λ fine.
