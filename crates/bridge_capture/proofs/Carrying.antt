@@ -1,10 +1,10 @@
 -- The packet of a record is IPv4 that carries the frame.
-use Rattle.std.proofs.Common.{arith, ◌≡◌, ◌≤◌, ◌<◌, ◌^◌, ℕ, ◌+◌, ◌-◌, List, ◌∷◌, ◌++◌, length, length-append, Some, refl, sym, ap, ◌∙◌, true, nat_le, take, drop}
+use Rattle.std.proofs.Common.{arith, ◌≡◌, ◌≤◌, ℕ, ◌+◌, ◌-◌, List, ◌∷◌, ◌++◌, length, length-append, Some, refl, ap, ◌∙◌, true, nat_le, take}
 use Rattle.std.proofs.lemmas.Bool.{le-leb}
 use Rattle.std.proofs.lemmas.List.{take_all}
-use Rattle.byteorder.specs.Endian.{big_bytes, big_number}
+use Rattle.byteorder.specs.Endian.{big_bytes}
 use Rattle.byteorder.specs.Numbers.{big_number-reads_back}
-use Rattle.packet_show.specs.Network.{carried, in_ip, is_v4, v4_total}
+use Rattle.packet_show.specs.Network.{carried, in_ip, v4_total}
 use Rattle.world_events.specs.declared.event.Side.{Side}
 use Rattle.world_events.specs.declared.event.Side.TheVariants.{Client, Server}
 use Rattle.bridge_capture.specs.Reading.{travels, whole_frame}

@@ -23,7 +23,7 @@ use Rattle.bridge_capture.specs.Lines.{frame_name_read, frame_told, is_other, li
 use Rattle.bridge_capture.specs.Reading.{FitsFrame}
 use Rattle.bridge_capture.specs.Records.{TimedFrame, frame_record}
 use Rattle.capture_reader.specs.Records.{captured}
-use Rattle.capture_writer.specs.Writing.{FitsHeader, RawRecord, capture_of, file_header, raw_entries, raw_record}
+use Rattle.capture_writer.specs.Writing.{FitsHeader, capture_of, file_header, raw_entries, raw_record}
 use Rattle.capture_writer.proofs.ReadingBack.{records-read}
 use Rattle.bridge_capture.proofs.Carrying.{packet_length}
 use Rattle.bridge_capture.specs.declared.capturing.Clock.{Clock}

@@ -1,5 +1,5 @@
 -- What a reader of captures finds in the record of a frame.
-use Rattle.std.specs.Prelude.{ℕ, ◌<◌, ◌≤◌, ◌^◌, true, length}
+use Rattle.std.specs.Prelude.{◌<◌, ◌≤◌, ◌^◌, true, length}
 use Rattle.dccp_sum.specs.declared.pseudo_header.Pseudo.{Pseudo}
 use Rattle.dccp_sum.specs.declared.pseudo_header.Pseudo.TheVariants.{V4}
 use Rattle.packet_show.specs.Network.{DatagramParts}

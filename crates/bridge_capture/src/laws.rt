@@ -1,5 +1,5 @@
 //! What the definition of a capture of frames says.
-ghost use Rattle.std.specs.Prelude.{◌≡◌, ℕ, ◌+◌, ◌≤◌, ◌<◌, ◌^◌, List, All, length, map, None, Some, false};
+ghost use Rattle.std.specs.Prelude.{◌≡◌, ℕ, ◌≤◌, ◌<◌, ◌^◌, List, All, length, map, None, Some, false};
 ghost use Rattle.capture_reader.specs.Records.{captured};
 ghost use Rattle.capture_reader.specs.declared.format.Order.{Order};
 ghost use Rattle.capture_reader.specs.Records.{most_captured};

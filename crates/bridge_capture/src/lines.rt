@@ -1,5 +1,5 @@
 //! What a line of a transcript tells.
-ghost use Rattle.std.specs.Prelude.{◌≡◌, ◌≤◌, length, IfErr, IfOk, IfSome};
+ghost use Rattle.std.specs.Prelude.{◌≡◌, ◌≤◌, length, IfErr};
 ghost use Rattle.tool_words.specs.Left.{left_of};
 ghost use Rattle.bridge_capture.specs.Lines as spec;
 

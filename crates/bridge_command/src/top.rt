@@ -14,8 +14,8 @@ use std::alloc::Global;
 use tool_output::Status;
 
 /// Does what the words ask for (own), those after the program's name. `capture` reads what `run` or `replay` wrote, and
-/// writes a classic capture with a record for each frame that was sent. `unwrap` reads a classic capture of one of nine link
-/// types, and writes one of raw IP, record for record.
+/// writes a classic capture with a record for each frame that was sent. `unwrap` reads a capture, classic or pcapng, of any of
+/// nine link types, and writes a classic one of raw IP, record for record.
 ///
 /// Words are judged first; after that the first refusal met in the order of reading decides. With status 0 or 1 the output
 /// is that of the whole input, with status 3, 4 or 5 a front of it. The clauses on the output speak of a source that tells

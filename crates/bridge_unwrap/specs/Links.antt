@@ -1,13 +1,10 @@
 -- Where the IP packet of a captured record begins, by its link type (the link-layer header types of libpcap; VLAN tags by IEEE 802.1Q).
-use Rattle.std.specs.Prelude.{ℕ, ◌+◌, ◌/◌, Bool, ◌&&◌, ◌||◌, ◌==◌, not, nat_lt, if◌then◌else◌, List, length, slice_index, Option, Some, None}
+use Rattle.std.specs.Prelude.{◌≡◌, ℕ, ◌+◌, ◌/◌, Bool, false, ◌&&◌, ◌||◌, ◌==◌, not, nat_lt, if◌then◌else◌, List, [], length, drop, slice_index, Option, Some, None}
 use Rattle.byteorder.specs.Endian.{big_number, little_number}
 use Rattle.dccp_packets.specs.Grammar.{number_at}
 
--- the link types: 0 and 108 begin with an address family, 1 is Ethernet, 12 and 101 are raw IP, 113 and 276 those of the "any" device of
--- Linux, 228 is IPv4 and 229 IPv6
-abbrev pub is_known_link : ℕ → Bool
-is_known_link link =
-    link == 0 || (link == 1 || (link == 12 || (link == 101 || (link == 108 || (link == 113 || (link == 228 || (link == 229 || link == 276)))))))
+-- Link types 0 and 108 begin with an address family, 1 is Ethernet, 12 and 101 are raw IP, 113 and 276 those of the "any" device of Linux,
+-- 228 is IPv4 and 229 IPv6.
 
 -- IP of this version begins at a place: the first four bits there are the version
 abbrev pub ip_at : ℕ → ℕ → List ℕ → Option ℕ
@@ -75,3 +72,16 @@ ip_start link bytes =
     else if link == 229 then ip_at 6 0 bytes
     else if link == 276 then ip_by_type 0 20 bytes
     else ip_at_first bytes
+
+-- the IP packet that begins there, or no bytes where there is none
+abbrev pub bytes_at_start : Option ℕ → List ℕ → List ℕ
+bytes_at_start (Some start) bytes = drop start bytes
+bytes_at_start None bytes = []
+
+-- the IP packet in a record of this link type
+abbrev pub ip_bytes : ℕ → List ℕ → List ℕ
+ip_bytes link bytes = bytes_at_start (ip_start link bytes) bytes
+
+-- the type of Ethernet is no VLAN tag
+abbrev pub IsUntagged : List ℕ → Type 0
+IsUntagged bytes = is_tag (number_at 12 2 bytes) ≡ false

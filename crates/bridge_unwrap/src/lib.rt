@@ -1,10 +1,11 @@
-//! `unwrap`: a capture of any of nine link types as one of raw IP, record for record (own; the savefile format of libpcap).
+//! `unwrap`: a capture of any of nine link types, classic or pcapng, as a classic one of raw IP, record for record (own).
 //!
 //! It finds the IP packet of a record behind the header of its link and up to two VLAN tags, and looks no further into it.
 #![tactic(auto)]
 
-mod captured;
+mod laws;
 mod links;
 mod unwrapping;
 
+pub use crate::laws::{each_record_is_unwrapped, what_show_shows_stays};
 pub use crate::unwrapping::unwrap_capture;

@@ -1,6 +1,5 @@
 //! Where the IP packet of a record begins, by the link type.
 ghost use Rattle.std.specs.Prelude.{◌≡◌, ◌+◌, ◌≤◌, ◌<◌, length, IfSome};
-ghost use Rattle.byteorder.specs.Endian.{big_number, little_number};
 ghost use Rattle.dccp_packets.specs.Grammar.{number_at};
 ghost use Rattle.bridge_unwrap.specs.Links as spec;
 
@@ -14,13 +13,6 @@ const IPV6: u16 = 0x86dd;
 const VLAN: u16 = 0x8100;
 
 const SERVICE_VLAN: u16 = 0x88a8;
-
-/// The link types whose records may carry IP.
-pub(crate) fn is_known_link(link: u32) -> bool
-    ensures { result ≡ spec.is_known_link link }
-{
-    matches!(link, 0 | 1 | 12 | 101 | 108 | 113 | 228 | 229 | 276)
-}
 
 // The number of 16 bits that stands there.
 fn read_u16(bytes: &[u8], place: usize) -> u16

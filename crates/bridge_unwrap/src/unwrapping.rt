@@ -1,16 +1,15 @@
-//! `unwrap`: a job over the pieces of a classic capture.
-ghost use Rattle.std.specs.Prelude.{◌≡◌, ◌≢◌, ◌≤◌, ◌<◌, ◌^◌, ◌++◌, ℕ, List, length, drop, IfOk, OnOk, Some};
-ghost use Rattle.bridge_pieces.specs.Pieces.{JudgesPiece};
+//! `unwrap`: a job over the pieces of a capture.
+ghost use Rattle.std.specs.Prelude.{◌≡◌, ◌≢◌, ◌+◌, ◌≤◌, ◌++◌, ℕ, List, length, drop, false, OnOk, Some};
+ghost use Rattle.bridge_records.specs.Reading.{bytes_held};
 ghost use Rattle.capture_writer.specs.Writing.{header_for, raw_record};
 ghost use Rattle.dccp_io.specs.Counts.{Rose, one_more};
 ghost use Rattle.tool_output.specs.Ends.{Answers, EndsForCause, SinkFails, StopsWithin};
 ghost use Rattle.bridge_unwrap.specs.Unwrapping as spec;
-ghost use Rattle.bridge_unwrap.specs.Unwrapping.{by_format, by_header, first_unwrapping, is_unwrapped_faulty, piece_fault_name, unwrap_closing, unwrap_work, unwrapped, unwrapped_pieces, unwrapped_text, unwrapping_at};
+ghost use Rattle.bridge_unwrap.specs.Unwrapping.{first_unwrapping, is_unwrapped_faulty, piece_fault_name, unwrap_closing, unwrap_work, unwrapped, unwrapped_pieces, unwrapped_text, unwrapping_at, untold_header};
 
-use crate::captured::{format_of, record_header};
 use crate::links::ip_start;
 use bridge_pieces::{PieceFault, PieceJob, run_pieces};
-use capture_reader::Format;
+use bridge_records::{CaptureFile, Found};
 use capture_writer::{RecordHeader, put_file_header, put_record_header};
 use dccp_io::{Sink, Source};
 use seq_circle::NoMemory;
@@ -19,35 +18,19 @@ use std::marker::Model;
 use tool_output::Status;
 use tool_text::{put, put_counted};
 
-// The most bytes of a record.
-const MOST_CAPTURED: u32 = 262_144;
-
-/// Which piece of a capture stands next.
-#[derive(Clone, Copy)]
-pub(crate) enum Place {
-    /// The file header.
-    Start,
-    /// The header of a record.
-    Header(Format),
-    /// The bytes of a record, which this header has: 1 to 262,144.
-    Body(Format, RecordHeader),
-}
-
-/// A capture while it is unwrapped: which piece stands next, and how many records were made.
+/// A capture while it is unwrapped, and how many records were made.
 #[derive(Drop)]
 pub(crate) struct Unwrapping {
-    pub(crate) place: Place,
-    pub(crate) records: u64,
+    file: CaptureFile,
+    records: u64,
 }
 
 impl Model for Unwrapping {
-    ghost use Rattle.bridge_unwrap.specs.Unwrapping.{FitsPlace, UnwrapState};
+    ghost use Rattle.bridge_unwrap.specs.Unwrapping.{UnwrapState};
 
     ghost Value = { UnwrapState };
 
-    ghost view = { λ u. record { place = u.place; records = u.records } };
-
-    ghost invariant = { λ u. FitsPlace u.place };
+    ghost view = { λ u. record { file = u.file; records = u.records } };
 }
 
 // The header of the record that is made of one, whose packet begins there.
@@ -72,6 +55,7 @@ fn behind(bytes: &[u8], count: usize) -> &[u8]
 }
 
 // Puts the record that is made of one of this link type, with the bytes that were captured of it.
+#[tactic(auto, unfolding(crate::specs::Unwrapping::unwrapped))]
 fn put_unwrapped(
     text: &mut Vec<u8>,
     link: u32,
@@ -111,7 +95,7 @@ fn fault_name(fault: PieceFault) -> &'static [u8]
 
 // Puts the line of a fault, behind so many records.
 fn put_fault(text: &mut Vec<u8>, records: u64, fault: PieceFault) -> Result<(), NoMemory>
-    ensures { OnOk result (text.new.items ≡ text.old.items ++ unwrap_closing records (Some fault)) }
+    ensures { OnOk result (text.new.items ≡ text.old.items ++ unwrap_closing false records (Some fault)) }
 {
     put(text, b"capture ")?;
     put(text, fault_name(fault))?;
@@ -120,83 +104,56 @@ fn put_fault(text: &mut Vec<u8>, records: u64, fault: PieceFault) -> Result<(), 
     put(text, b"\n")
 }
 
+// Puts the text at the end of a capture in which no interface was read, or one was.
+fn put_untold(text: &mut Vec<u8>, untold: bool) -> Result<(), NoMemory>
+    ensures { OnOk result (text.new.items ≡ text.old.items ++ untold_header untold) }
+{
+    if untold {
+        return put_file_header(text, false);
+    }
+    Ok(())
+}
+
+// The bytes of a record in its piece.
+fn bytes_of<'a>(head: &RecordHeader, start: usize, piece: &'a [u8]) -> &'a [u8]
+    requires inside { start + head.now.captured ≤ length piece.now }
+    ensures value { result.now ≡ bytes_held head.now start piece.now }
+    ensures size { length result.now ≡ head.now.captured }
+{
+    &piece[start..start + head.captured as usize]
+}
+
+// Puts the record that is made of one whose bytes begin there in this piece.
+fn put_held(
+    text: &mut Vec<u8>,
+    link: u32,
+    head: &RecordHeader,
+    start: usize,
+    piece: &[u8],
+) -> Result<(), NoMemory>
+    requires inside { start + head.now.captured ≤ length piece.now }
+    requires short { head.now.captured ≤ 262144 }
+    ensures { OnOk result (text.new.items ≡ text.old.items ++ raw_record (unwrapped link head.now (bytes_held head.now start piece.now))) }
+{
+    put_unwrapped(text, link, head, bytes_of(head, start, piece))
+}
+
 impl Unwrapping {
     // Before the first piece.
-    fn new() -> Unwrapping
+    fn new(alloc: Global) -> Unwrapping
         ensures { result ≡ first_unwrapping }
     {
         Unwrapping {
-            place: Place::Start,
+            file: CaptureFile::new(alloc),
             records: 0,
         }
     }
 
-    // The file header.
-    fn begin(
-        &mut self,
-        piece: &[u8],
-        text: &mut Vec<u8>,
-    ) -> Result<Result<(), PieceFault>, NoMemory>
-        requires { 24 ≤ length piece.now }
-        ensures { IfOk result (λ answer. JudgesPiece unwrap_work self.old (by_format self.old.records (spec.any_format piece.now))
-            text.old.items text.new.items self.new answer) }
+    // One record more.
+    fn pass_record(&mut self)
+        ensures { self.new ≡ unwrapping_at self.old.file (one_more self.old.records) }
     {
-        match format_of(piece) {
-            Err(fault) => Ok(Err(fault)),
-            Ok(format) => {
-                put_file_header(text, format.nanos)?;
-                self.place = Place::Header(format);
-                Ok(Ok(()))
-            }
-        }
-    }
-
-    // A record's header.
-    fn read_header(
-        &mut self,
-        format: Format,
-        piece: &[u8],
-        text: &mut Vec<u8>,
-    ) -> Result<Result<(), PieceFault>, NoMemory>
-        requires { 16 ≤ length piece.now }
-        ensures { IfOk result (λ answer. JudgesPiece unwrap_work self.old (by_header format self.old.records (spec.head_in format.order piece.now))
-            text.old.items text.new.items self.new answer) }
-    {
-        let head = record_header(format.order, piece);
-        if MOST_CAPTURED < head.captured {
-            return Ok(Err(PieceFault::TooLong));
-        }
-        if head.captured == 0 {
-            return self.end_record(format, head, &[], text);
-        }
-        self.place = Place::Body(format, head);
-        Ok(Ok(()))
-    }
-
-    // One record more, behind which the next header stands.
-    fn pass_record(&mut self, format: Format)
-        ensures { self.new ≡ unwrapping_at (Place.Header format) (one_more self.old.records) }
-    {
-        self.place = Place::Header(format);
         self.records = self.records.saturating_add(1);
-    }
-
-    // A whole record.
-    #[tactic(auto, unfolding(crate::specs::Unwrapping::by_body))]
-    fn end_record(
-        &mut self,
-        format: Format,
-        head: RecordHeader,
-        bytes: &[u8],
-        text: &mut Vec<u8>,
-    ) -> Result<Result<(), PieceFault>, NoMemory>
-        requires { length bytes.now ≤ 262144 }
-        ensures { IfOk result (λ answer. JudgesPiece unwrap_work self.old (spec.by_body format self.old.records head bytes.now)
-            text.old.items text.new.items self.new answer) }
-    {
-        put_unwrapped(text, format.link, &head, bytes)?;
-        self.pass_record(format);
-        Ok(Ok(()))
     }
 }
 
@@ -208,15 +165,11 @@ impl PieceJob for Unwrapping {
     ghost job = { unwrap_work };
 
     fn wanted(&self) -> usize {
-        match self.place {
-            Place::Start => 24,
-            Place::Header(_) => 16,
-            Place::Body(_, head) => head.captured as usize,
-        }
+        self.file.wanted()
     }
 
     fn may_end(&self) -> bool {
-        matches!(self.place, Place::Header(_))
+        self.file.may_end()
     }
 
     fn judge(
@@ -224,26 +177,37 @@ impl PieceJob for Unwrapping {
         piece: &[u8],
         text: &mut Vec<u8>,
     ) -> Result<Result<(), PieceFault>, NoMemory> {
-        match self.place {
-            Place::Start => self.begin(piece, text),
-            Place::Header(format) => self.read_header(format, piece, text),
-            Place::Body(format, head) => self.end_record(format, head, piece, text),
+        match self.file.read(piece)? {
+            Err(fault) => Ok(Err(fault)),
+            Ok(None) => Ok(Ok(())),
+            Ok(Some(Found::Begins(nanos))) => {
+                put_file_header(text, nanos)?;
+                Ok(Ok(()))
+            }
+            Ok(Some(Found::Holds(link, head, start))) => {
+                put_held(text, link, &head, start, piece)?;
+                self.pass_record();
+                Ok(Ok(()))
+            }
         }
     }
 
     fn finish(&self, end: Option<PieceFault>, text: &mut Vec<u8>) -> Result<(), NoMemory> {
         match end {
-            None => Ok(()),
+            None => put_untold(text, self.file.is_untold()),
             Some(fault) => put_fault(text, self.records, fault),
         }
     }
 }
 
-/// Makes of a classic capture one of raw IP (own): a record for each record, at the same time, with the IP packet that is found
+/// Makes of a capture a classic one of raw IP (own): a record for each record, at the same time, with the IP packet that is found
 /// behind the header of its link and up to two VLAN tags, or empty where there is none. Of link types it knows 0 and 108,
 /// which begin with an address family, 1 (Ethernet), 12 and 101 (raw IP), 113 and 276 (the "any" device of Linux), 228 (IPv4)
-/// and 229 (IPv6). Input comes where the capture has a fault, and then its line stands behind the records; it is no record, to
-/// any reader. With status 0 or 1 the output is that of the whole input, with another a front of it. Read comes where the
+/// and 229 (IPv6). The capture is a classic one or a pcapng file, whose records are its Enhanced Packet Blocks, and its Simple
+/// Packet Blocks at time 0. Fractions of a second are nanoseconds where the first interface of a pcapng file counts time finer
+/// than in microseconds.
+///
+/// Input comes where the capture has a fault, and then its line stands behind the records; it is no record, to any reader. With status 0 or 1 the output is that of the whole input, with another a front of it. Read comes where the
 /// source failed, Write where the sink did, and Memory where no memory was left.
 pub fn unwrap_capture<S: Source, K: Sink>(alloc: Global, input: &mut S, output: &mut K) -> Status
     ensures words { result ≢ Status.Words }
@@ -253,6 +217,6 @@ pub fn unwrap_capture<S: Source, K: Sink>(alloc: Global, input: &mut S, output: 
         → StopsWithin 524288 (unwrapped_pieces bytes).accepted bytes result (S.left input.new) }
     ensures cause { EndsForCause result (Rose (S.faults input.old) (S.faults input.new)) (SinkFails K.faults K.empty_takes output.old output.new) }
 {
-    let mut job = Unwrapping::new();
+    let mut job = Unwrapping::new(alloc);
     run_pieces(alloc, &mut job, input, output)
 }

@@ -3,10 +3,11 @@ use Rattle.std.proofs.Common.{◌≡◌, ◌∙◌, ap, ℕ, List, ◌++◌, dro
 use Rattle.capture_writer.specs.Writing.{header_for, raw_record, record_head}
 use Rattle.capture_writer.specs.declared.headers.RecordHeader.{RecordHeader}
 use Rattle.bridge_unwrap.specs.Links.{ip_start}
-use Rattle.bridge_unwrap.specs.Unwrapping.{unwrapped_at}
+use Rattle.bridge_unwrap.specs.Unwrapping.{unwrapped, unwrapped_at}
 use Rattle.bridge_unwrap.proofs.unwrapping.put_unwrapped.Goals as goal
 
 pub returns : goal.returns
+unfolding unwrapped
 returns c =
     let text : List ℕ = c.args.text.now.items in
     let head = c.args.head.now in

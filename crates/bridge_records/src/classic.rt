@@ -1,11 +1,9 @@
 //! What the headers of a classic capture say, of any of the link types.
-ghost use Rattle.std.specs.Prelude.{◌≡◌, ◌+◌, ◌≤◌, length};
-ghost use Rattle.capture_reader.specs.Format.{ordered_number_at, is_version, microseconds, nanoseconds};
-ghost use Rattle.bridge_unwrap.specs.Unwrapping as spec;
+ghost use Rattle.std.specs.Prelude.{◌≡◌, ◌≤◌, length};
+ghost use Rattle.bridge_records.specs.Classic as spec;
 
-use crate::links::is_known_link;
+use crate::numbers::{read_u16, read_u32};
 use bridge_pieces::PieceFault;
-use byteorder::{BigEndian, ByteOrder, LittleEndian};
 use capture_reader::{Format, Order};
 use capture_writer::RecordHeader;
 
@@ -13,26 +11,11 @@ const MICROSECONDS: u32 = 0xa1b2_c3d4;
 
 const NANOSECONDS: u32 = 0xa1b2_3c4d;
 
-// The number of 32 bits that stands there.
-fn read_u32(order: Order, bytes: &[u8], place: usize) -> u32
-    requires { place + 4 ≤ length bytes.now }
-    ensures { result ≡ ordered_number_at order place 4 bytes.now }
+/// The link types whose records may carry IP.
+pub(crate) fn is_known_link(link: u32) -> bool
+    ensures { result ≡ spec.is_known_link link }
 {
-    match order {
-        Order::Big => BigEndian::read_u32(&bytes[place..]),
-        Order::Little => LittleEndian::read_u32(&bytes[place..]),
-    }
-}
-
-// The number of 16 bits that stands there.
-fn read_u16(order: Order, bytes: &[u8], place: usize) -> u16
-    requires { place + 2 ≤ length bytes.now }
-    ensures { result ≡ ordered_number_at order place 2 bytes.now }
-{
-    match order {
-        Order::Big => BigEndian::read_u16(&bytes[place..]),
-        Order::Little => LittleEndian::read_u16(&bytes[place..]),
-    }
+    matches!(link, 0 | 1 | 12 | 101 | 108 | 113 | 228 | 229 | 276)
 }
 
 // The format of a file header in this byte order, by its version and its link type.

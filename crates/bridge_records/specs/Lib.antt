@@ -1,0 +1,5 @@
+pub mod Classic
+pub mod Blocks
+pub mod Interfaces
+pub mod Packets
+pub mod Reading

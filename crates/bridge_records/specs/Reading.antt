@@ -1,0 +1,236 @@
+-- How the pieces of a capture, classic or pcapng, are read, and which records they hold (own; the savefile format of libpcap and
+-- draft-ietf-opsawg-pcapng).
+use Rattle.std.specs.Prelude.{◌≡◌, ◌≤◌, ⊤, ℕ, ◌+◌, ◌-◌, ◌==◌, ◌||◌, not, nat_le, nat_lt, Bool, true, false, if◌then◌else◌, List, [], ◌∷◌, ◌++◌, length, drop, take, slice_get, Option, Some, None, IfSome, Result, Ok, Err}
+use Rattle.capture_reader.specs.Format.{ordered_number_at}
+use Rattle.capture_reader.specs.declared.format.Format.{Format}
+use Rattle.capture_reader.specs.declared.format.Order.{Order}
+use Rattle.capture_reader.specs.declared.format.Order.TheVariants.{Big}
+use Rattle.capture_writer.specs.declared.headers.RecordHeader.{RecordHeader}
+use Rattle.bridge_pieces.specs.Pieces.{Goes, Judgement, Stops}
+use Rattle.bridge_pieces.specs.declared.fault.PieceFault.{PieceFault}
+use Rattle.bridge_pieces.specs.declared.fault.PieceFault.TheVariants as why
+use Rattle.bridge_records.specs.Classic.{any_format, head_in}
+use Rattle.bridge_records.specs.Blocks.{block_head, block_order, ends_block, enhanced_block, interface_block, is_read_block, is_section_version, length_fault, section_block, section_order, simple_block}
+use Rattle.bridge_records.specs.Interfaces.{interface_of, needs_nanos}
+use Rattle.bridge_records.specs.Packets.{enhanced_head, simple_head}
+use Rattle.bridge_records.specs.declared.blocks.BlockHead.{BlockHead}
+use Rattle.bridge_records.specs.declared.found.Found.{Found}
+use Rattle.bridge_records.specs.declared.found.Found.TheVariants.{Begins, Holds}
+use Rattle.bridge_records.specs.declared.interfaces.Interface.{Interface}
+use Rattle.bridge_records.specs.declared.reading.Place.{Place}
+use Rattle.bridge_records.specs.declared.reading.Place.TheVariants as place
+
+-- Where reading stands: which piece is next, the interfaces of the section, and, once a pcapng file's first interface was read, whether
+-- fractions are nanoseconds.
+pub record FileState : Type 0 where
+  pub place : Place
+  pub interfaces : List Interface
+  pub nanos : Option Bool
+
+-- each piece has some bytes, and not too many
+abbrev pub FitsPlace : Place → Type 0
+FitsPlace place.Start = ⊤
+FitsPlace (place.Header format) = ⊤
+FitsPlace (place.Body format head) = (1 ≤ head.captured) × (head.captured ≤ 262144)
+FitsPlace (place.Section order total) = (28 ≤ total) × (total ≤ 524288)
+FitsPlace (place.Block order) = ⊤
+FitsPlace (place.Rest order head) = (16 ≤ head.total) × (head.total ≤ 524288)
+
+-- before the first piece
+abbrev pub first_file : FileState
+first_file = record { place = place.Start; interfaces = []; nanos = None }
+
+-- the same elsewhere
+abbrev pub at : FileState → Place → FileState
+at file there = record file { place = there }
+
+-- how many bytes the next piece has
+abbrev pub next_length : Place → ℕ
+next_length place.Start = 24
+next_length (place.Header format) = 16
+next_length (place.Body format head) = head.captured
+next_length (place.Section order total) = total - 24
+next_length (place.Block order) = 12
+next_length (place.Rest order head) = head.total - 12
+
+-- the input may end between two records or blocks
+abbrev pub is_between : Place → Bool
+is_between place.Start = false
+is_between (place.Header format) = true
+is_between (place.Body format head) = false
+is_between (place.Section order total) = false
+is_between (place.Block order) = true
+is_between (place.Rest order head) = false
+
+-- no interface told whether fractions are nanoseconds, where blocks are read
+abbrev pub untold_at : Place → Option Bool → Bool
+untold_at (place.Block order) None = true
+untold_at (place.Block order) (Some nanos) = false
+untold_at place.Start nanos = false
+untold_at (place.Header format) nanos = false
+untold_at (place.Body format head) nanos = false
+untold_at (place.Section order total) nanos = false
+untold_at (place.Rest order head) nanos = false
+
+-- the same of a file, where it may end
+abbrev pub is_untold : FileState → Bool
+is_untold file = untold_at file.place file.nanos
+
+-- the file header of a classic capture
+abbrev pub by_format : FileState → Result Format PieceFault → Judgement Found FileState
+by_format file (Err fault) = Stops fault
+by_format file (Ok format) = Goes (Some (Begins format.nanos)) (at file (place.Header format))
+
+-- the first section, by its length: the rest of its first block stands next
+abbrev pub by_section_length : FileState → Order → List ℕ → ℕ → Option PieceFault → Judgement Found FileState
+by_section_length file order piece total (Some fault) = Stops fault
+by_section_length file order piece total None =
+    if not (is_section_version order 12 piece) then Stops why.BadVersion
+    else Goes None (at file (place.Section order total))
+
+-- the same by its byte order
+abbrev pub by_section : FileState → List ℕ → Option Order → Judgement Found FileState
+by_section file piece None = Stops why.BadMagic
+by_section file piece (Some order) =
+    by_section_length file order piece (ordered_number_at order 4 4 piece) (length_fault 28 (ordered_number_at order 4 4 piece))
+
+-- the first bytes of a file: those of a section, or the file header of a classic capture
+abbrev pub by_start : FileState → List ℕ → Judgement Found FileState
+by_start file piece =
+    if ordered_number_at Big 0 4 piece == section_block then by_section file piece (section_order piece)
+    else by_format file (any_format piece)
+
+-- a record's header in a classic capture: too many captured bytes are refused, none are a record, and else they are the next piece
+abbrev pub by_header : FileState → Format → RecordHeader → Judgement Found FileState
+by_header file format head =
+    if nat_lt 262144 head.captured then Stops why.TooLong
+    else if head.captured == 0 then Goes (Some (Holds format.link head 0)) (at file (place.Header format))
+    else Goes None (at file (place.Body format head))
+
+-- the end of the first section's first block
+abbrev pub by_section_end : FileState → Order → ℕ → List ℕ → Judgement Found FileState
+by_section_end file order total piece =
+    if not (ends_block order total piece) then Stops why.BadBlock
+    else Goes None (at file (place.Block order))
+
+-- a block without a body is skipped, where its type wants none
+abbrev pub by_empty : FileState → Order → BlockHead → Judgement Found FileState
+by_empty file order head =
+    if is_read_block head.kind || not (head.first == 12) then Stops why.BadBlock
+    else Goes None (at file (place.Block order))
+
+-- the first bytes of a block, by its length: the rest stands next
+abbrev pub by_block_length : FileState → Order → BlockHead → Option PieceFault → Judgement Found FileState
+by_block_length file order head (Some fault) = Stops fault
+by_block_length file order head None =
+    if not (head.total == 12) then Goes None (at file (place.Rest order head))
+    else by_empty file order head
+
+-- the same by its byte order
+abbrev pub by_block : FileState → List ℕ → Option Order → Judgement Found FileState
+by_block file piece None = Stops why.BadBlock
+by_block file piece (Some order) = by_block_length file order (block_head order piece) (length_fault 12 (block_head order piece).total)
+
+-- a further section has interfaces of its own
+abbrev pub by_new_section : FileState → Order → List ℕ → Judgement Found FileState
+by_new_section file order piece =
+    if nat_lt (length piece) 16 then Stops why.BadBlock
+    else if not (is_section_version order 0 piece) then Stops why.BadVersion
+    else Goes None (record file { place = place.Block order; interfaces = [] })
+
+-- fractions are as the first interface of the file has them
+abbrev pub begun_nanos : Option Bool → Interface → Bool
+begun_nanos (Some nanos) i = nanos
+begun_nanos None i = needs_nanos i.resolution
+
+-- so the first interface begins the capture
+abbrev pub begun_capture : Option Bool → Interface → Option Found
+begun_capture (Some nanos) i = None
+begun_capture None i = Some (Begins (needs_nanos i.resolution))
+
+-- an interface behind those of the section
+abbrev pub by_interface : FileState → Order → Result Interface PieceFault → Judgement Found FileState
+by_interface file order (Err fault) = Stops fault
+by_interface file order (Ok i) =
+    Goes (begun_capture file.nanos i) (record file { place = place.Block order; interfaces = file.interfaces ++ (i ∷ []); nanos = Some (begun_nanos file.nanos i) })
+
+-- the most interfaces of a section that are kept; packets of others are refused
+abbrev pub most_interfaces : ℕ
+most_interfaces = 256
+
+-- a block of an interface
+abbrev pub by_interface_block : FileState → Order → ℕ → List ℕ → Judgement Found FileState
+by_interface_block file order first piece =
+    if nat_le most_interfaces (length file.interfaces) then Goes None (at file (place.Block order))
+    else by_interface file order (interface_of order first piece)
+
+-- a packet is a record where its bytes stand before the block's last four
+abbrev pub by_packet : FileState → Order → ℕ → RecordHeader → ℕ → List ℕ → Judgement Found FileState
+by_packet file order link head start piece =
+    if nat_lt 262144 head.captured then Stops why.TooLong
+    else if nat_lt (length piece) (start + head.captured + 4) then Stops why.BadBlock
+    else Goes (Some (Holds link head start)) (at file (place.Block order))
+
+-- the same by what its record says, if its time can be told
+abbrev pub by_head : FileState → Order → ℕ → ℕ → List ℕ → Option RecordHeader → Judgement Found FileState
+by_head file order link start piece None = Stops why.BadBlock
+by_head file order link start piece (Some head) = by_packet file order link head start piece
+
+-- fractions are nanoseconds
+abbrev pub is_nanos : Option Bool → Bool
+is_nanos None = false
+is_nanos (Some nanos) = nanos
+
+-- a packet with its interface and time
+abbrev pub by_enhanced : FileState → Order → List ℕ → Option Interface → Judgement Found FileState
+by_enhanced file order piece None = Stops why.BadBlock
+by_enhanced file order piece (Some i) =
+    if nat_lt (length piece) 20 then Stops why.BadBlock
+    else by_head file order i.link 16 piece (enhanced_head i (is_nanos file.nanos) order piece)
+
+-- a packet of the first interface, without a time
+abbrev pub by_simple : FileState → Order → ℕ → List ℕ → Option Interface → Judgement Found FileState
+by_simple file order original piece None = Stops why.BadBlock
+by_simple file order original piece (Some i) = by_packet file order i.link (simple_head i.most original) 0 piece
+
+-- a block by its type
+abbrev pub by_kind : FileState → Order → BlockHead → List ℕ → Judgement Found FileState
+by_kind file order head piece =
+    if head.kind == section_block then by_new_section file order piece
+    else if head.kind == interface_block then by_interface_block file order head.first piece
+    else if head.kind == simple_block then by_simple file order head.first piece (slice_get file.interfaces 0)
+    else if head.kind == enhanced_block then by_enhanced file order piece (slice_get file.interfaces head.first)
+    else Goes None (at file (place.Block order))
+
+-- the rest of a block
+abbrev pub by_rest : FileState → Order → BlockHead → List ℕ → Judgement Found FileState
+by_rest file order head piece =
+    if not (ends_block order head.total piece) then Stops why.BadBlock
+    else by_kind file order head piece
+
+-- what a piece comes to, by where it stands
+abbrev pub judged_at : Place → FileState → List ℕ → Judgement Found FileState
+judged_at place.Start file piece = by_start file piece
+judged_at (place.Header format) file piece = by_header file format (head_in format.order piece)
+judged_at (place.Body format head) file piece = Goes (Some (Holds format.link head 0)) (at file (place.Header format))
+judged_at (place.Section order total) file piece = by_section_end file order total piece
+judged_at (place.Block order) file piece = by_block file piece (block_order order piece)
+judged_at (place.Rest order head) file piece = by_rest file order head piece
+
+-- What a piece of a capture comes to: a deed of it is the capture's beginning, or a record.
+abbrev pub file_judged : FileState → List ℕ → Judgement Found FileState
+file_judged file piece = judged_at file.place file piece
+
+-- the bytes of a record stand in its piece
+abbrev pub IsInside : Found → List ℕ → Type 0
+IsInside (Begins nanos) piece = ⊤
+IsInside (Holds link head start) piece = (start + head.captured ≤ length piece) × (head.captured ≤ 262144)
+
+-- these bytes
+abbrev pub bytes_held : RecordHeader → ℕ → List ℕ → List ℕ
+bytes_held head start piece = take head.captured (drop start piece)
+
+-- A piece was read: what it comes to leads on, or nothing changed.
+abbrev pub ReadsPiece : Judgement Found FileState → List ℕ → FileState → FileState → Result (Option Found) PieceFault → Type 0
+ReadsPiece judged piece old new (Ok found) = (judged ≡ Goes found new) × IfSome found (λ f. IsInside f piece)
+ReadsPiece judged piece old new (Err fault) = (judged ≡ Stops fault) × (new ≡ old)

@@ -1,0 +1,110 @@
+//! What the first and last bytes of a pcapng file's blocks say.
+ghost use Rattle.std.specs.Prelude.{◌≡◌, ◌+◌, ◌%◌, ◌≤◌, length, None};
+ghost use Rattle.bridge_records.specs.Blocks as spec;
+
+use crate::numbers::{read_u16, read_u32};
+use bridge_pieces::PieceFault;
+use capture_reader::Order;
+
+/// What the first twelve bytes of a block say.
+#[derive(Clone, Copy)]
+pub(crate) struct BlockHead {
+    /// Its type.
+    pub(crate) kind: u32,
+    /// How many bytes it has.
+    pub(crate) total: u32,
+    /// The first number of its body; without a body its length once more.
+    pub(crate) first: u32,
+}
+
+/// The first block of a section.
+pub(crate) const SECTION: u32 = 0x0a0d_0d0a;
+
+/// An interface.
+pub(crate) const INTERFACE: u32 = 1;
+
+/// A packet of the first interface, without a time.
+pub(crate) const SIMPLE: u32 = 3;
+
+/// A packet with its interface and time.
+pub(crate) const ENHANCED: u32 = 6;
+
+const BYTE_ORDER: u32 = 0x1a2b_3c4d;
+
+// The most bytes of a block.
+const MOST_BLOCK: u32 = 524_288;
+
+/// A block of this type is read, and not skipped.
+pub(crate) fn is_read_block(kind: u32) -> bool
+    ensures { result ≡ spec.is_read_block kind }
+{
+    matches!(kind, SECTION | INTERFACE | SIMPLE | ENHANCED)
+}
+
+/// The byte order of a section, from its first twelve bytes, if it has one.
+pub(crate) fn section_order(bytes: &[u8]) -> Option<Order>
+    requires { 12 ≤ length bytes.now }
+    ensures { result ≡ spec.section_order bytes.now }
+{
+    if read_u32(Order::Big, bytes, 8) == BYTE_ORDER {
+        return Some(Order::Big);
+    }
+    if read_u32(Order::Little, bytes, 8) == BYTE_ORDER {
+        return Some(Order::Little);
+    }
+    None
+}
+
+/// The version of a section stands there, and is one that is known.
+pub(crate) fn is_section_version(order: Order, place: usize, bytes: &[u8]) -> bool
+    requires { place + 4 ≤ length bytes.now }
+    ensures { result ≡ spec.is_section_version order place bytes.now }
+{
+    let minor = read_u16(order, bytes, place + 2);
+    read_u16(order, bytes, place) == 1 && (minor == 0 || minor == 2)
+}
+
+/// What is wrong with the length of a block that has at least so many bytes.
+pub(crate) fn length_fault(least: u32, total: u32) -> Option<PieceFault>
+    ensures value { result ≡ spec.length_fault least total }
+    ensures fits { result ≡ None → (least ≤ total) × (total ≤ 524288) × (total % 4 ≡ 0) }
+{
+    if total < least || total % 4 != 0 {
+        return Some(PieceFault::BadBlock);
+    }
+    if MOST_BLOCK < total {
+        return Some(PieceFault::TooLong);
+    }
+    None
+}
+
+/// The byte order of a block of a section of this one: a further section has its own.
+pub(crate) fn block_order(order: Order, bytes: &[u8]) -> Option<Order>
+    requires { 12 ≤ length bytes.now }
+    ensures { result ≡ spec.block_order order bytes.now }
+{
+    if read_u32(order, bytes, 0) == SECTION {
+        return section_order(bytes);
+    }
+    Some(order)
+}
+
+/// What the first twelve bytes of a block say.
+pub(crate) fn block_head(order: Order, bytes: &[u8]) -> BlockHead
+    requires { 12 ≤ length bytes.now }
+    ensures { result ≡ spec.block_head order bytes.now }
+{
+    BlockHead {
+        kind: read_u32(order, bytes, 0),
+        total: read_u32(order, bytes, 4),
+        first: read_u32(order, bytes, 8),
+    }
+}
+
+/// The length of a block stands once more at its end.
+pub(crate) fn ends_block(order: Order, total: u32, bytes: &[u8]) -> bool
+    requires { 4 ≤ length bytes.now }
+    ensures { result ≡ spec.ends_block order total bytes.now }
+{
+    read_u32(order, bytes, bytes.len() - 4) == total
+}

@@ -1,0 +1,12 @@
+//! What a piece of a capture holds.
+use capture_writer::RecordHeader;
+
+/// What a piece of a capture holds (own).
+#[derive(Clone, Copy, Debug, PartialEq, Eq)]
+pub enum Found {
+    /// The capture begins; the fractions of its records are nanoseconds, or microseconds.
+    Begins(bool),
+    /// A record of this link type: what its header says, the captured bytes at most 262,144, and where in the piece these
+    /// begin.
+    Holds(u32, RecordHeader, usize),
+}

@@ -1,0 +1,352 @@
+//! How the pieces of a capture are read.
+ghost use Rattle.std.specs.Prelude.{◌≡◌, ◌≤◌, length, slice_get, IfOk, Some, None, Ok};
+ghost use Rattle.bridge_records.specs.Blocks.{block_order, section_order};
+ghost use Rattle.bridge_records.specs.Classic.{head_in};
+ghost use Rattle.bridge_records.specs.Reading as spec;
+ghost use Rattle.bridge_records.specs.Reading.{ReadsPiece, file_judged, first_file};
+
+use crate::blocks::{
+    BlockHead, ENHANCED, INTERFACE, SECTION, SIMPLE, block_head, block_order, ends_block,
+    is_read_block, is_section_version, length_fault, section_order,
+};
+use crate::classic::{format_of, record_header};
+use crate::found::Found;
+use crate::interfaces::{Interface, interface_of, needs_nanos};
+use crate::numbers::read_u32;
+use crate::packets::{enhanced_head, simple_head};
+use bridge_pieces::PieceFault;
+use capture_reader::{Format, Order};
+use capture_writer::RecordHeader;
+use seq_circle::NoMemory;
+use std::alloc::Global;
+use std::marker::Model;
+
+// The most bytes of a record.
+const MOST_CAPTURED: u32 = 262_144;
+
+// The most interfaces of a section that are kept.
+const MOST_INTERFACES: usize = 256;
+
+// The length of a block without a body.
+const EMPTY: u32 = 12;
+
+/// Which piece of a capture stands next.
+#[derive(Clone, Copy)]
+pub(crate) enum Place {
+    /// The file header of a classic capture, or the first 24 bytes of a pcapng file.
+    Start,
+    /// The header of a record.
+    Header(Format),
+    /// The bytes of a record, which this header has: 1 to 262,144.
+    Body(Format, RecordHeader),
+    /// The rest of the file's first block, which has so many bytes: 28 to 524,288.
+    Section(Order, u32),
+    /// The first twelve bytes of a block.
+    Block(Order),
+    /// The rest of a block, whose length is 16 to 524,288.
+    Rest(Order, BlockHead),
+}
+
+/// A capture while it is read, piece by piece (own). Contracts see which piece stands next, the interfaces of the section, and
+/// what is known of fractions.
+#[derive(Drop)]
+pub struct CaptureFile {
+    place: Place,
+    interfaces: Vec<Interface>,
+    nanos: Option<bool>,
+}
+
+impl Model for CaptureFile {
+    ghost use Rattle.bridge_records.specs.Reading.{FileState, FitsPlace};
+
+    ghost Value = { FileState };
+
+    ghost view = { λ f. record { place = f.place; interfaces = f.interfaces.items; nanos = f.nanos } };
+
+    ghost invariant = { λ f. FitsPlace f.place };
+}
+
+/// What a piece holds, if anything, or why the capture is refused at it.
+pub type Answer = Result<Option<Found>, PieceFault>;
+
+impl CaptureFile {
+    /// Before the first piece. It takes no memory.
+    pub fn new(alloc: Global) -> CaptureFile
+        ensures { result ≡ first_file }
+    {
+        CaptureFile {
+            place: Place::Start,
+            interfaces: Vec::new(alloc),
+            nanos: None,
+        }
+    }
+
+    /// How many bytes the next piece has.
+    pub fn wanted(&self) -> usize
+        ensures value { result ≡ spec.next_length self.now.place }
+        ensures some { 1 ≤ result }
+        ensures fits { result ≤ 524288 }
+    {
+        match self.place {
+            Place::Start => 24,
+            Place::Header(_) => 16,
+            Place::Body(_, head) => head.captured as usize,
+            Place::Section(_, total) => total as usize - 24,
+            Place::Block(_) => EMPTY as usize,
+            Place::Rest(_, head) => (head.total - EMPTY) as usize,
+        }
+    }
+
+    /// Tells whether the capture may end before the next piece.
+    pub fn may_end(&self) -> bool
+        ensures { result ≡ spec.is_between self.now.place }
+    {
+        matches!(self.place, Place::Header(_) | Place::Block(_))
+    }
+
+    /// Tells whether blocks were read, and no interface among them, which would tell whether fractions are nanoseconds.
+    pub fn is_untold(&self) -> bool
+        ensures { result ≡ spec.is_untold self.now }
+    {
+        matches!(self.place, Place::Block(_)) && self.nanos.is_none()
+    }
+
+    /// Reads the next piece. What it holds is answered, if it holds anything. A piece that is refused changes nothing.
+    /// NoMemory comes where no memory was left for an interface.
+    pub fn read(&mut self, piece: &[u8]) -> Result<Answer, NoMemory>
+        requires { length piece.now ≡ spec.next_length self.old.place }
+        ensures { IfOk result (λ answer. ReadsPiece (file_judged self.old piece.now) piece.now self.old self.new answer) }
+    {
+        match self.place {
+            Place::Start => Ok(self.begin(piece)),
+            Place::Header(format) => Ok(self.read_header(format, piece)),
+            Place::Body(format, head) => Ok(self.end_record(format, head)),
+            Place::Section(order, total) => Ok(self.end_section(order, total, piece)),
+            Place::Block(order) => Ok(self.begin_block(order, piece)),
+            Place::Rest(order, head) => self.end_block(order, head, piece),
+        }
+    }
+
+    // The first bytes of a file.
+    fn begin(&mut self, piece: &[u8]) -> Answer
+        requires { length piece.now ≡ 24 }
+        ensures { ReadsPiece (spec.by_start self.old piece.now) piece.now self.old self.new result }
+    {
+        if read_u32(Order::Big, piece, 0) == SECTION {
+            return self.begin_section(piece);
+        }
+        let format = format_of(piece)?;
+        self.place = Place::Header(format);
+        Ok(Some(Found::Begins(format.nanos)))
+    }
+
+    // The first bytes of the first section.
+    fn begin_section(&mut self, piece: &[u8]) -> Answer
+        requires { length piece.now ≡ 24 }
+        ensures { ReadsPiece (spec.by_section self.old piece.now (section_order piece.now)) piece.now self.old self.new result }
+    {
+        let Some(order) = section_order(piece) else {
+            return Err(PieceFault::BadMagic);
+        };
+        let total = read_u32(order, piece, 4);
+        if let Some(fault) = length_fault(28, total) {
+            return Err(fault);
+        }
+        if !is_section_version(order, 12, piece) {
+            return Err(PieceFault::BadVersion);
+        }
+        self.place = Place::Section(order, total);
+        Ok(None)
+    }
+
+    // A record's header.
+    fn read_header(&mut self, format: Format, piece: &[u8]) -> Answer
+        requires { length piece.now ≡ 16 }
+        ensures { ReadsPiece (spec.by_header self.old format (head_in format.order piece.now)) piece.now self.old self.new result }
+    {
+        let head = record_header(format.order, piece);
+        if MOST_CAPTURED < head.captured {
+            return Err(PieceFault::TooLong);
+        }
+        if head.captured == 0 {
+            return self.end_record(format, head);
+        }
+        self.place = Place::Body(format, head);
+        Ok(None)
+    }
+
+    // The bytes of a record.
+    fn end_record(&mut self, format: Format, head: RecordHeader) -> Answer
+        ensures at { self.new ≡ spec.at self.old (Place.Header format) }
+        ensures found { result ≡ Ok (Some (Found.Holds format.link head 0)) }
+    {
+        self.place = Place::Header(format);
+        Ok(Some(Found::Holds(format.link, head, 0)))
+    }
+
+    // The rest of the file's first block.
+    fn end_section(&mut self, order: Order, total: u32, piece: &[u8]) -> Answer
+        requires { 4 ≤ length piece.now }
+        ensures { ReadsPiece (spec.by_section_end self.old order total piece.now) piece.now self.old self.new result }
+    {
+        if !ends_block(order, total, piece) {
+            return Err(PieceFault::BadBlock);
+        }
+        self.place = Place::Block(order);
+        Ok(None)
+    }
+
+    // The first bytes of a block.
+    fn begin_block(&mut self, order: Order, piece: &[u8]) -> Answer
+        requires { length piece.now ≡ 12 }
+        ensures { ReadsPiece (spec.by_block self.old piece.now (block_order order piece.now)) piece.now self.old self.new result }
+    {
+        let Some(order) = block_order(order, piece) else {
+            return Err(PieceFault::BadBlock);
+        };
+        let head = block_head(order, piece);
+        if let Some(fault) = length_fault(EMPTY, head.total) {
+            return Err(fault);
+        }
+        if head.total != EMPTY {
+            self.place = Place::Rest(order, head);
+            return Ok(None);
+        }
+        if is_read_block(head.kind) || head.first != EMPTY {
+            return Err(PieceFault::BadBlock);
+        }
+        self.place = Place::Block(order);
+        Ok(None)
+    }
+
+    // The rest of a block.
+    fn end_block(&mut self, order: Order, head: BlockHead, piece: &[u8]) -> Result<Answer, NoMemory>
+        requires least { 4 ≤ length piece.now }
+        requires most { length piece.now ≤ 524288 }
+        ensures { IfOk result (λ answer. ReadsPiece (spec.by_rest self.old order head piece.now) piece.now self.old self.new answer) }
+    {
+        if !ends_block(order, head.total, piece) {
+            return Ok(Err(PieceFault::BadBlock));
+        }
+        match head.kind {
+            SECTION => Ok(self.next_section(order, piece)),
+            INTERFACE => self.add_interface(order, head.first, piece),
+            SIMPLE => Ok(self.simple(order, head.first, piece)),
+            ENHANCED => Ok(self.enhanced(order, head.first, piece)),
+            _ => {
+                self.place = Place::Block(order);
+                Ok(Ok(None))
+            }
+        }
+    }
+
+    // The rest of a further section's first block.
+    fn next_section(&mut self, order: Order, piece: &[u8]) -> Answer
+        ensures { ReadsPiece (spec.by_new_section self.old order piece.now) piece.now self.old self.new result }
+    {
+        if piece.len() < 16 {
+            return Err(PieceFault::BadBlock);
+        }
+        if !is_section_version(order, 0, piece) {
+            return Err(PieceFault::BadVersion);
+        }
+        self.interfaces.clear();
+        self.place = Place::Block(order);
+        Ok(None)
+    }
+
+    // The first interface of a file begins the capture.
+    fn begin_capture(&mut self, interface: &Interface) -> Option<Found>
+        ensures found { result ≡ spec.begun_capture self.old.nanos interface.now }
+        ensures told { self.new ≡ record self.old { nanos = Some (spec.begun_nanos self.old.nanos interface.now) } }
+    {
+        if self.nanos.is_some() {
+            return None;
+        }
+        let nanos = needs_nanos(interface.resolution);
+        self.nanos = Some(nanos);
+        Some(Found::Begins(nanos))
+    }
+
+    // The rest of an interface's block.
+    fn add_interface(&mut self, order: Order, first: u32, piece: &[u8]) -> Result<Answer, NoMemory>
+        requires { length piece.now ≤ 524288 }
+        ensures { IfOk result (λ answer. ReadsPiece (spec.by_interface_block self.old order first piece.now) piece.now self.old self.new answer) }
+    {
+        if MOST_INTERFACES <= self.interfaces.len() {
+            self.place = Place::Block(order);
+            return Ok(Ok(None));
+        }
+        match interface_of(order, first, piece) {
+            Err(fault) => Ok(Err(fault)),
+            Ok(interface) => {
+                self.interfaces.push(interface)?;
+                self.place = Place::Block(order);
+                Ok(Ok(self.begin_capture(&interface)))
+            }
+        }
+    }
+
+    // The interface of this number in the section.
+    fn interface(&self, number: usize) -> Option<Interface>
+        ensures { result ≡ slice_get self.now.interfaces number }
+    {
+        self.interfaces.get(number).copied()
+    }
+
+    // Fractions are nanoseconds.
+    fn is_nanos(&self) -> bool
+        ensures { result ≡ spec.is_nanos self.now.nanos }
+    {
+        matches!(self.nanos, Some(true))
+    }
+
+    // A packet whose bytes begin there in the rest of its block.
+    fn packet(
+        &mut self,
+        order: Order,
+        link: u32,
+        head: RecordHeader,
+        start: usize,
+        piece: &[u8],
+    ) -> Answer
+        requires { start ≤ 16 }
+        ensures { ReadsPiece (spec.by_packet self.old order link head start piece.now) piece.now self.old self.new result }
+    {
+        if MOST_CAPTURED < head.captured {
+            return Err(PieceFault::TooLong);
+        }
+        if piece.len() < start + head.captured as usize + 4 {
+            return Err(PieceFault::BadBlock);
+        }
+        self.place = Place::Block(order);
+        Ok(Some(Found::Holds(link, head, start)))
+    }
+
+    // The rest of the block of a packet of this interface.
+    fn enhanced(&mut self, order: Order, number: u32, piece: &[u8]) -> Answer
+        ensures { ReadsPiece (spec.by_enhanced self.old order piece.now (slice_get self.old.interfaces number)) piece.now self.old self.new result }
+    {
+        let Some(interface) = self.interface(number as usize) else {
+            return Err(PieceFault::BadBlock);
+        };
+        if piece.len() < 20 {
+            return Err(PieceFault::BadBlock);
+        }
+        let Some(head) = enhanced_head(&interface, self.is_nanos(), order, piece) else {
+            return Err(PieceFault::BadBlock);
+        };
+        self.packet(order, interface.link, head, 16, piece)
+    }
+
+    // The rest of the block of a packet without a time, of this length.
+    fn simple(&mut self, order: Order, original: u32, piece: &[u8]) -> Answer
+        ensures { ReadsPiece (spec.by_simple self.old order original piece.now (slice_get self.old.interfaces 0)) piece.now self.old self.new result }
+    {
+        let Some(interface) = self.interface(0) else {
+            return Err(PieceFault::BadBlock);
+        };
+        let head = simple_head(interface.most, original);
+        self.packet(order, interface.link, head, 0, piece)
+    }
+}
