@@ -7,9 +7,8 @@ use Rattle.tool_forms.specs.Tables as table
 use Rattle.tool_forms.specs.declared.settings.Setting.TheVariants as setting
 use Rattle.tool_forms.specs.Given.{Value}
 use Rattle.tool_forms.specs.Given as value
-use Rattle.tool_forms.specs.Settings.{words_give}
+use Rattle.tool_forms.specs.Settings.{given_once, words_give}
 use Rattle.tool_forms.specs.CampaignWords.{IsWithinBounds, campaign_of}
-use Rattle.tool_forms.specs.ListenWords.{most_of}
 use Rattle.tool_forms.specs.declared.words.Form.{Form}
 use Rattle.tool_forms.specs.declared.words.Form.TheVariants as form
 
@@ -35,9 +34,13 @@ replay_of words = replays (words_give table.Replay setting.Plain words) (side_gi
 abbrev pub campaigns : List (String Global) → Option Form
 campaigns words = option_and_then (λ campaign. Some (form.Campaign campaign)) (campaign_of words)
 
--- The words behind `listen`.
+-- a listener of so many flows at most
+abbrev pub listener_for : Option ℕ → Option Form
+listener_for most = option_and_then (λ most. Some (form.Listen most)) most
+
+-- The words behind `listen`: how many flows may stand, once.
 abbrev pub listen_of : List (String Global) → Option Form
-listen_of words = option_and_then (λ most. Some (form.Listen most)) (most_of words)
+listen_of words = listener_for (given_once table.Listen setting.Most words)
 
 -- No word may follow `run`, `show` and `ecn`.
 abbrev pub takes_no_word : Form → List (String Global) → Option Form
@@ -65,10 +68,10 @@ IsFormWithinBounds form.Show = Unit {0}
 IsFormWithinBounds (form.Listen most) = (1 ≤ most) × (most ≤ 1024)
 IsFormWithinBounds form.Ecn = Unit {0}
 
--- Only the words behind `replay` and `campaign` are settings.
+-- Only the words behind `replay`, `campaign` and `listen` are settings.
 abbrev pub has_settings : List (String Global) → Bool
 has_settings [] = false
-has_settings (first ∷ words) = is_word first (codes "replay") || is_word first (codes "campaign")
+has_settings (first ∷ words) = is_word first (codes "replay") || (is_word first (codes "campaign") || is_word first (codes "listen"))
 
 -- The line that answers all other words.
 abbrev pub usage : List ℕ
