@@ -39,8 +39,8 @@ const PLAIN_CLIENT: &str = "open: ok\n\
 sent c0 9c401389050031ec01000000000003e80000002a\n\
 end client REQUEST window 4 flight 0 1=2/2 2=0/0 3=100/100 4=0/0 5=2/2 6=0/0 7=0/0 8=0/0 9=0/0\n";
 
-// All lists of words of the form.
-const WORDS: [(&str, &str); 12] = [
+// Lists of words of the form: without a buffer all.
+const WORDS: [(&str, &str); 18] = [
     ("replay,--side,server", SERVER),
     ("replay,--side=server", SERVER),
     ("replay,--side,server,--plain", SERVER),
@@ -53,6 +53,12 @@ const WORDS: [(&str, &str); 12] = [
     ("replay,--side=client,--plain", PLAIN_CLIENT),
     ("replay,--plain,--side,client", PLAIN_CLIENT),
     ("replay,--plain,--side=client", PLAIN_CLIENT),
+    ("replay,--side,server,--buffer,1", SERVER),
+    ("replay,--buffer=1024,--side=server", SERVER),
+    ("replay,--side,client,--buffer,2,--plain", PLAIN_CLIENT),
+    ("replay,--plain,--buffer=10,--side,client", PLAIN_CLIENT),
+    ("replay,--buffer,1024,--plain,--side=client", PLAIN_CLIENT),
+    ("replay,--buffer=1,--side,client", CLIENT),
 ];
 
 #[test]
@@ -66,7 +72,7 @@ fn words_of_replays(rt: HostRuntime) -> Result<(), Fail> {
     Ok(())
 }
 
-const OTHER_WORDS: [&str; 20] = [
+const OTHER_WORDS: [&str; 30] = [
     "replay",
     "replay,--plain",
     "replay,--side",
@@ -87,6 +93,16 @@ const OTHER_WORDS: [&str; 20] = [
     "replay,--plain,--side,server,--plain",
     "replay,--plain,--plain,--side=server",
     "--side,server,replay",
+    "replay,--buffer,1",
+    "replay,--buffer,1,--plain",
+    "replay,--side,server,--buffer",
+    "replay,--side,server,--buffer=",
+    "replay,--side,server,--buffer,0",
+    "replay,--side,server,--buffer,1025",
+    "replay,--side,server,--buffer=01",
+    "replay,--side,server,--buffer,--plain",
+    "replay,--side,server,--buffer,1,--buffer,1",
+    "replay,--buffer=1,--plain,--side,server,--buffer=2",
 ];
 
 #[test]

@@ -9,7 +9,7 @@ use Rattle.clap.specs.declared.parser.matches.ArgMatches.{ArgMatches}
 use Rattle.clap.proofs.WalkLemmas.{both}
 use Rattle.tool_forms.specs.Tables as table
 use Rattle.tool_forms.specs.declared.settings.Setting.{Setting}
-use Rattle.tool_forms.specs.declared.settings.Setting.TheVariants.{First, Seeds, Events, Workers, Side, Plain, Most}
+use Rattle.tool_forms.specs.declared.settings.Setting.TheVariants.{First, Seeds, Events, Workers, Side, Plain, Buffer, Most}
 use Rattle.tool_forms.specs.Settings.{settings_of}
 use Rattle.tool_forms.specs.Commands.{IsReadBy, bare_command, command_of, has_dashes, rule_for, with_settings}
 
@@ -24,10 +24,12 @@ figures-are a b d e f bare first seeds events workers =
     sym (ap (λ (x : App). with_settings x (settings_of table.Campaign)) (sym bare) ∙ one-with a b First (Seeds ∷ (Events ∷ (Workers ∷ []))) first
     ∙ one-with b d Seeds (Events ∷ (Workers ∷ [])) seeds ∙ one-with d e Events (Workers ∷ []) events ∙ one-with e f Workers [] workers)
 
-pub replay-is : (a b d : App) → a ≡ bare_command → b ≡ with_rule a (rule_for Side) → d ≡ with_rule b (rule_for Plain) → d ≡ command_of table.Replay
+pub replay-is : (a b d e : App) → a ≡ bare_command → b ≡ with_rule a (rule_for Side) → d ≡ with_rule b (rule_for Buffer) → e ≡ with_rule d (rule_for Plain)
+    → e ≡ command_of table.Replay
 unfolding command_of
-replay-is a b d bare side plain =
-    sym (ap (λ (x : App). with_settings x (settings_of table.Replay)) (sym bare) ∙ one-with a b Side (Plain ∷ []) side ∙ one-with b d Plain [] plain)
+replay-is a b d e bare side buffer plain =
+    sym (ap (λ (x : App). with_settings x (settings_of table.Replay)) (sym bare) ∙ one-with a b Side (Buffer ∷ (Plain ∷ [])) side
+    ∙ one-with b d Buffer (Plain ∷ []) buffer ∙ one-with d e Plain [] plain)
 
 pub listen-is : (a b : App) → a ≡ bare_command → b ≡ with_rule a (rule_for Most) → b ≡ command_of table.Listen
 unfolding command_of

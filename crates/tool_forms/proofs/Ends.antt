@@ -12,7 +12,7 @@ use Rattle.tool_forms.specs.declared.words.Form.{Form}
 use Rattle.tool_forms.specs.Tables.{Table}
 use Rattle.tool_forms.specs.Tables as table
 use Rattle.tool_forms.specs.declared.settings.Setting.{Setting}
-use Rattle.tool_forms.specs.declared.settings.Setting.TheVariants.{First, Seeds, Events, Workers, Side, Plain, Most}
+use Rattle.tool_forms.specs.declared.settings.Setting.TheVariants.{First, Seeds, Events, Workers, Side, Plain, Buffer, Most}
 use Rattle.tool_forms.specs.declared.settings.Way.{Way}
 use Rattle.tool_forms.specs.declared.settings.Way.TheVariants as way
 use Rattle.tool_forms.specs.Given.{Value}
@@ -20,10 +20,10 @@ use Rattle.tool_forms.specs.Given as value
 use Rattle.tool_forms.specs.Given.{Assignment}
 use Rattle.tool_forms.specs.Settings.{bare_name, is_marking, is_same, number_among, number_for, once, preceded, settings_of, side_in, way_of}
 use Rattle.tool_forms.specs.CampaignWords.{campaign_from}
-use Rattle.tool_forms.specs.Words.{listener_for, replays, side_given}
-use Rattle.tool_forms.specs.Commands.{campaign_in, figure_in, is_yes, listen_in, replay_from, replay_in}
+use Rattle.tool_forms.specs.Words.{listener_for, replay_with, replays, side_given}
+use Rattle.tool_forms.specs.Commands.{campaign_in, chosen, figure_in, is_yes, listen_in, replay_from, replay_in}
 use Rattle.tool_forms.proofs.Turns.{closes, holding, last-turn, passed, rests, verdict}
-use Rattle.tool_forms.proofs.Pairs.{Distinct, FitsRow, Pairs, argument, argument_by, first-of, has, has-row, is-given, is-itself, rows, same-settings, text_at, unmet}
+use Rattle.tool_forms.proofs.Pairs.{Distinct, FitsRow, Pairs, argument, argument_by, first-of, has, has-row, is-given, is-itself, rows, same-settings, some-is, text_at, unmet}
 use Rattle.tool_forms.proofs.Onto.{assigned, found_at, gave, once-gave, onto, twice-none, value_of}
 use Rattle.tool_forms.proofs.Reading.{Owned, owns, shape}
 
@@ -62,6 +62,7 @@ one-none Events figure is none = rw none (chain-3 (figure First) (figure Seeds) 
 one-none Workers figure is none = rw none (chain-4 (figure First) (figure Seeds) (figure Events))
 one-none Side figure is none = cc is
 one-none Plain figure is none = cc is
+one-none Buffer figure is none = cc is
 one-none Most figure is none = cc is
 
 pub campaign-once : (setting : Setting) (text : Text) (all : Option (List Assignment)) (pairs : Pairs) → owns table.Campaign setting ≡ true → has setting pairs ≡ true
@@ -150,6 +151,7 @@ figure-value Events text is = refl
 figure-value Workers text is = refl
 figure-value Side text is = cc is
 figure-value Plain text is = cc is
+figure-value Buffer text is = refl
 figure-value Most text is = refl
 
 number-of : (n : Option ℕ) → number_among (Some (option_and_then (λ n. Some (value.Number n)) n)) ≡ n
@@ -181,6 +183,7 @@ figures First is = refl
 figures Seeds is = refl
 figures Events is = refl
 figures Workers is = refl
+figures Buffer is = refl
 figures Most is = refl
 
 chain-at : (pairs : Pairs) → Option Campaign
@@ -284,16 +287,22 @@ listen-ends pairs distinct owned =
 -- ---- replay
 
 abbrev pub replay_means : Option (List Assignment) → Option Form
-replay_means all = replays (option_and_then (once Plain) all) (side_given (option_and_then (once Side) all))
+replay_means all = replays (option_and_then (once Plain) all) (side_given (option_and_then (once Side) all)) (option_and_then (once Buffer) all)
 
-no-side : (plain : Option (Option Value)) → replays plain None ≡ None
-no-side None = refl
-no-side (Some plain) = refl
+no-side : (plain buffer : Option (Option Value)) → replays plain None buffer ≡ None
+no-side None buffer = refl
+no-side (Some plain) buffer = refl
+
+no-buffer : (plain : Option (Option Value)) (side : Option EndSide) → replays plain side None ≡ None
+no-buffer None side = refl
+no-buffer (Some plain) None = refl
+no-buffer (Some plain) (Some side) = refl
 
 pub replay-once : (setting : Setting) (text : Text) (all : Option (List Assignment)) (pairs : Pairs) → owns table.Replay setting ≡ true → has setting pairs ≡ true
     → replay_means (onto pairs (preceded (assigned setting text) all)) ≡ None
-replay-once Side text all pairs is twice = rw (twice-none Side text all pairs twice) (no-side (option_and_then (once Plain) (onto pairs (preceded (assigned Side text) all))))
+replay-once Side text all pairs is twice = rw (twice-none Side text all pairs twice) (no-side (option_and_then (once Plain) (onto pairs (preceded (assigned Side text) all))) (option_and_then (once Buffer) (onto pairs (preceded (assigned Side text) all))))
 replay-once Plain text all pairs is twice = rw (twice-none Plain text all pairs twice) refl
+replay-once Buffer text all pairs is twice = rw (twice-none Buffer text all pairs twice) (no-buffer (option_and_then (once Plain) (onto pairs (preceded (assigned Buffer text) all))) (side_given (option_and_then (once Side) (onto pairs (preceded (assigned Buffer text) all)))))
 replay-once First text all pairs is twice = cc is
 replay-once Seeds text all pairs is twice = cc is
 replay-once Events text all pairs is twice = cc is
@@ -364,6 +373,8 @@ has-text setting (pair ∷ pairs) = go (is_same pair.0 setting) refl (has-text s
 default-passes : (w : Way) (name : Text) (rs : List Row) (b : Bool) → has_row name rs ≡ b → default_fault rs (argument_by w name) ≡ []
 default-passes way.Needed name rs true is = rw is refl
 default-passes way.Needed name rs false is = rw is refl
+default-passes way.Chosen name rs true is = rw is refl
+default-passes way.Chosen name rs false is = rw is refl
 default-passes way.Mark name rs true is = rw is refl
 default-passes way.Mark name rs false is = rw is refl
 
@@ -378,10 +389,14 @@ defaults-pass (s ∷ settings) rs =
 no-default : (w : Way) (name : Text) (rs : List Row) (b : Bool) → has_row name rs ≡ b → is_marking w ≡ false → with_default rs (argument_by w name) ≡ rs
 no-default way.Needed name rs true has is = rw has refl
 no-default way.Needed name rs false has is = rw has refl
+no-default way.Chosen name rs true has is = rw has refl
+no-default way.Chosen name rs false has is = rw has refl
 no-default way.Mark name rs b has is = cc is
 
 replay-finished : (rs : List Row) → finished (shape table.Replay).rules (holding rs None) ≡ with_default rs (argument Plain)
-replay-finished rs = ap (λ (r : List Row). with_default r (argument Plain)) (no-default way.Needed (codes "side") rs (has_row (codes "side") rs) refl refl)
+replay-finished rs =
+    ap (λ (r : List Row). with_default (with_default r (argument Buffer)) (argument Plain)) (no-default way.Needed (codes "side") rs (has_row (codes "side") rs) refl refl)
+    ∙ ap (λ (r : List Row). with_default r (argument Plain)) (no-default way.Chosen (codes "buffer") rs (has_row (codes "buffer") rs) refl refl)
 
 module _ {X : Type 0} (judge : List Row → Option X) where
   replay-closes : (rs end : List Row) (a : Bool) → with_default rs (argument Plain) ≡ end → is_given (codes "side") end ≡ a
@@ -398,17 +413,19 @@ module _ {X : Type 0} (judge : List Row → Option X) where
 
 -- what the texts of a replay's settings come to
 abbrev replay_at : Pairs → Option Form
-replay_at pairs = replay_from (text_at Side pairs) (has Plain pairs)
+replay_at pairs = replay_from (text_at Side pairs) (has Plain pairs) (text_at Buffer pairs)
 
 -- behind the rows of all settings
 replay-read : (pairs : Pairs) (end : List Row) → first_of (codes "side") end ≡ text_at Side pairs → is_yes (first_of (codes "plain") end) ≡ has Plain pairs
-    → replay_in end ≡ replay_at pairs
-replay-read pairs end side plain = ap₂ replay_from side plain
+    → first_of (codes "buffer") end ≡ text_at Buffer pairs → replay_in end ≡ replay_at pairs
+replay-read pairs end side plain buffer =
+    ap₂ (λ (s : Option Text) (p : Bool). replay_from s p (first_of (codes "buffer") end)) side plain
+    ∙ ap (λ (b : Option Text). replay_from (text_at Side pairs) (has Plain pairs) b) buffer
 
 -- without a side there is no replay
 side-needed : (pairs : Pairs) (b : Bool) → has Side pairs ≡ b → (if b then replay_at pairs else None) ≡ replay_at pairs
 side-needed pairs true some = refl
-side-needed pairs false none = sym (ap (λ (side : Option Text). replay_from side (has Plain pairs)) (lacks-text Side pairs none))
+side-needed pairs false none = sym (ap (λ (side : Option Text). replay_from side (has Plain pairs) (text_at Buffer pairs)) (lacks-text Side pairs none))
 
 replay-closed : (pairs : Pairs) → Owned table.Replay pairs
     → passed (closes (shape table.Replay) (holding (rows pairs) None)) (replay_in (finished (shape table.Replay).rules (holding (rows pairs) None))) ≡ replay_at pairs
@@ -422,36 +439,81 @@ replay-closed pairs owned = go (has Plain pairs) refl
         (ap (λ (b : Bool). if b then rows pairs else default_rows (codes "plain") (reading_by (argument Plain)) (codes "false" ∷ []) (rows pairs)) (has-row Plain pairs ∙ some))
         (is-given Side pairs)
         ∙ ap (λ (found : Option Form). if has Side pairs then found else None)
-        (replay-read pairs (rows pairs) (first-of Side pairs) (ap is_yes (first-of Plain pairs ∙ plain-text pairs owned some) ∙ sym some))
+        (replay-read pairs (rows pairs) (first-of Side pairs) (ap is_yes (first-of Plain pairs ∙ plain-text pairs owned some) ∙ sym some) (first-of Buffer pairs))
         ∙ side-needed pairs (has Side pairs) refl
     go false none =
         replay-closes replay_in (rows pairs) (rows pairs ++ unmarked ∷ []) (has Side pairs) (with-unmarked pairs none) (given-before Side (unmarked ∷ []) pairs refl)
         ∙ ap (λ (found : Option Form). if has Side pairs then found else None)
         (replay-read pairs (rows pairs ++ unmarked ∷ []) (first-before Side (unmarked ∷ []) pairs refl)
-        (ap is_yes (first-behind Plain (unmarked ∷ []) pairs none) ∙ sym none))
+        (ap is_yes (first-behind Plain (unmarked ∷ []) pairs none) ∙ sym none) (first-before Buffer (unmarked ∷ []) pairs refl))
         ∙ side-needed pairs (has Side pairs) refl
 
--- what two texts come to
-replay-joined : (side plain : Option Text)
-    → replay_from side (is_some plain) ≡ replays (Some (option_and_then (value_of Plain) plain)) (side_given (Some (option_and_then (value_of Side) side)))
-replay-joined None plain = refl
-replay-joined (Some s) plain = go (side_in s) refl plain
+-- each text of pairs that give something is a value
+all-good : (setting : Setting) (text : Text) (all : List Assignment) (pairs : Pairs) → gave pairs ≡ Some all → text_at setting pairs ≡ Some text → value_of setting text ≡ None → ⊥
+all-good setting text all [] is stands bad = let never : None ≡ Some text = stands in cc never
+all-good setting text all (pair ∷ pairs) is stands bad =
+    go (value_of pair.0 pair.1) refl (gave pairs) refl (is_same pair.0 setting) refl (λ rest more behind. all-good setting text rest pairs more behind bad)
   where
-    go : (found : Option EndSide) → side_in s ≡ found → (plain : Option Text)
-        → replay_from (Some s) (is_some plain) ≡ replays (Some (option_and_then (value_of Plain) plain)) (side_given (Some (option_and_then (value_of Side) (Some s))))
-    go None none plain = rw none refl
-    go (Some side) is None = rw is refl
-    go (Some side) is (Some p) = rw is refl
+    go : (found : Option Value) → value_of pair.0 pair.1 ≡ found → (rest : Option (List Assignment)) → gave pairs ≡ rest → (b : Bool) → is_same pair.0 setting ≡ b
+        → ((all : List Assignment) → gave pairs ≡ Some all → text_at setting pairs ≡ Some text → ⊥) → ⊥
+    go None none rest more b same further = let never : None ≡ Some all = rw none at is in cc never
+    go (Some v) some None more b same further = let never : None ≡ Some all = rw (some, more) at is in cc never
+    go (Some v) some (Some rest) more true same further =
+        let found : Some pair.1 ≡ Some text = rw same at stands in
+        let here : value_of setting pair.1 ≡ Some v = subst (λ (s : Setting). value_of s pair.1 ≡ Some v) (same-settings pair.0 setting same) some in
+        let never : None ≡ Some v = sym bad ∙ ap (value_of setting) (sym (some-is pair.1 text found)) ∙ here in cc never
+    go (Some v) some (Some rest) more false other further =
+        let behind : text_at setting pairs ≡ Some text = rw other at stands in further rest more behind
+
+-- what three texts come to, of which that of the buffer is a value, if it is there
+replay-joined : (side plain buffer : Option Text) → ((text : Text) → buffer ≡ Some text → number_for Buffer text ≡ None → ⊥)
+    → replay_from side (is_some plain) buffer
+    ≡ replays (Some (option_and_then (value_of Plain) plain)) (side_given (Some (option_and_then (value_of Side) side))) (Some (option_and_then (value_of Buffer) buffer))
+replay-joined None plain buffer good = refl
+replay-joined (Some s) plain buffer good = go (side_in s) refl
+  where
+    capacity : (side : EndSide) (plain : Option Text) (buffer : Option Text) → ((text : Text) → buffer ≡ Some text → number_for Buffer text ≡ None → ⊥)
+        → option_and_then (λ b. Some (replay_with side (is_some plain) b)) (chosen Buffer buffer)
+        ≡ replays (Some (option_and_then (value_of Plain) plain)) (Some side) (Some (option_and_then (value_of Buffer) buffer))
+    capacity side None None good = refl
+    capacity side (Some p) None good = refl
+    capacity side None (Some b) good = by (number_for Buffer b) refl
+      where
+        by : (n : Option ℕ) → number_for Buffer b ≡ n → option_and_then (λ b. Some (replay_with side false b)) (chosen Buffer (Some b))
+            ≡ replays (Some None) (Some side) (Some (option_and_then (value_of Buffer) (Some b)))
+        by None none = absurd (good b refl none)
+        by (Some n) is = rw is refl
+    capacity side (Some p) (Some b) good = by (number_for Buffer b) refl
+      where
+        by : (n : Option ℕ) → number_for Buffer b ≡ n → option_and_then (λ b. Some (replay_with side true b)) (chosen Buffer (Some b))
+            ≡ replays (Some (Some value.Mark)) (Some side) (Some (option_and_then (value_of Buffer) (Some b)))
+        by None none = absurd (good b refl none)
+        by (Some n) is = rw is refl
+
+    go : (found : Option EndSide) → side_in s ≡ found → replay_from (Some s) (is_some plain) buffer
+        ≡ replays (Some (option_and_then (value_of Plain) plain)) (side_given (Some (option_and_then (value_of Side) (Some s)))) (Some (option_and_then (value_of Buffer) buffer))
+    go None none = rw none refl
+    go (Some side) is = rw is (capacity side plain buffer good)
+
+no-capacity : (side : Option EndSide) (plain : Bool) → option_and_then (λ side. option_and_then (λ buffer. Some (replay_with side plain buffer)) None) side ≡ None
+no-capacity None plain = refl
+no-capacity (Some side) plain = refl
 
 -- a text that is no value makes the whole none
 replay-bad : (pairs : Pairs) (setting : Setting) (text : Text) → owns table.Replay setting ≡ true → text_at setting pairs ≡ Some text → value_of setting text ≡ None
     → replay_at pairs ≡ None
-replay-bad pairs Side text own at bad = ap (λ (side : Option Text). replay_from side (has Plain pairs)) at ∙ go (side_in text) refl bad
+replay-bad pairs Side text own at bad =
+    ap (λ (side : Option Text). replay_from side (has Plain pairs) (text_at Buffer pairs)) at ∙ go (side_in text) refl bad
   where
-    go : (found : Option EndSide) → side_in text ≡ found → value_of Side text ≡ None → replay_from (Some text) (has Plain pairs) ≡ None
+    go : (found : Option EndSide) → side_in text ≡ found → value_of Side text ≡ None → replay_from (Some text) (has Plain pairs) (text_at Buffer pairs) ≡ None
     go None none bad = rw none refl
     go (Some side) is bad = let never : Some (value.End side) ≡ None = rw is at bad in cc never
 replay-bad pairs Plain text own at bad = cc bad
+replay-bad pairs Buffer text own at bad =
+    ap (λ (buffer : Option Text). replay_from (text_at Side pairs) (has Plain pairs) buffer) at
+    ∙ ap (λ (n : Option ℕ). option_and_then (λ side. option_and_then (λ buffer. Some (replay_with side (has Plain pairs) buffer)) (option_and_then (λ n. Some (Some n)) n))
+    (option_and_then side_in (text_at Side pairs))) (unvalued Buffer text refl bad)
+    ∙ no-capacity (option_and_then side_in (text_at Side pairs)) (has Plain pairs)
 replay-bad pairs First text own at bad = cc own
 replay-bad pairs Seeds text own at bad = cc own
 replay-bad pairs Events text own at bad = cc own
@@ -466,9 +528,11 @@ replay-gave pairs distinct owned = go (gave pairs) refl
 
     go : (all : Option (List Assignment)) → gave pairs ≡ all → replay_at pairs ≡ replay_means (gave pairs)
     go (Some all) is =
-        ap (λ (plain : Bool). replay_from (text_at Side pairs) plain) (sym (has-text Plain pairs))
-        ∙ replay-joined (text_at Side pairs) (text_at Plain pairs)
-        ∙ sym (ap₂ (λ (plain side : Option (Option Value)). replays plain (side_given side)) (at Plain all is) (at Side all is))
+        ap (λ (plain : Bool). replay_from (text_at Side pairs) plain (text_at Buffer pairs)) (sym (has-text Plain pairs))
+        ∙ replay-joined (text_at Side pairs) (text_at Plain pairs) (text_at Buffer pairs)
+        (λ text some none. all-good Buffer text all pairs is some (ap (option_and_then (λ n. Some (value.Number n))) none))
+        ∙ sym (ap₂ (λ (plain side : Option (Option Value)). replays plain (side_given side) (option_and_then (once Buffer) (gave pairs))) (at Plain all is) (at Side all is)
+        ∙ ap (λ (buffer : Option (Option Value)). replays (Some (found_at Plain pairs)) (side_given (Some (found_at Side pairs))) buffer) (at Buffer all is))
     go None is =
         let found = some-bad pairs distinct is in
         replay-bad pairs found.setting found.text (found.own table.Replay owned) found.at found.bad ∙ sym (ap replay_means is)

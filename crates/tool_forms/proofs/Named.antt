@@ -10,7 +10,7 @@ use Rattle.std.proofs.lemmas.Bool.Decides.{nat_tests}
 use Rattle.clap.specs.Lexer.{has_byte, long_of, short_of}
 use Rattle.tool_forms.specs.Tables.{Table}
 use Rattle.tool_forms.specs.declared.settings.Setting.{Setting}
-use Rattle.tool_forms.specs.declared.settings.Setting.TheVariants.{First, Seeds, Events, Workers, Side, Plain, Most}
+use Rattle.tool_forms.specs.declared.settings.Setting.TheVariants.{First, Seeds, Events, Workers, Side, Plain, Buffer, Most}
 use Rattle.tool_forms.specs.Given as value
 use Rattle.tool_forms.specs.Given.{Assignment}
 use Rattle.tool_text.specs.Numbers.{number_below}
@@ -125,6 +125,7 @@ set-long Events rest none = cannot _ none
 set-long Workers rest none = cannot _ none
 set-long Side rest none = cannot _ none
 set-long Plain rest none = cannot _ none
+set-long Buffer rest none = cannot _ none
 set-long Most rest none = cannot _ none
 
 -- a setting has the name by which it is found
@@ -179,6 +180,7 @@ hyphen-value Workers xs = no-figure Workers xs
 hyphen-value Side [] = refl
 hyphen-value Side (x ∷ xs) = refl
 hyphen-value Plain xs = refl
+hyphen-value Buffer xs = no-figure Buffer xs
 hyphen-value Most xs = no-figure Most xs
 
 pub flag-value : (setting : Setting) (text : List ℕ) → (long_of text ≡ None → short_of text ≡ None → ⊥) → setting_value setting text ≡ None

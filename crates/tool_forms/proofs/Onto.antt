@@ -22,10 +22,12 @@ value_of setting text = value_by (way_of setting) setting text
 
 pub value-valued : (w : Way) (setting : Setting) (text : Text) → is_marking w ≡ false → value_by w setting text ≡ setting_value setting text
 value-valued way.Needed setting text is = refl
+value-valued way.Chosen setting text is = refl
 value-valued way.Mark setting text is = cc is
 
 pub value-marked : (w : Way) (setting : Setting) (text : Text) → is_marking w ≡ true → value_by w setting text ≡ Some value.Mark
 value-marked way.Needed setting text is = cc is
+value-marked way.Chosen setting text is = cc is
 value-marked way.Mark setting text is = refl
 
 abbrev pub assigned : Setting → Text → Option Assignment

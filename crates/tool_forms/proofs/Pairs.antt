@@ -12,7 +12,7 @@ use Rattle.clap.specs.Takes.{is_given}
 use Rattle.clap.specs.declared.parser.matches.ValueSource.TheVariants.{CommandLine}
 use Rattle.clap.specs.declared.error.kind.ErrorKind.TheVariants.{ArgumentConflict}
 use Rattle.tool_forms.specs.declared.settings.Setting.{Setting}
-use Rattle.tool_forms.specs.declared.settings.Setting.TheVariants.{First, Seeds, Events, Workers, Side, Plain, Most}
+use Rattle.tool_forms.specs.declared.settings.Setting.TheVariants.{First, Seeds, Events, Workers, Side, Plain, Buffer, Most}
 use Rattle.tool_forms.specs.declared.settings.Way.{Way}
 use Rattle.tool_forms.specs.declared.settings.Way.TheVariants as way
 use Rattle.tool_forms.specs.Settings.{bare_name, dashed_name, is_marking, is_same, named_among, way_of}
@@ -32,15 +32,18 @@ argument setting = argument_by (way_of setting) (bare_name setting)
 
 pub id-is : (w : Way) (name : Text) → (argument_by w name).id ≡ name
 id-is way.Needed name = refl
+id-is way.Chosen name = refl
 id-is way.Mark name = refl
 
 pub is-valued : (w : Way) (name : Text) → is_marking w ≡ false
     → (takes_values (argument_by w name) ≡ true) × (unwrap_or_range (argument_by w name).range ≡ one) × (most_values (argument_by w name) ≡ 1)
 is-valued way.Needed name is = (refl, refl, refl)
+is-valued way.Chosen name is = (refl, refl, refl)
 is-valued way.Mark name is = cc is
 
 pub is-marked : (w : Way) (name : Text) → is_marking w ≡ true → takes_values (argument_by w name) ≡ false
 is-marked way.Needed name is = cc is
+is-marked way.Chosen name is = cc is
 is-marked way.Mark name is = refl
 
 -- what a command is given: the value, or nothing for a flag
@@ -50,10 +53,12 @@ values_by _ text = text ∷ []
 
 pub values-valued : (w : Way) (text : Text) → is_marking w ≡ false → values_by w text ≡ text ∷ []
 values-valued way.Needed text is = refl
+values-valued way.Chosen text is = refl
 values-valued way.Mark text is = cc is
 
 pub values-marked : (w : Way) (text : Text) → is_marking w ≡ true → values_by w text ≡ []
 values-marked way.Needed text is = cc is
+values-marked way.Chosen text is = cc is
 values-marked way.Mark text is = refl
 
 -- the text that the row of an argument has
@@ -63,10 +68,12 @@ FitsWay _ text = Unit {0}
 
 pub fits-valued : (w : Way) (text : Text) → is_marking w ≡ false → FitsWay w text
 fits-valued way.Needed text is = tt
+fits-valued way.Chosen text is = tt
 fits-valued way.Mark text is = cc is
 
 pub fits-marked : (w : Way) → is_marking w ≡ true → FitsWay w (codes "true")
 fits-marked way.Needed is = tt
+fits-marked way.Chosen is = tt
 fits-marked way.Mark is = refl
 
 -- ---- names
@@ -75,7 +82,7 @@ pub is-itself : (setting : Setting) → is_same setting setting ≡ true
 is-itself setting = (bytes_eq-Decides (bare_name setting) (bare_name setting)).1 refl
 
 every : List Setting
-every = First ∷ (Seeds ∷ (Events ∷ (Workers ∷ (Side ∷ (Plain ∷ (Most ∷ []))))))
+every = First ∷ (Seeds ∷ (Events ∷ (Workers ∷ (Side ∷ (Plain ∷ (Buffer ∷ (Most ∷ [])))))))
 
 named : (setting : Setting) → named_among every (dashed_name setting) ≡ Some setting
 unfolding every
@@ -85,6 +92,7 @@ named Events = refl
 named Workers = refl
 named Side = refl
 named Plain = refl
+named Buffer = refl
 named Most = refl
 
 pub some-is : {X : Type 0} (x y : X) → Some x ≡ Some y → x ≡ y
@@ -184,6 +192,7 @@ used-row w setting text pairs none =
 used-by : (w : Way) (setting : Setting) (text : Text) (pairs : Pairs) → FitsWay w text → has setting pairs ≡ false
     → used (argument_by w (bare_name setting)) (values_by w text) (rows pairs) ≡ rows pairs ++ row_by w (bare_name setting) text ∷ []
 used-by way.Needed setting text pairs fits none = used-row way.Needed setting text pairs none
+used-by way.Chosen setting text pairs fits none = used-row way.Chosen setting text pairs none
 used-by way.Mark setting text pairs fits none =
     subst (λ (t : Text). used (argument_by way.Mark (bare_name setting)) [] (rows pairs) ≡ rows pairs ++ row_by way.Mark (bare_name setting) t ∷ []) (sym fits)
     (used-row way.Mark setting (codes "true") pairs none)
@@ -201,6 +210,8 @@ faults-by : (w : Way) (name text : Text) (rs : List Row) (b : Bool) → has_row 
     → use_fault false (argument_by w name) (values_by w text) rs ≡ again_fault b
 faults-by way.Needed name text rs true is = rw is refl
 faults-by way.Needed name text rs false is = rw is refl
+faults-by way.Chosen name text rs true is = rw is refl
+faults-by way.Chosen name text rs false is = rw is refl
 faults-by way.Mark name text rs true is = rw is refl
 faults-by way.Mark name text rs false is = rw is refl
 

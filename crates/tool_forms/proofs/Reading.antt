@@ -12,7 +12,7 @@ use Rattle.clap.specs.Faults.{use_fault}
 use Rattle.tool_forms.specs.Tables.{Table}
 use Rattle.tool_forms.specs.Tables as table
 use Rattle.tool_forms.specs.declared.settings.Setting.{Setting}
-use Rattle.tool_forms.specs.declared.settings.Setting.TheVariants.{First, Seeds, Events, Workers, Side, Plain, Most}
+use Rattle.tool_forms.specs.declared.settings.Setting.TheVariants.{First, Seeds, Events, Workers, Side, Plain, Buffer, Most}
 use Rattle.tool_forms.specs.declared.settings.Way.{Way}
 use Rattle.tool_forms.specs.declared.settings.Way.TheVariants as way
 use Rattle.tool_forms.specs.Given.{Value}
@@ -72,6 +72,7 @@ or-false false = refl
 
 long-is : (w : Way) (id name : Text) → (not (is_some (argument_by w id).index) && has_long (argument_by w id) name) ≡ bytes_eq id name
 long-is way.Needed id name = or-false (bytes_eq id name)
+long-is way.Chosen id name = or-false (bytes_eq id name)
 long-is way.Mark id name = or-false (bytes_eq id name)
 
 known-argument : (settings : List Setting) (name : Text) → arg_by_long (map argument settings) name ≡ option_map argument (named_among settings (45 ∷ (45 ∷ name)))
@@ -167,6 +168,7 @@ valueless Events text is = cc is
 valueless Workers text is = cc is
 valueless Side text is = cc is
 valueless Plain text is = refl
+valueless Buffer text is = cc is
 valueless Most text is = cc is
 
 module _ {X : Type 0} (judge : List Row → Option X) (t : Table) (means : Option (List Assignment) → Option X) (means-none : means None ≡ None)

@@ -14,19 +14,19 @@ use Rattle.clap.specs.Faults.{fault_of}
 use Rattle.clap.specs.declared.builder.action.ArgAction.TheVariants as action
 use Rattle.tool_forms.specs.declared.campaign_words.Campaign.{Campaign}
 use Rattle.tool_forms.specs.declared.words.Form.{Form}
-use Rattle.tool_forms.specs.declared.words.Form.TheVariants as form
 use Rattle.tool_forms.specs.declared.settings.Setting.{Setting}
-use Rattle.tool_forms.specs.declared.settings.Setting.TheVariants.{First, Seeds, Events, Workers, Side, Plain, Most}
+use Rattle.tool_forms.specs.declared.settings.Setting.TheVariants.{First, Seeds, Events, Workers, Side, Plain, Buffer, Most}
 use Rattle.tool_forms.specs.declared.settings.Way.{Way}
 use Rattle.tool_forms.specs.declared.settings.Way.TheVariants as way
 use Rattle.tool_forms.specs.Tables.{Table}
 use Rattle.tool_forms.specs.Settings.{bare_name, number_for, settings_of, side_in, way_of}
 use Rattle.tool_forms.specs.CampaignWords.{campaign_from}
-use Rattle.tool_forms.specs.Words.{listener_for}
+use Rattle.tool_forms.specs.Words.{listener_for, replay_with}
 
--- the argument of this name that is given so: with one value, which has to be given, or as a flag
+-- the argument of this name that is given so: with one value, which has to be given or may be left out, or as a flag
 abbrev pub rule_by : Way → Text → Rule
 rule_by way.Needed name = record (new_rule name) { long = Some name; action = Some action.Set; required = true }
+rule_by way.Chosen name = record (new_rule name) { long = Some name; action = Some action.Set }
 rule_by way.Mark name = record (new_rule name) { long = Some name; action = Some action.SetTrue }
 
 -- the argument of a setting
@@ -75,13 +75,23 @@ abbrev pub is_yes : Option Text → Bool
 is_yes None = false
 is_yes (Some text) = bytes_eq text (codes "true")
 
--- the replay that these are: the text of the side, and whether it is plain
-abbrev pub replay_from : Option Text → Bool → Option Form
-replay_from side plain = option_and_then (λ side. Some (form.Replay side plain)) (option_and_then side_in side)
+-- the number of a setting that may be left out, where its text is one
+abbrev pub chosen : Setting → Option Text → Option (Option ℕ)
+chosen setting None = Some None
+chosen setting (Some text) = option_and_then (λ n. Some (Some n)) (number_for setting text)
+
+-- the number that the matches have for such a setting
+abbrev pub chosen_in : Setting → List Row → Option (Option ℕ)
+chosen_in setting rows = chosen setting (first_of (bare_name setting) rows)
+
+-- the replay that these are: the text of the side, whether it is plain, and the text of the buffer
+abbrev pub replay_from : Option Text → Bool → Option Text → Option Form
+replay_from side plain buffer =
+    option_and_then (λ side. option_and_then (λ buffer. Some (replay_with side plain buffer)) (chosen Buffer buffer)) (option_and_then side_in side)
 
 -- the replay that matches are
 abbrev pub replay_in : List Row → Option Form
-replay_in rows = replay_from (first_of (bare_name Side) rows) (is_yes (first_of (bare_name Plain) rows))
+replay_in rows = replay_from (first_of (bare_name Side) rows) (is_yes (first_of (bare_name Plain) rows)) (first_of (bare_name Buffer) rows)
 
 -- the listener that matches are
 abbrev pub listen_in : List Row → Option Form

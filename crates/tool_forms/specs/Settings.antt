@@ -14,7 +14,7 @@ use Rattle.world_events.specs.declared.event.Side.TheVariants.{Client, Server}
 use Rattle.tool_forms.specs.Tables.{Table}
 use Rattle.tool_forms.specs.Tables as table
 use Rattle.tool_forms.specs.declared.settings.Setting.{Setting}
-use Rattle.tool_forms.specs.declared.settings.Setting.TheVariants.{First, Seeds, Events, Workers, Side, Plain, Most}
+use Rattle.tool_forms.specs.declared.settings.Setting.TheVariants.{First, Seeds, Events, Workers, Side, Plain, Buffer, Most}
 use Rattle.tool_forms.specs.declared.settings.Way.{Way}
 use Rattle.tool_forms.specs.declared.settings.Way.TheVariants as way
 use Rattle.tool_forms.specs.Given.{Value}
@@ -23,7 +23,7 @@ use Rattle.tool_forms.specs.Given.{Assignment}
 
 -- the settings of a form
 abbrev pub settings_of : Table → List Setting
-settings_of table.Replay = Side ∷ (Plain ∷ [])
+settings_of table.Replay = Side ∷ (Buffer ∷ (Plain ∷ []))
 settings_of table.Campaign = First ∷ (Seeds ∷ (Events ∷ (Workers ∷ [])))
 settings_of table.Listen = Most ∷ []
 
@@ -35,11 +35,13 @@ bare_name Events = codes "events"
 bare_name Workers = codes "workers"
 bare_name Side = codes "side"
 bare_name Plain = codes "plain"
+bare_name Buffer = codes "buffer"
 bare_name Most = codes "most"
 
 -- how a setting is given
 abbrev pub way_of : Setting → Way
 way_of Plain = way.Mark
+way_of Buffer = way.Chosen
 way_of _ = way.Needed
 
 -- the least that a number may be
@@ -47,6 +49,7 @@ abbrev pub least : Setting → ℕ
 least Seeds = 1
 least Events = 1
 least Workers = 1
+least Buffer = 1
 least Most = 1
 least _ = 0
 
@@ -56,6 +59,7 @@ most First = 2 ^ 64 - 1
 most Seeds = 100000
 most Events = 4096
 most Workers = 16
+most Buffer = 1024
 most Most = 1024
 most _ = 0
 

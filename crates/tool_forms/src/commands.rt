@@ -1,7 +1,7 @@
 //! The words of a form, read by a command of `clap`.
 ghost use Rattle.std.specs.Prelude.{◌≡◌, ◌≤◌, ◌↔◌, IfOk, IfSome, IsTrue, codes, false, true, map, option_map, string_bytes};
 ghost use Rattle.clap.specs.Words.{app_of, first_of, found_of, is_simple_and_free, kind_of, rows_of, rule_of, with_rule};
-ghost use Rattle.tool_forms.specs.Commands.{IsReadBy, bare_command, command_of, figure_in, has_dashes, is_yes, rule_by, rule_for};
+ghost use Rattle.tool_forms.specs.Commands.{IsReadBy, bare_command, chosen_in, command_of, figure_in, has_dashes, is_yes, rule_by, rule_for};
 ghost use Rattle.tool_forms.specs.Settings.{bare_name, least, most};
 ghost use Rattle.tool_forms.specs.Tables as table;
 
@@ -11,8 +11,16 @@ use clap::{Arg, ArgAction, ArgMatches, Command, Error};
 use seq_circle::NoMemory;
 use std::alloc::{AllocError, Global};
 
-// An option that has one value and has to be given.
+// An option that has one value.
 fn option<'a>(alloc: Global, name: &'a str) -> Arg<'a>
+    ensures rule { rule_of result ≡ rule_by Way.Chosen name.entry.now }
+    ensures local { result.global ≡ false }
+{
+    Arg::new(alloc, name).long(name).action(ArgAction::Set)
+}
+
+// An option that has one value and has to be given.
+fn needed_option<'a>(alloc: Global, name: &'a str) -> Arg<'a>
     ensures rule { rule_of result ≡ rule_by Way.Needed name.entry.now }
     ensures local { result.global ≡ false }
 {
@@ -35,7 +43,8 @@ fn argument<'a>(alloc: Global, way: Way, name: &'a str) -> Arg<'a>
     ensures local { result.global ≡ false }
 {
     match way {
-        Way::Needed => option(alloc, name),
+        Way::Needed => needed_option(alloc, name),
+        Way::Chosen => option(alloc, name),
         Way::Mark => flag(alloc, name),
     }
 }
@@ -85,6 +94,7 @@ pub(crate) fn replay_command<'a>(alloc: Global) -> Result<Command<'a>, AllocErro
     ensures { IfOk result (λ c. app_of c ≡ command_of table.Replay) }
 {
     let command = with_setting(alloc, bare_command(alloc), Setting::Side)?;
+    let command = with_setting(alloc, command, Setting::Buffer)?;
     with_setting(alloc, command, Setting::Plain)
 }
 
@@ -145,6 +155,19 @@ pub(crate) fn figure_in(matches: &ArgMatches, setting: Setting) -> Option<u64>
 {
     let text = text_in(matches, setting)?;
     setting.number(text.as_bytes())
+}
+
+/// The number that the matches have for this setting, which may be left out, and None where its text is no number within
+/// its bounds.
+pub(crate) fn chosen_in(matches: &ArgMatches, setting: Setting) -> Option<Option<u64>>
+    ensures value { result ≡ chosen_in setting (rows_of (found_of matches.now)) }
+    ensures within { IfSome result (λ chosen. IfSome chosen (λ n. least setting ≤ n × n ≤ most setting)) }
+{
+    let Some(text) = text_in(matches, setting) else {
+        return Some(None);
+    };
+    let number = setting.number(text.as_bytes())?;
+    Some(Some(number))
 }
 
 /// A flag is given, which then has the text `true`.

@@ -38,6 +38,7 @@ pub(crate) enum Setting {
     Workers,
     Side,
     Plain,
+    Buffer,
     Most,
 }
 
@@ -46,6 +47,8 @@ pub(crate) enum Setting {
 pub(crate) enum Way {
     /// With a value, and it has to be given.
     Needed,
+    /// With a value, and it may be left out.
+    Chosen,
     /// By its name alone, and it may be left out.
     Mark,
 }
@@ -55,7 +58,8 @@ impl Setting {
         ensures { result ≡ least self }
     {
         match self {
-            Setting::Seeds | Setting::Events | Setting::Workers | Setting::Most => 1,
+            Setting::Seeds | Setting::Events | Setting::Workers | Setting::Buffer | Setting::Most =>
+                1,
             Setting::First | Setting::Side | Setting::Plain => 0,
         }
     }
@@ -68,7 +72,7 @@ impl Setting {
             Setting::Seeds => 100_000,
             Setting::Events => 4_096,
             Setting::Workers => 16,
-            Setting::Most => 1_024,
+            Setting::Buffer | Setting::Most => 1_024,
             Setting::Side | Setting::Plain => 0,
         }
     }
@@ -84,6 +88,7 @@ impl Setting {
             Setting::Workers => "workers",
             Setting::Side => "side",
             Setting::Plain => "plain",
+            Setting::Buffer => "buffer",
             Setting::Most => "most",
         }
     }
@@ -94,6 +99,7 @@ impl Setting {
     {
         match self {
             Setting::Plain => Way::Mark,
+            Setting::Buffer => Way::Chosen,
             Setting::First
             | Setting::Seeds
             | Setting::Events

@@ -5,7 +5,9 @@ ghost use Rattle.tool_forms.specs.Commands.{listen_in, replay_in};
 ghost use Rattle.tool_forms.specs.Words.{IsFormWithinBounds, campaigns, form_of, has_settings, is_word, listen_of, replay_of, takes_no_word};
 
 use crate::campaign_words::{Campaign, campaign_of};
-use crate::commands::{figure_in, is_given, listen_command, read, replay_command, text_in};
+use crate::commands::{
+    chosen_in, figure_in, is_given, listen_command, read, replay_command, text_in,
+};
 use crate::settings::{Setting, side_in};
 use clap::ArgMatches;
 use seq_circle::NoMemory;
@@ -18,20 +20,31 @@ pub enum Form {
     /// `run` plays a schedule.
     Run,
     /// `replay` hands frames to the usual end of this side, with or without its offers.
-    Replay { side: Side, plain: bool },
+    Replay {
+        side: Side,
+        plain: bool,
+    },
+    /// `replay` with `--buffer` hands them to one with a receive buffer for this many packets: 1 to 1,024.
+    Buffered {
+        side: Side,
+        plain: bool,
+        capacity: u16,
+    },
     /// `campaign` runs seeds and counts.
     Campaign(Campaign),
     /// `show` tells the packets of a capture.
     Show,
     /// `listen` hands what many peers send to one listener, of at most this many flows: 1 to 1,024.
-    Listen { most: u16 },
+    Listen {
+        most: u16,
+    },
     /// `ecn` lets events take place between an ECN-capable sender and an ECN-capable receiver.
     Ecn,
 }
 
 /// The line that answers words which are none of the forms (own). It names all forms.
 pub const USAGE: &[u8] =
-    b"usage: dccp run | replay --side server|client [--plain] | campaign --first F --seeds N --events E --workers W | show | listen --most M | ecn\n";
+    b"usage: dccp run | replay --side server|client [--plain] [--buffer C] | campaign --first F --seeds N --events E --workers W | show | listen --most M | ecn\n";
 
 fn is_word(word: &String, text: &[u8]) -> bool
     ensures { result ≡ is_word word.now text.now }
@@ -47,7 +60,15 @@ fn replay_in(matches: &ArgMatches) -> Option<Form>
     let text = text_in(matches, Setting::Side)?;
     let side = side_in(text.as_bytes())?;
     let plain = is_given(matches, Setting::Plain);
-    Some(Form::Replay { side, plain })
+    let form = match chosen_in(matches, Setting::Buffer)? {
+        None => Form::Replay { side, plain },
+        Some(capacity) => Form::Buffered {
+            side,
+            plain,
+            capacity: capacity as u16,
+        },
+    };
+    Some(form)
 }
 
 // The job that the words behind `replay` ask for.
