@@ -4,11 +4,12 @@ ghost use Rattle.dccp_io.specs.Counts.{Rose};
 ghost use Rattle.capture_reader.specs.State.{Passed};
 ghost use Rattle.tool_run.specs.Transcript.{transcript, is_refused, accepted_bytes, SafeThroughout};
 ghost use Rattle.tool_replay.specs.Replay.{replay_text, replay_refused, replay_accepted};
+ghost use Rattle.tool_replay.specs.Buffered.{buffered_text, buffered_refused, buffered_accepted};
 ghost use Rattle.tool_listen.specs.Listen.{listen_text, listen_refused, listen_accepted};
 ghost use Rattle.dccp_command.specs.CampaignText.{AnswersUnread, campaign_text};
 ghost use Rattle.tool_show.specs.CaptureText.{capture_text, is_faulty, records_end};
 ghost use Rattle.tool_ecn.specs.Play.{ecn_text, ecn_refused, ecn_accepted};
-ghost use Rattle.tool_forms.specs.Words.{OnRun, OnReplay, OnShow, OnListen, OnEcn, form_of, has_settings, usage};
+ghost use Rattle.tool_forms.specs.Words.{OnRun, OnReplay, OnBuffered, OnShow, OnListen, OnEcn, form_of, has_settings, usage};
 ghost use Rattle.tool_output.specs.Ends.{SinkFails, IsWritten, IsAnswered, Answers, StopsWithin, EndsForCause};
 
 use crate::campaigning::run_campaign;
@@ -20,13 +21,14 @@ use tool_ecn::play_nonces;
 use tool_forms::{Campaign, Form, USAGE, form_of};
 use tool_listen::listen_to_peers;
 use tool_output::Status;
-use tool_replay::replay_frames;
+use tool_replay::{replay_at_buffer, replay_frames};
 use tool_run::run_schedule;
 use tool_show::show_capture;
 
 /// Does what the words ask for (own), those after the program's name. `run` plays a schedule: it reads `input`, and
 /// writes to `output` a line for each event and for each frame that it sent, and at last the state of both ends.
-/// `replay` hands the frames of `input` to one end, and writes the same of it. `show` reads a capture, and writes a
+/// `replay` hands the frames of `input` to one end, and writes the same of it; where words ask for it the end has a receive
+/// buffer, which is read as lines say. `show` reads a capture, and writes a
 /// line for each DCCP packet in it, and at last how many records it has or why it ends early. `listen` hands what many
 /// peers send to one listener, and writes a line for what each is answered and for each frame that goes to one, and at
 /// last the flows. `ecn` lets events take place between an ECN-capable sender and an ECN-capable receiver, and writes a
@@ -65,6 +67,10 @@ pub fn dccp<R: Threads + Sync, G: Gate + Sync, S: Source, K: Sink>(
         Answers (replay_text side plain bytes) (replay_refused side plain bytes) result (S.left input.new) (K.taken output.old) (K.taken output.new)) }
     ensures replay_past { OnReplay words.now (S.left input.old) (λ side plain bytes.
         StopsWithin 16384 (replay_accepted side plain bytes) bytes result (S.left input.new)) }
+    ensures buffered { OnBuffered words.now (S.left input.old) (λ side plain capacity bytes.
+        Answers (buffered_text side plain capacity bytes) (buffered_refused side plain capacity bytes) result (S.left input.new) (K.taken output.old) (K.taken output.new)) }
+    ensures buffered_past { OnBuffered words.now (S.left input.old) (λ side plain capacity bytes.
+        StopsWithin 16384 (buffered_accepted side plain capacity bytes) bytes result (S.left input.new)) }
     ensures shown { OnShow words.now (S.left input.old) (λ bytes.
         Answers (capture_text bytes) (is_faulty bytes) result (S.left input.new) (K.taken output.old) (K.taken output.new)) }
     ensures past { OnShow words.now (S.left input.old) (λ bytes. result ≡ Status.Input → Passed 524288 (Some (drop (records_end bytes) bytes)) (S.left input.new)) }
@@ -89,6 +95,13 @@ pub fn dccp<R: Threads + Sync, G: Gate + Sync, S: Source, K: Sink>(
     match form {
         Some(Form::Run) => run_schedule(alloc, input, output),
         Some(Form::Replay { side, plain }) => replay_frames(alloc, side, plain, input, output),
+        Some(
+            Form::Buffered {
+                side,
+                plain,
+                capacity,
+            },
+        ) => replay_at_buffer(alloc, side, plain, capacity, input, output),
         Some(Form::Campaign(campaign)) => run_campaign(rt, alloc, gate, campaign, output),
         Some(Form::Show) => show_capture(alloc, input, output),
         Some(Form::Listen { most }) => listen_to_peers(alloc, most, input, output),

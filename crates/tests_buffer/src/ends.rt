@@ -102,21 +102,33 @@ fn tell(alloc: Global, server: &mut Server, word: &str, told: &mut String) -> Re
     }
 }
 
-// Plays the lines of a new server, and compares what comes of each.
+// Plays a line, and compares what comes of it.
+fn holds_line(alloc: Global, server: &mut Server, line: &str) -> Result<(), Fail> {
+    let (word, wanted) = line.split_once(": ").ok_or("no colon")?;
+    let mut told = String::new(alloc);
+    tell(alloc, server, word, &mut told)?;
+    if told.as_str() == wanted {
+        Ok(())
+    } else {
+        Err(Fail::new(format_args!("{line} is not {told}")))
+    }
+}
+
+// Plays these lines, one after another.
+fn hold_lines(alloc: Global, server: &mut Server, lines: &str) -> Result<(), Fail> {
+    for line in lines.lines() {
+        holds_line(alloc, server, line)?;
+    }
+    Ok(())
+}
+
+// Plays the lines of a new server.
 fn holds(alloc: Global, capacity: u16, lines: &str) -> Result<(), Fail>
     requires least { 1 ≤ capacity }
     requires most { capacity ≤ 1024 }
 {
     let mut server = server(alloc, capacity)?;
-    for line in lines.lines() {
-        let (word, wanted) = line.split_once(": ").ok_or("no colon")?;
-        let mut told = String::new(alloc);
-        tell(alloc, &mut server, word, &mut told)?;
-        if told.as_str() != wanted {
-            return Err(Fail::new(format_args!("{line} is not {told}")));
-        }
-    }
-    Ok(())
+    hold_lines(alloc, &mut server, lines)
 }
 
 // The handshake, and then data of one byte each.

@@ -77,8 +77,10 @@ fn changes(unknown: u8) -> Option<Bytes> {
     for feature in 128..128 + unknown.min(100) {
         bytes.try_extend_from_slice(&[34, 4, feature, 0]).ok()?;
     }
-    while bytes.len() % 4 != 0 {
-        bytes.try_push(0).ok()?;
+    for _ in 0..3 {
+        if bytes.len() % 4 != 0 {
+            bytes.try_push(0).ok()?;
+        }
     }
     *bytes.get_mut(4)? = (bytes.len() / 4) as u8;
     *bytes.get_mut(14)? = 0x06;
@@ -88,16 +90,32 @@ fn changes(unknown: u8) -> Option<Bytes> {
     Some(bytes)
 }
 
-// The length of the answer to so many Changes of unknown features, and its last byte.
-fn answer(alloc: Global, unknown: u8) -> Option<(usize, u8)> {
-    let mut server = server(alloc)?;
-    let mut out = Outbox::new();
-    receive(&mut server, &REQUEST, &mut out)?;
-    receive(&mut server, &ACK, &mut out)?;
-    drop_many(&mut server, &mut out)?;
-    receive(&mut server, changes(unknown)?.as_slice(), &mut out)?;
+// Opens the connection, and lets many data come.
+fn begin(server: &mut Server, out: &mut Outbox) -> Option<()> {
+    receive(server, &REQUEST, out)?;
+    receive(server, &ACK, out)?;
+    drop_many(server, out)
+}
+
+// The length of the frame, and its last byte.
+fn length_and_last(out: &Outbox) -> Option<(usize, u8)> {
     let bytes = out.frame()?.bytes();
     Some((bytes.len(), *bytes.last()?))
+}
+
+// The same of what this server answers in the end.
+fn answered(server: &mut Server, unknown: u8) -> Option<(usize, u8)> {
+    let mut out = Outbox::new();
+    begin(server, &mut out)?;
+    let changes = changes(unknown)?;
+    receive(server, changes.as_slice(), &mut out)?;
+    length_and_last(&out)
+}
+
+// The same of a new server, which so many Changes of unknown features reach.
+fn answer(alloc: Global, unknown: u8) -> Option<(usize, u8)> {
+    let mut server = server(alloc)?;
+    answered(&mut server, unknown)
 }
 
 // Behind a header of 24 bytes and vectors of 510 there are Confirms of 229 bytes, and with one more of 232. Data Dropped

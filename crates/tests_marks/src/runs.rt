@@ -313,3 +313,24 @@ fn a_list_of_calls(rt: HostRuntime) -> Result<(), Fail> {
     assert!(rt; replays(&mut plain), "plain");
     Ok(())
 }
+
+// Two runs become one, and all start anew.
+const JOINED: [Call; 2] = [Call::Start(0), Call::MarkAll(&[1, 3, 2])];
+
+// Whether these calls come to what they have to, each of so many times.
+fn holds_each_time<R: Runs>(set: &mut R, times: u32, calls: &[Call]) -> bool {
+    for _ in 0..times {
+        if first_other(set, calls).is_some() {
+            return false;
+        }
+    }
+    true
+}
+
+// More often than a set has nodes: 1,024.
+#[test]
+fn nodes_are_used_again(rt: HostRuntime) -> Result<(), Fail> {
+    let mut set = RunList::new(rt.alloc()).ok().ok_or("no memory")?;
+    assert!(rt; holds_each_time(&mut set, 1025, &JOINED));
+    Ok(())
+}

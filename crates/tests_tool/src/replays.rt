@@ -40,24 +40,30 @@ const PLAIN_CLIENT: &str = "open: ok\n\
 sent c0 9c401389050031ec01000000000003e80000002a\n\
 end client REQUEST window 4 flight 0 1=2/2 2=0/0 3=100/100 4=0/0 5=2/2 6=0/0 7=0/0 8=0/0 9=0/0\n";
 
-// All lists of words of the form, by what they come to.
+// Lists of words of the form, by what they come to: without a buffer all.
 const OF_A_SERVER: &str = "\
     replay,--side,server\n\
     replay,--side=server\n\
     replay,--side,server,--plain\n\
     replay,--side=server,--plain\n\
     replay,--plain,--side,server\n\
-    replay,--plain,--side=server\n";
+    replay,--plain,--side=server\n\
+    replay,--side,server,--buffer,1\n\
+    replay,--buffer=1024,--side=server\n";
 
 const OF_A_CLIENT: &str = "\
     replay,--side,client\n\
-    replay,--side=client\n";
+    replay,--side=client\n\
+    replay,--buffer=1,--side,client\n";
 
 const OF_A_PLAIN_CLIENT: &str = "\
     replay,--side,client,--plain\n\
     replay,--side=client,--plain\n\
     replay,--plain,--side,client\n\
-    replay,--plain,--side=client\n";
+    replay,--plain,--side=client\n\
+    replay,--side,client,--buffer,2,--plain\n\
+    replay,--plain,--buffer=10,--side,client\n\
+    replay,--buffer,1024,--plain,--side=client\n";
 
 fn come_to<R: Threads + Sync>(rt: &R, alloc: Global, lines: &str, text: &str) -> Result<(), Fail> {
     lines_come(
@@ -96,7 +102,17 @@ const OTHER_WORDS: &str = "\
     replay,--side=server,--side=server\n\
     replay,--plain,--side,server,--plain\n\
     replay,--plain,--plain,--side=server\n\
-    --side,server,replay\n";
+    --side,server,replay\n\
+    replay,--buffer,1\n\
+    replay,--buffer,1,--plain\n\
+    replay,--side,server,--buffer\n\
+    replay,--side,server,--buffer=\n\
+    replay,--side,server,--buffer,0\n\
+    replay,--side,server,--buffer,1025\n\
+    replay,--side,server,--buffer=01\n\
+    replay,--side,server,--buffer,--plain\n\
+    replay,--side,server,--buffer,1,--buffer,1\n\
+    replay,--buffer=1,--plain,--side,server,--buffer=2\n";
 
 #[test]
 fn refused_words_of_replays(rt: HostRuntime) -> Result<(), Fail> {

@@ -9,7 +9,7 @@ use std::thread::Threads;
 
 /// The line that answers words which are none of the forms.
 pub(crate) const USAGE: &str =
-    "usage: dccp run | replay --side server|client [--plain] | campaign --first F --seeds N --events E --workers W | show | listen --most M | ecn\n";
+    "usage: dccp run | replay --side server|client [--plain] [--buffer C] | campaign --first F --seeds N --events E --workers W | show | listen --most M | ecn\n";
 
 pub(crate) const HANDSHAKE: &str = "plain\nopen\ndeliver c0\ndeliver s0\ndeliver c1\n";
 

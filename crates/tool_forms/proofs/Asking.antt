@@ -1,5 +1,5 @@
 -- What the functions that build, call and ask a command cite.
-use Rattle.std.proofs.Common.{◌≡◌, ◌∙◌, ap, subst, true, false, List, map, Some, Result, Ok, IfOk, codes, String, Global}
+use Rattle.std.proofs.Common.{◌≡◌, ◌∙◌, sym, ap, subst, true, false, List, [], ◌∷◌, map, Some, Result, Ok, IfOk, String, Global}
 use Rattle.std.specs.Prelude.{string_bytes}
 use Rattle.clap.specs.Kinds.{FailsBy}
 use Rattle.clap.specs.Simple.{App, HasMatchesOf, built, is_simple, with_rule}
@@ -7,21 +7,33 @@ use Rattle.clap.specs.Faults.{fault_of, is_free_app, is_simple_and_free}
 use Rattle.clap.specs.declared.error.Error.{Error}
 use Rattle.clap.specs.declared.parser.matches.ArgMatches.{ArgMatches}
 use Rattle.clap.proofs.WalkLemmas.{both}
-use Rattle.tool_forms.specs.Commands.{IsReadBy, bare_command, campaign_command, flag_rule, has_dashes, option_rule, replay_command}
+use Rattle.tool_forms.specs.Tables as table
+use Rattle.tool_forms.specs.declared.settings.Setting.{Setting}
+use Rattle.tool_forms.specs.declared.settings.Setting.TheVariants.{First, Seeds, Events, Workers, Side, Plain, Buffer, Most}
+use Rattle.tool_forms.specs.Settings.{settings_of}
+use Rattle.tool_forms.specs.Commands.{IsReadBy, bare_command, command_of, has_dashes, rule_for, with_settings}
 
-pub figures-are : (a b d e f : App) → a ≡ bare_command → b ≡ with_rule a (option_rule (codes "first")) → d ≡ with_rule b (option_rule (codes "seeds"))
-    → e ≡ with_rule d (option_rule (codes "events")) → f ≡ with_rule e (option_rule (codes "workers")) → f ≡ campaign_command
-unfolding campaign_command
+-- one setting more
+one-with : (a b : App) (setting : Setting) (settings : List Setting) → b ≡ with_rule a (rule_for setting) → with_settings a (setting ∷ settings) ≡ with_settings b settings
+one-with a b setting settings is = ap (λ (x : App). with_settings x settings) (sym is)
+
+pub figures-are : (a b d e f : App) → a ≡ bare_command → b ≡ with_rule a (rule_for First) → d ≡ with_rule b (rule_for Seeds)
+    → e ≡ with_rule d (rule_for Events) → f ≡ with_rule e (rule_for Workers) → f ≡ command_of table.Campaign
+unfolding command_of
 figures-are a b d e f bare first seeds events workers =
-    workers ∙ ap (λ (x : App). with_rule x (option_rule (codes "workers")))
-    (events ∙ ap (λ (x : App). with_rule x (option_rule (codes "events")))
-    (seeds ∙ ap (λ (x : App). with_rule x (option_rule (codes "seeds")))
-    (first ∙ ap (λ (x : App). with_rule x (option_rule (codes "first"))) bare)))
+    sym (ap (λ (x : App). with_settings x (settings_of table.Campaign)) (sym bare) ∙ one-with a b First (Seeds ∷ (Events ∷ (Workers ∷ []))) first
+    ∙ one-with b d Seeds (Events ∷ (Workers ∷ [])) seeds ∙ one-with d e Events (Workers ∷ []) events ∙ one-with e f Workers [] workers)
 
-pub side-is : (a b d : App) → a ≡ bare_command → b ≡ with_rule a (option_rule (codes "side")) → d ≡ with_rule b (flag_rule (codes "plain")) → d ≡ replay_command
-unfolding replay_command
-side-is a b d bare side plain =
-    plain ∙ ap (λ (x : App). with_rule x (flag_rule (codes "plain"))) (side ∙ ap (λ (x : App). with_rule x (option_rule (codes "side"))) bare)
+pub replay-is : (a b d e : App) → a ≡ bare_command → b ≡ with_rule a (rule_for Side) → d ≡ with_rule b (rule_for Buffer) → e ≡ with_rule d (rule_for Plain)
+    → e ≡ command_of table.Replay
+unfolding command_of
+replay-is a b d e bare side buffer plain =
+    sym (ap (λ (x : App). with_settings x (settings_of table.Replay)) (sym bare) ∙ one-with a b Side (Buffer ∷ (Plain ∷ [])) side
+    ∙ one-with b d Buffer (Plain ∷ []) buffer ∙ one-with d e Plain [] plain)
+
+pub listen-is : (a b : App) → a ≡ bare_command → b ≡ with_rule a (rule_for Most) → b ≡ command_of table.Listen
+unfolding command_of
+listen-is a b bare most = sym (ap (λ (x : App). with_settings x (settings_of table.Listen)) (sym bare) ∙ one-with a b Most [] most)
 
 -- what a call of a command tells of words
 

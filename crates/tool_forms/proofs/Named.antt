@@ -1,5 +1,5 @@
 -- What a word is for `clap` and for the reading from left to right.
-use Rattle.std.proofs.Common.{◌≡◌, ◌⊎◌, ◌∙◌, ◌+◌, refl, sym, ap, ap₂, subst, ℕ, suc, Bool, true, false, List, [], ◌∷◌, ◌++◌, length, take, drop, Option, Some, None, codes, inl, inr, arith}
+use Rattle.std.proofs.Common.{◌≡◌, ◌⊎◌, ◌∙◌, ◌+◌, refl, sym, ap, ap₂, subst, ℕ, suc, Bool, true, false, List, [], ◌∷◌, ◌++◌, length, take, drop, Option, Some, None, option_and_then, codes, inl, inr, arith}
 use Rattle.std.specs.Prelude.{nat_lt, ◌==◌}
 use Rattle.std.specs.Str.{bytes_eq}
 use Rattle.std.specs.List.{list_any, position_or_len, before_first, after_first}
@@ -9,11 +9,13 @@ use lib.ListN.{take-append-drop}
 use Rattle.std.proofs.lemmas.Bool.Decides.{nat_tests}
 use Rattle.clap.specs.Lexer.{has_byte, long_of, short_of}
 use Rattle.tool_forms.specs.Tables.{Table}
-use Rattle.tool_forms.specs.Tables as table
 use Rattle.tool_forms.specs.declared.settings.Setting.{Setting}
-use Rattle.tool_forms.specs.declared.settings.Setting.TheVariants.{First, Seeds, Events, Workers, Side, Plain}
+use Rattle.tool_forms.specs.declared.settings.Setting.TheVariants.{First, Seeds, Events, Workers, Side, Plain, Buffer, Most}
+use Rattle.tool_forms.specs.Given as value
 use Rattle.tool_forms.specs.Given.{Assignment}
-use Rattle.tool_forms.specs.Settings.{all_given, given_of, is_equals, is_joined, is_mark, joined_given, mark_given, preceded, setting_named, setting_value, value_given_to}
+use Rattle.tool_text.specs.Numbers.{number_below}
+use Rattle.tool_forms.specs.Settings.{all_given, dashed_name, given_of, is_equals, is_joined, is_mark, joined_given, least, mark_given, most, named_among, number_for, number_from, preceded, setting_named, setting_value, settings_of, value_given_to}
+use Rattle.tool_forms.proofs.Pairs.{some-is}
 
 joins : (xs : List ℕ) → nat_lt (position_or_len is_equals xs) (length xs) ≡ has_byte 61 xs
 joins [] = refl
@@ -89,9 +91,9 @@ joined-dashed t x xs words has = joined-read t (dashed x xs) words is
 whole-dashed : (x : ℕ) (xs : List ℕ) → has_byte 61 (x ∷ xs) ≡ false → is_joined (dashed x xs) ≡ false
 whole-dashed x xs none = joins (dashed x xs) ∙ none
 
--- `--name` of the flag
+-- `--name` of a mark
 pub mark-dashed : (t : Table) (x : ℕ) (xs : List ℕ) (words : List (List ℕ)) → has_byte 61 (x ∷ xs) ≡ false → is_mark t (dashed x xs) ≡ true
-    → all_given t (dashed x xs ∷ words) ≡ preceded (Some mark_given) (all_given t words)
+    → all_given t (dashed x xs ∷ words) ≡ preceded (mark_given t (dashed x xs)) (all_given t words)
 mark-dashed t x xs [] none mark = rw (whole-dashed x xs none, mark) refl
 mark-dashed t x xs (next ∷ words) none mark = rw (whole-dashed x xs none, mark) refl
 
@@ -113,90 +115,73 @@ long-whole x xs none = rw (none, whole-name (x ∷ xs) none) refl
 cannot : {X : Type 0} (some : X) → Some some ≡ None → ⊥
 cannot some none = cc none
 
-set-name : Setting → List ℕ
-set-name First = codes "--first"
-set-name Seeds = codes "--seeds"
-set-name Events = codes "--events"
-set-name Workers = codes "--workers"
-set-name Side = codes "--side"
-set-name Plain = codes "--plain"
-
 equal-by : (one other : List ℕ) → bytes_eq one other ≡ true → one ≡ other
 equal-by one other is = (bytes_eq-Decides one other).0 is
 
-set-long : (setting : Setting) (rest : List ℕ) → long_of (set-name setting ++ rest) ≡ None → ⊥
-unfolding set-name
+set-long : (setting : Setting) (rest : List ℕ) → long_of (dashed_name setting ++ rest) ≡ None → ⊥
 set-long First rest none = cannot _ none
 set-long Seeds rest none = cannot _ none
 set-long Events rest none = cannot _ none
 set-long Workers rest none = cannot _ none
 set-long Side rest none = cannot _ none
 set-long Plain rest none = cannot _ none
+set-long Buffer rest none = cannot _ none
+set-long Most rest none = cannot _ none
 
-named-begins : (t : Table) (name : List ℕ) (setting : Setting) → setting_named t name ≡ Some setting → (s : Setting) × (name ≡ set-name s)
-unfolding set-name
-named-begins table.Replay name setting is = go (bytes_eq name (codes "--side")) refl is
+-- a setting has the name by which it is found
+named-is : (settings : List Setting) (name : List ℕ) (setting : Setting) → named_among settings name ≡ Some setting → name ≡ dashed_name setting
+named-is [] name setting is = absurd (cannot setting (sym is))
+named-is (first ∷ settings) name setting is = go (bytes_eq name (dashed_name first)) refl is (named-is settings name setting)
   where
-    go : (b : Bool) → bytes_eq name (codes "--side") ≡ b → setting_named table.Replay name ≡ Some setting → (s : Setting) × (name ≡ set-name s)
-    go true same is = (Side, equal-by name (codes "--side") same)
-    go false other is = let no : None ≡ Some setting = rw other at is in absurd (cannot setting (sym no))
-named-begins table.Campaign name setting is =
-    go (bytes_eq name (codes "--first")) refl (bytes_eq name (codes "--seeds")) refl (bytes_eq name (codes "--events")) refl (bytes_eq name (codes "--workers")) refl
-  where
-    go : (a : Bool) → bytes_eq name (codes "--first") ≡ a → (b : Bool) → bytes_eq name (codes "--seeds") ≡ b → (e : Bool) → bytes_eq name (codes "--events") ≡ e
-        → (d : Bool) → bytes_eq name (codes "--workers") ≡ d → (s : Setting) × (name ≡ set-name s)
-    go true same b _ e _ d _ = (First, equal-by name (codes "--first") same)
-    go false _ true same e _ d _ = (Seeds, equal-by name (codes "--seeds") same)
-    go false _ false _ true same d _ = (Events, equal-by name (codes "--events") same)
-    go false _ false _ false _ true same = (Workers, equal-by name (codes "--workers") same)
-    go false f false g false h false i = let no : None ≡ Some setting = rw (f, g, h, i) at is in absurd (cannot setting (sym no))
+    go : (b : Bool) → bytes_eq name (dashed_name first) ≡ b → named_among (first ∷ settings) name ≡ Some setting
+        → (named_among settings name ≡ Some setting → name ≡ dashed_name setting) → name ≡ dashed_name setting
+    go true same is rest =
+        let found : Some first ≡ Some setting = rw same at is in equal-by name (dashed_name first) same ∙ ap dashed_name (some-is first setting found)
+    go false other is rest = let behind : named_among settings name ≡ Some setting = rw other at is in rest behind
 
 -- a word that is no `--name` gives nothing
 pub none-dashed : (t : Table) (word : List ℕ) (words : List (List ℕ)) → long_of word ≡ None → all_given t (word ∷ words) ≡ None
-unfolding set-name
-none-dashed t word words none = go (is_joined word) refl (is_mark t word) refl
+none-dashed t word words none = go (is_joined word) refl
   where
     named : (name rest : List ℕ) → word ≡ name ++ rest → setting_named t name ≡ None
     named name rest is = by (setting_named t name) refl
       where
         by : (found : Option Setting) → setting_named t name ≡ found → setting_named t name ≡ None
         by None found = found
-        by (Some setting) found =
-            let begins = named-begins t name setting found in
-            absurd (set-long begins.0 rest (ap (λ (n : List ℕ). long_of (n ++ rest)) (sym begins.1) ∙ ap long_of (sym is) ∙ none))
+        by (Some setting) found = absurd (set-long setting rest
+            (ap (λ (n : List ℕ). long_of (n ++ rest)) (sym (named-is (settings_of t) name setting found)) ∙ ap long_of (sym is) ∙ none))
 
-    unmarked : (t : Table) → is_mark t word ≡ true → ⊥
-    unmarked table.Replay mark = set-long Plain [] (ap long_of (append-nil (set-name Plain) ∙ sym (equal-by word (codes "--plain") mark)) ∙ none)
-    unmarked table.Campaign mark = cc mark
+    none-named : setting_named t word ≡ None
+    none-named = named word [] (sym (append-nil word))
 
-    go : (b : Bool) → is_joined word ≡ b → (m : Bool) → is_mark t word ≡ m → all_given t (word ∷ words) ≡ None
-    go true joined m mark = joined-read t word words joined
+    apart : (words : List (List ℕ)) → is_joined word ≡ false → all_given t (word ∷ words) ≡ None
+    apart [] whole = rw (whole, none-named) refl
+    apart (next ∷ words) whole = rw (whole, none-named) refl
+
+    go : (b : Bool) → is_joined word ≡ b → all_given t (word ∷ words) ≡ None
+    go true joined = joined-read t word words joined
         ∙ ap (λ (found : Option Setting). preceded (value_given_to found (after_first is_equals word)) (all_given t words))
         (named (before_first is_equals word) (drop (position_or_len is_equals word) word) (sym (take-append-drop (position_or_len is_equals word) word)))
-    go false whole true mark = absurd (unmarked t mark)
-    go false whole false mark = apart words
-      where
-        none-named : setting_named t word ≡ None
-        none-named = named word [] (sym (append-nil word))
-
-        apart : (words : List (List ℕ)) → all_given t (word ∷ words) ≡ None
-        apart [] = rw (whole, mark) refl
-        apart (next ∷ words) = rw (whole, mark, none-named) refl
+    go false whole = apart words whole
 
 -- no setting's value begins with a hyphen
+no-number : (limit : ℕ) (xs : List ℕ) → number_below limit (45 ∷ xs) ≡ None
+no-number limit [] = refl
+no-number limit (x ∷ xs) = refl
+
+no-figure : (setting : Setting) (xs : List ℕ) → option_and_then (λ n. Some (value.Number n)) (number_for setting (45 ∷ xs)) ≡ None
+no-figure setting xs = ap (λ (n : Option ℕ). option_and_then (λ n. Some (value.Number n)) (number_from (least setting) n)) (no-number (most setting + 1) xs)
+
 hyphen-value : (setting : Setting) (xs : List ℕ) → setting_value setting (45 ∷ xs) ≡ None
-hyphen-value First [] = refl
-hyphen-value Seeds [] = refl
-hyphen-value Events [] = refl
-hyphen-value Workers [] = refl
+hyphen-value First xs = no-figure First xs
+hyphen-value Seeds xs = no-figure Seeds xs
+hyphen-value Events xs = no-figure Events xs
+hyphen-value Workers xs = no-figure Workers xs
 hyphen-value Side [] = refl
-hyphen-value Plain [] = refl
-hyphen-value First (x ∷ xs) = refl
-hyphen-value Seeds (x ∷ xs) = refl
-hyphen-value Events (x ∷ xs) = refl
-hyphen-value Workers (x ∷ xs) = refl
 hyphen-value Side (x ∷ xs) = refl
-hyphen-value Plain (x ∷ xs) = refl
+hyphen-value Plain xs = refl
+hyphen-value Buffer xs = no-figure Buffer xs
+hyphen-value Most xs = no-figure Most xs
 
 pub flag-value : (setting : Setting) (text : List ℕ) → (long_of text ≡ None → short_of text ≡ None → ⊥) → setting_value setting text ≡ None
 flag-value setting [] flag = absurd (flag refl refl)
@@ -244,7 +229,7 @@ dashes-none t (word ∷ (next ∷ words)) some = go (bytes_eq word (codes "--"))
         → all_given t (next ∷ words) ≡ None
         → (list_any (λ word. bytes_eq word (codes "--")) words ≡ true → all_given t words ≡ None) → all_given t (word ∷ (next ∷ words)) ≡ None
     parts true joined m mark some none rest = rw joined (nothing-before (joined_given t word) (all_given t (next ∷ words)) none)
-    parts false whole true mark some none rest = rw (whole, mark) (nothing-before (Some mark_given) (all_given t (next ∷ words)) none)
+    parts false whole true mark some none rest = rw (whole, mark) (nothing-before (mark_given t word) (all_given t (next ∷ words)) none)
     parts false whole false mark some none rest = rw (whole, mark) (apart (bytes_eq next (codes "--")) refl some rest)
 
     go : (b : Bool) → bytes_eq word (codes "--") ≡ b → list_any (λ word. bytes_eq word (codes "--")) (word ∷ (next ∷ words)) ≡ true

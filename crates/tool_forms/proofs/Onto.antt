@@ -3,17 +3,32 @@ use Rattle.std.proofs.Common.{◌≡◌, ◌∙◌, refl, ap, subst, Bool, true,
 use Rattle.std.specs.Prelude.{if◌then◌else◌}
 use Rattle.clap.specs.Walk.{Text}
 use Rattle.tool_forms.specs.declared.settings.Setting.{Setting}
-use Rattle.tool_forms.specs.declared.settings.Setting.TheVariants.{Plain}
+use Rattle.tool_forms.specs.declared.settings.Way.{Way}
+use Rattle.tool_forms.specs.declared.settings.Way.TheVariants as way
 use Rattle.tool_forms.specs.Given.{Value}
 use Rattle.tool_forms.specs.Given as value
 use Rattle.tool_forms.specs.Given.{Assignment}
-use Rattle.tool_forms.specs.Settings.{is_same, once, preceded, setting_value, unless_again}
+use Rattle.tool_forms.specs.Settings.{is_marking, is_same, once, preceded, setting_value, unless_again, way_of}
 use Rattle.tool_forms.proofs.Pairs.{Distinct, Pairs, has, is-itself, same-settings, text_at, with_pair}
+
+-- the value that a text is, by how the setting is given
+abbrev pub value_by : Way → Setting → Text → Option Value
+value_by way.Mark setting text = Some value.Mark
+value_by _ setting text = setting_value setting text
 
 -- the value that a setting's text is
 abbrev pub value_of : Setting → Text → Option Value
-value_of Plain text = Some value.Mark
-value_of setting text = setting_value setting text
+value_of setting text = value_by (way_of setting) setting text
+
+pub value-valued : (w : Way) (setting : Setting) (text : Text) → is_marking w ≡ false → value_by w setting text ≡ setting_value setting text
+value-valued way.Needed setting text is = refl
+value-valued way.Chosen setting text is = refl
+value-valued way.Mark setting text is = cc is
+
+pub value-marked : (w : Way) (setting : Setting) (text : Text) → is_marking w ≡ true → value_by w setting text ≡ Some value.Mark
+value-marked way.Needed setting text is = cc is
+value-marked way.Chosen setting text is = cc is
+value-marked way.Mark setting text is = refl
 
 abbrev pub assigned : Setting → Text → Option Assignment
 assigned setting text = option_and_then (λ v. Some (record { setting = setting; value = v })) (value_of setting text)

@@ -1,98 +1,56 @@
 -- The walk of `clap` over all words, and the reading from left to right.
-use Rattle.std.proofs.Common.{◌≡◌, ◌⊎◌, ◌∙◌, refl, sym, ap, ap₂, subst, ℕ, Bool, true, false, List, [], ◌∷◌, Option, Some, None, codes, inl, inr}
+use Rattle.std.proofs.Common.{◌≡◌, ◌⊎◌, ◌∙◌, ◌&&◌, ◌||◌, refl, sym, ap, ap₂, subst, ℕ, Bool, true, false, not, List, [], ◌∷◌, map, Option, Some, None, is_some, option_and_then, codes, inl, inr}
 use Rattle.std.specs.Prelude.{if◌then◌else◌, option_map}
+use Rattle.std.specs.Option.{option_map_or}
 use Rattle.std.specs.Str.{bytes_eq}
 use Rattle.std.specs.List.{before_first, after_first}
 use Rattle.std.proofs.lemmas.Slice.Eq.{bytes_eq-Decides}
 use Rattle.clap.specs.Lexer.{has_byte, long_of, short_of}
-use Rattle.clap.specs.Walk.{Row, Text, arg_by_id, arg_by_index, arg_by_long, arg_by_short, used}
+use Rattle.clap.specs.Walk.{Row, Rule, Text, arg_by_id, arg_by_index, arg_by_long, arg_by_short, has_long, used}
 use Rattle.clap.specs.Simple.{Shape, built}
 use Rattle.clap.specs.Faults.{use_fault}
 use Rattle.tool_forms.specs.Tables.{Table}
 use Rattle.tool_forms.specs.Tables as table
 use Rattle.tool_forms.specs.declared.settings.Setting.{Setting}
-use Rattle.tool_forms.specs.declared.settings.Setting.TheVariants.{First, Seeds, Events, Workers, Side, Plain}
+use Rattle.tool_forms.specs.declared.settings.Setting.TheVariants.{First, Seeds, Events, Workers, Side, Plain, Buffer, Most}
+use Rattle.tool_forms.specs.declared.settings.Way.{Way}
+use Rattle.tool_forms.specs.declared.settings.Way.TheVariants as way
+use Rattle.tool_forms.specs.Given.{Value}
+use Rattle.tool_forms.specs.Given as value
 use Rattle.tool_forms.specs.Given.{Assignment}
-use Rattle.tool_forms.specs.Settings.{all_given, given_of, is_equals, is_mark, preceded, setting_named, setting_value, value_given_to}
-use Rattle.tool_forms.specs.Commands.{bare_command, with_figures, with_side}
+use Rattle.tool_forms.specs.Settings.{all_given, bare_name, dashed_name, is_equals, is_mark, is_marking, is_same, named_among, preceded, setting_named, setting_value, settings_of, value_given_to, way_of}
+use Rattle.tool_forms.specs.Commands.{bare_command, with_settings}
 use Rattle.tool_forms.proofs.Turns.{passed, rests, verdict}
 use Rattle.tool_forms.proofs.Walks.{Clear, alone-refused, apart-judged, joined-taken, mark-taken, mark-valued, stray-refused, unknown-refused}
-use Rattle.tool_forms.proofs.Pairs.{Distinct, FitsRow, Pairs, argument, distinct-with, given-once, given-valued, has, is-valued, is_valued, name-is-itself, rows, with_pair}
+use Rattle.tool_forms.proofs.Pairs.{Distinct, FitsRow, Pairs, argument, argument_by, distinct-with, fits-marked, fits-valued, given-with, has, id-is, is-itself, is-marked, is-valued, rows, same-settings, some-is, values-marked, values-valued, with_pair}
 use Rattle.tool_forms.proofs.Named.{alone-dashed, apart-dashed, dashed, flag-value, joined-dashed, long-joined, long-whole, mark-dashed, none-dashed, shape-of}
-use Rattle.tool_forms.proofs.Onto.{assigned, onto, onto-none, onto-with}
+use Rattle.tool_forms.proofs.Onto.{assigned, onto, onto-none, onto-with, value-marked, value-valued}
 
 -- the built command of a form
 abbrev pub shape : Table → Shape
-shape table.Campaign = (built (with_figures bare_command)).top
-shape table.Replay = (built (with_side bare_command)).top
+shape t = (built (with_settings bare_command (settings_of t))).top
+
+rules-are : (t : Table) → (shape t).rules ≡ map argument (settings_of t)
+rules-are table.Replay = refl
+rules-are table.Campaign = refl
+rules-are table.Listen = refl
 
 pub no-short : (t : Table) (x : ℕ) → arg_by_short (shape t).rules x ≡ None
-no-short table.Campaign x = refl
 no-short table.Replay x = refl
+no-short table.Campaign x = refl
+no-short table.Listen x = refl
 
 pub no-index : (t : Table) → arg_by_index (shape t).rules 1 ≡ None
-no-index table.Campaign = refl
 no-index table.Replay = refl
+no-index table.Campaign = refl
+no-index table.Listen = refl
 
 no-again : (t : Table) → (shape t).args_override_self ≡ false
-no-again table.Campaign = refl
 no-again table.Replay = refl
+no-again table.Campaign = refl
+no-again table.Listen = refl
 
--- the setting of a form by its name without hyphens
-abbrev pub named_by : Table → List ℕ → Option Setting
-named_by table.Campaign name =
-    if bytes_eq (codes "first") name then Some First
-    else if bytes_eq (codes "seeds") name then Some Seeds
-    else if bytes_eq (codes "events") name then Some Events
-    else if bytes_eq (codes "workers") name then Some Workers
-    else None
-named_by table.Replay name =
-    if bytes_eq (codes "side") name then Some Side
-    else if bytes_eq (codes "plain") name then Some Plain
-    else None
-
-abbrev pub owns : Table → Setting → Bool
-owns table.Campaign First = true
-owns table.Campaign Seeds = true
-owns table.Campaign Events = true
-owns table.Campaign Workers = true
-owns table.Replay Side = true
-owns table.Replay Plain = true
-owns _ _ = false
-
--- what clap finds by a long name
-pub arg-known : (t : Table) (name : List ℕ) → arg_by_long (shape t).rules name ≡ option_map argument (named_by t name)
-arg-known table.Campaign name =
-    go (bytes_eq (codes "first") name) refl (bytes_eq (codes "seeds") name) refl (bytes_eq (codes "events") name) refl (bytes_eq (codes "workers") name) refl
-  where
-    go : (a : Bool) → bytes_eq (codes "first") name ≡ a → (b : Bool) → bytes_eq (codes "seeds") name ≡ b → (e : Bool) → bytes_eq (codes "events") name ≡ e
-        → (d : Bool) → bytes_eq (codes "workers") name ≡ d → arg_by_long (shape table.Campaign).rules name ≡ option_map argument (named_by table.Campaign name)
-    go true f b g e h d i = rw f refl
-    go false f true g e h d i = rw (f, g) refl
-    go false f false g true h d i = rw (f, g, h) refl
-    go false f false g false h true i = rw (f, g, h, i) refl
-    go false f false g false h false i = rw (f, g, h, i) refl
-arg-known table.Replay name = go (bytes_eq (codes "side") name) refl (bytes_eq (codes "plain") name) refl
-  where
-    go : (a : Bool) → bytes_eq (codes "side") name ≡ a → (b : Bool) → bytes_eq (codes "plain") name ≡ b
-        → arg_by_long (shape table.Replay).rules name ≡ option_map argument (named_by table.Replay name)
-    go true f b g = rw f refl
-    go false f true g = rw (f, g) refl
-    go false f false g = rw (f, g) refl
-
-by-id : (t : Table) (setting : Setting) → owns t setting ≡ true → arg_by_id (shape t).rules (argument setting).id ≡ Some (argument setting)
-by-id table.Campaign First is = refl
-by-id table.Campaign Seeds is = refl
-by-id table.Campaign Events is = refl
-by-id table.Campaign Workers is = refl
-by-id table.Campaign Side is = cc is
-by-id table.Campaign Plain is = cc is
-by-id table.Replay First is = cc is
-by-id table.Replay Seeds is = cc is
-by-id table.Replay Events is = cc is
-by-id table.Replay Workers is = cc is
-by-id table.Replay Side is = refl
-by-id table.Replay Plain is = refl
+-- ---- the arguments of settings, whichever
 
 either-way : (one other : List ℕ) → bytes_eq one other ≡ bytes_eq other one
 either-way one other = go (bytes_eq one other) refl (bytes_eq other one) refl
@@ -108,48 +66,75 @@ either-way one other = go (bytes_eq one other) refl (bytes_eq other one) refl
     go false f true g = let no : bytes_eq one other ≡ true = crossed other one g in no ∙ sym g
     go false f false g = f ∙ sym g
 
--- what the table of settings has by a name with its hyphens
-abbrev pub IsKnown : Table → List ℕ → Option Setting → Type 0
-IsKnown t name None = (setting_named t (45 ∷ (45 ∷ name)) ≡ None) × (is_mark t (45 ∷ (45 ∷ name)) ≡ false)
-IsKnown t name (Some Plain) = (owns t Plain ≡ true) × (setting_named t (45 ∷ (45 ∷ name)) ≡ None) × (is_mark t (45 ∷ (45 ∷ name)) ≡ true)
-IsKnown t name (Some setting) = (owns t setting ≡ true) × (setting_named t (45 ∷ (45 ∷ name)) ≡ Some setting) × (is_mark t (45 ∷ (45 ∷ name)) ≡ false)
+or-false : (b : Bool) → (b || false) ≡ b
+or-false true = refl
+or-false false = refl
 
-plain-only : (name : List ℕ) → bytes_eq name (codes "plain") ≡ true → bytes_eq name (codes "side") ≡ false
-plain-only name is = subst (λ (n : List ℕ). bytes_eq n (codes "side") ≡ false) (sym ((bytes_eq-Decides name (codes "plain")).0 is)) refl
+long-is : (w : Way) (id name : Text) → (not (is_some (argument_by w id).index) && has_long (argument_by w id) name) ≡ bytes_eq id name
+long-is way.Needed id name = or-false (bytes_eq id name)
+long-is way.Chosen id name = or-false (bytes_eq id name)
+long-is way.Mark id name = or-false (bytes_eq id name)
 
-side-only : (name : List ℕ) → bytes_eq name (codes "side") ≡ true → bytes_eq name (codes "plain") ≡ false
-side-only name is = subst (λ (n : List ℕ). bytes_eq n (codes "plain") ≡ false) (sym ((bytes_eq-Decides name (codes "side")).0 is)) refl
-
-pub is-known : (t : Table) (name : List ℕ) → IsKnown t name (named_by t name)
-is-known table.Campaign name =
-    go (bytes_eq (codes "first") name) refl (bytes_eq (codes "seeds") name) refl (bytes_eq (codes "events") name) refl (bytes_eq (codes "workers") name) refl
+known-argument : (settings : List Setting) (name : Text) → arg_by_long (map argument settings) name ≡ option_map argument (named_among settings (45 ∷ (45 ∷ name)))
+known-argument [] name = refl
+known-argument (s ∷ settings) name =
+    ap (λ (b : Bool). if b then Some (argument s) else arg_by_long (map argument settings) name) (long-is (way_of s) (bare_name s) name ∙ either-way (bare_name s) name)
+    ∙ by (bytes_eq name (bare_name s)) (known-argument settings name)
   where
-    go : (a : Bool) → bytes_eq (codes "first") name ≡ a → (b : Bool) → bytes_eq (codes "seeds") name ≡ b → (e : Bool) → bytes_eq (codes "events") name ≡ e
-        → (d : Bool) → bytes_eq (codes "workers") name ≡ d → IsKnown table.Campaign name (named_by table.Campaign name)
-    go true f b g e h d i = rw f (refl, rw (either-way name (codes "first"), f) refl, refl)
-    go false f true g e h d i = rw (f, g) (refl, rw (either-way name (codes "first"), f, either-way name (codes "seeds"), g) refl, refl)
-    go false f false g true h d i =
-        rw (f, g, h) (refl, rw (either-way name (codes "first"), f, either-way name (codes "seeds"), g, either-way name (codes "events"), h) refl, refl)
-    go false f false g false h true i = rw (f, g, h, i) (
-      refl,
-      rw (either-way name (codes "first"), f, either-way name (codes "seeds"), g, either-way name (codes "events"), h, either-way name (codes "workers"), i) refl,
-      refl,
-    )
-    go false f false g false h false i = rw (f, g, h, i)
-        (rw (either-way name (codes "first"), f, either-way name (codes "seeds"), g, either-way name (codes "events"), h, either-way name (codes "workers"), i) refl, refl)
-is-known table.Replay name = go (bytes_eq (codes "side") name) refl (bytes_eq (codes "plain") name) refl
+    by : (b : Bool) → arg_by_long (map argument settings) name ≡ option_map argument (named_among settings (45 ∷ (45 ∷ name)))
+        → (if b then Some (argument s) else arg_by_long (map argument settings) name) ≡ option_map argument (if b then Some s else named_among settings (45 ∷ (45 ∷ name)))
+    by true rest = refl
+    by false rest = rest
+
+-- what clap finds by a long name
+arg-known : (t : Table) (name : Text) → arg_by_long (shape t).rules name ≡ option_map argument (setting_named t (45 ∷ (45 ∷ name)))
+arg-known t name = ap (λ (rules : List Rule). arg_by_long rules name) (rules-are t) ∙ known-argument (settings_of t) name
+
+abbrev pub is_among : Setting → List Setting → Bool
+is_among setting [] = false
+is_among setting (s ∷ settings) = if is_same s setting then true else is_among setting settings
+
+abbrev pub owns : Table → Setting → Bool
+owns t setting = is_among setting (settings_of t)
+
+named-owned : (settings : List Setting) (name : Text) (setting : Setting) → named_among settings name ≡ Some setting → is_among setting settings ≡ true
+named-owned [] name setting is = let never : Some setting ≡ None = sym is in cc never
+named-owned (s ∷ settings) name setting is = go (bytes_eq name (dashed_name s)) refl is (named-owned settings name setting)
   where
-    go : (a : Bool) → bytes_eq (codes "side") name ≡ a → (b : Bool) → bytes_eq (codes "plain") name ≡ b → IsKnown table.Replay name (named_by table.Replay name)
-    go true f b g =
-        let side : bytes_eq name (codes "side") ≡ true = either-way name (codes "side") ∙ f in
-        rw f (refl, rw side refl, side-only name side)
-    go false f true g =
-        let plain : bytes_eq name (codes "plain") ≡ true = either-way name (codes "plain") ∙ g in
-        rw (f, g) (refl, rw (plain-only name plain) refl, plain)
-    go false f false g =
-        let side : bytes_eq name (codes "side") ≡ false = either-way name (codes "side") ∙ f in
-        let plain : bytes_eq name (codes "plain") ≡ false = either-way name (codes "plain") ∙ g in
-        rw (f, g) (rw side refl, plain)
+    either : (b : Bool) → is_among setting settings ≡ true → (if b then true else is_among setting settings) ≡ true
+    either true behind = refl
+    either false behind = behind
+
+    go : (b : Bool) → bytes_eq name (dashed_name s) ≡ b → named_among (s ∷ settings) name ≡ Some setting
+        → (named_among settings name ≡ Some setting → is_among setting settings ≡ true) → is_among setting (s ∷ settings) ≡ true
+    go true same is rest =
+        let found : Some s ≡ Some setting = rw same at is in
+        ap (λ (b : Bool). if b then true else is_among setting settings) (subst (λ (other : Setting). is_same s other ≡ true) (some-is s setting found) (is-itself s))
+    go false other is rest = let behind : named_among settings name ≡ Some setting = rw other at is in either (is_same s setting) (rest behind)
+
+argument-by-id : (settings : List Setting) (setting : Setting) → is_among setting settings ≡ true
+    → arg_by_id (map argument settings) (argument setting).id ≡ Some (argument setting)
+argument-by-id [] setting is = cc is
+argument-by-id (s ∷ settings) setting is = go (is_same s setting) refl is (argument-by-id settings setting)
+  where
+    ids : bytes_eq (argument s).id (argument setting).id ≡ is_same s setting
+    ids = ap₂ bytes_eq (id-is (way_of s) (bare_name s)) (id-is (way_of setting) (bare_name setting))
+
+    found : (b : Bool) → is_same s setting ≡ b
+        → arg_by_id (map argument (s ∷ settings)) (argument setting).id ≡ (if b then Some (argument s) else arg_by_id (map argument settings) (argument setting).id)
+    found b is = ap (λ (b : Bool). if b then Some (argument s) else arg_by_id (map argument settings) (argument setting).id) (ids ∙ is)
+
+    go : (b : Bool) → is_same s setting ≡ b → is_among setting (s ∷ settings) ≡ true
+        → (is_among setting settings ≡ true → arg_by_id (map argument settings) (argument setting).id ≡ Some (argument setting))
+        → arg_by_id (map argument (s ∷ settings)) (argument setting).id ≡ Some (argument setting)
+    go true same is rest = found true same ∙ ap (λ (other : Setting). Some (argument other)) (same-settings s setting same)
+    go false other is rest = let behind : is_among setting settings ≡ true = rw other at is in found false other ∙ rest behind
+
+by-id : (t : Table) (setting : Setting) → owns t setting ≡ true → arg_by_id (shape t).rules (argument setting).id ≡ Some (argument setting)
+by-id t setting is = ap (λ (rules : List Rule). arg_by_id rules (argument setting).id) (rules-are t) ∙ argument-by-id (settings_of t) setting is
+
+name-is-itself : (setting : Setting) → bytes_eq (argument setting).id (argument setting).id ≡ true
+name-is-itself setting = (bytes_eq-Decides (argument setting).id (argument setting).id).1 refl
 
 abbrev pub Owned : Table → Pairs → Type 0
 Owned t [] = Unit {0}
@@ -160,33 +145,31 @@ owned-with : (t : Table) (setting : Setting) (text : Text) (pairs : Pairs) → O
 owned-with t setting text [] owned is fits = ((is, fits), tt)
 owned-with t setting text (pair ∷ pairs) owned is fits = (owned.0, owned-with t setting text pairs owned.1 is fits)
 
-fits-valued : (setting : Setting) (text : Text) → is_valued setting ≡ true → FitsRow setting text
-fits-valued First text is = tt
-fits-valued Seeds text is = tt
-fits-valued Events text is = tt
-fits-valued Workers text is = tt
-fits-valued Side text is = tt
-fits-valued Plain text is = cc is
+-- ---- what settings give
 
--- a setting that has a value
-record Valued (t : Table) (name : List ℕ) (setting : Setting) : Type 0 where
-  valued : is_valued setting ≡ true
-  owned : owns t setting ≡ true
-  own : setting_named t (45 ∷ (45 ∷ name)) ≡ Some setting
-  unmarked : is_mark t (45 ∷ (45 ∷ name)) ≡ false
-  assigns : (text : Text) → value_given_to (Some setting) text ≡ assigned setting text
-  refuses : (text : Text) → setting_value setting text ≡ None → assigned setting text ≡ None
+-- what a setting with a value gives is what it is assigned
+assigns : (setting : Setting) (text : Text) → is_marking (way_of setting) ≡ false → value_given_to (Some setting) text ≡ assigned setting text
+assigns setting text is =
+    ap (λ (found : Option Value). option_and_then (λ v. Some (record { setting = setting; value = v })) found) (sym (value-valued (way_of setting) setting text is))
 
-abbrev Marked : Table → List ℕ → Type 0
-Marked t name = (owns t Plain ≡ true) × (setting_named t (45 ∷ (45 ∷ name)) ≡ None) × (is_mark t (45 ∷ (45 ∷ name)) ≡ true)
+refuses : (setting : Setting) (text : Text) → is_marking (way_of setting) ≡ false → setting_value setting text ≡ None → assigned setting text ≡ None
+refuses setting text is none =
+    ap (λ (found : Option Value). option_and_then (λ v. Some (record { setting = setting; value = v })) found) (value-valued (way_of setting) setting text is ∙ none)
 
-known-as : (t : Table) (name : List ℕ) (setting : Setting) → IsKnown t name (Some setting) → ((setting ≡ Plain) × Marked t name) ⊎ Valued t name setting
-known-as t name First k = inr (record { valued = refl; owned = k.0; own = k.1; unmarked = k.2; assigns = λ text. refl; refuses = λ text no. rw no refl })
-known-as t name Seeds k = inr (record { valued = refl; owned = k.0; own = k.1; unmarked = k.2; assigns = λ text. refl; refuses = λ text no. rw no refl })
-known-as t name Events k = inr (record { valued = refl; owned = k.0; own = k.1; unmarked = k.2; assigns = λ text. refl; refuses = λ text no. rw no refl })
-known-as t name Workers k = inr (record { valued = refl; owned = k.0; own = k.1; unmarked = k.2; assigns = λ text. refl; refuses = λ text no. rw no refl })
-known-as t name Side k = inr (record { valued = refl; owned = k.0; own = k.1; unmarked = k.2; assigns = λ text. refl; refuses = λ text no. rw no refl })
-known-as t name Plain k = inl (refl, k)
+-- a mark gives nothing but itself
+marks : (setting : Setting) (text : Text) → is_marking (way_of setting) ≡ true → assigned setting text ≡ Some (record { setting = setting; value = value.Mark })
+marks setting text is =
+    ap (λ (found : Option Value). option_and_then (λ v. Some (record { setting = setting; value = v })) found) (value-marked (way_of setting) setting text is)
+
+valueless : (setting : Setting) (text : Text) → is_marking (way_of setting) ≡ true → value_given_to (Some setting) text ≡ None
+valueless First text is = cc is
+valueless Seeds text is = cc is
+valueless Events text is = cc is
+valueless Workers text is = cc is
+valueless Side text is = cc is
+valueless Plain text is = refl
+valueless Buffer text is = cc is
+valueless Most text is = cc is
 
 module _ {X : Type 0} (judge : List Row → Option X) (t : Table) (means : Option (List Assignment) → Option X) (means-none : means None ≡ None)
     (means-once : (setting : Setting) (text : Text) (all : Option (List Assignment)) (pairs : Pairs) → owns t setting ≡ true → has setting pairs ≡ true
@@ -217,102 +200,109 @@ module _ {X : Type 0} (judge : List Row → Option X) (t : Table) (means : Optio
   -- a name and its value in one word
   joined-agrees : (x : ℕ) (xs : List ℕ) (words : List Text) (pairs : Pairs) → has_byte 61 (x ∷ xs) ≡ true → bytes_eq (dashed x xs) (45 ∷ 45 ∷ []) ≡ false
       → Agreed words → Distinct pairs → Owned t pairs → Agrees pairs (dashed x xs ∷ words)
-  joined-agrees x xs words pairs joined apart agreed distinct owned = go (named_by t name) refl (is-known t name)
+  joined-agrees x xs words pairs joined apart agreed distinct owned = go (setting_named t (45 ∷ (45 ∷ before_first is_equals (x ∷ xs)))) refl
     where
-      name : List ℕ
-      name = before_first is_equals (x ∷ xs)
-
-      text : List ℕ
-      text = after_first is_equals (x ∷ xs)
-
       long : long_of (dashed x xs) ≡ Some (before_first is_equals (x ∷ xs), Some (after_first is_equals (x ∷ xs)))
       long = long-joined x xs joined
 
-      own : all_given t (dashed x xs ∷ words) ≡ preceded (given_of t (45 ∷ (45 ∷ before_first is_equals (x ∷ xs))) (after_first is_equals (x ∷ xs))) (all_given t words)
-      own = joined-dashed t x xs words joined
+      given : (found : Option Setting) → setting_named t (45 ∷ (45 ∷ before_first is_equals (x ∷ xs))) ≡ found
+          → all_given t (dashed x xs ∷ words) ≡ preceded (value_given_to found (after_first is_equals (x ∷ xs))) (all_given t words)
+      given found is = joined-dashed t x xs words joined
+          ∙ ap (λ (f : Option Setting). preceded (value_given_to f (after_first is_equals (x ∷ xs))) (all_given t words)) is
 
-      unnamed : setting_named t (45 ∷ (45 ∷ before_first is_equals (x ∷ xs))) ≡ None → all_given t (dashed x xs ∷ words) ≡ None
-      unnamed none = own ∙ rw none refl
-
-      arg : (found : Option Setting) → named_by t (before_first is_equals (x ∷ xs)) ≡ found → arg_by_long (shape t).rules (before_first is_equals (x ∷ xs)) ≡ option_map argument found
+      arg : (found : Option Setting) → setting_named t (45 ∷ (45 ∷ before_first is_equals (x ∷ xs))) ≡ found
+          → arg_by_long (shape t).rules (before_first is_equals (x ∷ xs)) ≡ option_map argument found
       arg found is = arg-known t (before_first is_equals (x ∷ xs)) ∙ ap (option_map argument) is
 
-      taken : (setting : Setting) → named_by t (before_first is_equals (x ∷ xs)) ≡ Some setting
-          → ((setting ≡ Plain) × Marked t (before_first is_equals (x ∷ xs))) ⊎ Valued t (before_first is_equals (x ∷ xs)) setting → Agrees pairs (dashed x xs ∷ words)
-      taken setting is (inl mark) =
-          mark-valued judge (shape t) (no-short t) (no-index t) (argument Plain) (rows pairs) (dashed x xs) _ _ words apart long
-          (arg (Some Plain) (is ∙ ap (λ (s : Setting). Some s) mark.0)) refl
-          ∙ sym (nothing-given pairs _ (unnamed mark.1.1))
-      taken setting is (inr v) =
+      taken : (setting : Setting) → setting_named t (45 ∷ (45 ∷ before_first is_equals (x ∷ xs))) ≡ Some setting
+          → (b : Bool) → is_marking (way_of setting) ≡ b → Agrees pairs (dashed x xs ∷ words)
+      taken setting is true mark =
+          mark-valued judge (shape t) (no-short t) (no-index t) (argument setting) (rows pairs) (dashed x xs) _ _ words apart long
+          (arg (Some setting) is) (is-marked (way_of setting) (bare_name setting) mark)
+          ∙ sym (nothing-given pairs _ (given (Some setting) is
+          ∙ ap (λ (first : Option Assignment). preceded first (all_given t words)) (valueless setting (after_first is_equals (x ∷ xs)) mark)))
+      taken setting is false valued =
           joined-taken judge (shape t) (no-short t) (no-index t) (argument setting) (rows pairs) (dashed x xs) _ _ words apart long (arg (Some setting) is)
-          (is-valued setting v.valued).0
-          ∙ given-valued judge (shape t) (no-again t) setting (after_first is_equals (x ∷ xs)) pairs words v.valued
-          ∙ one-more setting (after_first is_equals (x ∷ xs)) words pairs agreed distinct owned v.owned (fits-valued setting _ v.valued)
+          (is-valued (way_of setting) (bare_name setting) valued).0
+          ∙ given-with judge (shape t) (no-again t) setting (after_first is_equals (x ∷ xs)) (after_first is_equals (x ∷ xs) ∷ []) pairs words
+          (values-valued (way_of setting) (after_first is_equals (x ∷ xs)) valued) (fits-valued (way_of setting) (after_first is_equals (x ∷ xs)) valued)
+          ∙ one-more setting (after_first is_equals (x ∷ xs)) words pairs agreed distinct owned (named-owned (settings_of t) _ setting is)
+          (fits-valued (way_of setting) (after_first is_equals (x ∷ xs)) valued)
           ∙ ap (λ (all : Option (List Assignment)). means (onto pairs all))
-          (sym (own ∙ ap (λ (found : Option Setting). preceded (value_given_to found (after_first is_equals (x ∷ xs))) (all_given t words)) v.own
-          ∙ ap (λ (first : Option Assignment). preceded first (all_given t words)) (v.assigns (after_first is_equals (x ∷ xs)))))
+          (sym (given (Some setting) is
+          ∙ ap (λ (first : Option Assignment). preceded first (all_given t words)) (assigns setting (after_first is_equals (x ∷ xs)) valued)))
 
-      go : (found : Option Setting) → named_by t (before_first is_equals (x ∷ xs)) ≡ found → IsKnown t (before_first is_equals (x ∷ xs)) (named_by t (before_first is_equals (x ∷ xs)))
-          → Agrees pairs (dashed x xs ∷ words)
-      go None is known =
+      go : (found : Option Setting) → setting_named t (45 ∷ (45 ∷ before_first is_equals (x ∷ xs))) ≡ found → Agrees pairs (dashed x xs ∷ words)
+      go None is =
           unknown-refused judge (shape t) (no-short t) (no-index t) (rows pairs) (dashed x xs) _ _ words apart long (arg None is)
-          ∙ sym (nothing-given pairs _ (unnamed (subst (IsKnown t (before_first is_equals (x ∷ xs))) is known).0))
-      go (Some setting) is known = taken setting is (known-as t (before_first is_equals (x ∷ xs)) setting (subst (IsKnown t (before_first is_equals (x ∷ xs))) is known))
+          ∙ sym (nothing-given pairs _ (given None is))
+      go (Some setting) is = taken setting is (is_marking (way_of setting)) refl
 
   -- a name alone in its word
   whole-agrees : (x : ℕ) (xs : List ℕ) (words : List Text) (pairs : Pairs) → has_byte 61 (x ∷ xs) ≡ false → bytes_eq (dashed x xs) (45 ∷ 45 ∷ []) ≡ false
       → Clear words → Agreed words → ((v : Text) (behind : List Text) → words ≡ v ∷ behind → Agreed behind) → Distinct pairs → Owned t pairs → Agrees pairs (dashed x xs ∷ words)
-  whole-agrees x xs words pairs whole apart clear agreed behind_agreed distinct owned = go (named_by t (x ∷ xs)) refl (is-known t (x ∷ xs))
+  whole-agrees x xs words pairs whole apart clear agreed behind_agreed distinct owned = go (setting_named t (dashed x xs)) refl
     where
       long : long_of (dashed x xs) ≡ Some (x ∷ xs, None)
       long = long-whole x xs whole
 
-      arg : (found : Option Setting) → named_by t (x ∷ xs) ≡ found → arg_by_long (shape t).rules (x ∷ xs) ≡ option_map argument found
+      arg : (found : Option Setting) → setting_named t (dashed x xs) ≡ found → arg_by_long (shape t).rules (x ∷ xs) ≡ option_map argument found
       arg found is = arg-known t (x ∷ xs) ∙ ap (option_map argument) is
 
-      unknown : (words : List Text) → setting_named t (dashed x xs) ≡ None → is_mark t (dashed x xs) ≡ false → all_given t (dashed x xs ∷ words) ≡ None
-      unknown [] none mark = alone-dashed t x xs whole mark
-      unknown (v ∷ behind) none mark = apart-dashed t x xs v behind whole mark ∙ rw none refl
+      marked : (found : Option Setting) → setting_named t (dashed x xs) ≡ found → is_mark t (dashed x xs) ≡ option_map_or (λ s. is_marking (way_of s)) found false
+      marked found is = ap (λ (f : Option Setting). option_map_or (λ s. is_marking (way_of s)) f false) is
 
-      valued : (setting : Setting) → named_by t (x ∷ xs) ≡ Some setting → Valued t (x ∷ xs) setting → (words : List Text) → Clear words
+      unknown : (words : List Text) → setting_named t (dashed x xs) ≡ None → all_given t (dashed x xs ∷ words) ≡ None
+      unknown [] none = alone-dashed t x xs whole (marked None none)
+      unknown (v ∷ behind) none = apart-dashed t x xs v behind whole (marked None none)
+          ∙ ap (λ (f : Option Setting). preceded (value_given_to f v) (all_given t behind)) none
+
+      valued : (setting : Setting) → setting_named t (dashed x xs) ≡ Some setting → is_marking (way_of setting) ≡ false → (words : List Text) → Clear words
           → ((v : Text) (behind : List Text) → words ≡ v ∷ behind → Agreed behind) → Agrees pairs (dashed x xs ∷ words)
-      valued setting is v [] clear behind_agreed =
-          alone-refused judge (shape t) (no-short t) (no-index t) (argument setting) (by-id t setting v.owned) (name-is-itself setting) (is-valued setting v.valued).1
-          (is-valued setting v.valued).0 (is-valued setting v.valued).2 (rows pairs) (dashed x xs) (x ∷ xs) apart long (arg (Some setting) is)
-          ∙ sym (nothing-given pairs _ (alone-dashed t x xs whole v.unmarked))
-      valued setting is v (text ∷ behind) clear behind_agreed = judged
-          (apart-judged judge (shape t) (no-short t) (no-index t) (argument setting) (by-id t setting v.owned) (name-is-itself setting) (is-valued setting v.valued).1
-          (is-valued setting v.valued).0 (is-valued setting v.valued).2 (rows pairs) (dashed x xs) (x ∷ xs) text behind apart long (arg (Some setting) is) clear.0 clear.1)
+      valued setting is unmarked [] clear behind_agreed =
+          alone-refused judge (shape t) (no-short t) (no-index t) (argument setting) (by-id t setting (named-owned (settings_of t) _ setting is)) (name-is-itself setting)
+          (is-valued (way_of setting) (bare_name setting) unmarked).1 (is-valued (way_of setting) (bare_name setting) unmarked).0
+          (is-valued (way_of setting) (bare_name setting) unmarked).2 (rows pairs) (dashed x xs) (x ∷ xs) apart long (arg (Some setting) is)
+          ∙ sym (nothing-given pairs _ (alone-dashed t x xs whole (marked (Some setting) is ∙ unmarked)))
+      valued setting is unmarked (text ∷ behind) clear behind_agreed = judged
+          (apart-judged judge (shape t) (no-short t) (no-index t) (argument setting) (by-id t setting (named-owned (settings_of t) _ setting is)) (name-is-itself setting)
+          (is-valued (way_of setting) (bare_name setting) unmarked).1 (is-valued (way_of setting) (bare_name setting) unmarked).0
+          (is-valued (way_of setting) (bare_name setting) unmarked).2 (rows pairs) (dashed x xs) (x ∷ xs) text behind apart long (arg (Some setting) is) clear.0 clear.1)
         where
           own : all_given t (dashed x xs ∷ (text ∷ behind)) ≡ preceded (assigned setting text) (all_given t behind)
-          own = apart-dashed t x xs text behind whole v.unmarked
-              ∙ ap (λ (found : Option Setting). preceded (value_given_to found text) (all_given t behind)) v.own
-              ∙ ap (λ (first : Option Assignment). preceded first (all_given t behind)) (v.assigns text)
+          own = apart-dashed t x xs text behind whole (marked (Some setting) is ∙ unmarked)
+              ∙ ap (λ (found : Option Setting). preceded (value_given_to found text) (all_given t behind)) is
+              ∙ ap (λ (first : Option Assignment). preceded first (all_given t behind)) (assigns setting text unmarked)
 
           judged : ((reads pairs (dashed x xs ∷ (text ∷ behind)) ≡ None) × (long_of text ≡ None → short_of text ≡ None → ⊥))
               ⊎ (reads pairs (dashed x xs ∷ (text ∷ behind))
               ≡ passed (use_fault (shape t).args_override_self (argument setting) (text ∷ []) (rows pairs))
               (verdict judge (shape t) (rests (used (argument setting) (text ∷ []) (rows pairs)) None) behind)) → Agrees pairs (dashed x xs ∷ (text ∷ behind))
           judged (inl refusal) = refusal.0 ∙ sym (nothing-given pairs _ (own
-              ∙ ap (λ (first : Option Assignment). preceded first (all_given t behind)) (v.refuses text (flag-value setting text refusal.1))))
-          judged (inr taken) = taken ∙ given-valued judge (shape t) (no-again t) setting text pairs behind v.valued
-              ∙ one-more setting text behind pairs (behind_agreed text behind refl) distinct owned v.owned (fits-valued setting text v.valued)
+              ∙ ap (λ (first : Option Assignment). preceded first (all_given t behind)) (refuses setting text unmarked (flag-value setting text refusal.1))))
+          judged (inr taken) = taken
+              ∙ given-with judge (shape t) (no-again t) setting text (text ∷ []) pairs behind (values-valued (way_of setting) text unmarked) (fits-valued (way_of setting) text unmarked)
+              ∙ one-more setting text behind pairs (behind_agreed text behind refl) distinct owned (named-owned (settings_of t) _ setting is)
+              (fits-valued (way_of setting) text unmarked)
               ∙ ap (λ (all : Option (List Assignment)). means (onto pairs all)) (sym own)
 
-      taken : (setting : Setting) → named_by t (x ∷ xs) ≡ Some setting → ((setting ≡ Plain) × Marked t (x ∷ xs)) ⊎ Valued t (x ∷ xs) setting → Agrees pairs (dashed x xs ∷ words)
-      taken setting is (inl mark) =
-          mark-taken judge (shape t) (no-short t) (no-index t) (argument Plain) (rows pairs) (dashed x xs) (x ∷ xs) words apart long
-          (arg (Some Plain) (is ∙ ap (λ (s : Setting). Some s) mark.0)) refl
-          ∙ given-once judge (shape t) (no-again t) Plain (codes "true") pairs words refl
-          ∙ one-more Plain (codes "true") words pairs agreed distinct owned mark.1.0 refl
-          ∙ ap (λ (all : Option (List Assignment)). means (onto pairs all)) (sym (mark-dashed t x xs words whole mark.1.2))
-      taken setting is (inr v) = valued setting is v words clear behind_agreed
+      taken : (setting : Setting) → setting_named t (dashed x xs) ≡ Some setting → (b : Bool) → is_marking (way_of setting) ≡ b → Agrees pairs (dashed x xs ∷ words)
+      taken setting is true mark =
+          mark-taken judge (shape t) (no-short t) (no-index t) (argument setting) (rows pairs) (dashed x xs) (x ∷ xs) words apart long
+          (arg (Some setting) is) (is-marked (way_of setting) (bare_name setting) mark)
+          ∙ given-with judge (shape t) (no-again t) setting (codes "true") [] pairs words (values-marked (way_of setting) (codes "true") mark) (fits-marked (way_of setting) mark)
+          ∙ one-more setting (codes "true") words pairs agreed distinct owned (named-owned (settings_of t) _ setting is) (fits-marked (way_of setting) mark)
+          ∙ ap (λ (all : Option (List Assignment)). means (onto pairs all))
+          (sym (mark-dashed t x xs words whole (marked (Some setting) is ∙ mark)
+          ∙ ap (λ (found : Option Setting). preceded (option_map (λ s. record { setting = s; value = value.Mark }) found) (all_given t words)) is
+          ∙ ap (λ (first : Option Assignment). preceded first (all_given t words)) (sym (marks setting (codes "true") mark))))
+      taken setting is false named = valued setting is named words clear behind_agreed
 
-      go : (found : Option Setting) → named_by t (x ∷ xs) ≡ found → IsKnown t (x ∷ xs) (named_by t (x ∷ xs)) → Agrees pairs (dashed x xs ∷ words)
-      go None is known =
+      go : (found : Option Setting) → setting_named t (dashed x xs) ≡ found → Agrees pairs (dashed x xs ∷ words)
+      go None is =
           unknown-refused judge (shape t) (no-short t) (no-index t) (rows pairs) (dashed x xs) (x ∷ xs) None words apart long (arg None is)
-          ∙ sym (nothing-given pairs _ (unknown words (subst (IsKnown t (x ∷ xs)) is known).0 (subst (IsKnown t (x ∷ xs)) is known).1))
-      go (Some setting) is known = taken setting is (known-as t (x ∷ xs) setting (subst (IsKnown t (x ∷ xs)) is known))
+          ∙ sym (nothing-given pairs _ (unknown words is))
+      go (Some setting) is = taken setting is (is_marking (way_of setting)) refl
 
   word-agrees : (word : Text) (words : List Text) (pairs : Pairs) → bytes_eq word (45 ∷ 45 ∷ []) ≡ false → Clear words → Agreed words
       → ((v : Text) (behind : List Text) → words ≡ v ∷ behind → Agreed behind) → Distinct pairs → Owned t pairs → Agrees pairs (word ∷ words)

@@ -4,26 +4,30 @@ use Rattle.std.specs.Prelude.{◌≢◌, if◌then◌else◌, string_bytes}
 use Rattle.std.specs.List.{list_any}
 use Rattle.std.proofs.lemmas.Bool.Decides.{nat_tests}
 use Rattle.clap.specs.Kinds.{Kinds}
-use Rattle.clap.specs.Walk.{Row, Text, is_empty, walk, nothing_held, rows_of}
-use Rattle.clap.specs.Simple.{App, matches_of}
-use Rattle.clap.specs.Faults.{fault_of, is_simple_and_free}
+use Rattle.clap.specs.Walk.{Row, Text, is_empty, walk, nothing_held, rows_after, rows_of}
+use Rattle.clap.specs.Simple.{App, Shape, matches_of}
+use Rattle.clap.specs.Faults.{built_fault, fault_of, is_simple_and_free}
 use Rattle.clap.specs.Matches.{found_of}
 use Rattle.clap.specs.declared.error.kind.ErrorKind.{ErrorKind}
 use Rattle.clap.specs.declared.parser.matches.ArgMatches.{ArgMatches}
 use Rattle.tool_forms.specs.Tables.{Table}
 use Rattle.tool_forms.specs.Tables as table
+use Rattle.tool_forms.specs.declared.settings.Setting.{Setting}
+use Rattle.tool_forms.specs.Given.{Assignment}
+use Rattle.tool_forms.specs.Settings.{all_given, preceded, settings_of}
 use Rattle.tool_forms.specs.CampaignWords.{campaign_of}
-use Rattle.tool_forms.specs.Words.{replay_of}
-use Rattle.tool_forms.specs.Commands.{IsReadBy, bare_command, campaign_command, campaign_in, has_dashes, is_dashes, replay_command, replay_in, with_figures, with_side}
+use Rattle.tool_forms.specs.Words.{listen_of, replay_of}
+use Rattle.tool_forms.specs.Commands.{IsReadBy, bare_command, campaign_in, command_of, has_dashes, is_dashes, listen_in, replay_in, with_settings}
 use Rattle.tool_forms.proofs.Turns.{passed, rests, verdict}
 use Rattle.tool_forms.proofs.Walks.{Clear}
+use Rattle.tool_forms.proofs.Pairs.{Distinct, Pairs, has, rows}
 use Rattle.tool_forms.proofs.Named.{dashes-none}
-use Rattle.tool_forms.proofs.Reading.{all-agree, shape}
-use Rattle.tool_forms.proofs.Ends.{campaign-ends, campaign-once, campaign_means, replay-ends, replay-once, replay_means}
+use Rattle.tool_forms.proofs.Onto.{assigned, onto}
+use Rattle.tool_forms.proofs.Reading.{Owned, all-agree, owns, shape}
+use Rattle.tool_forms.proofs.Ends.{campaign-ends, campaign-once, campaign_means, listen-ends, listen-once, listen_means, replay-ends, replay-once, replay_means}
 
 abbrev command : Table → App
-command table.Campaign = with_figures bare_command
-command table.Replay = with_side bare_command
+command t = with_settings bare_command (settings_of t)
 
 -- what a form's command makes of words, where none is `--`
 read_by : {X : Type 0} → App → (List Row → Option X) → List Text → Option X
@@ -49,38 +53,20 @@ module _ {X : Type 0} (judge : List Row → Option X) where
   by-kinds (k ∷ ks) found = rw (some-kinds (k ∷ ks) (omega arith)) refl
 
   -- a command without subcommands has the faults of its one level
+  by-level : (s : Shape) (words : List Text)
+      → (if is_empty (built_fault (record { top = s; subs = [] }) nothing_held words) then judge (rows_after s.rules [] words) else None) ≡ verdict judge s (rests [] None) words
+  by-level s words = go (walk s.rules [] nothing_held words).stopped refl
+    where
+      go : (stop : Option (Text × List Text)) → (walk s.rules [] nothing_held words).stopped ≡ stop
+          → (if is_empty (built_fault (record { top = s; subs = [] }) nothing_held words) then judge (rows_after s.rules [] words) else None) ≡ verdict judge s (rests [] None) words
+      go None is = by-kinds (built_fault (record { top = s; subs = [] }) nothing_held words) _ ∙ rw is refl
+      go (Some stop) is = by-kinds (built_fault (record { top = s; subs = [] }) nothing_held words) _ ∙ rw is refl
+
   one-level : (t : Table) (words : List Text) → (if is_empty (fault_of (command t) words) then judge (matches_of (command t) words) else None)
       ≡ verdict judge (shape t) (rests [] None) words
-  one-level table.Campaign words = go (walk (shape table.Campaign).rules [] nothing_held words).stopped refl
-    where
-      go : (stop : Option (Text × List Text)) → (walk (shape table.Campaign).rules [] nothing_held words).stopped ≡ stop
-          → (if is_empty (fault_of (command table.Campaign) words) then judge (matches_of (command table.Campaign) words) else None) ≡ verdict judge (shape table.Campaign) (rests [] None) words
-      go None is = by-kinds (fault_of (command table.Campaign) words) _ ∙ rw is refl
-      go (Some stop) is = by-kinds (fault_of (command table.Campaign) words) _ ∙ rw is refl
-  one-level table.Replay words = go (walk (shape table.Replay).rules [] nothing_held words).stopped refl
-    where
-      go : (stop : Option (Text × List Text)) → (walk (shape table.Replay).rules [] nothing_held words).stopped ≡ stop
-          → (if is_empty (fault_of (command table.Replay) words) then judge (matches_of (command table.Replay) words) else None) ≡ verdict judge (shape table.Replay) (rests [] None) words
-      go None is = by-kinds (fault_of (command table.Replay) words) _ ∙ rw is refl
-      go (Some stop) is = by-kinds (fault_of (command table.Replay) words) _ ∙ rw is refl
-
-campaign-read : (words : List (String Global)) → read_by (command table.Campaign) campaign_in (map string_bytes words) ≡ campaign_of words
-unfolding read_by
-campaign-read words = go (list_any is_dashes (map string_bytes words)) refl
-  where
-    go : (b : Bool) → list_any is_dashes (map string_bytes words) ≡ b → read_by (command table.Campaign) campaign_in (map string_bytes words) ≡ campaign_of words
-    go true some = rw some (sym (ap campaign_means (dashes-none table.Campaign (map string_bytes words) some)))
-    go false none = rw none (one-level campaign_in table.Campaign (map string_bytes words)
-        ∙ all-agree campaign_in table.Campaign campaign_means refl campaign-once campaign-ends (map string_bytes words) (clear (map string_bytes words) none) [] tt tt)
-
-replay-read : (words : List (String Global)) → read_by (command table.Replay) replay_in (map string_bytes words) ≡ replay_of words
-unfolding read_by
-replay-read words = go (list_any is_dashes (map string_bytes words)) refl
-  where
-    go : (b : Bool) → list_any is_dashes (map string_bytes words) ≡ b → read_by (command table.Replay) replay_in (map string_bytes words) ≡ replay_of words
-    go true some = rw some (sym (ap replay_means (dashes-none table.Replay (map string_bytes words) some)))
-    go false none = rw none (one-level replay_in table.Replay (map string_bytes words)
-        ∙ all-agree replay_in table.Replay replay_means refl replay-once replay-ends (map string_bytes words) (clear (map string_bytes words) none) [] tt tt)
+  one-level table.Replay words = by-level (shape table.Replay) words
+  one-level table.Campaign words = by-level (shape table.Campaign) words
+  one-level table.Listen words = by-level (shape table.Listen) words
 
 -- ---- what the code makes of it
 
@@ -110,34 +96,58 @@ refused-by : {X : Type 0} (judge : List Row → Option X) (app : App) (words : L
 unfolding read_by
 refused-by judge app words read = stops (has_dashes words) (fault_of app (map string_bytes words)) (judge (matches_of app (map string_bytes words))) read
 
-campaign-is : campaign_command ≡ command table.Campaign
-unfolding campaign_command
-campaign-is = refl
+command-is : (t : Table) → command_of t ≡ command t
+unfolding command_of
+command-is t = refl
 
-pub campaign-simple : (app : App) → app ≡ campaign_command → is_simple_and_free app ≡ true
-campaign-simple app is = ap is_simple_and_free (is ∙ campaign-is)
+simple : (t : Table) → is_simple_and_free (command t) ≡ true
+simple table.Replay = refl
+simple table.Campaign = refl
+simple table.Listen = refl
 
-pub campaign-judged : (app : App) (words : List (String Global)) (m : ArgMatches) → app ≡ campaign_command → IsReadBy app words (Some m)
+pub command-simple : (t : Table) (app : App) → app ≡ command_of t → is_simple_and_free app ≡ true
+command-simple t app is = ap is_simple_and_free (is ∙ command-is t) ∙ simple t
+
+-- A form whose matches mean what its settings mean.
+module _ {X : Type 0} (judge : List Row → Option X) (t : Table) (means : Option (List Assignment) → Option X) (none : means None ≡ None)
+    (once : (setting : Setting) (text : Text) (all : Option (List Assignment)) (pairs : Pairs) → owns t setting ≡ true → has setting pairs ≡ true
+    → means (onto pairs (preceded (assigned setting text) all)) ≡ None)
+    (ends : (pairs : Pairs) → Distinct pairs → Owned t pairs → verdict judge (shape t) (rests (rows pairs) None) [] ≡ means (onto pairs (Some []))) where
+  all-read : (words : List (String Global)) → read_by (command t) judge (map string_bytes words) ≡ means (all_given t (map string_bytes words))
+  unfolding read_by
+  all-read words = go (list_any is_dashes (map string_bytes words)) refl
+    where
+      go : (b : Bool) → list_any is_dashes (map string_bytes words) ≡ b → read_by (command t) judge (map string_bytes words) ≡ means (all_given t (map string_bytes words))
+      go true some = rw some (sym (ap means (dashes-none t (map string_bytes words) some) ∙ none))
+      go false clear_of = rw clear_of (one-level judge t (map string_bytes words)
+          ∙ all-agree judge t means none once ends (map string_bytes words) (clear (map string_bytes words) clear_of) [] tt tt)
+
+  form-judged : (app : App) (words : List (String Global)) (m : ArgMatches) → app ≡ command_of t → IsReadBy app words (Some m)
+      → judge (rows_of (found_of m)) ≡ means (all_given t (map string_bytes words))
+  form-judged app words m is read = judged-by judge app words m read
+      ∙ ap (λ (a : App). read_by a judge (map string_bytes words)) (is ∙ command-is t) ∙ all-read words
+
+  form-refused : (app : App) (words : List (String Global)) → app ≡ command_of t → IsReadBy app words None → None ≡ means (all_given t (map string_bytes words))
+  form-refused app words is read = sym (refused-by judge app words read)
+      ∙ ap (λ (a : App). read_by a judge (map string_bytes words)) (is ∙ command-is t) ∙ all-read words
+
+pub campaign-judged : (app : App) (words : List (String Global)) (m : ArgMatches) → app ≡ command_of table.Campaign → IsReadBy app words (Some m)
     → campaign_in (rows_of (found_of m)) ≡ campaign_of words
-campaign-judged app words m is read = judged-by campaign_in app words m read
-    ∙ ap (λ (a : App). read_by a campaign_in (map string_bytes words)) (is ∙ campaign-is) ∙ campaign-read words
+campaign-judged = form-judged campaign_in table.Campaign campaign_means refl campaign-once campaign-ends
 
-pub campaign-refused : (app : App) (words : List (String Global)) → app ≡ campaign_command → IsReadBy app words None → None ≡ campaign_of words
-campaign-refused app words is read = sym (refused-by campaign_in app words read)
-    ∙ ap (λ (a : App). read_by a campaign_in (map string_bytes words)) (is ∙ campaign-is) ∙ campaign-read words
+pub campaign-refused : (app : App) (words : List (String Global)) → app ≡ command_of table.Campaign → IsReadBy app words None → None ≡ campaign_of words
+campaign-refused = form-refused campaign_in table.Campaign campaign_means refl campaign-once campaign-ends
 
-replay-is : replay_command ≡ command table.Replay
-unfolding replay_command
-replay-is = refl
-
-pub replay-simple : (app : App) → app ≡ replay_command → is_simple_and_free app ≡ true
-replay-simple app is = ap is_simple_and_free (is ∙ replay-is)
-
-pub replay-judged : (app : App) (words : List (String Global)) (m : ArgMatches) → app ≡ replay_command → IsReadBy app words (Some m)
+pub replay-judged : (app : App) (words : List (String Global)) (m : ArgMatches) → app ≡ command_of table.Replay → IsReadBy app words (Some m)
     → replay_in (rows_of (found_of m)) ≡ replay_of words
-replay-judged app words m is read = judged-by replay_in app words m read
-    ∙ ap (λ (a : App). read_by a replay_in (map string_bytes words)) (is ∙ replay-is) ∙ replay-read words
+replay-judged = form-judged replay_in table.Replay replay_means refl replay-once replay-ends
 
-pub replay-refused : (app : App) (words : List (String Global)) → app ≡ replay_command → IsReadBy app words None → None ≡ replay_of words
-replay-refused app words is read = sym (refused-by replay_in app words read)
-    ∙ ap (λ (a : App). read_by a replay_in (map string_bytes words)) (is ∙ replay-is) ∙ replay-read words
+pub replay-refused : (app : App) (words : List (String Global)) → app ≡ command_of table.Replay → IsReadBy app words None → None ≡ replay_of words
+replay-refused = form-refused replay_in table.Replay replay_means refl replay-once replay-ends
+
+pub listen-judged : (app : App) (words : List (String Global)) (m : ArgMatches) → app ≡ command_of table.Listen → IsReadBy app words (Some m)
+    → listen_in (rows_of (found_of m)) ≡ listen_of words
+listen-judged = form-judged listen_in table.Listen listen_means refl listen-once listen-ends
+
+pub listen-refused : (app : App) (words : List (String Global)) → app ≡ command_of table.Listen → IsReadBy app words None → None ≡ listen_of words
+listen-refused = form-refused listen_in table.Listen listen_means refl listen-once listen-ends

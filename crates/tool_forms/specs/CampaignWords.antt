@@ -3,20 +3,8 @@ use Rattle.std.specs.Prelude.{ℕ, ◌+◌, ◌^◌, ◌≤◌, nat_le, if◌the
 use Rattle.std.specs.declared.alloc.Global.{Global}
 use Rattle.tool_forms.specs.declared.campaign_words.Campaign.{Campaign}
 use Rattle.tool_forms.specs.Tables as table
-use Rattle.tool_forms.specs.declared.settings.Setting.{Setting}
 use Rattle.tool_forms.specs.declared.settings.Setting.TheVariants.{First, Seeds, Events, Workers}
-use Rattle.tool_forms.specs.Given.{Value}
-use Rattle.tool_forms.specs.Given as value
-use Rattle.tool_forms.specs.Settings.{words_give}
-
--- the number that a setting is given, where it is given one
-abbrev pub number_among : Option (Option Value) → Option ℕ
-number_among (Some (Some (value.Number n))) = Some n
-number_among _ = None
-
--- the number that the words behind `campaign` give to this setting, once and only once
-abbrev pub given_once : Setting → List (String Global) → Option ℕ
-given_once setting words = number_among (words_give table.Campaign setting words)
+use Rattle.tool_forms.specs.Settings.{given_once}
 
 -- a campaign of seeds below 2^64
 abbrev pub campaign_from : ℕ → ℕ → ℕ → ℕ → Option Campaign
@@ -27,7 +15,7 @@ campaign_from first seeds events workers =
 abbrev pub campaign_of : List (String Global) → Option Campaign
 campaign_of words =
     option_and_then (λ first. option_and_then (λ seeds. option_and_then (λ events. option_and_then (λ workers. campaign_from first seeds events workers)
-    (given_once Workers words)) (given_once Events words)) (given_once Seeds words)) (given_once First words)
+    (given_once table.Campaign Workers words)) (given_once table.Campaign Events words)) (given_once table.Campaign Seeds words)) (given_once table.Campaign First words)
 
 -- what a campaign may be
 pub record IsWithinBounds (campaign : Campaign) : Type 0 where

@@ -1,8 +1,8 @@
 -- The commands of `clap` that read the words of a form (own), and what is made of their matches.
 --
--- The names of the commands (`campaign_command`, `replay_command`) are opened only where a proof says so. With both
--- written out, a check of the code gave no answer in the minutes that it had; now it takes less than two.
-use Rattle.std.specs.Prelude.{◌≡◌, ◌≢◌, ℕ, Bool, true, false, List, [], map, codes, Option, Some, None, option_and_then, String, string_bytes}
+-- The commands (`command_of`) are opened only where a proof says so. Written out, a check of the code gave no answer in the minutes that it had;
+-- now it takes less than two.
+use Rattle.std.specs.Prelude.{◌≡◌, ◌≢◌, ℕ, Bool, true, false, List, [], ◌∷◌, map, codes, Option, Some, None, option_and_then, String, string_bytes}
 use Rattle.std.specs.Str.{bytes_eq}
 use Rattle.std.specs.List.{list_any}
 use Rattle.std.specs.declared.alloc.Global.{Global}
@@ -14,49 +14,37 @@ use Rattle.clap.specs.Faults.{fault_of}
 use Rattle.clap.specs.declared.builder.action.ArgAction.TheVariants as action
 use Rattle.tool_forms.specs.declared.campaign_words.Campaign.{Campaign}
 use Rattle.tool_forms.specs.declared.words.Form.{Form}
-use Rattle.tool_forms.specs.declared.words.Form.TheVariants as form
 use Rattle.tool_forms.specs.declared.settings.Setting.{Setting}
-use Rattle.tool_forms.specs.declared.settings.Setting.TheVariants.{First, Seeds, Events, Workers, Side, Plain}
-use Rattle.tool_forms.specs.Settings.{number_for, side_in}
+use Rattle.tool_forms.specs.declared.settings.Setting.TheVariants.{First, Seeds, Events, Workers, Side, Plain, Buffer, Most}
+use Rattle.tool_forms.specs.declared.settings.Way.{Way}
+use Rattle.tool_forms.specs.declared.settings.Way.TheVariants as way
+use Rattle.tool_forms.specs.Tables.{Table}
+use Rattle.tool_forms.specs.Settings.{bare_name, number_for, settings_of, side_in, way_of}
 use Rattle.tool_forms.specs.CampaignWords.{campaign_from}
+use Rattle.tool_forms.specs.Words.{listener_for, replay_with}
 
--- a setting's name, without the two hyphens
-abbrev pub bare_name : Setting → List ℕ
-bare_name First = codes "first"
-bare_name Seeds = codes "seeds"
-bare_name Events = codes "events"
-bare_name Workers = codes "workers"
-bare_name Side = codes "side"
-bare_name Plain = codes "plain"
+-- the argument of this name that is given so: with one value, which has to be given or may be left out, or as a flag
+abbrev pub rule_by : Way → Text → Rule
+rule_by way.Needed name = record (new_rule name) { long = Some name; action = Some action.Set; required = true }
+rule_by way.Chosen name = record (new_rule name) { long = Some name; action = Some action.Set }
+rule_by way.Mark name = record (new_rule name) { long = Some name; action = Some action.SetTrue }
 
--- an option that has one value and has to be given
-abbrev pub option_rule : Text → Rule
-option_rule name = record (new_rule name) { long = Some name; action = Some action.Set; required = true }
-
--- a flag
-abbrev pub flag_rule : Text → Rule
-flag_rule name = record (new_rule name) { long = Some name; action = Some action.SetTrue }
+-- the argument of a setting
+abbrev pub rule_for : Setting → Rule
+rule_for setting = rule_by (way_of setting) (bare_name setting)
 
 -- a command that reads all its words as arguments, and has no help
 abbrev pub bare_command : App
 bare_command = on_top (λ s. record s { no_binary_name = true; disable_help_flag = true }) (new_app (codes "dccp"))
 
--- a command with the four figures of `campaign`
-abbrev pub with_figures : App → App
-with_figures command = with_rule (with_rule (with_rule (with_rule command (option_rule (codes "first"))) (option_rule (codes "seeds")))
-    (option_rule (codes "events"))) (option_rule (codes "workers"))
+-- a command with the arguments of these settings more
+abbrev pub with_settings : App → List Setting → App
+with_settings command [] = command
+with_settings command (setting ∷ settings) = with_settings (with_rule command (rule_for setting)) settings
 
--- a command with the side and the flag of `replay`
-abbrev pub with_side : App → App
-with_side command = with_rule (with_rule command (option_rule (codes "side"))) (flag_rule (codes "plain"))
-
--- the command of each form
-unfoldable pub campaign_command : App
-campaign_command = with_figures bare_command
-
--- that of `replay`
-unfoldable pub replay_command : App
-replay_command = with_side bare_command
+-- The command that reads the words of a form.
+unfoldable pub command_of : Table → App
+command_of table = with_settings bare_command (settings_of table)
 
 -- the word `--`
 abbrev pub is_dashes : List ℕ → Bool
@@ -87,6 +75,24 @@ abbrev pub is_yes : Option Text → Bool
 is_yes None = false
 is_yes (Some text) = bytes_eq text (codes "true")
 
+-- the number of a setting that may be left out, where its text is one
+abbrev pub chosen : Setting → Option Text → Option (Option ℕ)
+chosen setting None = Some None
+chosen setting (Some text) = option_and_then (λ n. Some (Some n)) (number_for setting text)
+
+-- the number that the matches have for such a setting
+abbrev pub chosen_in : Setting → List Row → Option (Option ℕ)
+chosen_in setting rows = chosen setting (first_of (bare_name setting) rows)
+
+-- the replay that these are: the text of the side, whether it is plain, and the text of the buffer
+abbrev pub replay_from : Option Text → Bool → Option Text → Option Form
+replay_from side plain buffer =
+    option_and_then (λ side. option_and_then (λ buffer. Some (replay_with side plain buffer)) (chosen Buffer buffer)) (option_and_then side_in side)
+
 -- the replay that matches are
 abbrev pub replay_in : List Row → Option Form
-replay_in rows = option_and_then (λ side. Some (form.Replay side (is_yes (first_of (bare_name Plain) rows)))) (option_and_then side_in (first_of (bare_name Side) rows))
+replay_in rows = replay_from (first_of (bare_name Side) rows) (is_yes (first_of (bare_name Plain) rows)) (first_of (bare_name Buffer) rows)
+
+-- the listener that matches are
+abbrev pub listen_in : List Row → Option Form
+listen_in rows = listener_for (figure_in Most rows)

@@ -2,6 +2,5 @@ pub mod Tables
 pub mod Given
 pub mod Settings
 pub mod CampaignWords
-pub mod ListenWords
 pub mod Words
 pub mod Commands

@@ -1,9 +1,11 @@
 -- The settings that words give to a form (own): in any order, each a name and its value, as two words or as one with `=` between them, but
--- for `--plain`, which has no value.
+-- for a mark, which has no value.
 --
--- They are looked up one by one: what words mean is a list and a question to it, and a second time is refused.
-use Rattle.std.specs.Prelude.{ℕ, ◌+◌, ◌-◌, ◌^◌, ◌≤◌, Bool, true, false, ◌==◌, nat_lt, if◌then◌else◌, List, [], ◌∷◌, length, map, codes, Option, Some, None, option_and_then, String, string_bytes}
+-- One table has them: whose each is, its name, how it is given, and the least and the most of its number. They are looked up one by one: what
+-- words mean is a list and a question to it, and a second time is refused.
+use Rattle.std.specs.Prelude.{ℕ, ◌+◌, ◌-◌, ◌^◌, ◌++◌, Bool, true, false, ◌==◌, nat_lt, if◌then◌else◌, List, [], ◌∷◌, length, map, codes, Option, Some, None, option_and_then, option_map, String, string_bytes}
 use Rattle.std.specs.List.{position_or_len, before_first, after_first}
+use Rattle.std.specs.Option.{option_map_or}
 use Rattle.std.specs.Str.{bytes_eq}
 use Rattle.std.specs.declared.alloc.Global.{Global}
 use Rattle.tool_text.specs.Numbers.{number_below}
@@ -12,31 +14,43 @@ use Rattle.world_events.specs.declared.event.Side.TheVariants.{Client, Server}
 use Rattle.tool_forms.specs.Tables.{Table}
 use Rattle.tool_forms.specs.Tables as table
 use Rattle.tool_forms.specs.declared.settings.Setting.{Setting}
-use Rattle.tool_forms.specs.declared.settings.Setting.TheVariants.{First, Seeds, Events, Workers, Side, Plain}
+use Rattle.tool_forms.specs.declared.settings.Setting.TheVariants.{First, Seeds, Events, Workers, Side, Plain, Buffer, Most}
+use Rattle.tool_forms.specs.declared.settings.Way.{Way}
+use Rattle.tool_forms.specs.declared.settings.Way.TheVariants as way
 use Rattle.tool_forms.specs.Given.{Value}
 use Rattle.tool_forms.specs.Given as value
 use Rattle.tool_forms.specs.Given.{Assignment}
 
--- the setting of a form by its name
-abbrev pub setting_named : Table → List ℕ → Option Setting
-setting_named table.Replay name = if bytes_eq name (codes "--side") then Some Side else None
-setting_named table.Campaign name =
-    if bytes_eq name (codes "--first") then Some First
-    else if bytes_eq name (codes "--seeds") then Some Seeds
-    else if bytes_eq name (codes "--events") then Some Events
-    else if bytes_eq name (codes "--workers") then Some Workers
-    else None
+-- the settings of a form
+abbrev pub settings_of : Table → List Setting
+settings_of table.Replay = Side ∷ (Buffer ∷ (Plain ∷ []))
+settings_of table.Campaign = First ∷ (Seeds ∷ (Events ∷ (Workers ∷ [])))
+settings_of table.Listen = Most ∷ []
 
--- a word that is a setting without a value
-abbrev pub is_mark : Table → List ℕ → Bool
-is_mark table.Replay word = bytes_eq word (codes "--plain")
-is_mark table.Campaign word = false
+-- a setting's name, without the two hyphens
+abbrev pub bare_name : Setting → List ℕ
+bare_name First = codes "first"
+bare_name Seeds = codes "seeds"
+bare_name Events = codes "events"
+bare_name Workers = codes "workers"
+bare_name Side = codes "side"
+bare_name Plain = codes "plain"
+bare_name Buffer = codes "buffer"
+bare_name Most = codes "most"
+
+-- how a setting is given
+abbrev pub way_of : Setting → Way
+way_of Plain = way.Mark
+way_of Buffer = way.Chosen
+way_of _ = way.Needed
 
 -- the least that a number may be
 abbrev pub least : Setting → ℕ
 least Seeds = 1
 least Events = 1
 least Workers = 1
+least Buffer = 1
+least Most = 1
 least _ = 0
 
 -- the greatest that a number may be, itself allowed; a setting that is none has 0
@@ -45,7 +59,31 @@ most First = 2 ^ 64 - 1
 most Seeds = 100000
 most Events = 4096
 most Workers = 16
+most Buffer = 1024
+most Most = 1024
 most _ = 0
+
+-- a setting's name as words have it
+abbrev pub dashed_name : Setting → List ℕ
+dashed_name setting = codes "--" ++ bare_name setting
+
+-- the setting of these that has this name
+abbrev pub named_among : List Setting → List ℕ → Option Setting
+named_among [] name = None
+named_among (setting ∷ settings) name = if bytes_eq name (dashed_name setting) then Some setting else named_among settings name
+
+-- the setting of a form by its name
+abbrev pub setting_named : Table → List ℕ → Option Setting
+setting_named table name = named_among (settings_of table) name
+
+-- given by its name alone
+abbrev pub is_marking : Way → Bool
+is_marking way.Mark = true
+is_marking _ = false
+
+-- a word that is a setting without a value
+abbrev pub is_mark : Table → List ℕ → Bool
+is_mark table word = option_map_or (λ setting. is_marking (way_of setting)) (setting_named table word) false
 
 -- a number that is no less than that
 abbrev pub number_from : ℕ → Option ℕ → Option ℕ
@@ -69,11 +107,6 @@ setting_value Side text = option_and_then (λ side. Some (value.End side)) (side
 setting_value Plain text = None
 setting_value setting text = option_and_then (λ n. Some (value.Number n)) (number_for setting text)
 
--- a number is within the setting's bounds
-abbrev pub FitsSetting : Setting → Value → Type 0
-FitsSetting setting (value.Number n) = (least setting ≤ n) × (n ≤ most setting)
-FitsSetting setting _ = Unit {0}
-
 -- A setting and the value that is given to it.
 abbrev pub value_given_to : Option Setting → List ℕ → Option Assignment
 value_given_to None text = None
@@ -83,9 +116,9 @@ value_given_to (Some setting) text = option_and_then (λ v. Some (record { setti
 abbrev pub given_of : Table → List ℕ → List ℕ → Option Assignment
 given_of table name text = value_given_to (setting_named table name) text
 
--- `--plain`, given
-abbrev pub mark_given : Assignment
-mark_given = record { setting = Plain; value = value.Mark }
+-- the setting that a mark is, given
+abbrev pub mark_given : Table → List ℕ → Option Assignment
+mark_given table word = option_map (λ setting. record { setting = setting; value = value.Mark }) (setting_named table word)
 
 -- the byte `=`
 abbrev pub is_equals : ℕ → Bool
@@ -110,22 +143,16 @@ abbrev pub all_given : Table → List (List ℕ) → Option (List Assignment)
 all_given table [] = Some []
 all_given table (word ∷ []) =
     if is_joined word then preceded (joined_given table word) (Some [])
-    else if is_mark table word then preceded (Some mark_given) (Some [])
+    else if is_mark table word then preceded (mark_given table word) (Some [])
     else None
 all_given table (word ∷ (next ∷ words)) =
     if is_joined word then preceded (joined_given table word) (all_given table (next ∷ words))
-    else if is_mark table word then preceded (Some mark_given) (all_given table (next ∷ words))
+    else if is_mark table word then preceded (mark_given table word) (all_given table (next ∷ words))
     else preceded (given_of table word next) (all_given table words)
 
--- the same setting
+-- the same setting, which has the same name
 abbrev pub is_same : Setting → Setting → Bool
-is_same First First = true
-is_same Seeds Seeds = true
-is_same Events Events = true
-is_same Workers Workers = true
-is_same Side Side = true
-is_same Plain Plain = true
-is_same _ _ = false
+is_same one other = bytes_eq (bare_name one) (bare_name other)
 
 -- the value, where the setting is not given once more
 abbrev pub unless_again : Setting → Value → List Assignment → Option (Option Value)
@@ -140,3 +167,12 @@ once setting (given ∷ all) = if is_same given.setting setting then unless_agai
 -- What the words give to a setting, where all of them are settings of the form.
 abbrev pub words_give : Table → Setting → List (String Global) → Option (Option Value)
 words_give table setting words = option_and_then (once setting) (all_given table (map string_bytes words))
+
+-- the number that a setting is given, where it is given one
+abbrev pub number_among : Option (Option Value) → Option ℕ
+number_among (Some (Some (value.Number n))) = Some n
+number_among _ = None
+
+-- the number that the words of a form give to this setting, once and only once
+abbrev pub given_once : Table → Setting → List (String Global) → Option ℕ
+given_once table setting words = number_among (words_give table setting words)

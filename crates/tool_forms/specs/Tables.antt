@@ -2,3 +2,4 @@
 pub data Table : Type 0 where
   Replay : Table
   Campaign : Table
+  Listen : Table

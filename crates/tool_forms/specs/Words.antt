@@ -7,9 +7,8 @@ use Rattle.tool_forms.specs.Tables as table
 use Rattle.tool_forms.specs.declared.settings.Setting.TheVariants as setting
 use Rattle.tool_forms.specs.Given.{Value}
 use Rattle.tool_forms.specs.Given as value
-use Rattle.tool_forms.specs.Settings.{words_give}
+use Rattle.tool_forms.specs.Settings.{given_once, words_give}
 use Rattle.tool_forms.specs.CampaignWords.{IsWithinBounds, campaign_of}
-use Rattle.tool_forms.specs.ListenWords.{most_of}
 use Rattle.tool_forms.specs.declared.words.Form.{Form}
 use Rattle.tool_forms.specs.declared.words.Form.TheVariants as form
 
@@ -22,22 +21,37 @@ abbrev pub side_given : Option (Option Value) → Option Side
 side_given (Some (Some (value.End side))) = Some side
 side_given _ = None
 
--- a replay of this side, without its offers where `--plain` is given
-abbrev pub replays : Option (Option Value) → Option Side → Option Form
-replays (Some plain) (Some side) = Some (form.Replay side (is_some plain))
-replays _ _ = None
+-- the number of a setting that may be left out
+abbrev pub number_given : Option Value → Option ℕ
+number_given (Some (value.Number n)) = Some n
+number_given _ = None
 
--- The words behind `replay`: the side once, and `--plain` at most once.
+-- a replay without a receive buffer, or with one for so many packets
+abbrev pub replay_with : Side → Bool → Option ℕ → Form
+replay_with side plain None = form.Replay side plain
+replay_with side plain (Some capacity) = form.Buffered side plain capacity
+
+-- a replay of this side, without its offers where `--plain` is given, and with a receive buffer where `--buffer` is
+abbrev pub replays : Option (Option Value) → Option Side → Option (Option Value) → Option Form
+replays (Some plain) (Some side) (Some buffer) = Some (replay_with side (is_some plain) (number_given buffer))
+replays _ _ _ = None
+
+-- The words behind `replay`: the side once, and `--plain` and `--buffer` at most once.
 abbrev pub replay_of : List (String Global) → Option Form
-replay_of words = replays (words_give table.Replay setting.Plain words) (side_given (words_give table.Replay setting.Side words))
+replay_of words =
+    replays (words_give table.Replay setting.Plain words) (side_given (words_give table.Replay setting.Side words)) (words_give table.Replay setting.Buffer words)
 
 -- The words behind `campaign`.
 abbrev pub campaigns : List (String Global) → Option Form
 campaigns words = option_and_then (λ campaign. Some (form.Campaign campaign)) (campaign_of words)
 
--- The words behind `listen`.
+-- a listener of so many flows at most
+abbrev pub listener_for : Option ℕ → Option Form
+listener_for most = option_and_then (λ most. Some (form.Listen most)) most
+
+-- The words behind `listen`: how many flows may stand, once.
 abbrev pub listen_of : List (String Global) → Option Form
-listen_of words = option_and_then (λ most. Some (form.Listen most)) (most_of words)
+listen_of words = listener_for (given_once table.Listen setting.Most words)
 
 -- No word may follow `run`, `show` and `ecn`.
 abbrev pub takes_no_word : Form → List (String Global) → Option Form
@@ -60,28 +74,35 @@ form_of (first ∷ words) =
 abbrev pub IsFormWithinBounds : Form → Type 0
 IsFormWithinBounds form.Run = Unit {0}
 IsFormWithinBounds (form.Replay side plain) = Unit {0}
+IsFormWithinBounds (form.Buffered side plain capacity) = (1 ≤ capacity) × (capacity ≤ 1024)
 IsFormWithinBounds (form.Campaign campaign) = IsWithinBounds campaign
 IsFormWithinBounds form.Show = Unit {0}
 IsFormWithinBounds (form.Listen most) = (1 ≤ most) × (most ≤ 1024)
 IsFormWithinBounds form.Ecn = Unit {0}
 
--- Only the words behind `replay` and `campaign` are settings.
+-- Only the words behind `replay`, `campaign` and `listen` are settings.
 abbrev pub has_settings : List (String Global) → Bool
 has_settings [] = false
-has_settings (first ∷ words) = is_word first (codes "replay") || is_word first (codes "campaign")
+has_settings (first ∷ words) = is_word first (codes "replay") || (is_word first (codes "campaign") || is_word first (codes "listen"))
 
 -- The line that answers all other words.
 abbrev pub usage : List ℕ
-usage = codes "usage: dccp run | replay --side server|client [--plain] | campaign --first F --seeds N --events E --workers W | show | listen --most M | ecn\n"
+usage = codes "usage: dccp run | replay --side server|client [--plain] [--buffer C] | campaign --first F --seeds N --events E --workers W | show | listen --most M | ecn\n"
 
 -- For `run`, over a source that tells its bytes, something holds of them.
 abbrev pub OnRun : List (String Global) → Option (List ℕ) → (List ℕ → Type 0) → Type 0
 OnRun words told Holds = form_of words ≡ Some form.Run → (bytes : List ℕ) → told ≡ Some bytes → Holds bytes
 
--- the same for `replay`, of a side with its offers or without
+-- the same for `replay` without a receive buffer, of a side with its offers or without
 abbrev pub OnReplay : List (String Global) → Option (List ℕ) → (Side → Bool → List ℕ → Type 0) → Type 0
 OnReplay words told Holds =
     (side : Side) (plain : Bool) → form_of words ≡ Some (form.Replay side plain) → (bytes : List ℕ) → told ≡ Some bytes → Holds side plain bytes
+
+-- and with one, for so many packets
+abbrev pub OnBuffered : List (String Global) → Option (List ℕ) → (Side → Bool → ℕ → List ℕ → Type 0) → Type 0
+OnBuffered words told Holds =
+    (side : Side) (plain : Bool) (capacity : ℕ) → form_of words ≡ Some (form.Buffered side plain capacity) → (bytes : List ℕ) → told ≡ Some bytes
+    → Holds side plain capacity bytes
 
 -- and for `show`
 abbrev pub OnShow : List (String Global) → Option (List ℕ) → (List ℕ → Type 0) → Type 0

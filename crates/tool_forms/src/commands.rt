@@ -1,18 +1,27 @@
 //! The words of a form, read by a command of `clap`.
 ghost use Rattle.std.specs.Prelude.{◌≡◌, ◌≤◌, ◌↔◌, IfOk, IfSome, IsTrue, codes, false, true, map, option_map, string_bytes};
 ghost use Rattle.clap.specs.Words.{app_of, first_of, found_of, is_simple_and_free, kind_of, rows_of, rule_of, with_rule};
-ghost use Rattle.tool_forms.specs.Commands.{IsReadBy, bare_command, bare_name, campaign_command, flag_rule, has_dashes, is_yes, figure_in, option_rule, replay_command};
-ghost use Rattle.tool_forms.specs.Settings.{least, most};
+ghost use Rattle.tool_forms.specs.Commands.{IsReadBy, bare_command, chosen_in, command_of, figure_in, has_dashes, is_yes, rule_by, rule_for};
+ghost use Rattle.tool_forms.specs.Settings.{bare_name, least, most};
+ghost use Rattle.tool_forms.specs.Tables as table;
 
-use crate::settings::{Setting, is_text};
+use crate::settings::{Setting, Way, is_text};
 use clap::error::ErrorKind;
 use clap::{Arg, ArgAction, ArgMatches, Command, Error};
 use seq_circle::NoMemory;
 use std::alloc::{AllocError, Global};
 
-// An option that has one value and has to be given.
+// An option that has one value.
 fn option<'a>(alloc: Global, name: &'a str) -> Arg<'a>
-    ensures rule { rule_of result ≡ option_rule name.entry.now }
+    ensures rule { rule_of result ≡ rule_by Way.Chosen name.entry.now }
+    ensures local { result.global ≡ false }
+{
+    Arg::new(alloc, name).long(name).action(ArgAction::Set)
+}
+
+// An option that has one value and has to be given.
+fn needed_option<'a>(alloc: Global, name: &'a str) -> Arg<'a>
+    ensures rule { rule_of result ≡ rule_by Way.Needed name.entry.now }
     ensures local { result.global ≡ false }
 {
     Arg::new(alloc, name)
@@ -22,30 +31,43 @@ fn option<'a>(alloc: Global, name: &'a str) -> Arg<'a>
 }
 
 fn flag<'a>(alloc: Global, name: &'a str) -> Arg<'a>
-    ensures rule { rule_of result ≡ flag_rule name.entry.now }
+    ensures rule { rule_of result ≡ rule_by Way.Mark name.entry.now }
     ensures local { result.global ≡ false }
 {
     Arg::new(alloc, name).long(name).action(ArgAction::SetTrue)
 }
 
-fn with_option<'a>(
-    alloc: Global,
-    command: Command<'a>,
-    name: &'a str,
-) -> Result<Command<'a>, AllocError>
-    ensures { IfOk result (λ c. app_of c ≡ with_rule (app_of command.entry) (option_rule name.entry.now)) }
+// The argument of this name that is given so.
+fn argument<'a>(alloc: Global, way: Way, name: &'a str) -> Arg<'a>
+    ensures rule { rule_of result ≡ rule_by way name.entry.now }
+    ensures local { result.global ≡ false }
 {
-    command.arg(option(alloc, name))
+    match way {
+        Way::Needed => needed_option(alloc, name),
+        Way::Chosen => option(alloc, name),
+        Way::Mark => flag(alloc, name),
+    }
 }
 
-fn with_flag<'a>(
+fn with_argument<'a>(
     alloc: Global,
     command: Command<'a>,
+    way: Way,
     name: &'a str,
 ) -> Result<Command<'a>, AllocError>
-    ensures { IfOk result (λ c. app_of c ≡ with_rule (app_of command.entry) (flag_rule name.entry.now)) }
+    ensures { IfOk result (λ c. app_of c ≡ with_rule (app_of command.entry) (rule_by way name.entry.now)) }
 {
-    command.arg(flag(alloc, name))
+    command.arg(argument(alloc, way, name))
+}
+
+fn with_setting<'a>(
+    alloc: Global,
+    command: Command<'a>,
+    setting: Setting,
+) -> Result<Command<'a>, AllocError>
+    ensures { IfOk result (λ c. app_of c ≡ with_rule (app_of command.entry) (rule_for setting)) }
+{
+    with_argument(alloc, command, setting.way(), setting.name())
 }
 
 // A command that reads all its words as arguments.
@@ -59,20 +81,28 @@ fn bare_command<'a>(alloc: Global) -> Command<'a>
 
 /// The command that reads the words behind `campaign`.
 pub(crate) fn campaign_command<'a>(alloc: Global) -> Result<Command<'a>, AllocError>
-    ensures { IfOk result (λ c. app_of c ≡ campaign_command) }
+    ensures { IfOk result (λ c. app_of c ≡ command_of table.Campaign) }
 {
-    let command = with_option(alloc, bare_command(alloc), "first")?;
-    let command = with_option(alloc, command, "seeds")?;
-    let command = with_option(alloc, command, "events")?;
-    with_option(alloc, command, "workers")
+    let command = with_setting(alloc, bare_command(alloc), Setting::First)?;
+    let command = with_setting(alloc, command, Setting::Seeds)?;
+    let command = with_setting(alloc, command, Setting::Events)?;
+    with_setting(alloc, command, Setting::Workers)
 }
 
 /// The command that reads the words behind `replay`.
 pub(crate) fn replay_command<'a>(alloc: Global) -> Result<Command<'a>, AllocError>
-    ensures { IfOk result (λ c. app_of c ≡ replay_command) }
+    ensures { IfOk result (λ c. app_of c ≡ command_of table.Replay) }
 {
-    let command = with_option(alloc, bare_command(alloc), "side")?;
-    with_flag(alloc, command, "plain")
+    let command = with_setting(alloc, bare_command(alloc), Setting::Side)?;
+    let command = with_setting(alloc, command, Setting::Buffer)?;
+    with_setting(alloc, command, Setting::Plain)
+}
+
+/// The command that reads the words behind `listen`.
+pub(crate) fn listen_command<'a>(alloc: Global) -> Result<Command<'a>, AllocError>
+    ensures { IfOk result (λ c. app_of c ≡ command_of table.Listen) }
+{
+    with_setting(alloc, bare_command(alloc), Setting::Most)
 }
 
 // One of the words is `--`, which `clap` would take as the last word.
@@ -125,6 +155,19 @@ pub(crate) fn figure_in(matches: &ArgMatches, setting: Setting) -> Option<u64>
 {
     let text = text_in(matches, setting)?;
     setting.number(text.as_bytes())
+}
+
+/// The number that the matches have for this setting, which may be left out, and None where its text is no number within
+/// its bounds.
+pub(crate) fn chosen_in(matches: &ArgMatches, setting: Setting) -> Option<Option<u64>>
+    ensures value { result ≡ chosen_in setting (rows_of (found_of matches.now)) }
+    ensures within { IfSome result (λ chosen. IfSome chosen (λ n. least setting ≤ n × n ≤ most setting)) }
+{
+    let Some(text) = text_in(matches, setting) else {
+        return Some(None);
+    };
+    let number = setting.number(text.as_bytes())?;
+    Some(Some(number))
 }
 
 /// A flag is given, which then has the text `true`.

@@ -3,7 +3,6 @@
 
 mod campaign_words;
 mod commands;
-mod listen_words;
 mod settings;
 mod words;
 

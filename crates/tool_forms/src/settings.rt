@@ -1,11 +1,11 @@
 //! The settings that words give to a form.
 //!
-//! One table has the settings of `replay` and `campaign`: whose each is, its name, the least and the most of its
-//! number, and `--plain`, which has no value. A further setting is a line in each function of the table.
+//! One table has the settings of `replay`, `campaign` and `listen`: of each its name, how it is given, and the least and
+//! the most of its number. A further setting is a line in each function of the table, and one where its form's command is
+//! put together.
 ghost use Rattle.std.specs.Prelude.{◌≡◌, ◌≤◌, IfSome};
 ghost use Rattle.std.specs.Str.{bytes_eq};
-ghost use Rattle.tool_forms.specs.Commands.{bare_name};
-ghost use Rattle.tool_forms.specs.Settings.{least, most, number_for, side_in};
+ghost use Rattle.tool_forms.specs.Settings.{bare_name, least, most, number_for, side_in, way_of};
 
 use tool_text::number_up_to;
 use world_events::Side;
@@ -38,6 +38,19 @@ pub(crate) enum Setting {
     Workers,
     Side,
     Plain,
+    Buffer,
+    Most,
+}
+
+/// How a setting is given.
+#[derive(Clone, Copy)]
+pub(crate) enum Way {
+    /// With a value, and it has to be given.
+    Needed,
+    /// With a value, and it may be left out.
+    Chosen,
+    /// By its name alone, and it may be left out.
+    Mark,
 }
 
 impl Setting {
@@ -45,7 +58,8 @@ impl Setting {
         ensures { result ≡ least self }
     {
         match self {
-            Setting::Seeds | Setting::Events | Setting::Workers => 1,
+            Setting::Seeds | Setting::Events | Setting::Workers | Setting::Buffer | Setting::Most =>
+                1,
             Setting::First | Setting::Side | Setting::Plain => 0,
         }
     }
@@ -58,6 +72,7 @@ impl Setting {
             Setting::Seeds => 100_000,
             Setting::Events => 4_096,
             Setting::Workers => 16,
+            Setting::Buffer | Setting::Most => 1_024,
             Setting::Side | Setting::Plain => 0,
         }
     }
@@ -73,6 +88,24 @@ impl Setting {
             Setting::Workers => "workers",
             Setting::Side => "side",
             Setting::Plain => "plain",
+            Setting::Buffer => "buffer",
+            Setting::Most => "most",
+        }
+    }
+
+    /// How the setting is given.
+    pub(crate) fn way(self) -> Way
+        ensures { result ≡ way_of self }
+    {
+        match self {
+            Setting::Plain => Way::Mark,
+            Setting::Buffer => Way::Chosen,
+            Setting::First
+            | Setting::Seeds
+            | Setting::Events
+            | Setting::Workers
+            | Setting::Side
+            | Setting::Most => Way::Needed,
         }
     }
 

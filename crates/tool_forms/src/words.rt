@@ -1,12 +1,13 @@
 //! What the words after the program's name ask for.
 ghost use Rattle.std.specs.Prelude.{◌≡◌, IfOk, IfSome, IsOk, false};
 ghost use Rattle.clap.specs.Words.{found_of, rows_of};
-ghost use Rattle.tool_forms.specs.Commands.{replay_in};
+ghost use Rattle.tool_forms.specs.Commands.{listen_in, replay_in};
 ghost use Rattle.tool_forms.specs.Words.{IsFormWithinBounds, campaigns, form_of, has_settings, is_word, listen_of, replay_of, takes_no_word};
 
 use crate::campaign_words::{Campaign, campaign_of};
-use crate::commands::{is_given, read, replay_command, text_in};
-use crate::listen_words::most_of;
+use crate::commands::{
+    chosen_in, figure_in, is_given, listen_command, read, replay_command, text_in,
+};
 use crate::settings::{Setting, side_in};
 use clap::ArgMatches;
 use seq_circle::NoMemory;
@@ -19,20 +20,31 @@ pub enum Form {
     /// `run` plays a schedule.
     Run,
     /// `replay` hands frames to the usual end of this side, with or without its offers.
-    Replay { side: Side, plain: bool },
+    Replay {
+        side: Side,
+        plain: bool,
+    },
+    /// `replay` with `--buffer` hands them to one with a receive buffer for this many packets: 1 to 1,024.
+    Buffered {
+        side: Side,
+        plain: bool,
+        capacity: u16,
+    },
     /// `campaign` runs seeds and counts.
     Campaign(Campaign),
     /// `show` tells the packets of a capture.
     Show,
     /// `listen` hands what many peers send to one listener, of at most this many flows: 1 to 1,024.
-    Listen { most: u16 },
+    Listen {
+        most: u16,
+    },
     /// `ecn` lets events take place between an ECN-capable sender and an ECN-capable receiver.
     Ecn,
 }
 
 /// The line that answers words which are none of the forms (own). It names all forms.
 pub const USAGE: &[u8] =
-    b"usage: dccp run | replay --side server|client [--plain] | campaign --first F --seeds N --events E --workers W | show | listen --most M | ecn\n";
+    b"usage: dccp run | replay --side server|client [--plain] [--buffer C] | campaign --first F --seeds N --events E --workers W | show | listen --most M | ecn\n";
 
 fn is_word(word: &String, text: &[u8]) -> bool
     ensures { result ≡ is_word word.now text.now }
@@ -48,7 +60,15 @@ fn replay_in(matches: &ArgMatches) -> Option<Form>
     let text = text_in(matches, Setting::Side)?;
     let side = side_in(text.as_bytes())?;
     let plain = is_given(matches, Setting::Plain);
-    Some(Form::Replay { side, plain })
+    let form = match chosen_in(matches, Setting::Buffer)? {
+        None => Form::Replay { side, plain },
+        Some(capacity) => Form::Buffered {
+            side,
+            plain,
+            capacity: capacity as u16,
+        },
+    };
+    Some(form)
 }
 
 // The job that the words behind `replay` ask for.
@@ -83,18 +103,30 @@ fn campaigns(alloc: Global, words: &[String]) -> Result<Option<Form>, NoMemory>
     }
 }
 
-// The job that the words behind `listen` ask for.
-fn listen_of(words: &[String]) -> Option<Form>
-    ensures value { result ≡ listen_of words.now }
+// The listener that the matches ask for.
+fn listen_in(matches: &ArgMatches) -> Option<Form>
+    ensures value { result ≡ listen_in (rows_of (found_of matches.now)) }
     ensures within { IfSome result IsFormWithinBounds }
 {
-    let most = most_of(words)?;
-    Some(Form::Listen { most })
+    let most = figure_in(matches, Setting::Most)?;
+    Some(Form::Listen { most: most as u16 })
+}
+
+// The job that the words behind `listen` ask for.
+fn listen_of(alloc: Global, words: &[String]) -> Result<Option<Form>, NoMemory>
+    ensures value { IfOk result (λ form. form ≡ listen_of words.now) }
+    ensures within { IfOk result (λ form. IfSome form IsFormWithinBounds) }
+{
+    let command = listen_command(alloc)?;
+    match read(command, words)? {
+        Some(matches) => Ok(listen_in(&matches)),
+        None => Ok(None),
+    }
 }
 
 /// The job that these words ask for, those after the program's name, or None where they are none of the forms (own).
-/// NoMemory comes only for words behind `replay` and `campaign`, whose settings are read by a command of `clap`, and
-/// then says nothing of them.
+/// NoMemory comes only for words behind `replay`, `campaign` and `listen`, whose settings are read by a command of `clap`,
+/// and then says nothing of them.
 #[tactic(auto, unfolding(crate::specs::Words::form_of))]
 pub fn form_of(alloc: Global, words: &[String]) -> Result<Option<Form>, NoMemory>
     ensures value { IfOk result (λ form. form ≡ form_of words.now) }
@@ -106,7 +138,7 @@ pub fn form_of(alloc: Global, words: &[String]) -> Result<Option<Form>, NoMemory
         [first, words @ ..] if is_word(first, b"replay") => replay_of(alloc, words),
         [first, words @ ..] if is_word(first, b"campaign") => campaigns(alloc, words),
         [first, words @ ..] if is_word(first, b"show") => Ok(takes_no_word(Form::Show, words)),
-        [first, words @ ..] if is_word(first, b"listen") => Ok(listen_of(words)),
+        [first, words @ ..] if is_word(first, b"listen") => listen_of(alloc, words),
         [first, words @ ..] if is_word(first, b"ecn") => Ok(takes_no_word(Form::Ecn, words)),
         _ => Ok(None),
     }

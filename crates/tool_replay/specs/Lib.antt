@@ -1,3 +1,4 @@
 pub mod Text
 pub mod EndLines
 pub mod Replay
+pub mod Buffered

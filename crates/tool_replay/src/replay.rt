@@ -137,7 +137,11 @@ impl LineJob for Replay {
     }
 }
 
-fn put_open_line(text: &mut Vec<u8>, answer: Result<(), OpenFault>) -> Result<(), NoMemory>
+/// Puts the line of the call `open`.
+pub(crate) fn put_open_line(
+    text: &mut Vec<u8>,
+    answer: Result<(), OpenFault>,
+) -> Result<(), NoMemory>
     ensures { OnOk result (text.new.items ≡ text.old.items ++ opened_line answer) }
 {
     match answer {
@@ -155,8 +159,8 @@ fn role_of(side: Side) -> Role
     }
 }
 
-// The usual end of a side, with its offers or without.
-fn replay_config(side: Side, plain: bool) -> Config
+/// The usual end of a side, with its offers or without.
+pub(crate) fn replay_config(side: Side, plain: bool) -> Config
     ensures { result ≡ replay_config side plain }
 {
     let mut config = Config::usual(role_of(side));
@@ -166,8 +170,8 @@ fn replay_config(side: Side, plain: bool) -> Config
     config
 }
 
-// The addresses of the frames that arrive at the end of a side.
-fn addresses(side: Side) -> Pseudo
+/// The addresses of the frames that arrive at the end of a side.
+pub(crate) fn addresses(side: Side) -> Pseudo
     ensures { result ≡ (usual (role_of side)).pseudo_in }
 {
     Config::usual(role_of(side)).pseudo_in

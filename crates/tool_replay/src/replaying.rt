@@ -1,9 +1,11 @@
 //! `replay`: an input's frames, handed to one end.
-ghost use Rattle.std.specs.Prelude.{◌≡◌, ◌≢◌, ℕ, List, Some};
+ghost use Rattle.std.specs.Prelude.{◌≡◌, ◌≢◌, ◌≤◌, ℕ, List, Some};
 ghost use Rattle.dccp_io.specs.Counts.{Rose};
 ghost use Rattle.tool_replay.specs.Replay.{replay_text, replay_refused, replay_accepted};
+ghost use Rattle.tool_replay.specs.Buffered.{buffered_accepted, buffered_refused, buffered_text};
 ghost use Rattle.tool_output.specs.Ends.{Answers, SinkFails, StopsWithin, EndsForCause};
 
+use crate::buffered::BufferedReplay;
 use crate::replay::Replay;
 use dccp_io::{Sink, Source};
 use std::alloc::Global;
@@ -32,6 +34,34 @@ pub fn replay_frames<S: Source, K: Sink>(
 {
     let mut text = Vec::new(alloc);
     let Ok(mut replay) = Replay::begin(alloc, side, plain, &mut text) else {
+        return Status::Memory;
+    };
+    run_lines(alloc, &mut replay, &mut text, input, output)
+}
+
+/// The same at an end with a receive buffer for so many packets, 1 to 1,024, of which an application reads (own). A line
+/// `read` takes the oldest data that are held, and after a line `stop` further data are dropped; each of both is such a
+/// line only where it is that word alone, and every other line is one of `replay_frames`. Data that were dropped are told
+/// by their Drop Code (RFC 4340, section 11.7).
+pub fn replay_at_buffer<S: Source, K: Sink>(
+    alloc: Global,
+    side: Side,
+    plain: bool,
+    capacity: u16,
+    input: &mut S,
+    output: &mut K,
+) -> Status
+    requires some { 1 ≤ capacity }
+    requires few { capacity ≤ 1024 }
+    ensures words { result ≢ Status.Words }
+    ensures replayed { (bytes : List ℕ) → S.left input.old ≡ Some bytes
+        → Answers (buffered_text side plain capacity bytes) (buffered_refused side plain capacity bytes) result (S.left input.new) (K.taken output.old) (K.taken output.new) }
+    ensures past { (bytes : List ℕ) → S.left input.old ≡ Some bytes
+        → StopsWithin 16384 (buffered_accepted side plain capacity bytes) bytes result (S.left input.new) }
+    ensures cause { EndsForCause result (Rose (S.faults input.old) (S.faults input.new)) (SinkFails K.faults K.empty_takes output.old output.new) }
+{
+    let mut text = Vec::new(alloc);
+    let Ok(mut replay) = BufferedReplay::begin(alloc, side, plain, capacity, &mut text) else {
         return Status::Memory;
     };
     run_lines(alloc, &mut replay, &mut text, input, output)

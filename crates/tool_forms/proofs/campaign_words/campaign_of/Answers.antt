@@ -2,12 +2,13 @@
 use Rattle.std.proofs.Common.{◌∙◌, subst, Option}
 use Rattle.clap.specs.Words.{app_of}
 use Rattle.clap.specs.declared.parser.matches.ArgMatches.{ArgMatches}
+use Rattle.tool_forms.specs.Tables as table
 use Rattle.tool_forms.specs.Commands.{IsReadBy}
-use Rattle.tool_forms.proofs.Taken.{campaign-judged, campaign-refused, campaign-simple}
+use Rattle.tool_forms.proofs.Taken.{campaign-judged, campaign-refused, command-simple}
 use Rattle.tool_forms.proofs.campaign_words.campaign_of.Goals as goal
 
 pub read-requires : goal.read-requires
-read-requires c = record { simple = campaign-simple _ c.in_ok-command.ensures }
+read-requires c = record { simple = command-simple table.Campaign _ c.in_ok-command.ensures }
 
 pub returns-in-Some-clause-value : goal.returns-in-Some-clause-value
 returns-in-Some-clause-value c =
