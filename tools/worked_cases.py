@@ -13,7 +13,7 @@ WHOLE = """empty comments_alone no_such_frame handshake open_both_ways number_wr
     data_in_request server_order_wins mandatory_unshared crossing_changes late_changes late_confirm nothing_shared invalid_value
     vector_of_received full_run_of_64 floor_rises_by_record coverage_too_large window_of_ccid_two refused_calls_and_closing
     repeated_request vector_cut_at_253 three_openings twelve_events eight_seeds last_seeds two_flows full_listener nonces_checked
-    marked_first""".split()
+    marked_first one_place_buffer""".split()
 
 HEAD = '''//! The worked cases that have words and an input, one after another over the tool's one call. `tools/worked_cases.py`
 //! writes these texts from examples/, where the cases are told.

@@ -3,17 +3,15 @@
 //!
 //! `marks` and a number of rounds makes the calls of received numbers and of congestion control, hands packets to an
 //! end, and lets two ends send each other data, so that what they allocate can be counted. `ratios` and a number of
-//! rounds times marks, the writing of Ack Vectors and the taking of reports, `nonces` those of ECN-capable ends, `drops`
-//! the calls of a bounded inbox. `runs` and a number of rounds times marks in several orders, over both ways to keep
-//! runs. `ends` and a number of rounds times an end in OPEN to which packets of data come. `campaign` and a number of
-//! workers times a campaign.
+//! rounds times marks, the writing of Ack Vectors and the taking of reports, `nonces` those of ECN-capable ends. `runs`
+//! and a number of rounds times marks in several orders, over both ways to keep runs. `ends` and a number of rounds
+//! times an end in OPEN to which packets of data come. `campaign` and a number of workers times a campaign.
 //!
 //! Nothing is claimed of what it prints.
 #![tactic(auto)]
 
 mod campaigns;
 mod data;
-mod drops;
 mod ends;
 mod frames;
 mod marks;
@@ -34,7 +32,6 @@ enum Form {
     Marks,
     Ratios,
     Nonces,
-    Drops,
     Runs,
     Ends,
     Campaign,
@@ -49,7 +46,6 @@ fn asked(rt: &HostRuntime) -> io::Result<(Form, u32)> {
             "marks" => form = Form::Marks,
             "ratios" => form = Form::Ratios,
             "nonces" => form = Form::Nonces,
-            "drops" => form = Form::Drops,
             "runs" => form = Form::Runs,
             "ends" => form = Form::Ends,
             "campaign" => form = Form::Campaign,
@@ -105,7 +101,6 @@ fn main(rt: HostRuntime) -> io::Result<()> {
             Ok(())
         }
         Form::Nonces => nonces::all(&rt, rounds),
-        Form::Drops => drops::all(&rt, rounds),
         Form::Runs => runs::all(&rt, rounds),
         Form::Ends => ends::all(&rt, rounds),
         Form::Campaign => campaigns::all(&rt, &rt, rounds),

@@ -11,8 +11,12 @@ use dccp_endpoint::{
     Config, Lists, MOST_FRAME_BYTES, Outbox, Outcome, Ports, Pseudo, Seq48, Timer,
 };
 use dccp_listener::{Act, Heard, ListenConfig, Listener, Peer};
-use dccp_uses::{Network, News, Session};
+use dccp_uses::{
+    Alarms, Condition, Network, News, Session, arranged, has_run_out, is_delivery, rung,
+    with_delivery, with_progress,
+};
 use std::alloc::Global;
+use std::collections::BTreeMap;
 use std::process::ExitCode;
 
 // The Service Code that is asked for.
@@ -58,10 +62,11 @@ impl Network for Wire {
     }
 }
 
-// The server's side: all its peers, and what came of them.
+// The server's side: all its peers with their timers, and what came of them.
 #[derive(Drop)]
 struct Server {
     listener: Listener,
+    alarms: BTreeMap<Peer, Alarms>,
     out: Outbox,
     got: Vec<u8>,
 }
@@ -79,23 +84,28 @@ impl Server {
         };
         Server {
             listener: Listener::new(alloc, config),
+            alarms: BTreeMap::new(alloc),
             out: Outbox::new(),
             got: Vec::new(alloc),
         }
     }
 
     // A datagram of a peer, whose address and port a socket tells. A real server draws the number.
-    fn arrived(&mut self, peer: Peer, datagram: &[u8], network: &mut Wire) -> Option<()> {
+    fn arrived(&mut self, peer: Peer, datagram: &[u8], now: u64, network: &mut Wire) -> Option<()> {
         if MOST_FRAME_BYTES < datagram.len() {
             return Some(());
         }
         let first = Seq48::new(2_000)?;
+        let in_flight = self.in_flight(peer);
         let heard = self.listener.arrive(peer, first, datagram, &mut self.out);
         self.send(network);
         let Ok(Heard::Flow(outcome)) = heard else {
             // One flow too many, of which the peer was told; or no memory, and the datagram counts as lost.
             return Some(());
         };
+        let progress = self.in_flight(peer) < in_flight;
+        let alarms = with_progress(&self.alarms_of(peer), progress);
+        self.arrange(peer, &with_delivery(&alarms, is_delivery(&outcome)), now);
         self.take(&outcome, datagram)
     }
 
@@ -109,13 +119,49 @@ impl Server {
         }
     }
 
-    // The timers of a peer's end, all at one pace; those that do not run do nothing. A server that sends data has Rto
-    // too, and TimeWait where it closes first.
-    fn tick(&mut self, peer: Peer, network: &mut Wire) {
-        for timer in [Timer::Ack, Timer::Negotiate, Timer::Close] {
+    fn in_flight(&self, peer: Peer) -> u32 {
+        match self.listener.flow(peer) {
+            Some(end) => end.in_flight(),
+            None => 0,
+        }
+    }
+
+    fn alarms_of(&self, peer: Peer) -> Alarms {
+        match self.alarms.get(&peer) {
+            Some(alarms) => *alarms,
+            None => Alarms::none(),
+        }
+    }
+
+    // The timers of the peer run from now on as its end needs them, and go with it. Where memory runs out, they stop.
+    fn arrange(&mut self, peer: Peer, alarms: &Alarms, now: u64) {
+        let Some(end) = self.listener.flow(peer) else {
+            let _ = self.alarms.remove(&peer);
+            return;
+        };
+        let condition = Condition {
+            phase: end.phase(),
+            in_flight: 0 < end.in_flight(),
+        };
+        let _ = self.alarms.insert(peer, arranged(alarms, &condition, now));
+    }
+
+    // The peer's end is told of the timer, if that has run out.
+    fn ring(&mut self, peer: Peer, timer: Timer, now: u64, network: &mut Wire) {
+        let alarms = self.alarms_of(peer);
+        if has_run_out(alarms.of(timer), now) {
             let _ = self.listener.act(peer, Act::Timer(timer), &mut self.out);
             self.send(network);
+            self.arrange(peer, &rung(&alarms, timer, now), now);
         }
+    }
+
+    fn tick(&mut self, peer: Peer, now: u64, network: &mut Wire) {
+        self.ring(peer, Timer::Ack, now, network);
+        self.ring(peer, Timer::Negotiate, now, network);
+        self.ring(peer, Timer::Rto, now, network);
+        self.ring(peer, Timer::Close, now, network);
+        self.ring(peer, Timer::TimeWait, now, network);
     }
 
     // What a call has left in the box goes to the peer of the call.
@@ -182,10 +228,10 @@ impl Guest {
         self.session.open(0, &mut self.to_server).ok()
     }
 
-    // A datagram each way.
+    // A datagram each way, and the timers of both.
     fn turn(&mut self, server: &mut Server, now: u64) -> Option<()> {
         if let Some(datagram) = self.to_server.take() {
-            server.arrived(self.peer, &datagram, &mut self.to_guest)?;
+            server.arrived(self.peer, &datagram, now, &mut self.to_guest)?;
         }
         if let Some(datagram) = self.to_guest.take() {
             let news = self.session.arrived(&datagram, now, &mut self.to_server);
@@ -195,6 +241,7 @@ impl Guest {
         }
         self.talk(now);
         self.session.tick(now, &mut self.to_server);
+        server.tick(self.peer, now, &mut self.to_guest);
         Some(())
     }
 }
@@ -207,9 +254,6 @@ fn exchange(server: &mut Server, first: &mut Guest, second: &mut Guest) -> Optio
         let now = turn * 10;
         first.turn(server, now)?;
         second.turn(server, now)?;
-        if turn % 20 == 19 {
-            server.tick(first.peer, &mut first.to_guest);
-        }
         if first.ended.is_some() {
             return second.ended;
         }

@@ -45,7 +45,10 @@ fn unwraps(alloc: Global, most: usize, input: &[u8], records: &[u8]) -> Result<b
 #[test]
 fn blocks_of_two_sections(rt: HostRuntime) -> Result<(), Fail> {
     for most in [1, 7, 4096] {
-        assert!(rt; unwraps(rt.alloc(), most, BLOCKS, RECORDS)?, "{most} bytes a call");
+        assert!(rt;
+            unwraps(rt.alloc(), most, BLOCKS, RECORDS)?,
+            "{most} bytes a call"
+        );
     }
     let none = unwraps(rt.alloc(), 7, &BLOCKS[..SECTION], &RECORDS[..FILE_HEADER])?;
     assert!(rt; none, "no interface");
@@ -72,6 +75,15 @@ const REFUSED: [(usize, u8, usize, &str); 15] = [
     (304, 1, 78, "capture BadBlock after record 3\n"),
 ];
 
+// These bytes, but for one.
+fn changed(alloc: Global, bytes: &[u8], place: usize, byte: u8) -> Result<Vec<u8>, Fail> {
+    let mut input = bytes.to_vec(alloc)?;
+    if place < input.len() {
+        input[place] = byte;
+    }
+    Ok(input)
+}
+
 fn refuses(
     alloc: Global,
     place: usize,
@@ -79,21 +91,23 @@ fn refuses(
     written: usize,
     line: &str,
 ) -> Result<bool, Fail> {
-    let mut input = BLOCKS.to_vec(alloc)?;
-    input[place] = byte;
+    let input = changed(alloc, BLOCKS, place, byte)?;
     let answer = answer_to(alloc, &Streams::of(4096), "unwrap", &input)?;
     let (records, last) = answer
         .bytes
         .as_slice()
         .split_at(written.min(answer.bytes.len()));
-    let is_right = records == &RECORDS[..written] && last == line.as_bytes();
-    Ok(answer.status == Status::Input && is_right)
+    let is_front = records.len() == written && RECORDS.starts_with(records);
+    Ok(answer.status == Status::Input && is_front && last == line.as_bytes())
 }
 
 #[test]
 fn refused_blocks(rt: HostRuntime) -> Result<(), Fail> {
     for (place, byte, written, line) in REFUSED {
-        assert!(rt; refuses(rt.alloc(), place, byte, written, line)?, "{place}: {line}");
+        assert!(rt;
+            refuses(rt.alloc(), place, byte, written, line)?,
+            "{place}: {line}"
+        );
     }
     Ok(())
 }

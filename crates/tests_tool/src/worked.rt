@@ -1997,7 +1997,33 @@ check 0\n\
 6 deliver 0: again\n\
 7 report: vector 38 40\n\
 8 check 0: fits\n\
-sent 1 reports 1\n";
+sent 1 reports 1\n\
+~ replay,--side,server,--plain,--buffer,1\n\
+# replay --side server --plain --buffer 1\n\
+# A buffer of one place. The handshake, and data that are held.\n\
+seal 9c4013890500000001000000000003e80000002a\n\
+seal 9c4013890600000007000000000003e900000000000007d0\n\
+seal 9c4013890400000005000000000003eaaa\n\
+# The Data 1003 finds it full: the Ack reports its drop, code 2, and that the receiver is slow.\n\
+seal 9c4013890400000005000000000003ebbb\n\
+read\n\
+read\n\
+# The application listens no more.\n\
+stop\n\
+seal 9c4013890400000005000000000003eccc\n\
+=> Done\n\
+3: took\n\
+sent s0 13899c400700261403000000000007d000000000000003e80000002a\n\
+4: took\n\
+sent s1 13899c400600234007000000000007d100000000000003e9\n\
+5: took data aa\n\
+7: took dropped 2\n\
+sent s2 13899c4007005a3307000000000007d200000000000003eb2803a002\n\
+8: read aa\n\
+9: empty\n\
+11: ok\n\
+12: took dropped 1\n\
+end server OPEN window 4 flight 0 1=2/2 2=0/0 3=100/100 4=0/0 5=2/2 6=0/0 7=0/0 8=0/0 9=0/0\n";
 
 #[test]
 fn worked_cases_in_pieces(rt: HostRuntime) -> Result<(), Fail> {

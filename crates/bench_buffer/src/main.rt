@@ -1,17 +1,37 @@
-//! The calls of a bounded inbox: the report of a quarter of the drops that count and of all, over as many numbers as a report
-//! reaches, and data that are taken and arrive where the inbox is full, at 1 packet and at 1,024.
+//! How long the calls of a bounded inbox take (own): the report of a quarter of the drops that count and of all, over as
+//! many numbers as a report reaches; and data that are taken and arrive where the inbox is full, at 1 packet and at 1,024.
+//! One word says how many rounds; the figures go to standard error. Nothing is claimed of what it prints.
+#![tactic(auto)]
+
 ghost use Rattle.std.specs.Prelude.{◌≤◌};
 
-use crate::ratios::{spent, told, zero};
 use data_dropped::{Arrival, DropBytes, Inbox};
+use seq_circle::Seq48;
 use std::alloc::Global;
-use std::io;
 use std::time::Instant;
+use std::{env, io};
 
 // How many numbers a report reaches.
 const REACH: u32 = 2048;
 
 const PAYLOAD: [u8; 64] = [0xaa; 64];
+
+fn zero() -> Seq48 {
+    let Some(zero) = Seq48::new(0) else {
+        unreachable!()
+    };
+    zero
+}
+
+// The nanoseconds since then.
+fn spent(rt: &HostRuntime, start: Instant) -> io::Result<u64> {
+    Ok(u64::try_from(start.elapsed(rt)?.as_nanos()).unwrap_or(u64::MAX))
+}
+
+// Prints a call and its size, the nanoseconds, the calls and the sum, so that none is left out.
+fn told(rt: &HostRuntime, call: (&str, u32), spent: u64, calls: u32, sum: u64) -> io::Result<()> {
+    eprintln!(rt; "{} {} {} {} {}", call.0, call.1, spent, calls, sum)
+}
 
 // An inbox for so many packets, to which as many came.
 fn filled(alloc: Global, capacity: u16) -> io::Result<Inbox>
@@ -87,11 +107,19 @@ fn turn(rt: &HostRuntime, capacity: u16, rounds: u32) -> io::Result<()>
     )
 }
 
-/// Prints the nanoseconds of so many reports of 512 drops and of 2,048, and of so many turns of an inbox for 1 packet and for
-/// 1,024.
-pub(crate) fn all(rt: &HostRuntime, rounds: u32) -> io::Result<()> {
-    report(rt, REACH / 4, rounds)?;
-    report(rt, REACH, rounds)?;
-    turn(rt, 1, rounds)?;
-    turn(rt, 1024, rounds)
+// The rounds that the last word names, or one.
+fn asked(rt: &HostRuntime) -> io::Result<u32> {
+    let mut rounds = 1;
+    for word in env::args(rt)?.skip(1) {
+        rounds = word.as_str().parse::<u32>().unwrap_or(1);
+    }
+    Ok(rounds)
+}
+
+fn main(rt: HostRuntime) -> io::Result<()> {
+    let rounds = asked(&rt)?;
+    report(&rt, REACH / 4, rounds)?;
+    report(&rt, REACH, rounds)?;
+    turn(&rt, 1, rounds)?;
+    turn(&rt, 1024, rounds)
 }
