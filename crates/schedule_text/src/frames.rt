@@ -4,11 +4,7 @@ ghost use Rattle.tool_words.specs.Left.{left_of};
 ghost use Rattle.schedule_text.specs.Frames as spec;
 
 use crate::{FrameLine, LineFault, LineWhy};
-use dccp_packets::Frame;
-use tool_words::{Digits, Hex, Row, Words, read_line};
-
-// A line has at most 4,096 bytes, two for each byte that it tells.
-const MOST_BYTES: usize = 2048;
+use tool_words::{Hex, Row, Words, read_line};
 
 // A packet that is too long for this has no frame.
 const MOST_OF_FRAME: usize = 2044;
@@ -29,20 +25,6 @@ fn size_cause(seal: bool, length: usize) -> Option<LineWhy>
     }
 }
 
-// The frame of these bytes, which are not too many.
-fn frame_of(digits: &Digits<'_>) -> Frame
-    requires { length digits.now ≤ 2044 }
-    ensures { result ≡ digits.now }
-{
-    let mut bytes = [0; MOST_BYTES];
-    let room = &mut bytes[..digits.len()];
-    digits.put(room);
-    match Frame::of(room) {
-        Some(frame) => frame,
-        None => unreachable!(),
-    }
-}
-
 // The digits of a frame, and nothing behind them.
 fn frame(seal: bool, words: &mut Words<'_>) -> Result<FrameLine, LineFault>
     ensures { result ≡ (spec.frame_row seal).said (left_of words.old) }
@@ -57,7 +39,7 @@ fn frame(seal: bool, words: &mut Words<'_>) -> Result<FrameLine, LineFault>
     }
     Ok(FrameLine {
         seal,
-        bytes: frame_of(&digits),
+        bytes: digits.frame(),
     })
 }
 

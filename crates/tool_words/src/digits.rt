@@ -4,6 +4,7 @@ ghost use Rattle.hex.specs.Hex.{is_hex_digit};
 ghost use Rattle.tool_words.specs.Digits.{digits_flaw, digit_value, bytes_of_digits, ArePairs};
 
 use crate::blocks::{Sought, first_far};
+use dccp_packets::{Frame, MOST_FRAME_BYTES};
 use std::marker::Model;
 
 fn is_hex_digit(byte: u8) -> bool
@@ -120,5 +121,19 @@ impl<'a> Digits<'a> {
         ensures { room.new ≡ self.now }
     {
         decode(self.text, room)
+    }
+
+    /// The frame of the bytes, where they are not too many for one (own).
+    pub fn frame(&self) -> Frame
+        requires { length self.now ≤ 2044 }
+        ensures { result ≡ self.now }
+    {
+        let mut bytes = [0; MOST_FRAME_BYTES];
+        let room = &mut bytes[..self.len()];
+        self.put(room);
+        match Frame::of(room) {
+            Some(frame) => frame,
+            None => unreachable!(),
+        }
     }
 }
