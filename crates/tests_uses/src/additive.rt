@@ -2,87 +2,160 @@
 use dccp_endpoint::{Congestion, Seq48};
 use dccp_options::{AckReport, options};
 use dccp_uses::AdditiveWindow;
-use std::test::Fail;
+use std::alloc::Global;
 
-fn take_report<C: Congestion>(kind: &mut C, ack: u64, byte: u8) -> Result<(u32, u32), Fail> {
-    let area = [38, 3, byte];
-    let ack = Seq48::new(ack).ok_or("below 2^48")?;
-    let Some(report) = AckReport::of(ack, options(&area, false)) else {
-        return Err(Fail::from("no vector"));
+#[derive(Clone, Copy)]
+enum Call {
+    Send(u64),
+    // A report at a number, of the runs of one byte.
+    Report(u64, u8),
+    Timeout,
+    Start,
+}
+
+fn sends(kind: &mut AdditiveWindow, number: u64) -> bool {
+    let Some(number) = Seq48::new(number) else {
+        return false;
     };
-    kind.on_report(&report, 2);
-    Ok((kind.window(), kind.in_flight()))
+    if !kind.may_send() {
+        return false;
+    }
+    kind.on_sent(number);
+    true
+}
+
+fn takes_report(kind: &mut AdditiveWindow, ack: u64, byte: u8) -> bool {
+    let area = [38, 3, byte];
+    let Some(ack) = Seq48::new(ack) else {
+        return false;
+    };
+    match AckReport::of(ack, options(&area, false)) {
+        Some(report) => {
+            kind.on_report(&report, 2);
+            true
+        }
+        None => false,
+    }
+}
+
+fn takes(kind: &mut AdditiveWindow, call: Call) -> bool {
+    match call {
+        Call::Send(number) => sends(kind, number),
+        Call::Report(ack, byte) => takes_report(kind, ack, byte),
+        Call::Timeout => {
+            kind.on_timeout();
+            true
+        }
+        Call::Start => {
+            kind.start(249);
+            true
+        }
+    }
+}
+
+// A call, and the window and what is in flight behind it.
+type Row = (Call, u32, u32);
+
+// The place of the first row behind which something else is so.
+fn first_other(kind: &mut AdditiveWindow, rows: &[Row]) -> Option<usize> {
+    for (place, (call, window, in_flight)) in rows.iter().enumerate() {
+        if !takes(kind, *call) || kind.window() != *window || kind.in_flight() != *in_flight {
+            return Some(place);
+        }
+    }
+    None
+}
+
+fn are_so(alloc: Global, rows: &[Row]) -> bool {
+    match AdditiveWindow::new(alloc) {
+        Ok(mut kind) => first_other(&mut kind, rows).is_none(),
+        Err(_) => false,
+    }
 }
 
 // 1 is received: the window is 2, and a report that says no more leaves it. Then 2 is marked: it is 1 again.
+const HALVED: [Row; 7] = [
+    (Call::Send(1), 1, 1),
+    (Call::Report(1, 0x00), 2, 0),
+    (Call::Report(1, 0x00), 2, 0),
+    (Call::Send(2), 2, 1),
+    (Call::Report(2, 0x40), 1, 0),
+    (Call::Timeout, 1, 0),
+    (Call::Start, 1, 0),
+];
+
+fn knows_its_number(alloc: Global) -> bool {
+    match AdditiveWindow::new(alloc) {
+        Ok(kind) => kind.knows(249) && !kind.knows(2),
+        Err(_) => false,
+    }
+}
+
 #[test]
-fn grows_and_is_halved(rt: HostRuntime) -> Result<(), Fail> {
-    let mut kind = AdditiveWindow::new(rt.alloc())?;
-    assert!(rt; kind.knows(249) && !kind.knows(2));
-    assert!(rt; kind.may_send());
-    kind.on_sent(Seq48::new(1).ok_or("below 2^48")?);
-    assert_eq!(rt; take_report(&mut kind, 1, 0x00)?, (2, 0));
-    assert_eq!(rt; take_report(&mut kind, 1, 0x00)?, (2, 0));
-    assert!(rt; kind.may_send());
-    kind.on_sent(Seq48::new(2).ok_or("below 2^48")?);
-    assert_eq!(rt; take_report(&mut kind, 2, 0x40)?, (1, 0));
-    kind.on_timeout();
-    assert_eq!(rt; (kind.window(), kind.in_flight()), (1, 0));
-    kind.start(249);
-    assert_eq!(rt; (kind.window(), kind.in_flight()), (1, 0));
-    Ok(())
+fn grows_and_is_halved(rt: HostRuntime) {
+    assert!(rt; knows_its_number(rt.alloc()) && are_so(rt.alloc(), &HALVED));
+}
+
+fn grows_with(kind: &mut AdditiveWindow, number: u64) -> bool {
+    sends(kind, number)
+        && takes_report(kind, number, 0x00)
+        && u64::from(kind.window()) == number.saturating_add(1).min(1024)
+        && kind.in_flight() == 0
+}
+
+fn grows_to_the_cap(kind: &mut AdditiveWindow) -> bool {
+    for number in 1..1026 {
+        if !grows_with(kind, number) {
+            return false;
+        }
+    }
+    true
+}
+
+fn grows(alloc: Global) -> bool {
+    match AdditiveWindow::new(alloc) {
+        Ok(mut kind) => grows_to_the_cap(&mut kind),
+        Err(_) => false,
+    }
 }
 
 // A packet for each report, up to 1,024.
 #[test]
-fn grows_up_to_the_cap(rt: HostRuntime) -> Result<(), Fail> {
-    let mut kind = AdditiveWindow::new(rt.alloc())?;
-    for number in 1..1026 {
-        assert!(rt; kind.may_send());
-        kind.on_sent(Seq48::new(u64::from(number)).ok_or("below 2^48")?);
-        let wanted = (number + 1).min(1024);
-        assert_eq!(rt;
-            take_report(&mut kind, u64::from(number), 0x00)?,
-            (wanted, 0)
-        );
-    }
-    Ok(())
-}
-
-// Sends a number where it may be sent, and hands over a report at it of one run.
-fn send_and_report(kind: &mut AdditiveWindow, number: u64, byte: u8) -> Result<(u32, u32), Fail> {
-    send(kind, number)?;
-    take_report(kind, number, byte)
-}
-
-fn send(kind: &mut AdditiveWindow, number: u64) -> Result<(), Fail> {
-    if !kind.may_send() {
-        return Err(Fail::from("the window is full"));
-    }
-    kind.on_sent(Seq48::new(number).ok_or("below 2^48")?);
-    Ok(())
+fn grows_up_to_the_cap(rt: HostRuntime) {
+    assert!(rt; grows(rt.alloc()));
 }
 
 // Two are received, and the window is 3. A marked one halves it, down to 1.
+const ROUNDED_DOWN: [Row; 6] = [
+    (Call::Send(1), 1, 1),
+    (Call::Report(1, 0x00), 2, 0),
+    (Call::Send(2), 2, 1),
+    (Call::Report(2, 0x00), 3, 0),
+    (Call::Send(3), 3, 1),
+    (Call::Report(3, 0x40), 1, 0),
+];
+
 #[test]
-fn halves_round_down(rt: HostRuntime) -> Result<(), Fail> {
-    let mut kind = AdditiveWindow::new(rt.alloc())?;
-    assert_eq!(rt; send_and_report(&mut kind, 1, 0x00)?, (2, 0));
-    assert_eq!(rt; send_and_report(&mut kind, 2, 0x00)?, (3, 0));
-    assert_eq!(rt; send_and_report(&mut kind, 3, 0x40)?, (1, 0));
-    Ok(())
+fn halves_round_down(rt: HostRuntime) {
+    assert!(rt; are_so(rt.alloc(), &ROUNDED_DOWN));
 }
 
 // Behind three reports the window is 4. Of 4 to 7 the later three are received: 4 is lost, and halves it.
+const LOST: [Row; 11] = [
+    (Call::Send(1), 1, 1),
+    (Call::Report(1, 0x00), 2, 0),
+    (Call::Send(2), 2, 1),
+    (Call::Report(2, 0x00), 3, 0),
+    (Call::Send(3), 3, 1),
+    (Call::Report(3, 0x00), 4, 0),
+    (Call::Send(4), 4, 1),
+    (Call::Send(5), 4, 2),
+    (Call::Send(6), 4, 3),
+    (Call::Send(7), 4, 4),
+    (Call::Report(7, 0x02), 2, 0),
+];
+
 #[test]
-fn a_loss_halves(rt: HostRuntime) -> Result<(), Fail> {
-    let mut kind = AdditiveWindow::new(rt.alloc())?;
-    assert_eq!(rt; send_and_report(&mut kind, 1, 0x00)?, (2, 0));
-    assert_eq!(rt; send_and_report(&mut kind, 2, 0x00)?, (3, 0));
-    assert_eq!(rt; send_and_report(&mut kind, 3, 0x00)?, (4, 0));
-    for number in 4..7 {
-        send(&mut kind, number)?;
-    }
-    assert_eq!(rt; send_and_report(&mut kind, 7, 0x02)?, (2, 0));
-    Ok(())
+fn a_loss_halves(rt: HostRuntime) {
+    assert!(rt; are_so(rt.alloc(), &LOST));
 }
