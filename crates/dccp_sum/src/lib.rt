@@ -7,8 +7,6 @@
 mod laws;
 mod packet_sum;
 mod pseudo_header;
-#[cfg(test)]
-mod tests;
 mod words;
 
 pub use crate::laws::{equal_checksums_are_congruent, ones_complement_sum_is_congruent};
