@@ -1,4 +1,4 @@
-use Rattle.std.proofs.Common.{List, ℕ, Option, subst, sym}
+use Rattle.std.proofs.Common.{subst, sym}
 use Rattle.dccp_endpoint.proofs.Arriving.{arrived_step}
 use Rattle.dccp_endpoint.specs.End.{new_end}
 use Rattle.dccp_endpoint.specs.Incoming.{parts_of_packet}
