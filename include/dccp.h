@@ -10,7 +10,7 @@
  * Time is `now`, a number of milliseconds from any beginning, the same for all calls of an end; it does not go back.
  *
  * After every call: if frame.length is not 0, its bytes go to the peer, whatever the call answered. A call that was
- * refused has changed nothing and leaves no bytes.
+ * refused has changed nothing and leaves no bytes, but for dccp_make and dccp_accept, as told there.
  *
  * The caller keeps to this, which nothing checks:
  *   - A handle is passed to one call at a time. It may go to another thread, if the two are ordered by a lock or a join.
