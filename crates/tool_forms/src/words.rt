@@ -21,13 +21,18 @@ pub enum Form {
     Run,
     /// `replay` hands frames to the usual end of this side, with or without its offers.
     Replay {
+        /// Whose end it is.
         side: Side,
+        /// Whether it offers nothing (`--plain`).
         plain: bool,
     },
     /// `replay` with `--buffer` hands them to one with a receive buffer for this many packets: 1 to 1,024.
     Buffered {
+        /// Whose end it is.
         side: Side,
+        /// Whether it offers nothing (`--plain`).
         plain: bool,
+        /// How many packets the buffer holds.
         capacity: u16,
     },
     /// `campaign` runs seeds and counts.
@@ -36,6 +41,7 @@ pub enum Form {
     Show,
     /// `listen` hands what many peers send to one listener, of at most this many flows: 1 to 1,024.
     Listen {
+        /// The most flows.
         most: u16,
     },
     /// `ecn` lets events take place between an ECN-capable sender and an ECN-capable receiver.

@@ -4,7 +4,6 @@ ghost use Rattle.ccid_two.specs.Kinds.{kinds_control};
 ghost use Rattle.dccp_endpoint.specs.Controlled.{with_control};
 ghost use Rattle.dccp_endpoint.specs.Receiving.{receives};
 ghost use Rattle.dccp_endpoint.specs.Usual.{usual};
-ghost use Rattle.dccp_sum.specs.Checksum.{sealed};
 ghost use Rattle.schedule_text.specs.Results.{HasItsData};
 ghost use Rattle.tool_replay.specs.EndLines.{end_line};
 ghost use Rattle.tool_lines.specs.Jobs.{Judges};
@@ -12,9 +11,9 @@ ghost use Rattle.tool_replay.specs.Replay.{role_of, replay_config, first_replay,
 
 use crate::end_lines::{put_end_line, put_frame_line};
 use ccid_two::Kinds;
-use dccp_endpoint::{Config, Endpoint, OpenFault, Outcome, Role};
+use dccp_endpoint::{Config, Endpoint, OpenFault, Outcome, Role, seal_frame};
 use dccp_packets::{Frame, Outbox};
-use dccp_sum::{Pseudo, seal};
+use dccp_sum::Pseudo;
 use schedule_text::{FrameLine, print_result, read_frame};
 use seq_circle::NoMemory;
 use std::alloc::Global;
@@ -187,14 +186,6 @@ pub fn arriving(addresses: &Pseudo, said: FrameLine) -> Frame
         seal_frame(addresses, &mut frame);
     }
     frame
-}
-
-fn seal_frame(pseudo: &Pseudo, frame: &mut Frame)
-    requires { 8 ≤ length frame.old }
-    ensures { frame.new ≡ sealed pseudo.now frame.old }
-{
-    let bytes = frame.bytes_mut();
-    let _ = seal(pseudo, bytes);
 }
 
 // The step of the end alone. Data that it delivers stand within the bytes.
