@@ -2,7 +2,7 @@
  *
  *     echo PORT
  *
- * The client of talk.c may speak to it. It runs until it is stopped. */
+ * The client of talk.c may speak to it. One that is silent for eight minutes is given up. It runs until it is stopped. */
 #include <arpa/inet.h>
 #include <poll.h>
 #include <stdio.h>
@@ -16,8 +16,12 @@
 
 enum { MOST_PEERS = 64, SERVICE = 42, ANSWERS_A_SECOND = 20 };
 
+/* How many milliseconds a silent peer is waited for: eight minutes, the least for a handshake (RFC 4340, section 8.1.3). */
+enum { SILENCE = 480000 };
+
 struct peer {
     bool has_end;
+    uint64_t heard; /* when something came last */
     struct sockaddr_in address;
     dccp_end end;
 };
@@ -38,6 +42,13 @@ static uint64_t now(void) {
     struct timespec t;
     clock_gettime(CLOCK_MONOTONIC, &t);
     return (uint64_t)t.tv_sec * 1000 + (uint64_t)t.tv_nsec / 1000000;
+}
+
+/* A number that nobody can guess, for the first packet (RFC 4340, section 7.2). */
+static uint64_t first_number(void) {
+    uint64_t number;
+    if (getrandom(&number, sizeof number, 0) != sizeof number) fail("no random number");
+    return number >> 16;
 }
 
 /* The frame of a call goes to the peer. One that the socket does not take is lost. */
@@ -71,12 +82,12 @@ static struct peer *place_of(struct server *server, const struct sockaddr_in *ad
 static void accept_peer(struct server *server, struct peer *peer, const struct sockaddr_in *from, const uint8_t *bytes, size_t length,
                         dccp_frame *frame, dccp_told *told) {
     dccp_settings settings = {.own_address = {127, 0, 0, 1},
+                              .first_number = first_number(),
                               .service = SERVICE,
                               .own_port = (uint16_t)server->port,
                               .peer_port = ntohs(from->sin_port)};
     dccp_wish none = {.count = 0};
     memcpy(settings.peer_address, &from->sin_addr, 4);
-    if (getrandom(&settings.first_number, 6, 0) != 6) fail("no random number");
     peer->address = *from;
     peer->has_end = dccp_accept(&peer->end, &settings, &none, 0, bytes, length, now(), frame, told) == DCCP_OK;
 }
@@ -92,6 +103,7 @@ static void hear(struct server *server) {
     if (length < 0) return;
     struct peer *peer = place_of(server, &from);
     if (peer == NULL) return;
+    peer->heard = now();
     if (peer->has_end)
         dccp_receive(&peer->end, bytes, (size_t)length, now(), &frame, &told);
     else
@@ -101,17 +113,26 @@ static void hear(struct server *server) {
     if (dccp_send(&peer->end, bytes + told.first, told.past - told.first, now(), &frame) == DCCP_OK) hand_over(server, &from, &frame);
 }
 
-/* Tells each timer that has run out, lets ends go that are closed, and answers how long the server may sleep. */
+/* Tells a peer's end each timer that has run out, gives the peer up if it is silent for too long, and lets an end go that is closed. */
+static void tick_peer(struct server *server, struct peer *peer) {
+    dccp_frame frame;
+    dccp_view view;
+    while (dccp_tick(&peer->end, now(), &frame) == DCCP_OK) hand_over(server, &peer->address, &frame);
+    /* Else Requests from forged addresses would take all places for good. */
+    bool is_silent = SILENCE < now() - peer->heard;
+    if (is_silent && dccp_abort(&peer->end, now(), &frame) == DCCP_OK) hand_over(server, &peer->address, &frame);
+    if (dccp_look(&peer->end, &view) == DCCP_OK && view.phase == DCCP_CLOSED) {
+        dccp_free(&peer->end);
+        peer->has_end = false;
+    }
+}
+
+/* Does what the time has come for, at all peers, and answers how long the server may sleep. */
 static int tick(struct server *server) {
     uint64_t least = 1000;
     for (struct peer *it = server->peers; it != server->peers + MOST_PEERS; it++) {
-        dccp_frame frame;
-        dccp_view view;
-        while (dccp_tick(&it->end, now(), &frame) == DCCP_OK) hand_over(server, &it->address, &frame);
-        if (it->has_end && dccp_look(&it->end, &view) == DCCP_OK && view.phase == DCCP_CLOSED) {
-            dccp_free(&it->end);
-            it->has_end = false;
-        }
+        if (!it->has_end) continue;
+        tick_peer(server, it);
         uint64_t left = dccp_until_first(&it->end, now());
         if (left < least) least = left;
     }

@@ -14,16 +14,18 @@ struct room {
 
 static unsigned refused, held;
 
+/* Whether this allocation is the one that fails. */
+static bool is_refused(void) { return refused && --refused == 0; }
+
 struct room rattle_alloc(size_t size, size_t align) {
-    void *at = refused != 1 ? malloc(size ? size : align) : NULL;
-    if (refused) refused--;
+    void *at = is_refused() ? NULL : malloc(size ? size : align);
     if (at) held++;
     return (struct room){at != NULL, at ? at : &held};
 }
 
 struct room rattle_realloc(void *old, size_t old_size, size_t size, size_t align) {
     (void)old_size;
-    void *at = realloc(old, size ? size : align);
+    void *at = is_refused() ? NULL : realloc(old, size ? size : align);
     return (struct room){at != NULL, at ? at : old};
 }
 
@@ -249,48 +251,63 @@ static void memory(uint32_t (*making)(dccp_end *, const dccp_frame *)) {
     same("blocks behind free", 0, held);
 }
 
+/* Timers, and what is refused in OPEN. */
+static void calls_in_open(dccp_end *one, dccp_end *other) {
+    dccp_frame frame;
+    dccp_told told;
+    static uint8_t bytes[DCCP_MOST_FRAME_BYTES + 1];
+    uint64_t twice[2] = {2, 2};
+    same("the timer Ack", DCCP_OK, dccp_timer(other, DCCP_TIMER_ACK, 0, &frame));
+    same("its Ack", 3, (frame.bytes[8] >> 1) & 15);
+    exchange(one, other, &frame);
+    same("the timer Close", DCCP_NOTHING_DUE, dccp_timer(one, DCCP_TIMER_CLOSE, 0, &frame));
+    same("its frame", 0, frame.length);
+    same("timer 6", DCCP_UNKNOWN, dccp_timer(one, 6, 0, &frame));
+    same("1,025 bytes", DCCP_TOO_LONG, dccp_send(one, bytes, DCCP_MOST_DATA_BYTES + 1, 0, &frame));
+    same("2,044 bytes", DCCP_OK, dccp_receive(one, bytes, DCCP_MOST_FRAME_BYTES, 0, &frame, &told));
+    same("what became of them", DCCP_DROPPED, told.kind);
+    same("2,045 bytes", DCCP_TOO_LONG, dccp_receive(one, bytes, DCCP_MOST_FRAME_BYTES + 1, 0, &frame, &told));
+    same("2 twice", DCCP_BAD_LIST, dccp_prefer(one, DCCP_CCID, false, twice, 2, 0, &frame));
+    same("the peer's ratio", DCCP_NOT_OURS, dccp_prefer(one, DCCP_ACK_RATIO, true, twice, 1, 0, &frame));
+}
+
+/* Packets of 0 to 3 bytes, which fill the window. The last arrives. */
+static void data_in_open(dccp_end *one, dccp_end *other) {
+    const uint8_t *bytes = (const uint8_t *)"abc";
+    dccp_frame frame, answer;
+    dccp_told told;
+    same("the window", 4, look(one).window);
+    for (unsigned length = 0; length < 4; length++) same("a packet", DCCP_OK, dccp_send(one, bytes, length, 0, &frame));
+    same("its arrival", DCCP_OK, dccp_receive(other, frame.bytes, frame.length, 0, &answer, &told));
+    same("its data", DCCP_DATA, told.kind);
+    same("how many they are", 3, told.past - told.first);
+    same("the data themselves", 0, memcmp(frame.bytes + told.first, bytes, 3) != 0);
+    same("a full window", DCCP_WINDOW_FULL, dccp_send(one, bytes, 1, 0, &frame));
+    same("what is in flight", 4, look(one).in_flight);
+}
+
 static void a_connection(void) {
     dccp_end one = DCCP_NONE, other = DCCP_NONE;
     dccp_settings settings = server();
     dccp_wish none = {.count = 0};
     dccp_frame frame;
     dccp_told told;
-    static uint8_t bytes[DCCP_MOST_FRAME_BYTES + 1];
-    uint64_t twice[2] = {2, 2};
+    uint8_t byte = 0;
     same("a client", DCCP_OK, dccp_make(&one, &client, &none, 0));
     same("a server", DCCP_OK, dccp_make(&other, &settings, &none, 0));
     same("its phase", DCCP_LISTEN, look(&other).phase);
     same("a server's open", DCCP_NOT_FRESH, dccp_open(&other, 0, &frame));
     same("abort in CLOSED", DCCP_NOT_LIVE, dccp_abort(&one, 0, &frame));
     same("close in CLOSED", DCCP_NOT_OPEN, dccp_close(&one, 0, &frame));
-    same("send in CLOSED", DCCP_NOT_OPEN, dccp_send(&one, bytes, 1, 0, &frame));
+    same("send in CLOSED", DCCP_NOT_OPEN, dccp_send(&one, &byte, 1, 0, &frame));
     same("open", DCCP_OK, dccp_open(&one, 0, &frame));
     same("its Request", 0, (frame.bytes[8] >> 1) & 15);
     exchange(&other, &one, &frame);
     same("open twice", DCCP_NOT_FRESH, dccp_open(&one, 0, &frame));
     same("the client's phase", DCCP_OPEN, look(&one).phase);
     same("the server's phase", DCCP_OPEN, look(&other).phase);
-    same("the timer Ack", DCCP_OK, dccp_timer(&other, DCCP_TIMER_ACK, 0, &frame));
-    same("its Ack", 3, (frame.bytes[8] >> 1) & 15);
-    exchange(&one, &other, &frame);
-    same("the timer Close", DCCP_NOTHING_DUE, dccp_timer(&one, DCCP_TIMER_CLOSE, 0, &frame));
-    same("its frame", 0, frame.length);
-    same("timer 6", DCCP_UNKNOWN, dccp_timer(&one, 6, 0, &frame));
-    same("1,025 bytes", DCCP_TOO_LONG, dccp_send(&one, bytes, DCCP_MOST_DATA_BYTES + 1, 0, &frame));
-    same("2,044 bytes", DCCP_OK, dccp_receive(&one, bytes, DCCP_MOST_FRAME_BYTES, 0, &frame, &told));
-    same("what became of them", DCCP_DROPPED, told.kind);
-    same("2,045 bytes", DCCP_TOO_LONG, dccp_receive(&one, bytes, DCCP_MOST_FRAME_BYTES + 1, 0, &frame, &told));
-    same("2 twice", DCCP_BAD_LIST, dccp_prefer(&one, DCCP_CCID, false, twice, 2, 0, &frame));
-    same("the peer's ratio", DCCP_NOT_OURS, dccp_prefer(&one, DCCP_ACK_RATIO, true, twice, 1, 0, &frame));
-    same("the window", 4, look(&one).window);
-    for (unsigned at = 0; at < 4; at++) same("a packet", DCCP_OK, dccp_send(&one, (const uint8_t *)"abc", at, 0, &frame));
-    dccp_frame given = frame;
-    same("its arrival", DCCP_OK, dccp_receive(&other, given.bytes, given.length, 0, &frame, &told));
-    same("its data", DCCP_DATA, told.kind);
-    same("how many they are", 3, told.past - told.first);
-    same("the data themselves", 0, memcmp(given.bytes + told.first, "abc", 3) != 0);
-    same("a full window", DCCP_WINDOW_FULL, dccp_send(&one, bytes, 1, 0, &frame));
-    same("what is in flight", 4, look(&one).in_flight);
+    calls_in_open(&one, &other);
+    data_in_open(&one, &other);
     same("abort", DCCP_OK, dccp_abort(&one, 0, &frame));
     same("its Reset arrives", DCCP_OK, dccp_receive(&other, frame.bytes, frame.length, 0, &frame, &told));
     same("the news of it", DCCP_WAS_RESET, told.kind);

@@ -175,7 +175,7 @@ static void serve(struct talk *talk, unsigned port) {
             take(talk, &told, &frame);
             return;
         }
-        if (status == DCCP_NO_CONNECTION && may_answer(talk))
+        if (status == DCCP_NO_CONNECTION && frame.length != 0 && may_answer(talk))
             sendto(talk->socket, frame.bytes, frame.length, 0, (struct sockaddr *)&peer, size);
     }
 }

@@ -2,7 +2,7 @@
  *
  * A line each says how many packets of 1,024 bytes came of 10,240, in how many seconds, how many packets and megabytes a second that is, and
  * the most memory that the receiver had; a third line how many times as long and as much the connection took. What is lost stays lost. The
- * plain datagrams are as many in flight as a connection may have, and each is answered. */
+ * plain datagrams are as many in flight as a connection may have, and each is answered. Neither goes on for over a minute. */
 #include <arpa/inet.h>
 #include <poll.h>
 #include <stdio.h>
@@ -16,7 +16,7 @@
 
 #include "dccp.h"
 
-enum { PACKETS = 10240, BYTES = 1024, MOST_IN_FLIGHT = 64, SERVICE = 42, WIDTH = 10000, PATIENCE = 200 };
+enum { PACKETS = 10240, BYTES = 1024, MOST_IN_FLIGHT = 64, SERVICE = 42, WIDTH = 10000, PATIENCE = 200, MOST_SECONDS = 60 };
 
 struct pair {
     int sender, receiver;
@@ -78,14 +78,20 @@ static void hand_over(int at, const dccp_frame *frame) {
     if (frame->length != 0) (void)!send(at, frame->bytes, frame->length, 0);
 }
 
+/* A number that nobody can guess, for the first packet (RFC 4340, section 7.2). */
+static uint64_t first_number(void) {
+    uint64_t number;
+    if (getrandom(&number, sizeof number, 0) != sizeof number) fail("no random number");
+    return number >> 16;
+}
+
 static dccp_settings settings_of(unsigned own_port, unsigned peer_port) {
-    dccp_settings settings = {.own_address = {127, 0, 0, 1},
-                              .peer_address = {127, 0, 0, 1},
-                              .service = SERVICE,
-                              .own_port = (uint16_t)own_port,
-                              .peer_port = (uint16_t)peer_port};
-    if (getrandom(&settings.first_number, 6, 0) != 6) fail("no random number");
-    return settings;
+    return (dccp_settings){.own_address = {127, 0, 0, 1},
+                           .peer_address = {127, 0, 0, 1},
+                           .first_number = first_number(),
+                           .service = SERVICE,
+                           .own_port = (uint16_t)own_port,
+                           .peer_port = (uint16_t)peer_port};
 }
 
 /* Hears a datagram or the next timer, and counts whole packets of data. False once the connection has ended. */
@@ -133,10 +139,11 @@ static double send_all(struct pair pair) {
             if (sent++ == 0) begun = seconds();
             hand_over(pair.sender, &frame);
         }
-        step(&end, pair.sender, &none);
+        if (!step(&end, pair.sender, &none)) fail("the connection has ended");
     }
     double took = seconds() - begun;
-    if (dccp_close(&end, now(), &frame) == DCCP_OK) hand_over(pair.sender, &frame);
+    if (dccp_close(&end, now(), &frame) != DCCP_OK) fail("close");
+    hand_over(pair.sender, &frame);
     while (step(&end, pair.sender, &none)) {
     }
     dccp_free(&end);
@@ -166,11 +173,12 @@ static double send_plainly(struct pair pair) {
 
 static struct found transfer(const char *name, double (*sends)(struct pair), unsigned (*takes)(struct pair)) {
     struct pair pair = sockets();
-    struct found found;
+    struct found found = {.got = 0};
     int told[2];
     if (pipe(told) != 0) fail("pipe");
     pid_t receiver = fork();
     if (receiver < 0) fail("fork");
+    alarm(MOST_SECONDS); /* ends either process, whatever it waits for */
     if (receiver == 0) {
         struct rusage used;
         found.got = takes(pair);
@@ -178,9 +186,13 @@ static struct found transfer(const char *name, double (*sends)(struct pair), uns
         found.kilobytes = used.ru_maxrss;
         _exit(write(told[1], &found, sizeof found) != sizeof found);
     }
+    close(told[1]); /* so that nothing is waited for once the receiver has ended */
     double took = sends(pair);
     if (read(told[0], &found, sizeof found) != sizeof found) fail("the receiver says nothing");
     waitpid(receiver, NULL, 0);
+    close(told[0]);
+    close(pair.sender);
+    close(pair.receiver);
     found.seconds = took;
     double rate = found.got / took;
     printf("%s %u of %d packets in %.3f s, %.0f packets and %.0f MB a second, %ld KB\n", name, found.got, PACKETS, took, rate,

@@ -9,8 +9,9 @@
  *
  * Time is `now`, a number of milliseconds from any beginning, the same for all calls of an end; it does not go back.
  *
- * After every call: if frame.length is not 0, its bytes go to the peer, whatever the call answered. A call that was
- * refused has changed nothing and leaves no bytes, but for dccp_make and dccp_accept, as told there.
+ * After every call: if frame.length is not 0, its bytes go to the peer, whatever the call answered. A call that was refused has changed
+ * nothing and leaves no bytes. But where dccp_make or dccp_accept made no end the handle holds none any more, and dccp_accept may leave
+ * an answer to the datagram.
  *
  * The caller keeps to this, which nothing checks:
  *   - A handle is passed to one call at a time. It may go to another thread, if the two are ordered by a lock or a join.

@@ -2,7 +2,8 @@
 //!
 //!     cargo run --example echo -- PORT
 //!
-//! The client of `talk`, in Rust or in C, may speak to it. It runs until it is stopped.
+//! The client of `talk`, in Rust or in C, may speak to it. One that is silent for eight minutes is given up. It runs until it is
+//! stopped.
 
 use dccp::{Config, Endpoint, Event, MOST_FRAME_BYTES};
 use std::collections::{BTreeMap, VecDeque};
@@ -17,6 +18,8 @@ const SERVICE: u32 = 42;
 const MOST_PEERS: usize = 1_000;
 /// What is kept for a peer while its window is full; what is more is dropped.
 const MOST_WAITING: usize = 64;
+/// How long a silent peer is waited for: eight minutes, the least for a handshake (RFC 4340, section 8.1.3).
+const SILENCE: Duration = Duration::from_secs(480);
 const ANSWERS_A_SECOND: u32 = 20;
 
 /// A number that nobody can guess, for the first packet (RFC 4340, section 7.2).
@@ -44,28 +47,81 @@ fn receive(
     }
 }
 
-/// What waits for room in the window of each peer.
-type Waiting = BTreeMap<SocketAddr, VecDeque<Vec<u8>>>;
+/// The Syncs and Resets of this second, which anybody may call forth (RFC 4340, sections 7.5.4 and 8.3.1).
+struct Answers {
+    second: Instant,
+    count: u32,
+}
 
-/// Keeps what has come, and sends what may be sent.
-fn send_back(server: &mut Endpoint, waiting: &mut Waiting, now: Instant) {
-    while let Some((peer, event)) = server.poll_event() {
+impl Answers {
+    fn may_answer(&mut self) -> bool {
+        if Duration::from_secs(1) < self.second.elapsed() {
+            (self.second, self.count) = (Instant::now(), 0);
+        }
+        self.count += 1;
+        self.count <= ANSWERS_A_SECOND
+    }
+}
+
+/// What is kept of a peer whose connection has not ended.
+struct Peer {
+    /// When something came last.
+    heard: Instant,
+    /// The data that wait for room in its window.
+    waiting: VecDeque<Vec<u8>>,
+}
+
+type Peers = BTreeMap<SocketAddr, Peer>;
+
+/// Takes what the server tells: who is new, what data came, and who has gone.
+fn take_news(server: &mut Endpoint, peers: &mut Peers, now: Instant) {
+    while let Some(address) = server.poll_accept() {
+        let (heard, waiting) = (now, VecDeque::new());
+        peers.insert(address, Peer { heard, waiting });
+    }
+    while let Some((address, event)) = server.poll_event() {
         match event {
             Event::Data(data) => {
-                let kept = waiting.entry(peer).or_default();
-                if kept.len() < MOST_WAITING {
-                    kept.push_back(data);
+                if let Some(peer) = peers.get_mut(&address)
+                    && peer.waiting.len() < MOST_WAITING
+                {
+                    peer.waiting.push_back(data);
                 }
             }
-            Event::Ended { .. } => drop(waiting.remove(&peer)),
+            Event::Ended { .. } => drop(peers.remove(&address)),
         }
     }
-    for (peer, kept) in waiting.iter_mut() {
-        while let Some(data) = kept.front() {
-            match server.call(*peer, |it| it.send(data, now)) {
-                Some(Ok(())) => drop(kept.pop_front()),
+}
+
+/// Sends back what the window of each peer has room for.
+fn send_back(server: &mut Endpoint, peers: &mut Peers, now: Instant) {
+    for (address, peer) in peers {
+        while let Some(data) = peer.waiting.front() {
+            match server.call(*address, |it| it.send(data, now)) {
+                Some(Ok(())) => drop(peer.waiting.pop_front()),
                 _ => break,
             }
+        }
+    }
+}
+
+/// Gives up the peers that are silent for too long: else Requests from forged addresses would take all places for good.
+fn give_up(server: &mut Endpoint, peers: &mut Peers, now: Instant) {
+    peers.retain(|address, peer| {
+        let is_silent = SILENCE < now.saturating_duration_since(peer.heard);
+        if is_silent {
+            // Where it is refused, the connection has gone by itself.
+            let _ = server.call(*address, |it| it.abort(now));
+        }
+        !is_silent
+    });
+}
+
+/// Sends each frame to its peer. One that the socket does not take is lost.
+fn hand_over(server: &mut Endpoint, socket: &UdpSocket, answers: &mut Answers) {
+    while let Some((address, frame)) = server.poll_transmit() {
+        if !frame.is_answer || answers.may_answer() {
+            let _ = socket.send_to(&frame.bytes, address);
         }
     }
 }
@@ -78,28 +134,29 @@ fn main() -> Result<(), Box<dyn Error>> {
     let mut server = Endpoint::new(MOST_PEERS, move |peer| {
         Config::server(own, peer, SERVICE, first_number(&mut random))
     });
-    let (mut room, mut waiting) = ([0; MOST_FRAME_BYTES + 1], Waiting::new());
-    let (mut second, mut answers) = (Instant::now(), 0);
+    let (mut room, mut peers) = ([0; MOST_FRAME_BYTES + 1], Peers::new());
+    let mut answers = Answers {
+        second: Instant::now(),
+        count: 0,
+    };
     loop {
         let soon = Instant::now() + Duration::from_secs(1);
         let due = server.poll_timeout().map_or(soon, |it| it.min(soon));
         let wait = due.saturating_duration_since(Instant::now());
-        if let Some((length, peer)) = receive(&socket, &mut room, wait)?
-            && let Err(fault) = server.handle_datagram(peer, &room[..length], Instant::now())
-        {
-            eprintln!("echo: {peer}: {fault}");
-        }
-        server.handle_timeout(Instant::now());
-        send_back(&mut server, &mut waiting, Instant::now());
-        if Duration::from_secs(1) < second.elapsed() {
-            (second, answers) = (Instant::now(), 0);
-        }
-        while let Some((peer, frame)) = server.poll_transmit() {
-            answers += u32::from(frame.is_answer);
-            if !frame.is_answer || answers <= ANSWERS_A_SECOND {
-                // One that the socket does not take is lost.
-                let _ = socket.send_to(&frame.bytes, peer);
+        let found = receive(&socket, &mut room, wait)?;
+        let now = Instant::now();
+        if let Some((length, address)) = found {
+            if let Err(fault) = server.handle_datagram(address, &room[..length], now) {
+                eprintln!("echo: {address}: {fault}");
+            }
+            if let Some(peer) = peers.get_mut(&address) {
+                peer.heard = now;
             }
         }
+        server.handle_timeout(now);
+        take_news(&mut server, &mut peers, now);
+        send_back(&mut server, &mut peers, now);
+        give_up(&mut server, &mut peers, now);
+        hand_over(&mut server, &socket, &mut answers);
     }
 }

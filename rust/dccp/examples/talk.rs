@@ -103,19 +103,22 @@ impl Wire {
 /// Waits for a client whose first datagram is a Request.
 fn serve(port: u16) -> Result<(Connection, Wire), Box<dyn Error>> {
     let own = SocketAddr::from(([127, 0, 0, 1], port));
-    let socket = UdpSocket::bind(own)?;
+    let mut wire = Wire::new(UdpSocket::bind(own)?);
     let mut room = [0; MOST_FRAME_BYTES + 1];
     loop {
-        let (length, peer) = socket.recv_from(&mut room)?;
+        let (length, peer) = wire.socket.recv_from(&mut room)?;
         let config = Config::server(own, peer, SERVICE, first_number()?);
         let config = config.offer(Feature::SequenceWindow, Place::Here, &[WIDTH]);
         match Connection::accept(&config, &room[..length], Instant::now())? {
             Accepted::Connection(connection) => {
-                socket.connect(peer)?;
-                return Ok((*connection, Wire::new(socket)));
+                wire.socket.connect(peer)?;
+                return Ok((*connection, wire));
             }
-            Accepted::Answer(answer) => drop(socket.send_to(&answer.bytes, peer)),
-            Accepted::Nothing => {}
+            Accepted::Answer(answer) if wire.may_answer() => {
+                // One that the socket does not take is lost.
+                let _ = wire.socket.send_to(&answer.bytes, peer);
+            }
+            Accepted::Answer(_) | Accepted::Nothing => {}
         }
     }
 }

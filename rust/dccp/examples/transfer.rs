@@ -7,7 +7,8 @@
 
 use dccp::{Accepted, Config, Connection, Event, Feature, MOST_FRAME_BYTES, Phase, Place};
 use std::error::Error;
-use std::io::{self, ErrorKind};
+use std::fs::File;
+use std::io::{self, ErrorKind, Read};
 use std::net::UdpSocket;
 use std::thread;
 use std::time::{Duration, Instant};
@@ -17,8 +18,16 @@ const BYTES: usize = 1_024;
 const MOST_IN_FLIGHT: u32 = 64;
 const SERVICE: u32 = 42;
 const PATIENCE: Duration = Duration::from_millis(200);
+const MOST_TIME: Duration = Duration::from_secs(60);
 
 type Answer<T> = Result<T, Box<dyn Error + Send + Sync>>;
+
+/// A number that nobody can guess, for the first packet (RFC 4340, section 7.2).
+fn first_number() -> io::Result<u64> {
+    let mut bytes = [0; 8];
+    File::open("/dev/urandom")?.read_exact(&mut bytes)?;
+    Ok(u64::from_ne_bytes(bytes) >> 16)
+}
 
 /// The next datagram, if one comes in this time.
 fn receive(socket: &UdpSocket, room: &mut [u8], wait: Duration) -> io::Result<Option<usize>> {
@@ -39,8 +48,16 @@ fn send_all(connection: &mut Connection, socket: &UdpSocket) {
     }
 }
 
-/// Hears one datagram or the next timer.
-fn step(connection: &mut Connection, socket: &UdpSocket, room: &mut [u8]) -> io::Result<()> {
+/// Hears one datagram or the next timer, until this time at the latest.
+fn step(
+    connection: &mut Connection,
+    socket: &UdpSocket,
+    room: &mut [u8],
+    last: Instant,
+) -> io::Result<()> {
+    if last < Instant::now() {
+        return Err(ErrorKind::TimedOut.into());
+    }
     send_all(connection, socket);
     let due = connection.poll_timeout();
     let wait = due.map_or(PATIENCE, |it| it.saturating_duration_since(Instant::now()));
@@ -53,11 +70,11 @@ fn step(connection: &mut Connection, socket: &UdpSocket, room: &mut [u8]) -> io:
 }
 
 /// Takes one connection, and answers how many packets of data came.
-fn serve(socket: UdpSocket) -> Answer<u32> {
+fn serve(socket: UdpSocket, last: Instant) -> Answer<u32> {
     let mut room = [0; MOST_FRAME_BYTES + 1];
     let (length, peer) = socket.recv_from(&mut room)?;
     socket.connect(peer)?;
-    let config = Config::server(socket.local_addr()?, peer, SERVICE, 2_000);
+    let config = Config::server(socket.local_addr()?, peer, SERVICE, first_number()?);
     let Accepted::Connection(mut connection) =
         Connection::accept(&config, &room[..length], Instant::now())?
     else {
@@ -71,7 +88,7 @@ fn serve(socket: UdpSocket) -> Answer<u32> {
                 Event::Ended { .. } => return Ok(got),
             }
         }
-        step(&mut connection, &socket, &mut room)?;
+        step(&mut connection, &socket, &mut room, last)?;
     }
 }
 
@@ -80,11 +97,13 @@ fn by_connection() -> Answer<(u32, Duration)> {
         UdpSocket::bind("127.0.0.1:0")?,
         UdpSocket::bind("127.0.0.1:0")?,
     );
-    here.connect(there.local_addr()?)?;
-    let config = Config::client(here.local_addr()?, there.local_addr()?, SERVICE, 1_000);
+    let (own, peer) = (here.local_addr()?, there.local_addr()?);
+    here.connect(peer)?;
+    let config = Config::client(own, peer, SERVICE, first_number()?);
     let mut connection =
         Connection::new(&config.offer(Feature::SequenceWindow, Place::Here, &[10_000]))?;
-    let server = thread::spawn(|| serve(there));
+    let last = Instant::now() + MOST_TIME;
+    let server = thread::spawn(move || serve(there, last));
     connection.open(Instant::now())?;
     let (mut room, mut sent, mut begun) = ([0; MOST_FRAME_BYTES + 1], 0, None);
     while sent < PACKETS || connection.in_flight() != 0 {
@@ -92,12 +111,15 @@ fn by_connection() -> Answer<(u32, Duration)> {
             begun.get_or_insert_with(Instant::now);
             sent += 1;
         }
-        step(&mut connection, &here, &mut room)?;
+        step(&mut connection, &here, &mut room, last)?;
+        if let Some(Event::Ended { code }) = connection.poll_event() {
+            return Err(format!("the connection has ended with code {code}").into());
+        }
     }
     let took = begun.map_or(Duration::ZERO, |it| it.elapsed());
     connection.close(Instant::now())?;
     while connection.phase() != Phase::TimeWait && connection.phase() != Phase::Closed {
-        step(&mut connection, &here, &mut room)?;
+        step(&mut connection, &here, &mut room, last)?;
     }
     let got = server.join().map_err(|_| "the server panicked")??;
     Ok((got, took))

@@ -34,7 +34,8 @@ pub enum Event {
 /// What a server makes of a datagram from a peer that it does not know.
 #[derive(Debug)]
 pub enum Accepted {
-    /// It is a Request: this is the connection, and its answer waits in [`Connection::poll_transmit`].
+    /// It is a Request: this is the connection, and its answer waits in [`Connection::poll_transmit`]. Where one of its options is a
+    /// fault, the connection has ended already, and its phase is [`Phase::Closed`].
     Connection(Box<Connection>),
     /// It is none, and this answers it.
     Answer(Transmit),

@@ -3,6 +3,7 @@
 use crate::{Accepted, Config, Connection, Event, MakeError, Phase, Transmit};
 use std::collections::{BTreeMap, VecDeque};
 use std::fmt;
+use std::iter;
 use std::net::SocketAddr;
 use std::time::Instant;
 
@@ -11,6 +12,11 @@ type Configure = Box<dyn FnMut(SocketAddr) -> Config + Send>;
 
 /// A server of many peers over one socket: a connection for each address from which a Request has come, up to a greatest number of them.
 /// What one peer sends changes nothing for another, as long as there is room. It has no socket and no clock, as a [`Connection`].
+///
+/// After each call, [`poll_accept`](Endpoint::poll_accept), [`poll_transmit`](Endpoint::poll_transmit) and
+/// [`poll_event`](Endpoint::poll_event) are asked until they have nothing more: what waits there has no bound.
+/// [`handle_timeout`](Endpoint::handle_timeout) is called once [`poll_timeout`](Endpoint::poll_timeout) has gone by. A connection that is
+/// closed goes by itself. A peer that has fallen silent keeps its place until its connection is aborted, which is left to the owner.
 ///
 /// ```
 /// use dccp::{Config, Connection, Endpoint, Event};
@@ -71,8 +77,9 @@ impl Endpoint {
         }
     }
 
-    /// A datagram has arrived from this address. Of a peer that is not known it may be a Request, which makes a connection; where there
-    /// are as many as may be, it is passed over. Refused as [`Connection::accept`] is.
+    /// A datagram has arrived from this address. Of a peer that is not known it may be a Request, which makes a connection, but for one
+    /// with a fault in its options, which is answered alone; where there are as many connections as may be, it is passed over. Refused
+    /// as [`Connection::accept`] is.
     pub fn handle_datagram(
         &mut self,
         peer: SocketAddr,
@@ -83,6 +90,11 @@ impl Endpoint {
             connection.handle_datagram(datagram, now);
         } else if self.connections.len() < self.most {
             match Connection::accept(&(self.configure)(peer), datagram, now)? {
+                Accepted::Connection(mut connection) if connection.phase() == Phase::Closed => {
+                    // It has ended before the owner knew of it: its Reset goes out, and the owner is told nothing.
+                    let frames = iter::from_fn(|| connection.poll_transmit());
+                    self.frames.extend(frames.map(|frame| (peer, frame)));
+                }
                 Accepted::Connection(connection) => {
                     self.connections.insert(peer, *connection);
                     self.accepted.push_back(peer);
@@ -130,7 +142,7 @@ impl Endpoint {
             .min()
     }
 
-    /// The next peer whose connection is new.
+    /// The next peer whose connection is new. It may have gone again, and [`Endpoint::call`] then answers None.
     pub fn poll_accept(&mut self) -> Option<SocketAddr> {
         self.accepted.pop_front()
     }

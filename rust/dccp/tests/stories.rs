@@ -281,10 +281,9 @@ fn a_server_has_a_connection_for_each_peer_and_no_more_than_it_may() -> Result<(
         assert_eq!(many.server.poll_event(), Some(wanted));
     }
     // Once one has gone there is room for the third, whose Request comes again after a second.
-    assert!(
-        many.server
-            .call(peers[0], |it| it.abort(many.now).is_ok())
-            .is_some()
+    assert_eq!(
+        many.server.call(peers[0], |it| it.abort(many.now)),
+        Some(Ok(()))
     );
     assert_eq!(many.server.connections().count(), 1);
     many.now += Duration::from_secs(1);
@@ -292,6 +291,37 @@ fn a_server_has_a_connection_for_each_peer_and_no_more_than_it_may() -> Result<(
     many.exchange()?;
     assert_eq!(many.phases(), [Phase::TimeWait, Phase::Open, Phase::Open]);
     assert_eq!(many.server.poll_accept(), Some(peers[2]));
+    Ok(())
+}
+
+#[test]
+fn a_request_with_a_fault_in_its_options_takes_no_place() -> Result<(), Box<dyn Error>> {
+    let mut many = Many::new(1)?;
+    let peer = many.clients[0].0;
+    let (_, there) = addresses();
+    let config = Config::client(peer, there, SERVICE, 1_000).plain();
+    let mut faulty = Connection::new(&config.insist(Feature::SequenceWindow, Place::Here, &[500]))?;
+    faulty.open(many.now)?;
+    let mut request = faulty.poll_transmit().ok_or("a Request")?.bytes;
+    // Mandatory, and Change L of feature 3 with the value 500 (RFC 4340, sections 5.8.2 and 6.1).
+    assert_eq!(request[20..30], [1, 32, 9, 3, 0, 0, 0, 0, 1, 0xf4]);
+    // No feature has the number 10. The value is less by as much, so that the checksum still fits.
+    request[23] += 7;
+    request[29] -= 7;
+    many.server.handle_datagram(peer, &request, many.now)?;
+    let (to, answer) = many.server.poll_transmit().ok_or("a Reset")?;
+    assert_eq!((to, kind(&answer), answer.is_answer), (peer, 7, true));
+    // Mandatory Error, with the option and the first two bytes of its data (RFC 4340, section 5.6).
+    assert_eq!(answer.bytes[24..28], [6, 32, 10, 0]);
+    assert_eq!(many.server.connections().count(), 0);
+    assert_eq!(
+        (many.server.poll_accept(), many.server.poll_event()),
+        (None, None)
+    );
+    // A Request without a fault finds the server as it was.
+    many.exchange()?;
+    assert_eq!(many.phases(), [Phase::Open]);
+    assert_eq!(many.server.poll_accept(), Some(peer));
     Ok(())
 }
 
