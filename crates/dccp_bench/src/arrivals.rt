@@ -1,11 +1,7 @@
 //! A listener at which as many flows stand as may, to which datagrams of 100,000 peers come: `bench/listener` measures
-//! the time and the memory of it. The first word says what is sent, the second how many datagrams come.
-//!
-//! `requests`, `options`, `faults` and `acks` come at the listener; `end` and `end-options` are as many Requests at one
-//! end, and `frames` is what making the datagrams takes alone. How many were answered goes to standard error, so that
-//! none is left out. Nothing is claimed of it.
-#![tactic(auto)]
+//! the time and the memory of it.
 
+use crate::ratios::zero;
 use arrayvec::ArrayVec;
 use byteorder::{BigEndian, ByteOrder};
 use ccid_two::Kinds;
@@ -13,7 +9,26 @@ use dccp_endpoint::{Config, Endpoint, Frame, Lists, Outbox, Outcome, Ports, Pseu
 use dccp_listener::{Heard, ListenConfig, Listener, Peer};
 use dccp_sum::seal;
 use std::alloc::Global;
-use std::{env, io};
+use std::io;
+
+/// What comes, and where.
+#[derive(Clone, Copy, Debug, PartialEq, Eq)]
+pub(crate) enum Load {
+    /// Requests at the listener.
+    Requests,
+    /// Requests with options.
+    Options,
+    /// Requests of whose options one has a fault.
+    Faults,
+    /// Acks.
+    Acks,
+    /// As many Requests at one end.
+    End,
+    /// Requests with options at one end.
+    EndOptions,
+    /// Datagrams that nobody hears: what making them takes alone.
+    Frames,
+}
 
 const FLOWS: u32 = 1_024;
 
@@ -206,25 +221,22 @@ fn nowhere(count: u32) -> u32 {
     made
 }
 
-// What the words ask for.
-fn answered(alloc: Global, what: &str, count: u32, first: Seq48) -> u32 {
-    match what {
-        "requests" => at_listener(alloc, &REQUEST, count, first),
-        "options" => at_listener(alloc, &REQUEST_WITH_OPTIONS, count, first),
-        "faults" => at_listener(alloc, &REQUEST_WITH_FAULT, count, first),
-        "acks" => at_listener(alloc, &ACK, count, first),
-        "end" => at_end(alloc, &REQUEST, count, first),
-        "end-options" => at_end(alloc, &REQUEST_WITH_OPTIONS, count, first),
-        _ => nowhere(count),
+// How many were answered.
+fn answered(alloc: Global, load: Load, count: u32, first: Seq48) -> u32 {
+    match load {
+        Load::Requests => at_listener(alloc, &REQUEST, count, first),
+        Load::Options => at_listener(alloc, &REQUEST_WITH_OPTIONS, count, first),
+        Load::Faults => at_listener(alloc, &REQUEST_WITH_FAULT, count, first),
+        Load::Acks => at_listener(alloc, &ACK, count, first),
+        Load::End => at_end(alloc, &REQUEST, count, first),
+        Load::EndOptions => at_end(alloc, &REQUEST_WITH_OPTIONS, count, first),
+        Load::Frames => nowhere(count),
     }
 }
 
-fn main(rt: HostRuntime) -> io::Result<()> {
-    let mut words = env::args(&rt)?.skip(1);
-    let what = words.next();
-    let count = words.next().and_then(|word| word.parse().ok()).unwrap_or(1);
-    let first = Seq48::new(2_000).ok_or(io::Error::other("a number"))?;
-    let what = what.as_deref().unwrap_or("frames");
-    let answered = answered(rt.alloc(), what, count, first);
+/// So many datagrams come; prints how many were answered, so that none is left out.
+pub(crate) fn all(rt: &HostRuntime, load: Load, count: u32) -> io::Result<()> {
+    let first = zero().add(2_000);
+    let answered = answered(rt.alloc(), load, count, first);
     eprintln!(rt; "{answered}")
 }
