@@ -48,6 +48,11 @@ impl Answer {
     pub(crate) fn is(&self, status: Status, text: &str) -> bool {
         self.status == status && self.text.as_slice() == text.as_bytes()
     }
+
+    /// Whether the input was refused, with this at the end of the text.
+    pub(crate) fn is_refused(&self, end: &str) -> bool {
+        self.status == Status::Input && self.text.ends_with(end.as_bytes())
+    }
 }
 
 fn status_of(name: &str) -> Option<Status> {

@@ -62,7 +62,7 @@ fn is_refused<R: Threads + Sync>(rt: &R, alloc: Global, row: &str) -> Result<boo
     let (schedule, wanted) = row.split_once("=> ").ok_or("a line")?;
     let bytes = schedule.as_bytes();
     let answer = answer_to(rt, alloc, &OpenGate, &Streams::of(4096), "run", bytes)?;
-    Ok(answer.status == Status::Input && answer.text.ends_with(wanted.as_bytes()))
+    Ok(answer.is_refused(wanted))
 }
 
 // The faults of a line by itself, some behind a schedule that has begun.
