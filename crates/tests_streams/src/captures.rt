@@ -223,10 +223,12 @@ fn summary_of(alloc: Global, bytes: &[u8], most: usize) -> Result<Summary, Fail>
     Ok(summed(alloc, source_of(alloc, bytes, None, most)?))
 }
 
-// From which size on the first bytes of a capture have such an end, behind so many records.
-const PREFIXES: &str = "\
-    # The capture of one packet, and one of three records of 17, 16 and 18 bytes\n\
-    d4c3b2a1020004000000000000000000ffff0000650000000100000020a1070028000000280000004500002800010000402166b20a0000010a0000029c401389050031ec01000000000003e80000002a: 0 CutShort-0 24 end-0 25 CutShort-0 80 end-1\n\
+// From which size on the first bytes of a capture have such an end, behind so many records: of the capture of one packet,
+// and of one of three records of 17, 16 and 18 bytes.
+const PREFIXES_OF_ONE: &str = "\
+    d4c3b2a1020004000000000000000000ffff0000650000000100000020a1070028000000280000004500002800010000402166b20a0000010a0000029c401389050031ec01000000000003e80000002a: 0 CutShort-0 24 end-0 25 CutShort-0 80 end-1\n";
+
+const PREFIXES_OF_THREE: &str = "\
     a1b23c4d0002000409090909090909090909090900000065000000010000000200000001000000026100000003000000040000000000000001000000050000000600000002000000036263: 0 CutShort-0 24 end-0 25 CutShort-0 41 end-1 42 CutShort-1 57 end-2 58 CutShort-2 75 end-3\n";
 
 fn tell_summary(size: usize, summary: &Summary, told: &mut String) -> Result<(), Fail> {
@@ -240,25 +242,28 @@ fn tell_summary(size: usize, summary: &Summary, told: &mut String) -> Result<(),
 // Over a source that gives so many bytes a call.
 struct Prefixes(usize);
 
+fn tell_prefixes(alloc: Global, bytes: &[u8], most: usize, told: &mut String) -> Result<(), Fail> {
+    let mut last = None;
+    for size in 0..=bytes.len() {
+        let summary = summary_of(alloc, &bytes[..size], most)?;
+        if last != Some(summary) {
+            tell_summary(size, &summary, told)?;
+            last = Some(summary);
+        }
+    }
+    Ok(())
+}
+
 impl Table for Prefixes {
     fn tell(&self, alloc: Global, words: &str, told: &mut String) -> Result<(), Fail> {
-        let bytes = hex::decode(alloc, words)?;
-        let mut last = None;
-        for size in 0..=bytes.len() {
-            let summary = summary_of(alloc, &bytes[..size], self.0)?;
-            if last != Some(summary) {
-                tell_summary(size, &summary, told)?;
-                last = Some(summary);
-            }
-        }
-        Ok(())
+        tell_prefixes(alloc, &hex::decode(alloc, words)?, self.0, told)
     }
 }
 
 #[test]
 fn every_prefix_of_a_capture(rt: HostRuntime) -> Result<(), Fail> {
-    holds(rt.alloc(), &Prefixes(7), PREFIXES)?;
-    holds(rt.alloc(), &Prefixes(1), PREFIXES)
+    holds(rt.alloc(), &Prefixes(7), PREFIXES_OF_ONE)?;
+    holds(rt.alloc(), &Prefixes(1), PREFIXES_OF_THREE)
 }
 
 // A short record between the file header and a long one, a long one's header, and a short record.
@@ -268,14 +273,30 @@ const PARTS: [&str; 3] = [
     "0000000100000002000000050000000673686f7274",
 ];
 
+fn put_part(alloc: Global, capture: &mut Vec<u8>, part: &str) -> Result<(), Fail> {
+    Ok(capture.extend_from_slice(&hex::decode(alloc, part)?)?)
+}
+
+// The bytes of a long record.
+fn put_sevens(capture: &mut Vec<u8>) -> Result<(), Fail> {
+    for _ in 0..262_144 {
+        capture.push(7)?;
+    }
+    Ok(())
+}
+
+fn put_long_records(alloc: Global, capture: &mut Vec<u8>) -> Result<(), Fail> {
+    put_part(alloc, capture, PARTS[0])?;
+    put_sevens(capture)?;
+    put_part(alloc, capture, PARTS[1])?;
+    put_sevens(capture)?;
+    put_part(alloc, capture, PARTS[2])
+}
+
 // A capture of 524,386 bytes, with two records of the greatest length.
 fn capture_of_long_records(alloc: Global) -> Result<Vec<u8>, Fail> {
-    let long = vec![in alloc; 7; 262_144]?;
-    let mut capture = hex::decode(alloc, PARTS[0])?;
-    capture.extend_from_slice(&long)?;
-    capture.extend_from_slice(&hex::decode(alloc, PARTS[1])?)?;
-    capture.extend_from_slice(&long)?;
-    capture.extend_from_slice(&hex::decode(alloc, PARTS[2])?)?;
+    let mut capture = Vec::new(alloc);
+    put_long_records(alloc, &mut capture)?;
     Ok(capture)
 }
 

@@ -23,12 +23,17 @@ fn put_piece(bytes: &mut Vec<u8>, piece: &str) -> Result<(), Fail> {
     Ok(())
 }
 
+fn put_pieces(bytes: &mut Vec<u8>, text: &str) -> Result<(), Fail> {
+    for piece in text.split("+") {
+        put_piece(bytes, piece)?;
+    }
+    Ok(())
+}
+
 pub(crate) fn bytes_of(alloc: Global, text: &str) -> Result<Vec<u8>, Fail> {
     let mut bytes = Vec::new(alloc);
     if text != "-" {
-        for piece in text.split("+") {
-            put_piece(&mut bytes, piece)?;
-        }
+        put_pieces(&mut bytes, text)?;
     }
     Ok(bytes)
 }
