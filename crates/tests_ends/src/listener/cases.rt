@@ -1,5 +1,5 @@
 //! Cases of a second implementation: many peers, whose packets and calls were drawn, with what it made of them.
-use crate::replies::holds;
+use crate::listener::replies::holds;
 use std::test::Fail;
 
 const ONE: &str = "\
