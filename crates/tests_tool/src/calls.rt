@@ -130,10 +130,10 @@ pub(crate) fn comes<R: Threads + Sync>(
     rt: &R,
     alloc: Global,
     streams: &Streams,
-    (words, input): (&str, &str),
+    (words, input): (&str, &[u8]),
     (status, text): (Status, &str),
 ) -> Result<bool, Fail> {
-    let answer = answer_to(rt, alloc, &OpenGate, streams, words, input.as_bytes())?;
+    let answer = answer_to(rt, alloc, &OpenGate, streams, words, input)?;
     Ok(answer.is(status, text))
 }
 
@@ -146,7 +146,13 @@ pub(crate) fn lines_come<R: Threads + Sync>(
     (status, text): (Status, &str),
 ) -> Result<(), Fail> {
     for words in lines.lines() {
-        if !comes(rt, alloc, streams, (words, input), (status, text))? {
+        if !comes(
+            rt,
+            alloc,
+            streams,
+            (words, input.as_bytes()),
+            (status, text),
+        )? {
             return Err(Fail::new(format_args!("{words}")));
         }
     }
@@ -160,7 +166,13 @@ fn case_comes<R: Threads + Sync>(
     case: &str,
 ) -> Result<bool, Fail> {
     let (words, input, status, text) = parts_of(case).ok_or("a case")?;
-    comes(rt, alloc, streams, (words, input), (status, text))
+    comes(
+        rt,
+        alloc,
+        streams,
+        (words, input.as_bytes()),
+        (status, text),
+    )
 }
 
 /// Fails at the first case of a text that does not come out over streams of so many bytes a call.
