@@ -11,4 +11,6 @@ mod listener;
 #[cfg(test)]
 mod repeated;
 #[cfg(test)]
+mod texts;
+#[cfg(test)]
 mod uses;
