@@ -2,6 +2,7 @@
 //! the colon stand the answer and the frame that goes to the peer, or `-`. A line costs no proof.
 ghost use Rattle.std.specs.Prelude.{◌≤◌};
 
+use crate::texts::{are_same, tell_frame};
 use arrayvec::ArrayVec;
 use dccp_endpoint::{Lists, Outbox, Outcome, Phase, Seq48, Timer, Why};
 use dccp_listener::{Act, Heard, ListenConfig, Listener, Peer, Refusal, Seen};
@@ -100,17 +101,6 @@ fn tell_outcome(outcome: &Outcome, told: &mut String) -> Result<(), Fail> {
     Ok(())
 }
 
-fn tell_frame(alloc: Global, out: &Outbox, told: &mut String) -> Result<(), Fail> {
-    match out.frame() {
-        Some(frame) => {
-            let text = hex::encode(alloc, frame.bytes())?;
-            write!(told, ", {text}")?;
-        }
-        None => told.push_str(", -")?,
-    }
-    Ok(())
-}
-
 fn tell_arrival(
     alloc: Global,
     listener: &mut Listener,
@@ -183,12 +173,7 @@ fn line_holds(
     told.clear();
     tell(alloc, listener, peer, words, out, told)?;
     tell_frame(alloc, out, told)?;
-    let got = told.as_str();
-    if got == wanted {
-        Ok(())
-    } else {
-        Err(Fail::new(format_args!("{given}: {got}")))
-    }
+    are_same(given, told.as_str(), wanted)
 }
 
 fn lines_hold(
@@ -239,19 +224,15 @@ fn ends_so(listener: &Listener, wanted: &str, told: &mut String) -> Result<(), F
     if listener.peer(count).is_some() {
         return Err(Fail::from("a peer too many"));
     }
-    let got = told.as_str();
-    if got == wanted {
-        Ok(())
-    } else {
-        Err(Fail::new(format_args!("at the end: {got}")))
-    }
+    are_same("at the end", told.as_str(), wanted)
 }
 
-// Fails at the first line of which something else comes, with that; or where other flows stand at the end.
-pub(crate) fn holds(alloc: Global, most: u16, lines: &str, flows: &str) -> Result<(), Fail>
-    requires least { 1 ≤ most }
-    requires most { most ≤ 1024 }
-{
+// Fails at the first line of which something else comes, with that; or where other flows stand at the end, or fewer than
+// one may or more than 1,024.
+pub(crate) fn holds(alloc: Global, most: u16, lines: &str, flows: &str) -> Result<(), Fail> {
+    if most == 0 || 1024 < most {
+        return Err(Fail::from("how many flows may stand"));
+    }
     let mut listener = listening(alloc, most);
     let mut out = Outbox::new();
     let mut told = String::new(alloc);

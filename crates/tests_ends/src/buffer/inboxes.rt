@@ -1,6 +1,7 @@
 //! Cases as lists of calls of an inbox, each with its answer. One helper makes all calls.
 ghost use Rattle.std.specs.Prelude.{◌≤◌};
 
+use crate::texts::all_come;
 use data_dropped::{Arrival, DropBytes, Inbox};
 use seq_circle::Seq48;
 use std::alloc::Global;
@@ -90,18 +91,23 @@ fn holds(inbox: &mut Inbox, call: Call) -> Option<bool> {
     }
 }
 
+// The place of the first of these calls that comes to something else.
+fn first_other(inbox: &mut Inbox, calls: &[Call]) -> Option<usize> {
+    for (place, call) in calls.iter().enumerate() {
+        if holds(inbox, *call) != Some(true) {
+            return Some(place);
+        }
+    }
+    None
+}
+
 // Makes these calls of a new inbox, one after another.
 fn play(alloc: Global, capacity: u16, calls: &[Call]) -> Result<(), Fail>
     requires least { 1 ≤ capacity }
     requires most { capacity ≤ 1024 }
 {
     let mut inbox = Inbox::new(alloc, capacity).ok().ok_or("no memory")?;
-    for (place, call) in calls.iter().enumerate() {
-        if holds(&mut inbox, *call) != Some(true) {
-            return Err(Fail::new(format_args!("call {place}")));
-        }
-    }
-    Ok(())
+    all_come(first_other(&mut inbox, calls))
 }
 
 // 1 and 2 are held, and 3 to 19 dropped: 20 without a drop, and then 17 numbers with code 2.

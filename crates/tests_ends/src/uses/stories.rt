@@ -3,8 +3,8 @@
 //!
 //! A story is told by a function that borrows its pair. A test holds no pair: the proof of a loop that does takes many
 //! times as long.
-use crate::pair::Pair;
-use crate::wire::Wire;
+use crate::uses::pair::Pair;
+use crate::uses::wire::Wire;
 use ccid_two::Kinds;
 use dccp_endpoint::{Congestion, Feature, Held, Phase, Role, Stand, Timer};
 use dccp_uses::{News, OneAtATime};

@@ -2,6 +2,7 @@
 //! `stop`; behind the colon stand the answer and the frame that goes out, or `-`.
 ghost use Rattle.std.specs.Prelude.{◌≤◌};
 
+use crate::texts::{are_same, tell_frame};
 use ccid_two::Kinds;
 use data_dropped::{Arrival, BufferedEnd, Got};
 use dccp_endpoint::{Config, Frame, Outbox, Outcome, Role, seal_frame};
@@ -52,17 +53,6 @@ fn tell_got(got: &Got, told: &mut String) -> Result<(), Fail> {
     Ok(())
 }
 
-fn tell_frame(alloc: Global, out: &Outbox, told: &mut String) -> Result<(), Fail> {
-    match out.frame() {
-        Some(frame) => {
-            let text = hex::encode(alloc, frame.bytes())?;
-            write!(told, ", {text}")?;
-        }
-        None => told.push_str(", -")?,
-    }
-    Ok(())
-}
-
 fn tell_packet(
     alloc: Global,
     server: &mut Server,
@@ -107,11 +97,7 @@ fn holds_line(alloc: Global, server: &mut Server, line: &str) -> Result<(), Fail
     let (word, wanted) = line.split_once(": ").ok_or("no colon")?;
     let mut told = String::new(alloc);
     tell(alloc, server, word, &mut told)?;
-    if told.as_str() == wanted {
-        Ok(())
-    } else {
-        Err(Fail::new(format_args!("{line} is not {told}")))
-    }
+    are_same(word, told.as_str(), wanted)
 }
 
 // Plays these lines, one after another.

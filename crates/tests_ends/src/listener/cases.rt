@@ -1,5 +1,5 @@
 //! Cases of a second implementation: many peers, whose packets and calls were drawn, with what it made of them.
-use crate::replies::holds;
+use crate::listener::replies::holds;
 use std::test::Fail;
 
 const ONE: &str = "\
@@ -150,72 +150,35 @@ const NINE: &str = "\
     10.0.0.3:40001 9c411389050062da0100abf5a59981650000002c: sent reset 8 0 0 0, 13899c4107004afe0f000000000000000000abf5a599816508000000\n\
     10.0.0.4:40000 timer close: idle, -";
 
-#[test]
-fn case_one(rt: HostRuntime) -> Result<(), Fail> {
-    holds(rt.alloc(), 1, ONE, "0")
-}
-
-#[test]
-fn case_two(rt: HostRuntime) -> Result<(), Fail> {
-    holds(
-        rt.alloc(),
-        2,
-        TWO,
-        "2 10.0.0.4:7 RESPOND 10.0.0.4:40001 RESPOND",
-    )
-}
-
-#[test]
-fn case_three(rt: HostRuntime) -> Result<(), Fail> {
-    holds(rt.alloc(), 3, THREE, "1 10.0.0.4:7 RESPOND")
-}
-
-#[test]
-fn case_four(rt: HostRuntime) -> Result<(), Fail> {
-    holds(
-        rt.alloc(),
+// How many flows may stand in each case, and which do in the end.
+const CASES: [(u16, &str, &str); 9] = [
+    (1, ONE, "0"),
+    (2, TWO, "2 10.0.0.4:7 RESPOND 10.0.0.4:40001 RESPOND"),
+    (3, THREE, "1 10.0.0.4:7 RESPOND"),
+    (
         3,
         FOUR,
         "3 10.0.0.1:7 RESPOND 10.0.0.1:40001 OPEN 10.0.0.4:40000 RESPOND",
-    )
-}
-
-#[test]
-fn case_five(rt: HostRuntime) -> Result<(), Fail> {
-    holds(
-        rt.alloc(),
-        1024,
-        FIVE,
-        "2 10.0.0.4:40000 OPEN 10.0.0.4:40001 RESPOND",
-    )
-}
-
-#[test]
-fn case_six(rt: HostRuntime) -> Result<(), Fail> {
-    holds(
-        rt.alloc(),
+    ),
+    (1024, FIVE, "2 10.0.0.4:40000 OPEN 10.0.0.4:40001 RESPOND"),
+    (
         1024,
         SIX,
         "4 10.0.0.3:7 OPEN 10.0.0.3:40000 OPEN 10.0.0.3:40001 CLOSEREQ 10.0.0.4:7 OPEN",
-    )
-}
-
-#[test]
-fn case_seven(rt: HostRuntime) -> Result<(), Fail> {
-    holds(rt.alloc(), 1, SEVEN, "1 10.0.0.4:40001 OPEN")
-}
-
-#[test]
-fn case_eight(rt: HostRuntime) -> Result<(), Fail> {
-    holds(
-        rt.alloc(),
+    ),
+    (1, SEVEN, "1 10.0.0.4:40001 OPEN"),
+    (
         1024,
         EIGHT,
         "3 10.0.0.3:40000 RESPOND 10.0.0.3:40001 RESPOND 10.0.0.4:7 RESPOND",
-    )
-}
+    ),
+    (2, NINE, "2 10.0.0.3:7 OPEN 10.0.0.4:40000 OPEN"),
+];
 
 #[test]
-fn case_nine(rt: HostRuntime) -> Result<(), Fail> {
-    holds(rt.alloc(), 2, NINE, "2 10.0.0.3:7 OPEN 10.0.0.4:40000 OPEN")
+fn drawn_cases(rt: HostRuntime) -> Result<(), Fail> {
+    for (most, lines, flows) in CASES {
+        holds(rt.alloc(), most, lines, flows)?;
+    }
+    Ok(())
 }

@@ -1,5 +1,5 @@
 //! The two worked cases: two flows, before which another service is asked for, and a listener that is full.
-use crate::replies::holds;
+use crate::listener::replies::holds;
 use std::test::Fail;
 
 // A Request for another service, two that open a flow each, and an Ack that completes the first handshake.

@@ -1,6 +1,6 @@
 //! A client and a server with a wire in each direction, as their two owners drive them. Where a call answers a bool, it
 //! is whether the step went as it has to.
-use crate::wire::Wire;
+use crate::uses::wire::Wire;
 use ccid_two::Kinds;
 use dccp_endpoint::{Config, Congestion, Feature, Held, Phase, Place, Role, SendFault, Timer};
 use dccp_uses::{Alarms, News, Session, accept};
