@@ -79,7 +79,8 @@ fn put_unwrapped(
     Ok(())
 }
 
-fn fault_name(fault: PieceFault) -> &'static [u8]
+/// Why a capture is refused, as a word (own).
+pub fn fault_name(fault: PieceFault) -> &'static [u8]
     ensures { result.now ≡ piece_fault_name fault }
 {
     match fault {
@@ -93,8 +94,9 @@ fn fault_name(fault: PieceFault) -> &'static [u8]
     }
 }
 
-// Puts the line of a fault, behind so many records.
-fn put_fault(text: &mut Vec<u8>, records: u64, fault: PieceFault) -> Result<(), NoMemory>
+/// Puts the line of a fault of a capture, behind so many records (own). NoMemory comes where the text could not grow; then a front
+/// of the line may stand there.
+pub fn put_fault(text: &mut Vec<u8>, records: u64, fault: PieceFault) -> Result<(), NoMemory>
     ensures { OnOk result (text.new.items ≡ text.old.items ++ unwrap_closing false records (Some fault)) }
 {
     put(text, b"capture ")?;

@@ -6,15 +6,15 @@ ghost use Rattle.dccp_packets.specs.Grammar.{number_at};
 use byteorder::{BigEndian, ByteOrder};
 use dccp_sum::Pseudo;
 
-/// A DCCP packet in a record, as far as it was captured.
+/// A DCCP packet in a record, as far as it was captured (own).
 #[derive(Clone, Copy)]
-pub(crate) struct Datagram<'a> {
+pub struct Datagram<'a> {
     /// The addresses between which it travels.
-    pub(crate) pseudo: Pseudo,
-    /// The bytes that were captured of it.
-    pub(crate) bytes: &'a [u8],
+    pub pseudo: Pseudo,
+    /// The bytes that were captured of it, at most 65,535.
+    pub bytes: &'a [u8],
     /// Whether these are all that the IP length leaves.
-    pub(crate) whole: bool,
+    pub whole: bool,
 }
 
 const ETHERNET: u32 = 1;
@@ -225,9 +225,10 @@ fn in_ethernet(bytes: &[u8]) -> Option<Datagram<'_>>
     )
 }
 
-/// The DCCP packet in a record of this link type, or None exactly where there is none: it is no IPv4 or IPv6 of
-/// protocol 33, a fragment, or an IP header that was not captured whole or does not hold together.
-pub(crate) fn carried(link: u32, bytes: &[u8]) -> Option<Datagram<'_>>
+/// The DCCP packet in a record of this link type, 1 (Ethernet) or 101 (raw IP), or None exactly where there is none: it is no
+/// IPv4 or IPv6 of protocol 33, a fragment, or an IP header that was not captured whole or does not hold together (RFC 791,
+/// section 3.1; RFC 8200, section 3).
+pub fn carried(link: u32, bytes: &[u8]) -> Option<Datagram<'_>>
     ensures value { option_map carried_by result ≡ carried link bytes.now }
     ensures fits { IfSome result FitsIp }
 {
