@@ -28,7 +28,7 @@ ghost use Rattle.world_events.specs.declared.event.Side.{Side};
 ghost use Rattle.world_events.specs.declared.event.Side.TheVariants.{Client, Server};
 ghost use Rattle.two_ends.specs.declared.frames.SentFrame.{SentFrame};
 ghost use Rattle.two_ends.specs.Asked.{AllIsAsked, KeepsInitialValues};
-ghost use Rattle.two_ends.specs.Controlled.{Controlled, begins_with, congestion_of, happens_to, plays};
+ghost use Rattle.two_ends.specs.Controlled.{Controlled, begins_with, congestion_of, happens_to, plays_from_start};
 ghost use Rattle.two_ends.specs.Counted.{AreAmongFirst, AreResets};
 ghost use Rattle.two_ends.specs.Frames.{ack_in_width, in_width, packet_of};
 ghost use Rattle.two_ends.specs.Negotiated.{HasSent, IsNotNegotiable, IsServerPriority, IsSettled, last_list_sent, last_value, list_said, pair_was_negotiated, value_said};
@@ -126,9 +126,9 @@ pub fn frames_spell_their_numbers()
 /// frames (own). An event sends one frame at most.
 pub fn few_frames_are_never_far<C: Congestion>()
     ensures { (client server : Config) (for_client for_server : C) (events : List Event) (next : Event) → Fits client → Fits server
-        → length (plays C.control (begins_with C.control client server for_client for_server) events).world.client.frames < 2 ^ 23
-        → length (plays C.control (begins_with C.control client server for_client for_server) events).world.server.frames < 2 ^ 23
-        → happens_to C.control (plays C.control (begins_with C.control client server for_client for_server) events) next ≢ Err WorldFault.FarShort }
+        → length (plays_from_start C.control client server for_client for_server events).world.client.frames < 2 ^ 23
+        → length (plays_from_start C.control client server for_client for_server events).world.server.frames < 2 ^ 23
+        → happens_to C.control (plays_from_start C.control client server for_client for_server events) next ≢ Err WorldFault.FarShort }
 {
     every_step_has_one_effect();
 }
@@ -155,7 +155,7 @@ pub fn what_is_reported_arrived<C: Congestion>()
 /// stands, after every list of events (RFC 4340, section 6).
 pub fn what_none_asked_for_stays<C: Congestion>()
     ensures { (client server : Config) (for_client for_server : C) (events : List Event) → client.role ≡ role.Client → server.role ≡ role.Server
-        → Fits client → Fits server → KeepsInitialValues (plays C.control (begins_with C.control client server for_client for_server) events).world }
+        → Fits client → Fits server → KeepsInitialValues (plays_from_start C.control client server for_client for_server events).world }
 {
     every_step_has_one_effect();
 }
@@ -165,7 +165,7 @@ pub fn what_none_asked_for_stays<C: Congestion>()
 /// what its owner last asked for and was not refused, or else what was configured.
 pub fn last_lists_are_active<C: Congestion>()
     ensures { (client server : Config) (for_client for_server : C) (events : List Event) → client.role ≡ role.Client → server.role ≡ role.Server
-        → Fits client → Fits server → AllIsAsked (plays C.control (begins_with C.control client server for_client for_server) events).world }
+        → Fits client → Fits server → AllIsAsked (plays_from_start C.control client server for_client for_server events).world }
 {
     every_step_has_one_effect();
 }
@@ -178,11 +178,11 @@ pub fn what_was_asked_last_is_wanted<C: Congestion>()
     ensures asked { (client server : Config) (for_client for_server : C) (events : List Event) → Fits client → Fits server
         → (side : Side) (feature : Feature) (place : Place) (values : List ℕ)
         → IsLastAsked C.control (begins_with C.control client server for_client for_server) events side feature place values
-        → WantsValues (row_of (plays C.control (begins_with C.control client server for_client for_server) events).world side feature place) values }
+        → WantsValues (row_of (plays_from_start C.control client server for_client for_server events).world side feature place) values }
     ensures configured { (client server : Config) (for_client for_server : C) (events : List Event) → Fits client → Fits server
         → (side : Side) (feature : Feature) (place : Place)
         → AsksNothing C.control (begins_with C.control client server for_client for_server) events side feature place
-        → WantsValues (row_of (plays C.control (begins_with C.control client server for_client for_server) events).world side feature place)
+        → WantsValues (row_of (plays_from_start C.control client server for_client for_server events).world side feature place)
         (values_configured (begins_with C.control client server for_client for_server).world side feature place) }
 {
     every_step_has_one_effect();
@@ -194,8 +194,8 @@ pub fn what_was_asked_last_is_wanted<C: Congestion>()
 pub fn values_change_by_shared_lists<C: Congestion>()
     ensures { (client server : Config) (for_client for_server : C) (events : List Event) (next : Event) → client.role ≡ role.Client
         → server.role ≡ role.Server → Fits client → Fits server
-        → ChangesByLists (plays C.control (begins_with C.control client server for_client for_server) events).world
-        (plays C.control (begins_with C.control client server for_client for_server) (events ++ next ∷ [])).world }
+        → ChangesByLists (plays_from_start C.control client server for_client for_server events).world
+        (plays_from_start C.control client server for_client for_server (events ++ next ∷ [])).world }
 {
     every_step_has_one_effect();
 }
