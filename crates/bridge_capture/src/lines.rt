@@ -1,14 +1,17 @@
 //! What a line of a transcript tells.
-ghost use Rattle.std.specs.Prelude.{◌≡◌, IfErr};
+ghost use Rattle.std.specs.Prelude.{◌≡◌, ◌≤◌, length, IfErr};
 ghost use Rattle.tool_words.specs.Left.{left_of};
 ghost use Rattle.bridge_capture.specs.Lines as spec;
 
 use dccp_packets::Frame;
 use tool_text::number_up_to;
 use tool_words::{
-    Flaw, Hex, LineFault, LineWhy, Row, WordKind, Words, found_or, read_line, read_word,
+    Digits, Flaw, Hex, LineFault, LineWhy, Row, WordKind, Words, found_or, read_line, read_word,
 };
 use world_events::Side;
+
+// A line has at most 4,096 bytes, two for each byte that it tells.
+const MOST_BYTES: usize = 2048;
 
 // A packet that is too long for this has no frame.
 const MOST_OF_FRAME: usize = 2044;
@@ -108,6 +111,20 @@ impl<'a> WordKind<'a> for AFirstWord {
     }
 }
 
+// The frame of these bytes, which are not too many.
+fn frame_of(digits: &Digits<'_>) -> Frame
+    requires { length digits.now ≤ 2044 }
+    ensures { result ≡ digits.now }
+{
+    let mut bytes = [0; MOST_BYTES];
+    let room = &mut bytes[..digits.len()];
+    digits.put(room);
+    match Frame::of(room) {
+        Some(frame) => frame,
+        None => unreachable!(),
+    }
+}
+
 // What stands behind `sent`: a frame's name and its bytes, and nothing behind them.
 fn sent(words: &mut Words<'_>) -> Result<Told, LineFault>
     ensures { result ≡ spec.sent_said (left_of words.old) }
@@ -122,7 +139,7 @@ fn sent(words: &mut Words<'_>) -> Result<Told, LineFault>
     }
     Ok(Told::Sent {
         from: name.0,
-        frame: digits.frame(),
+        frame: frame_of(&digits),
     })
 }
 
