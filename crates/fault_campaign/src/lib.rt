@@ -8,13 +8,11 @@
 #![tactic(auto)]
 
 mod draws;
-mod gate;
 mod laws;
 mod report;
 mod run;
 mod workers;
 
-pub use crate::gate::{Gate, OpenGate};
 pub use crate::laws::{
     drawn_events_happen, draws_that_no_count_shows, parts_of_a_campaign_add_up,
     reports_count_little, seeded_runs_are_safe,
@@ -22,3 +20,4 @@ pub use crate::laws::{
 pub use crate::report::Report;
 pub use crate::run::run_seed;
 pub use crate::workers::campaign;
+pub use campaign_claims::{Gate, OpenGate};
