@@ -1,5 +1,5 @@
 //! `unwrap`: a job over the pieces of a capture.
-ghost use Rattle.std.specs.Prelude.{◌≡◌, ◌≢◌, ◌+◌, ◌≤◌, ◌++◌, ℕ, List, length, drop, false, OnOk, Some};
+ghost use Rattle.std.specs.Prelude.{◌≡◌, ◌≢◌, ◌+◌, ◌≤◌, ◌++◌, ℕ, List, length, false, OnOk, Some};
 ghost use Rattle.bridge_records.specs.Reading.{bytes_held};
 ghost use Rattle.capture_writer.specs.Writing.{header_for, raw_record};
 ghost use Rattle.dccp_io.specs.Counts.{Rose, one_more};
@@ -10,6 +10,7 @@ ghost use Rattle.bridge_unwrap.specs.Unwrapping.{first_unwrapping, is_unwrapped_
 use crate::links::ip_start;
 use bridge_pieces::{PieceFault, PieceJob, run_pieces};
 use bridge_records::{CaptureFile, Found};
+use capture_reader::behind;
 use capture_writer::{RecordHeader, put_file_header, put_record_header};
 use dccp_io::{Sink, Source};
 use seq_circle::NoMemory;
@@ -44,14 +45,6 @@ fn header_behind(head: &RecordHeader, start: usize, bytes: &[u8]) -> RecordHeade
         original: head.original.saturating_sub(start as u32),
         ..*head
     }
-}
-
-// The bytes behind so many.
-fn behind(bytes: &[u8], count: usize) -> &[u8]
-    requires { count ≤ length bytes.now }
-    ensures { result.now ≡ drop count bytes.now }
-{
-    &bytes[count..]
 }
 
 // Puts the record that is made of one of this link type, with the bytes that were captured of it.

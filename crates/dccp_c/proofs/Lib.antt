@@ -1,2 +1,5 @@
 pub mod AsBox
+pub mod Doings
+pub mod ListenerAsBox
+pub mod Placing
 pub mod Ticking

@@ -94,7 +94,7 @@ pub extern "C" fn dccp_free(end: &mut End, alloc: Global)
     drop(end.take(alloc));
 }
 
-/// `Session::open`.
+/// `Session::open` at `now`, in milliseconds as in each call. Answers DONE, NOT_MADE or NOT_FRESH.
 #[unsafe(no_mangle)]
 pub extern "C" fn dccp_open(end: &mut End, alloc: Global, now: u64, frame: &mut Frame) -> u32
     ensures end { end_in end.new.kept.value ≡ kept_after (c_opens now) (end_in end.old.kept.value) }
@@ -111,7 +111,7 @@ pub extern "C" fn dccp_open(end: &mut End, alloc: Global, now: u64, frame: &mut 
     open_code(&answer)
 }
 
-/// `Session::send`.
+/// `Session::send`. Answers DONE, NOT_MADE, NOT_OPEN, TOO_LONG, NOT_NEGOTIATED or WINDOW_FULL.
 #[unsafe(no_mangle)]
 pub extern "C" fn dccp_send(
     end: &mut End,
@@ -134,7 +134,7 @@ pub extern "C" fn dccp_send(
     send_code(&answer)
 }
 
-/// `Session::close`.
+/// `Session::close`. Answers DONE, NOT_MADE or NOT_OPEN.
 #[unsafe(no_mangle)]
 pub extern "C" fn dccp_close(end: &mut End, alloc: Global, now: u64, frame: &mut Frame) -> u32
     ensures end { end_in end.new.kept.value ≡ kept_after (c_closes now) (end_in end.old.kept.value) }
@@ -151,7 +151,7 @@ pub extern "C" fn dccp_close(end: &mut End, alloc: Global, now: u64, frame: &mut
     close_code(&answer)
 }
 
-/// `Session::abort`.
+/// `Session::abort`. Answers DONE, NOT_MADE or NOT_LIVE.
 #[unsafe(no_mangle)]
 pub extern "C" fn dccp_abort(end: &mut End, alloc: Global, now: u64, frame: &mut Frame) -> u32
     ensures end { end_in end.new.kept.value ≡ kept_after (c_aborts now) (end_in end.old.kept.value) }

@@ -1,9 +1,10 @@
 //! DCCP in captured records: Ethernet, IPv4 (RFC 791, section 3.1) and IPv6 (RFC 8200, section 3).
-ghost use Rattle.std.specs.Prelude.{◌≡◌, ◌+◌, ◌≤◌, length, take, drop, option_map, IfSome};
+ghost use Rattle.std.specs.Prelude.{◌≡◌, ◌+◌, ◌≤◌, length, take, option_map, IfSome};
 ghost use Rattle.packet_show.specs.Network.{FitsIp, carried_by, bytes_at, version, v4_header, v4_total, is_unfragmented, is_v4, behind_v4, in_v4, v6_payload, is_v6, behind_v6, in_v6, in_ip, in_frame, in_ethernet, carried};
 ghost use Rattle.dccp_packets.specs.Grammar.{number_at};
 
 use byteorder::{BigEndian, ByteOrder};
+use capture_reader::behind;
 use dccp_sum::Pseudo;
 
 /// A DCCP packet in a record, as far as it was captured (own).
@@ -66,14 +67,6 @@ fn v6_address(bytes: &[u8], place: usize) -> [u8; 16]
     let mut address = [0; 16];
     address.copy_from_slice(&bytes[place..place + 16]);
     address
-}
-
-// The bytes behind so many.
-fn behind(bytes: &[u8], count: usize) -> &[u8]
-    requires { count ≤ length bytes.now }
-    ensures { result.now ≡ drop count bytes.now }
-{
-    &bytes[count..]
 }
 
 // As many bytes as that, or all of fewer.

@@ -4,7 +4,7 @@ ghost use Rattle.std.specs.Prelude.{◌≤◌, length};
 
 use crate::tables::{Table, holds};
 use dccp_options::kinds::{ACK_VECTOR_0, CHANGE_L};
-use dccp_options::{AckReport, Opt, OptFault, OptFull, OptWriter, options};
+use dccp_options::{AckReport, Opt, OptFault, OptFull, OptWriter, Run, options};
 use seq_circle::Seq48;
 use std::alloc::Global;
 use std::test::Fail;
@@ -19,10 +19,14 @@ const REPORTS: &str = "\
     Ack 02000000 2: none\n\
     Data 260301260202270480410000 2: none\n";
 
+fn tell_run(run: &Run, told: &mut String) -> Result<(), Fail> {
+    let (number, count, state) = (run.hi.get(), run.count, run.state);
+    Ok(write!(told, " {number}-{count}-{state}")?)
+}
+
 fn tell_runs(report: &AckReport<'_>, told: &mut String) -> Result<(), Fail> {
     for run in report.runs() {
-        let (number, count, state) = (run.hi.get(), run.count, run.state);
-        write!(told, " {number}-{count}-{state}")?;
+        tell_run(&run, told)?;
     }
     Ok(())
 }

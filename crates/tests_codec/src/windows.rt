@@ -151,20 +151,26 @@ fn tell_verdict(verdict: Verdict, told: &mut String) -> Result<(), Fail> {
     Ok(())
 }
 
+const TYPES: [(&str, PacketType); 10] = [
+    ("Request", PacketType::Request),
+    ("Response", PacketType::Response),
+    ("Data", PacketType::Data),
+    ("Ack", PacketType::Ack),
+    ("DataAck", PacketType::DataAck),
+    ("CloseReq", PacketType::CloseReq),
+    ("Close", PacketType::Close),
+    ("Reset", PacketType::Reset),
+    ("Sync", PacketType::Sync),
+    ("SyncAck", PacketType::SyncAck),
+];
+
 fn type_of(name: &str) -> Option<PacketType> {
-    match name {
-        "Request" => Some(PacketType::Request),
-        "Response" => Some(PacketType::Response),
-        "Data" => Some(PacketType::Data),
-        "Ack" => Some(PacketType::Ack),
-        "DataAck" => Some(PacketType::DataAck),
-        "CloseReq" => Some(PacketType::CloseReq),
-        "Close" => Some(PacketType::Close),
-        "Reset" => Some(PacketType::Reset),
-        "Sync" => Some(PacketType::Sync),
-        "SyncAck" => Some(PacketType::SyncAck),
-        _ => None,
+    for (other, kind) in TYPES {
+        if name == other {
+            return Some(kind);
+        }
     }
+    None
 }
 
 // A type, a number, and the acknowledgement number that stands there exactly where the type has one.

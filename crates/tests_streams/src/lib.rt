@@ -8,3 +8,7 @@ mod captures;
 mod lines;
 #[cfg(test)]
 mod streams;
+#[cfg(test)]
+mod tables;
+#[cfg(test)]
+mod texts;

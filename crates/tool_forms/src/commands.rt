@@ -5,11 +5,12 @@ ghost use Rattle.tool_forms.specs.Commands.{IsReadBy, bare_command, chosen_in, c
 ghost use Rattle.tool_forms.specs.Settings.{bare_name, least, most};
 ghost use Rattle.tool_forms.specs.Tables as table;
 
-use crate::settings::{Setting, Way, is_text};
+use crate::settings::{Setting, Way};
 use clap::error::ErrorKind;
 use clap::{Arg, ArgAction, ArgMatches, Command, Error};
 use seq_circle::NoMemory;
 use std::alloc::{AllocError, Global};
+use tool_text::is_text;
 
 // An option that has one value.
 fn option<'a>(alloc: Global, name: &'a str) -> Arg<'a>

@@ -4,17 +4,10 @@
 //! the most of its number. A further setting is a line in each function of the table, and one where its form's command is
 //! put together.
 ghost use Rattle.std.specs.Prelude.{◌≡◌, ◌≤◌, IfSome};
-ghost use Rattle.std.specs.Str.{bytes_eq};
 ghost use Rattle.tool_forms.specs.Settings.{bare_name, least, most, number_for, side_in, way_of};
 
-use tool_text::number_up_to;
+use tool_text::{is_text, number_up_to};
 use world_events::Side;
-
-pub(crate) fn is_text(word: &[u8], text: &[u8]) -> bool
-    ensures { result ≡ bytes_eq word.now text.now }
-{
-    word == text
-}
 
 /// The side that a text names.
 pub(crate) fn side_in(text: &[u8]) -> Option<Side>

@@ -1,0 +1,33 @@
+//! How C names a peer.
+ghost use Rattle.std.specs.Prelude.{◌≡◌};
+ghost use Rattle.dccp_c.specs.Listening.{address_of, peer_of};
+
+use dccp_listener::Peer;
+
+/// Whom a datagram came from, or a frame goes to.
+#[repr(C)]
+#[derive(Clone, Copy, Debug, PartialEq, Eq)]
+pub struct PeerAddress {
+    /// The IPv4 address, in the order of the network.
+    pub address: [u8; 4],
+    /// The port.
+    pub port: u16,
+}
+
+pub(crate) fn peer_of(peer: &PeerAddress) -> Peer
+    ensures { result ≡ peer_of peer.now }
+{
+    Peer {
+        address: peer.address,
+        port: peer.port,
+    }
+}
+
+pub(crate) fn address_of(peer: Peer) -> PeerAddress
+    ensures { result ≡ address_of peer }
+{
+    PeerAddress {
+        address: peer.address,
+        port: peer.port,
+    }
+}
