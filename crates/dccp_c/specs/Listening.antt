@@ -17,7 +17,7 @@ use Rattle.dccp_c.specs.Codes.{timer_code}
 use Rattle.dccp_c.specs.Doing.{bytes_of, never}
 use Rattle.dccp_c.specs.KeepingListener.{InnerListener}
 use Rattle.dccp_c.specs.Seeing.{seen as seen_end}
-use Rattle.dccp_c.specs.Serving.{Served, first_due_flow, least_wait, served, serves, serving_begins}
+use Rattle.dccp_c.specs.Serving.{Served, first_due_flow, least_wait, served, deed_served, serving_begins}
 use Rattle.dccp_c.specs.Telling.{is_short, told_outcome}
 use Rattle.dccp_c.specs.declared.told.Told.{Told}
 use Rattle.dccp_c.specs.declared.peer.PeerAddress.{PeerAddress}
@@ -29,8 +29,8 @@ served_in None = None
 served_in (Some held) = Some (served held.listener held.timers.entries)
 
 -- whom C names by an address and a port
-abbrev pub peer_of : PeerAddress → Peer
-peer_of peer = record { address = peer.address; port = peer.port }
+abbrev pub peer_named : PeerAddress → Peer
+peer_named peer = record { address = peer.address; port = peer.port }
 
 -- the same as C finds it
 abbrev pub address_of : Peer → PeerAddress
@@ -67,8 +67,8 @@ listen_told (Stepped (Some (seen.Received outcome))) old = told_outcome outcome
 listen_told _ old = old
 
 -- The deed that a datagram is; a first number that is none is refused by 11, and a datagram that is too long by 5.
-abbrev pub arrival_of : ℕ → List ℕ → Result Deed ℕ
-arrival_of first bytes = if nat_lt first (2 ^ 48) then (if is_short bytes then Ok (Arrives first bytes) else Err 5) else Err 11
+abbrev pub deed_of_datagram : ℕ → List ℕ → Result Deed ℕ
+deed_of_datagram first bytes = if nat_lt first (2 ^ 48) then (if is_short bytes then Ok (Arrives first bytes) else Err 5) else Err 11
 
 -- The deed that a call has done with a listener, if any: none where there is no listener, or where it was refused or wanted for memory, by 2.
 abbrev pub deed_done : ℕ → Option Served → Result Deed ℕ → Option (Served × Deed)
@@ -79,7 +79,7 @@ deed_done code (Some s) (Ok deed) = if code == 2 then None else Some (s, deed)
 -- the listener then
 abbrev pub served_after : ℕ → Option Served → Peer → Option (Served × Deed) → Option Served
 served_after now held peer None = held
-served_after now held peer (Some it) = Some (serves now it.0 peer it.1)
+served_after now held peer (Some it) = Some (deed_served now it.0 peer it.1)
 
 -- the bytes that go to the peer
 abbrev pub served_bytes : Peer → Option (Served × Deed) → List ℕ

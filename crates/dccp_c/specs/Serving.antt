@@ -77,8 +77,8 @@ timers_by now s peer (Arrives iss bytes) =
 timers_by now s peer (Calls call) = timers_called now (timers_of s.timers peer) call
 
 -- A deed of a peer, where memory is found: the listener does what is computed of it, and the peer's timers go on.
-abbrev pub serves : ℕ → Served → Peer → Deed → Served
-serves now s peer deed =
+abbrev pub deed_served : ℕ → Served → Peer → Deed → Served
+deed_served now s peer deed =
     served (listening_after s.listening peer deed)
     (timers_then now s.timers peer (end_of_peer (listening_after s.listening peer deed).flows peer) (timers_by now s peer deed))
 

@@ -5,7 +5,7 @@ ghost use Rattle.dccp_listener.specs.Chain.{Calls, Sends, Closes, Aborts, call_o
 ghost use Rattle.dccp_listener.specs.Runs.{Stepped, told_of};
 ghost use Rattle.dccp_c.specs.Doing.{bytes_in};
 ghost use Rattle.dccp_c.specs.Founding.{FoundsCode, founded_of, listening_by};
-ghost use Rattle.dccp_c.specs.Listening.{ServedCode, TickCode, arrival_of, deed_done, due_in, flow_code, flow_in, flow_view, listen_code, listen_told, listener_waits, peer_in, peer_of, peer_read, refusal_code, seen_code, served_after, served_bytes, served_in, served_told, ticked_after, ticked_bytes, ticked_peer};
+ghost use Rattle.dccp_c.specs.Listening.{ServedCode, TickCode, deed_of_datagram, deed_done, due_in, flow_code, flow_in, flow_view, listen_code, listen_told, listener_waits, peer_in, peer_named, peer_read, refusal_code, seen_code, served_after, served_bytes, served_in, served_told, ticked_after, ticked_bytes, ticked_peer};
 
 use crate::codes::{
     BUSY, DONE, NO_FLOW, NO_MEMORY, NOT_LIVE, NOT_MADE, NOT_NEGOTIATED, NOT_OPEN, NOTHING_DUE,
@@ -13,7 +13,7 @@ use crate::codes::{
 };
 use crate::codes::{BAD_LIST, NOT_FRESH, NOT_OURS};
 use crate::founding::listening_by;
-use crate::peer::{address_of, peer_of};
+use crate::peer::{address_of, peer_named};
 use crate::readers::seen;
 use crate::serving::{Serving, first_due_flow, least_wait};
 use crate::told::told_of;
@@ -120,10 +120,10 @@ pub extern "C" fn dccp_listener_arrive(
     frame: &mut Frame,
     told: &mut Told,
 ) -> u32
-    ensures listener { served_in listener.new.kept.value ≡ served_after now (served_in listener.old.kept.value) (peer_of peer.now) (deed_done result (served_in listener.old.kept.value) (arrival_of first_number datagram.now)) }
-    ensures frame { bytes_in frame.new ≡ served_bytes (peer_of peer.now) (deed_done result (served_in listener.old.kept.value) (arrival_of first_number datagram.now)) }
-    ensures told { told.new ≡ served_told (peer_of peer.now) (deed_done result (served_in listener.old.kept.value) (arrival_of first_number datagram.now)) told.old }
-    ensures code { ServedCode (served_in listener.old.kept.value) (peer_of peer.now) (arrival_of first_number datagram.now) result }
+    ensures listener { served_in listener.new.kept.value ≡ served_after now (served_in listener.old.kept.value) (peer_named peer.now) (deed_done result (served_in listener.old.kept.value) (deed_of_datagram first_number datagram.now)) }
+    ensures frame { bytes_in frame.new ≡ served_bytes (peer_named peer.now) (deed_done result (served_in listener.old.kept.value) (deed_of_datagram first_number datagram.now)) }
+    ensures told { told.new ≡ served_told (peer_named peer.now) (deed_done result (served_in listener.old.kept.value) (deed_of_datagram first_number datagram.now)) told.old }
+    ensures code { ServedCode (served_in listener.old.kept.value) (peer_named peer.now) (deed_of_datagram first_number datagram.now) result }
 {
     frame.clear();
     let Some(iss) = Seq48::new(first_number) else {
@@ -135,7 +135,7 @@ pub extern "C" fn dccp_listener_arrive(
     let Some(mut serving) = listener.take(alloc) else {
         return NOT_MADE;
     };
-    match serving.arrive(peer_of(peer), iss, datagram, now) {
+    match serving.arrive(peer_named(peer), iss, datagram, now) {
         Ok(heard) => {
             frame.fill(&serving.out);
             listener.put(serving);
@@ -188,11 +188,11 @@ pub extern "C" fn dccp_listener_send(
     now: u64,
     frame: &mut Frame,
 ) -> u32
-    ensures listener { served_in listener.new.kept.value ≡ served_after now (served_in listener.old.kept.value) (peer_of peer.now) (deed_done result (served_in listener.old.kept.value) (Ok (Calls (Sends payload.now)))) }
-    ensures frame { bytes_in frame.new ≡ served_bytes (peer_of peer.now) (deed_done result (served_in listener.old.kept.value) (Ok (Calls (Sends payload.now)))) }
-    ensures code { ServedCode (served_in listener.old.kept.value) (peer_of peer.now) (Ok (Calls (Sends payload.now))) result }
+    ensures listener { served_in listener.new.kept.value ≡ served_after now (served_in listener.old.kept.value) (peer_named peer.now) (deed_done result (served_in listener.old.kept.value) (Ok (Calls (Sends payload.now)))) }
+    ensures frame { bytes_in frame.new ≡ served_bytes (peer_named peer.now) (deed_done result (served_in listener.old.kept.value) (Ok (Calls (Sends payload.now)))) }
+    ensures code { ServedCode (served_in listener.old.kept.value) (peer_named peer.now) (Ok (Calls (Sends payload.now))) result }
 {
-    call(listener, alloc, peer_of(peer), Act::Send(payload), now, frame)
+    call(listener, alloc, peer_named(peer), Act::Send(payload), now, frame)
 }
 
 /// `Listener::act` with `Act::Close`. NO_FLOW where the peer has none.
@@ -204,11 +204,11 @@ pub extern "C" fn dccp_listener_close(
     now: u64,
     frame: &mut Frame,
 ) -> u32
-    ensures listener { served_in listener.new.kept.value ≡ served_after now (served_in listener.old.kept.value) (peer_of peer.now) (deed_done result (served_in listener.old.kept.value) (Ok (Calls Closes))) }
-    ensures frame { bytes_in frame.new ≡ served_bytes (peer_of peer.now) (deed_done result (served_in listener.old.kept.value) (Ok (Calls Closes))) }
-    ensures code { ServedCode (served_in listener.old.kept.value) (peer_of peer.now) (Ok (Calls Closes)) result }
+    ensures listener { served_in listener.new.kept.value ≡ served_after now (served_in listener.old.kept.value) (peer_named peer.now) (deed_done result (served_in listener.old.kept.value) (Ok (Calls Closes))) }
+    ensures frame { bytes_in frame.new ≡ served_bytes (peer_named peer.now) (deed_done result (served_in listener.old.kept.value) (Ok (Calls Closes))) }
+    ensures code { ServedCode (served_in listener.old.kept.value) (peer_named peer.now) (Ok (Calls Closes)) result }
 {
-    call(listener, alloc, peer_of(peer), Act::Close, now, frame)
+    call(listener, alloc, peer_named(peer), Act::Close, now, frame)
 }
 
 /// `Listener::act` with `Act::Abort`. NO_FLOW where the peer has none.
@@ -220,11 +220,11 @@ pub extern "C" fn dccp_listener_abort(
     now: u64,
     frame: &mut Frame,
 ) -> u32
-    ensures listener { served_in listener.new.kept.value ≡ served_after now (served_in listener.old.kept.value) (peer_of peer.now) (deed_done result (served_in listener.old.kept.value) (Ok (Calls Aborts))) }
-    ensures frame { bytes_in frame.new ≡ served_bytes (peer_of peer.now) (deed_done result (served_in listener.old.kept.value) (Ok (Calls Aborts))) }
-    ensures code { ServedCode (served_in listener.old.kept.value) (peer_of peer.now) (Ok (Calls Aborts)) result }
+    ensures listener { served_in listener.new.kept.value ≡ served_after now (served_in listener.old.kept.value) (peer_named peer.now) (deed_done result (served_in listener.old.kept.value) (Ok (Calls Aborts))) }
+    ensures frame { bytes_in frame.new ≡ served_bytes (peer_named peer.now) (deed_done result (served_in listener.old.kept.value) (Ok (Calls Aborts))) }
+    ensures code { ServedCode (served_in listener.old.kept.value) (peer_named peer.now) (Ok (Calls Aborts)) result }
 {
-    call(listener, alloc, peer_of(peer), Act::Abort, now, frame)
+    call(listener, alloc, peer_named(peer), Act::Abort, now, frame)
 }
 
 /// Tells a flow the first of its timers that has run out, and C whose it is. NOTHING_DUE where none has.
@@ -290,13 +290,13 @@ pub extern "C" fn dccp_listener_look(
     view: &mut View,
 ) -> u32
     ensures listener { listener.new.kept.value ≡ listener.old.kept.value }
-    ensures view { view.new ≡ flow_view (flow_in (served_in listener.old.kept.value) (peer_of peer.now)) view.old }
-    ensures code { result ≡ flow_code (served_in listener.old.kept.value) (flow_in (served_in listener.old.kept.value) (peer_of peer.now)) }
+    ensures view { view.new ≡ flow_view (flow_in (served_in listener.old.kept.value) (peer_named peer.now)) view.old }
+    ensures code { result ≡ flow_code (served_in listener.old.kept.value) (flow_in (served_in listener.old.kept.value) (peer_named peer.now)) }
 {
     let Some(serving) = listener.take(alloc) else {
         return NOT_MADE;
     };
-    let code = match serving.listener.flow(peer_of(peer)) {
+    let code = match serving.listener.flow(peer_named(peer)) {
         Some(end) => {
             *view = seen(end);
             DONE

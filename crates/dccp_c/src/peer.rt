@@ -1,6 +1,6 @@
 //! How C names a peer.
 ghost use Rattle.std.specs.Prelude.{◌≡◌};
-ghost use Rattle.dccp_c.specs.Listening.{address_of, peer_of};
+ghost use Rattle.dccp_c.specs.Listening.{address_of, peer_named};
 
 use dccp_listener::Peer;
 
@@ -14,8 +14,8 @@ pub struct PeerAddress {
     pub port: u16,
 }
 
-pub(crate) fn peer_of(peer: &PeerAddress) -> Peer
-    ensures { result ≡ peer_of peer.now }
+pub(crate) fn peer_named(peer: &PeerAddress) -> Peer
+    ensures { result ≡ peer_named peer.now }
 {
     Peer {
         address: peer.address,

@@ -9,7 +9,7 @@ ghost use Rattle.dccp_listener.specs.Peers.{end_of_peer, is_peer};
 ghost use Rattle.dccp_listener.specs.Runs.{Stepped, told_of};
 ghost use Rattle.dccp_listener.specs.Standing.{IsListening};
 ghost use Rattle.dccp_c.specs.Doing.{never};
-ghost use Rattle.dccp_c.specs.Serving.{IsDone, IsPlaced, first_due_flow, in_flight_if, least_wait, served, serves, serving_begins, tells_data, timers_called, timers_of, timers_then};
+ghost use Rattle.dccp_c.specs.Serving.{IsDone, IsPlaced, first_due_flow, in_flight_if, least_wait, served, deed_served, serving_begins, tells_data, timers_called, timers_of, timers_then};
 
 use crate::held::{condition, first_due};
 use dccp_endpoint::{NoMemory, Outbox, Seq48, Timer};
@@ -176,7 +176,7 @@ impl Serving {
         now: u64,
     ) -> Result<Heard, NoMemory>
         requires { length bytes.now ≤ 2044 }
-        ensures after { OnOk result (served self.new.listener self.new.timers.entries ≡ serves now (served self.old.listener self.old.timers.entries) peer (Arrives iss bytes.now)) }
+        ensures after { OnOk result (served self.new.listener self.new.timers.entries ≡ deed_served now (served self.old.listener self.old.timers.entries) peer (Arrives iss bytes.now)) }
         ensures sent { OnOk result (self.new.out ≡ (listens self.old.listener peer (Arrives iss bytes.now)).frame) }
         ensures told { IfOk result (λ heard. told_of (Ok heard) ≡ (listens self.old.listener peer (Arrives iss bytes.now)).told) }
         ensures unchanged { OnErr result (served self.new.listener self.new.timers.entries ≡ served self.old.listener self.old.timers.entries) }
@@ -207,7 +207,7 @@ impl Serving {
         act: Act<'_>,
         now: u64,
     ) -> Result<Result<Seen, NoFlow>, NoMemory>
-        ensures after { OnOk result (served self.new.listener self.new.timers.entries ≡ serves now (served self.old.listener self.old.timers.entries) peer (Calls (call_of act.entry))) }
+        ensures after { OnOk result (served self.new.listener self.new.timers.entries ≡ deed_served now (served self.old.listener self.old.timers.entries) peer (Calls (call_of act.entry))) }
         ensures sent { OnOk result (self.new.out ≡ (listens self.old.listener peer (Calls (call_of act.entry))).frame) }
         ensures told { IfOk result (λ answer. Stepped (seen_if answer) ≡ (listens self.old.listener peer (Calls (call_of act.entry))).told) }
         ensures unchanged { OnErr result (served self.new.listener self.new.timers.entries ≡ served self.old.listener self.old.timers.entries) }
