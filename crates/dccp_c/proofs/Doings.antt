@@ -25,7 +25,7 @@ pub done_as : (before after : Listening) (turn : CallTurn) (frame : Option (List
     → record { flows = after.flows; frame = frame; told = told } ≡ listens before turn.peer turn.deed → IsDone before after turn.peer turn.deed frame told
 done_as before after turn frame told turned is = (
   ap (λ (config : ListenConfig). listening config after.flows) (same-config before after turn turn.told turned)
-  ∙ ap (λ (x : Listened). listening before.config x.flows) is,
+      ∙ ap (λ (x : Listened). listening before.config x.flows) is,
   ap (λ (x : Listened). x.frame) is,
   ap (λ (x : Listened). x.told) is,
 )

@@ -17,8 +17,9 @@ pub struct PeerAddress {
 pub(crate) fn peer_named(peer: &PeerAddress) -> Peer
     ensures { result ≡ peer_named peer.now }
 {
+    let address = peer.address;
     Peer {
-        address: peer.address,
+        address,
         port: peer.port,
     }
 }
@@ -26,8 +27,9 @@ pub(crate) fn peer_named(peer: &PeerAddress) -> Peer
 pub(crate) fn address_of(peer: Peer) -> PeerAddress
     ensures { result ≡ address_of peer }
 {
+    let address = peer.address;
     PeerAddress {
-        address: peer.address,
+        address,
         port: peer.port,
     }
 }
