@@ -1,6 +1,6 @@
 //! What a listener of C's is: the listener, the timers of its flows, and the place where it leaves its frame.
-ghost use Rattle.std.specs.Prelude.{◌≡◌, ◌≤◌, nat_lt, Ok, IfOk, OnOk, OnErr, IsSome, length, slice_get};
-ghost use Rattle.std.specs.Map.{keys_of, lookup};
+ghost use Rattle.std.specs.Prelude.{◌≡◌, ◌≤◌, nat_lt, Ok, IfOk, OnOk, OnErr, IsSome, length, slice_get, if◌then◌else◌};
+ghost use Rattle.std.specs.Map.{keys_of, lookup, remove_entry};
 ghost use Rattle.std.specs.Option.{option_map};
 ghost use Rattle.dccp_uses.specs.Alarms.{with_delivery, with_progress};
 ghost use Rattle.dccp_listener.specs.Calls.{seen_if};
@@ -63,6 +63,15 @@ fn place_for(timers: &mut BTreeMap<Peer, Alarms>, peer: Peer) -> Result<bool, No
     match timers.insert(peer, Alarms::none()) {
         Ok(_) => Ok(false),
         Err(_) => Err(NoMemory),
+    }
+}
+
+// The peer's place goes again, unless it had one before.
+fn take_back(timers: &mut BTreeMap<Peer, Alarms>, peer: Peer, had: bool)
+    ensures { timers.new.entries ≡ (if had then timers.old.entries else remove_entry (is_peer peer) timers.old.entries) }
+{
+    if !had {
+        let _ = timers.remove(&peer);
     }
 }
 
@@ -205,9 +214,7 @@ impl Serving {
                 Ok(heard)
             }
             Err(fault) => {
-                if !had {
-                    let _ = self.timers.remove(&peer);
-                }
+                take_back(&mut self.timers, peer, had);
                 Err(fault)
             }
         }
