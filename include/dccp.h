@@ -290,7 +290,7 @@ void dccp_listener_free(dccp_listener *listener);
 
 /* A datagram has come from this peer. Its flow hears it, or it opens one, if it is a Request that a server's end takes up: that has
  * `first_number` as the number of its first packet, below 2^48, which nobody can guess; draw one for each datagram, or for each whose peer has
- * no flow. DCCP_OK, and what became of it in `told`; a flow ends here where its phase is DCCP_CLOSED. DCCP_BUSY: it would open one flow more than
+ * no flow. DCCP_OK, and what became of it in `told`; a flow that has ended by it is there no more. DCCP_BUSY: it would open one flow more than
  * may stand; nothing has changed, and the frame is a Reset with code 9, Too Busy. Then the owner may close or abort a flow to make room, or
  * let the peer ask again. DCCP_NO_MEMORY, DCCP_UNKNOWN for the number, DCCP_TOO_LONG over 2,044 bytes, DCCP_NOT_MADE: nothing has changed and
  * nothing is left. But for DCCP_OK `told` is as it was. Anybody may call forth the frame of DCCP_BUSY, and those of DCCP_SYNCED and

@@ -14,7 +14,7 @@ use crate::codes::{
 use crate::founding::listening_by;
 use crate::peer::{address_of, peer_named};
 use crate::serving::{Serving, first_due_flow, least_wait};
-use crate::told::told_of;
+use crate::told::tell;
 use crate::{Frame, ListenerHandle, PeerAddress, Settings, Told, View, Wish};
 use dccp_endpoint::{MOST_FRAME_BYTES, NoMemory, Seq48};
 use dccp_listener::{Act, Heard, NoFlow, Peer, Refusal, Seen};
@@ -56,13 +56,13 @@ fn call_code(answer: &Result<Seen, NoFlow>) -> u32
 }
 
 // Tells C of a datagram that was heard.
-fn tell(heard: &Heard, told: &mut Told) -> u32
+fn tell_heard(heard: &Heard, told: &mut Told) -> u32
     ensures told { told.new ≡ listen_told (told_of (Ok heard.now)) told.old }
     ensures code { result ≡ listen_code (told_of (Ok heard.now)) }
 {
     match heard {
         Heard::Flow(outcome) => {
-            *told = told_of(outcome);
+            tell(outcome, told);
             DONE
         }
         Heard::Busy => BUSY,
@@ -135,7 +135,7 @@ pub extern "C" fn dccp_listener_arrive(
         Ok(heard) => {
             frame.fill(&serving.out);
             listener.put(serving);
-            tell(&heard, told)
+            tell_heard(&heard, told)
         }
         Err(NoMemory) => {
             listener.put(serving);
