@@ -1,7 +1,7 @@
 -- The timers of a peer go on from its place as the definitions say.
 use Rattle.std.proofs.Common.{◌≡◌, ap, ◌∙◌, ℕ, Bool, List, Option}
 use Rattle.dccp_listener.specs.Chain.{Deed, Arrives, Calls, FlowCall}
-use Rattle.dccp_listener.specs.Listens.{listening_after, listens}
+use Rattle.dccp_listener.specs.Listens.{listening_after}
 use Rattle.dccp_listener.specs.Peers.{FlowEnd, Listening, end_of_peer}
 use Rattle.dccp_listener.specs.Runs.{CallTold}
 use Rattle.dccp_listener.specs.declared.peer.Peer.{Peer}

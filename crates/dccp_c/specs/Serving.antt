@@ -7,7 +7,7 @@ use Rattle.dccp_endpoint.specs.Controlled.{in_flight_of}
 use Rattle.dccp_listener.specs.Chain.{Deed, Arrives, Calls, FlowCall, Fires, Sends, Closes, Aborts}
 use Rattle.dccp_listener.specs.Listens.{listening_after, listens}
 use Rattle.dccp_listener.specs.Peers.{FlowEnd, Listening, end_of_peer, is_peer, peer_cmp}
-use Rattle.dccp_listener.specs.Runs.{CallTold, Stepped, WasBusy, HadNoMemory}
+use Rattle.dccp_listener.specs.Runs.{CallTold, Stepped}
 use Rattle.dccp_listener.specs.declared.config.ListenConfig.{ListenConfig}
 use Rattle.dccp_listener.specs.declared.peer.Peer.{Peer}
 use Rattle.dccp_uses.specs.Alarms.{arranged, no_alarms, rung, until_first, with_delivery, with_progress}

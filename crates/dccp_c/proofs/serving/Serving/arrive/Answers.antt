@@ -1,4 +1,4 @@
-use Rattle.std.proofs.Common.{ap, ◌∙◌, ℕ, Bool, Ok}
+use Rattle.std.proofs.Common.{ap, ◌∙◌, ℕ, Ok}
 use Rattle.std.specs.Prelude.{nat_lt}
 use Rattle.dccp_listener.specs.Peers.{Listening, end_of_peer}
 use Rattle.dccp_listener.specs.Runs.{told_of}
