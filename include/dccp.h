@@ -1,8 +1,8 @@
 /* One end of a DCCP connection (RFC 4340) with CCID 2 (RFC 4341) and feature negotiation, and a server of many peers.
  *
  * The library has no socket, no clock and no thread. Datagrams that arrived and the time go in, and each call leaves at most
- * one frame, which the caller sends to the peer. It takes memory in dccp_make, dccp_accept and dccp_listener_make, and where a
- * listener has a flow more.
+ * one frame, which the caller sends to the peer. It takes memory in dccp_make, dccp_accept and dccp_listener_make, and in
+ * dccp_listener_arrive from a peer that has no flow, which gives it back where none is opened.
  *
  * Order of calls: begin a handle with DCCP_NONE; a client makes an end in it and opens it, a server lets dccp_accept make it of
  * a peer's first datagram. From then on dccp_receive for each datagram, dccp_tick as soon as dccp_until_first has gone by,
