@@ -1,0 +1,5 @@
+pub mod Members
+pub mod Skips
+pub mod Judging
+pub mod Objects
+pub mod Telling
