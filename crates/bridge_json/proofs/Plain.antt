@@ -1,4 +1,4 @@
--- No number in the object of a record is a float.
+-- No number in the object of a record or of a fault is a float.
 use Rattle.std.proofs.Common.{◌≡◌, refl, Bool, true, false, ◌||◌, List, [], ◌∷◌, ℕ, Result, nat_cmp, Ordering, Less, Equal, Greater}
 use Rattle.std.specs.Ordering.{match_ordering}
 use Rattle.std.specs.Cmp.Lexicographic.{slice_cmp}
@@ -13,10 +13,12 @@ use Rattle.dccp_packets.specs.declared.header.Kind.{Kind}
 use Rattle.dccp_packets.specs.declared.header.Kind.TheVariants.{Request, Response, Data, Ack, DataAck, CloseReq, Close, Reset, Sync, SyncAck}
 use Rattle.capture_reader.specs.Records.{RecordParts}
 use Rattle.packet_show.specs.Network.{DatagramParts}
+use Rattle.bridge_pieces.specs.declared.fault.PieceFault.{PieceFault}
 use Rattle.bridge_unwrap.specs.Links.{ip_bytes}
 use Rattle.bridge_json.specs.Judging.{HoldsMalformed, HoldsNone, HoldsPacket, Judged, judged_ip}
 use Rattle.bridge_json.specs.Members.{with_number, with_text, with_truth}
 use Rattle.bridge_json.specs.Objects.{option_values, record_members, with_code, with_ends, with_header, with_judged, with_kind, with_options, with_packet, with_stamp}
+use Rattle.bridge_json.specs.Telling.{fault_members}
 
 neither : (a b : Bool) → a ≡ false → b ≡ false → (a || b) ≡ false
 neither false b one other = other
@@ -97,3 +99,6 @@ plain-judged (HoldsNone why) ms plain = plain-text _ _ ms plain
 pub plain_record : (e : RecordParts) → members_have_float (record_members e) ≡ false
 unfolding record_members
 plain_record e = plain-judged (judged_ip (ip_bytes e.link e.bytes)) _ (plain-stamp e no_members refl)
+
+pub plain_fault : (records : ℕ) (fault : PieceFault) → members_have_float (fault_members records fault) ≡ false
+plain_fault records fault = plain-text _ _ _ (plain-number _ _ no_members refl)

@@ -3,3 +3,4 @@ pub mod Skips
 pub mod Judging
 pub mod Objects
 pub mod Telling
+pub mod Together

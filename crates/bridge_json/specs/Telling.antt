@@ -11,7 +11,7 @@ use Rattle.bridge_unwrap.specs.Unwrapping.{piece_fault_name}
 use Rattle.bridge_json.specs.Members.{object_line, with_number, with_text}
 use Rattle.bridge_json.specs.Objects.{record_line}
 use Rattle.dccp_io.specs.Counts.{one_more}
-use Rattle.serde_json.specs.Data.{no_members}
+use Rattle.serde_json.specs.Data.{Members, no_members}
 
 -- Where reading stands, whether fractions are nanoseconds, and how many records were told.
 pub record JsonState : Type 0 where
@@ -44,11 +44,14 @@ abbrev pub by_judged : JsonState → List ℕ → Judgement Found FileState → 
 by_judged state piece (Stops fault) = Stops fault
 by_judged state piece (Goes deed next) = by_found state piece next deed
 
--- what stands behind the last record: nothing, or an object of the fault, with how many records stand before it
+-- the object of a fault, with how many records stand before it
+abbrev pub fault_members : ℕ → PieceFault → Members
+fault_members records fault = with_text (codes "fault") (piece_fault_name fault) (with_number (codes "records") records no_members)
+
+-- what stands behind the last record: nothing, or the line of the fault
 abbrev pub json_closing : ℕ → Option PieceFault → List ℕ
 json_closing records None = []
-json_closing records (Some fault) =
-    object_line (with_text (codes "fault") (piece_fault_name fault) (with_number (codes "records") records no_members))
+json_closing records (Some fault) = object_line (fault_members records fault)
 
 -- What `json` makes of the pieces of a capture.
 abbrev pub json_work : PieceWork RecordParts JsonState

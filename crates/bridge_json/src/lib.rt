@@ -11,5 +11,7 @@ mod packets;
 mod skips;
 mod telling;
 
-pub use crate::laws::what_show_shows_is_told;
+pub use crate::laws::{
+    each_record_is_told, each_record_told_is_unwrapped, what_show_shows_is_told,
+};
 pub use crate::telling::json_records;

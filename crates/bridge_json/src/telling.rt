@@ -66,6 +66,7 @@ fn numbered<'a>(
 }
 
 // Puts the object of a fault, behind so many records.
+#[tactic(auto, using(crate::proofs::Plain::plain_fault))]
 fn put_fault(
     alloc: Global,
     text: &mut Vec<u8>,
