@@ -1,5 +1,5 @@
 //! A packet of DCCP as members of an object (RFC 4340, section 5; the names are own).
-ghost use Rattle.std.specs.Prelude.{◌≡◌, ◌≤◌, ◌++◌, [], ◌∷◌, length, OnOk, IfOk};
+ghost use Rattle.std.specs.Prelude.{◌≡◌, ◌≤◌, ◌++◌, [], ◌∷◌, length, OnOk};
 ghost use Rattle.dccp_options.specs.Grammar.{options_of};
 ghost use Rattle.dccp_options.specs.Left.{item_of};
 ghost use Rattle.dccp_packets.specs.declared.header.Number.TheVariants.{Long};
@@ -15,7 +15,6 @@ use dccp_packets::{Header, Kind, Number, Packet};
 use dccp_sum::check;
 use packet_show::{Datagram, put_from, put_mark, put_option, put_to, sum_name, type_name};
 use seq_circle::{NoMemory, Seq48};
-use std::alloc::Global;
 use tool_text::put;
 
 // Puts the addresses that a packet goes from and to.
@@ -141,16 +140,15 @@ fn push_option(texts: &mut Texts, item: &Result<Opt<'_>, OptFault>) -> Result<()
     texts.push(&words)
 }
 
-// The options of an area.
-fn options_in(alloc: Global, area: &[u8], on_data: bool) -> Result<Texts, NoMemory>
+// Puts the options of an area at a list's end.
+fn push_options(texts: &mut Texts, area: &[u8], on_data: bool) -> Result<(), NoMemory>
     requires { length area.now ≤ 1008 }
-    ensures { IfOk result (λ texts. listed texts ≡ option_values (options_of area.now on_data)) }
+    ensures { OnOk result (listed texts.new ≡ listed texts.old ++ option_values (options_of area.now on_data)) }
 {
-    let mut texts = Texts::new(alloc);
     for item in options(area, on_data) {
-        push_option(&mut texts, &item)?;
+        push_option(texts, &item)?;
     }
-    Ok(texts)
+    Ok(())
 }
 
 // Puts the options, of which some are ignored on Data packets.
@@ -158,8 +156,12 @@ fn put_options(object: &mut Object, packet: &Packet<'_>) -> Result<(), NoMemory>
     requires { length packet.now.options.now ≤ 1008 }
     ensures { OnOk result (members_seen object.new ≡ with_options (parts_by packet.now) (members_seen object.old)) }
 {
-    let on_data = packet.header.kind.packet_type().is_data();
-    let texts = options_in(object.alloc, packet.options, on_data)?;
+    let mut texts = Texts::new(object.alloc);
+    push_options(
+        &mut texts,
+        packet.options,
+        packet.header.kind.packet_type().is_data(),
+    )?;
     object.texts("options", texts)
 }
 
