@@ -1,7 +1,8 @@
 //! A packet of DCCP as members of an object (RFC 4340, section 5; the names are own).
-ghost use Rattle.std.specs.Prelude.{◌≡◌, ◌≤◌, ◌++◌, [], ◌∷◌, length, OnOk};
+ghost use Rattle.std.specs.Prelude.{◌≡◌, ◌≤◌, ◌++◌, [], ◌∷◌, length, not, OnOk};
 ghost use Rattle.dccp_options.specs.Grammar.{options_of};
 ghost use Rattle.dccp_options.specs.Left.{item_of};
+ghost use Rattle.dccp_packets.specs.Grammar.{is_long};
 ghost use Rattle.dccp_packets.specs.declared.header.Number.TheVariants.{Long};
 ghost use Rattle.packet_show.specs.Lines.{parts_by};
 ghost use Rattle.packet_show.specs.Network.{carried_by};
@@ -30,11 +31,7 @@ fn put_addresses(object: &mut Object, there: &Datagram<'_>) -> Result<(), NoMemo
 }
 
 // Puts the addresses and ports of a packet.
-fn put_ends(
-    object: &mut Object,
-    there: &Datagram<'_>,
-    header: &Header,
-) -> Result<(), NoMemory>
+fn put_ends(object: &mut Object, there: &Datagram<'_>, header: &Header) -> Result<(), NoMemory>
     ensures { OnOk result (members_seen object.new ≡ with_ends (carried_by there.now) header.now (members_seen object.old)) }
 {
     put_addresses(object, there)?;
@@ -51,13 +48,19 @@ fn number_written(number: Number) -> u64
     }
 }
 
+fn is_short(number: Number) -> bool
+    ensures { result ≡ not (is_long number) }
+{
+    matches!(number, Number::Short(_))
+}
+
 // Puts the fields of the generic header.
 fn put_header(object: &mut Object, header: &Header) -> Result<(), NoMemory>
     ensures { OnOk result (members_seen object.new ≡ with_header_fields header.now (members_seen object.old)) }
 {
     object.text("type", type_name(header.kind.packet_type()))?;
     object.number("sequence", number_written(header.number))?;
-    object.truth("short", matches!(header.number, Number::Short(_)))?;
+    object.truth("short", is_short(header.number))?;
     object.number("ccval", u64::from(header.ccval))?;
     object.number("cscov", u64::from(header.cscov))?;
     object.number("checksum", u64::from(header.checksum))
@@ -116,10 +119,7 @@ fn put_kind(object: &mut Object, kind: &Kind) -> Result<(), NoMemory>
 }
 
 // Puts an option as `show` has it between brackets, or the fault of Mandatory that ends the options.
-fn put_option_words(
-    text: &mut Vec<u8>,
-    item: &Result<Opt<'_>, OptFault>,
-) -> Result<(), NoMemory>
+fn put_option_words(text: &mut Vec<u8>, item: &Result<Opt<'_>, OptFault>) -> Result<(), NoMemory>
     ensures { OnOk result (text.new.items ≡ text.old.items ++ option_words (item_of item.now)) }
 {
     match item {
@@ -178,11 +178,7 @@ fn verdict_name(there: &Datagram<'_>) -> &'static [u8]
 }
 
 // Puts how many bytes of data are there, and the verdict on the checksum.
-fn put_rest(
-    object: &mut Object,
-    there: &Datagram<'_>,
-    packet: &Packet<'_>,
-) -> Result<(), NoMemory>
+fn put_rest(object: &mut Object, there: &Datagram<'_>, packet: &Packet<'_>) -> Result<(), NoMemory>
     requires low { 8 ≤ length there.now.bytes.now }
     requires high { length there.now.bytes.now ≤ 65535 }
     ensures { OnOk result (members_seen object.new ≡ with_rest (carried_by there.now) (parts_by packet.now) (members_seen object.old)) }
