@@ -1,5 +1,5 @@
 //! Schedules of seeds: worked texts, a sink that fails, and what is refused.
-use crate::calls::{Streams, USAGE, answer_to};
+use crate::calls::{Streams, USAGE, comes, is_cut_off};
 use bridge_command::Status;
 use std::alloc::Global;
 use std::test::Fail;
@@ -31,15 +31,16 @@ prefer client here 1 2,248\ndeliver c0\ndeliver s0\ndeliver s0\ndeliver s0\n",
     ),
 ];
 
-fn answers(alloc: Global, words: &str, status: Status, text: &[u8]) -> Result<bool, Fail> {
-    let answer = answer_to(alloc, &Streams::of(4096), words, b"unread")?;
-    Ok(answer.status == status && answer.bytes.as_slice() == text)
+// Nothing is read of the input.
+fn answers(alloc: Global, words: &str, answer: (Status, &[u8])) -> Result<bool, Fail> {
+    comes(alloc, &Streams::of(4096), (words, b"unread"), answer)
 }
 
 #[test]
 fn schedules_of_seeds(rt: HostRuntime) -> Result<(), Fail> {
     for (words, schedule) in SCHEDULES {
-        assert!(rt; answers(rt.alloc(), words, Status::Done, schedule.as_bytes())?, "{words}");
+        let told = answers(rt.alloc(), words, (Status::Done, schedule.as_bytes()))?;
+        assert!(rt; told, "{words}");
     }
     Ok(())
 }
@@ -64,20 +65,20 @@ const REFUSED: [&str; 14] = [
 #[test]
 fn refused_words_of_seeds(rt: HostRuntime) -> Result<(), Fail> {
     for words in REFUSED {
-        assert!(rt; answers(rt.alloc(), words, Status::Words, USAGE)?, "{words}");
+        let told = answers(rt.alloc(), words, (Status::Words, USAGE))?;
+        assert!(rt; told, "{words}");
     }
     Ok(())
 }
 
 #[test]
 fn schedule_for_a_sink_that_fails(rt: HostRuntime) -> Result<(), Fail> {
-    let words = "seed,--seed,3,--events,40";
-    let failing = Streams {
-        failing_write: Some(1),
-        ..Streams::of(7)
-    };
-    let answer = answer_to(rt.alloc(), &failing, words, b"")?;
-    let nothing = answer.status == Status::Write && answer.bytes.is_empty();
-    assert!(rt; nothing, "a sink that fails");
+    let (words, schedule) = SCHEDULES[2];
+    for number in [1, 9] {
+        let sink = Streams::failing_write(number);
+        let whole = (Status::Write, schedule.as_bytes());
+        let cut = is_cut_off(rt.alloc(), &sink, (words, b""), whole)?;
+        assert!(rt; cut, "write {number}");
+    }
     Ok(())
 }
