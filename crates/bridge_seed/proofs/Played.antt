@@ -129,8 +129,8 @@ rest-goes (suc n) number given run play here few room passes =
     event-goes play number given (next_event run) (event_lines (next_events n (goes_on run))) (record run { words = behind_two run.words })
     (goes_on_for n (goes_on run)) (next_events n (goes_on run)) here (omega (arith, few)) passes.0 brief (omega (arith, room))
     (λ next is events.
-        rest-goes n (number + 1) (given + (length (event_text (next_event run)) + 1)) (goes_on run) next (ap (world_or_start next.client next.server) is)
-        (omega (arith, few, events)) (omega (arith, room, short)) passes.1.1)
+    rest-goes n (number + 1) (given + (length (event_text (next_event run)) + 1)) (goes_on run) next (ap (world_or_start next.client next.server) is)
+    (omega (arith, few, events)) (omega (arith, room, short)) passes.1.1)
 
 -- ---- the events of a seed pass
 
@@ -143,11 +143,10 @@ CanGoOn run = IsOk (happens_to kinds_control run.world (next_event run)) × IsBr
 seeded-can : NextHappens → (seed events : ℕ) → events ≤ 4096 → CanGoOn (seeded seed events)
 seeded-can law seed events few =
     let run = seeded seed events in
-    let short : IsShort (events - 1 + 1) run = after-so-many seed events in
-    (
+    let short : IsShort (events - 1 + 1) run = after-so-many seed events in (
       law seed events (omega (arith, few)),
       brief-drawn (word run.words) (word (behind_word run.words)) (frames_of run Client) (frames_of run Server) (omega (arith, few, short.clients))
-      (omega (arith, few, short.servers)),
+          (omega (arith, few, short.servers)),
     )
 
 one-more : (m : ℕ) (run : Running) → goes_on_for m (goes_on run) ≡ goes_on (goes_on_for m run)
@@ -212,8 +211,8 @@ events-go opens nexts seed events number given some most room =
     event-goes (configured seed) number given Open (event_lines (next_events (events - 1) (opened_run seed))) (begun_run (generator seed)) (seeded seed events)
     (next_events (events - 1) (opened_run seed)) (sym (begun-world (generator seed))) (omega arith) (opens seed) brief-open (omega (arith, room))
     (λ next is count.
-        rest-goes (events - 1) (number + 1) (given + (length (event_text Open) + 1)) (opened_run seed) next (ap (world_or_start next.client next.server) is)
-        (omega (arith, most, count)) (omega (arith, most, room)) (seed-passes nexts seed (events - 1) 0 (omega (arith, most))))
+    rest-goes (events - 1) (number + 1) (given + (length (event_text Open) + 1)) (opened_run seed) next (ap (world_or_start next.client next.server) is)
+    (omega (arith, most, count)) (omega (arith, most, room)) (seed-passes nexts seed (events - 1) 0 (omega (arith, most))))
 
 pub schedule-follows : OpenHappens → NextHappens → (seed events : ℕ) → 1 ≤ events → events ≤ 4096
     → Follows (begun_run (generator seed)).report (seeded seed events) (seeded_events seed events) (configured seed) (performed (seed_text seed events))

@@ -51,12 +51,7 @@ fn put_next_events(text: &mut Vec<u8>, run: &mut Run, more: u32) -> Result<(), N
 }
 
 // Puts the lines of all events of a seed.
-fn put_events(
-    alloc: Global,
-    text: &mut Vec<u8>,
-    seed: u64,
-    events: u32,
-) -> Result<(), NoMemory>
+fn put_events(alloc: Global, text: &mut Vec<u8>, seed: u64, events: u32) -> Result<(), NoMemory>
     requires events { 1 ≤ events × events ≤ 4096 }
     ensures { OnOk result (text.new.items ≡ text.old.items ++ event_lines (seeded_events seed events)) }
 {
