@@ -208,11 +208,13 @@ events-go : OpenHappens → NextHappens → (seed events number given : ℕ) →
     → Follows (begun_run (generator seed)).report (seeded seed events) (seeded_events seed events) (configured seed)
     (gone_from run_job (configured seed) number given (lines_of (event_lines (seeded_events seed events))))
 events-go opens nexts seed events number given some most room =
+    let short : length (event_text Open) ≤ 200 = brief-open.short in
+    let none : (configured seed).events ≡ 0 = refl in
     event-goes (configured seed) number given Open (event_lines (next_events (events - 1) (opened_run seed))) (begun_run (generator seed)) (seeded seed events)
-    (next_events (events - 1) (opened_run seed)) (sym (begun-world (generator seed))) (omega arith) (opens seed) brief-open (omega (arith, room))
+    (next_events (events - 1) (opened_run seed)) (sym (begun-world (generator seed))) (omega (arith, none)) (opens seed) brief-open (omega (arith, room))
     (λ next is count.
     rest-goes (events - 1) (number + 1) (given + (length (event_text Open) + 1)) (opened_run seed) next (ap (world_or_start next.client next.server) is)
-    (omega (arith, most, count)) (omega (arith, most, room)) (seed-passes nexts seed (events - 1) 0 (omega (arith, most))))
+    (omega (arith, most, count, none)) (omega (arith, most, room, short)) (seed-passes nexts seed (events - 1) 0 (omega (arith, most))))
 
 pub schedule-follows : OpenHappens → NextHappens → (seed events : ℕ) → 1 ≤ events → events ≤ 4096
     → Follows (begun_run (generator seed)).report (seeded seed events) (seeded_events seed events) (configured seed) (performed (seed_text seed events))

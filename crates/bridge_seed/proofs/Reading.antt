@@ -2,6 +2,8 @@
 use Rattle.std.proofs.Common.{◌≡◌, refl, sym, ap, ap₂, ◌∙◌, subst, ℕ, zero, suc, ◌+◌, ◌≤◌, ◌<◌, ◌==◌, min, nat_le, Bool, true, false, if◌then◌else◌, List, [], ◌∷◌, ◌++◌, length, take, drop, Result, Ok, Err, append_assoc, length-append, arith}
 use Rattle.std.specs.Prelude.{codes, ◌&&◌}
 use Rattle.std.specs.List.{list_all}
+use Rattle.std.proofs.Math.Nat.{min-le_left}
+use Rattle.std.proofs.lemmas.Bool.{le-leb, leb-true}
 use Rattle.std.proofs.lemmas.Bool.Decides.{nat_tests}
 use Rattle.std.proofs.lemmas.List.{take_all}
 use Rattle.dccp_io.specs.Lines.{Next, Line, Long, Much, before_line, by_length, ends_within, first_line, lines_of, most_input_bytes, newline, next_in_lines, one_too_many, text_length, text_of}
@@ -20,8 +22,11 @@ use Rattle.tool_words.proofs.RowLaws.{then-ok}
 pub read-clean : (text : List ℕ) (said : words.Line) → read_line text ≡ Ok said → IsClean text
 read-clean text said is = clean-ok text tt (then-ok (clean text) (read_clean text) said is).0
 
+low-byte : (byte : ℕ) → 32 ≤ byte → (byte == newline) ≡ false
+low-byte byte low = grind (arith, nat_tests)
+
 other-byte : (byte : ℕ) → is_text byte ≡ true → (byte == newline) ≡ false
-other-byte byte is = grind (arith, nat_tests)
+other-byte byte is = low-byte byte (leb-true 32 byte (both-true (nat_le 32 byte) (nat_le byte 126) is).0)
 
 -- a text in front of a newline
 text-size : (text rest : List ℕ) → list_all is_text text ≡ true → text_length (text ++ (newline ∷ rest)) ≡ length text
@@ -46,10 +51,16 @@ line-size : (text : List ℕ) → length (text ++ (newline ∷ [])) ≡ length t
 line-size text = length-append text (newline ∷ [])
 
 within : (given : ℕ) (text : List ℕ) → given + (length text + 1) ≤ most_input_bytes → ends_within given (text ++ (newline ∷ [])) ≡ true
-within given text few = let size = line-size text in grind (arith, nat_tests)
+within given text few =
+    let size = line-size text in
+    let least = min-le_left (length (text ++ (newline ∷ []))) one_too_many in
+    le-leb (given + min (length (text ++ (newline ∷ []))) one_too_many) most_input_bytes (omega (arith, few, size, least))
 
 not-long : (text : List ℕ) → length text ≤ 4096 → nat_le one_too_many (length text) ≡ false
-not-long text short = grind (arith, nat_tests)
+not-long text short = long-not (length text) short
+  where
+    long-not : (n : ℕ) → n ≤ 4096 → nat_le one_too_many n ≡ false
+    long-not n short = grind (arith, nat_tests)
 
 -- and stands next
 stands-next : (given : ℕ) (text : List ℕ) (lines : List (List ℕ)) → IsClean text → given + (length text + 1) ≤ most_input_bytes

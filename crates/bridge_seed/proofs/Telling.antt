@@ -1,13 +1,13 @@
 -- Lines that are written while their events happen.
-use Rattle.std.proofs.Common.{◌≡◌, refl, sym, ap, subst, ◌∙◌, ℕ, suc, ◌+◌, ◌-◌, ◌≤◌, ◌<◌, List, [], ◌∷◌, ◌++◌, append_assoc, arith}
+use Rattle.std.proofs.Common.{◌≡◌, refl, sym, ap, ap₂, subst, ◌∙◌, ℕ, suc, ◌+◌, ◌-◌, ◌*◌, ◌^◌, ◌≤◌, ◌<◌, List, [], ◌∷◌, ◌++◌, append_assoc, arith}
 use Rattle.std.proofs.lemmas.List.{append-nil}
-use Rattle.fault_campaign.specs.Draws.{behind_two}
-use Rattle.fault_campaign.specs.Seeded.{Running, goes_on, next_event, next_events, played}
-use Rattle.fault_campaign.proofs.Turns.{IsUnderWay, at-start, counts-little, one-turn}
-use Rattle.bridge_seed.specs.Schedule.{event_line, event_lines}
+use Rattle.fault_campaign.specs.Draws.{behind_two, generator}
 use Rattle.fault_campaign.specs.Reports.{size}
-use Rattle.std.specs.Prelude.{◌*◌, ◌^◌}
+use Rattle.fault_campaign.specs.Seeded.{Running, begun_run, goes_on, next_event, next_events, opened_run, played, seeded_events}
+use Rattle.fault_campaign.proofs.Turns.{IsUnderWay, at-start, one-turn, opened-few, starts-little}
 use Rattle.world_events.specs.declared.event.Event.{Event}
+use Rattle.world_events.specs.declared.event.Event.TheVariants.{Open}
+use Rattle.bridge_seed.specs.Schedule.{event_line, event_lines}
 
 -- After so many of all further events, the lines of those are written, and those of the rest are to come.
 pub record IsTold (all done : ℕ) (first run : Running) (before now : List ℕ) : Type 0 where
@@ -42,3 +42,20 @@ pub told-all : (all done : ℕ) (first run : Running) (before now : List ℕ) �
 told-all all done first run before now over told =
     let none : 0 ≡ all - done = omega arith in
     sym (append-nil now) ∙ ap (λ (n : ℕ). now ++ event_lines (next_events n run)) none ∙ told.lines
+
+-- ---- all lines of a seed
+
+pub begun-little : (seed : ℕ) (run : Running) → run ≡ begun_run (generator seed) → size run.report < 2 ^ 62
+begun-little seed run is = let little = starts-little (generator seed) 0 run (omega arith) is in omega (arith, little)
+
+pub opened-little : (seed events : ℕ) (run opened : Running) → 1 ≤ events → events ≤ 4096 → run ≡ begun_run (generator seed) → opened ≡ played run Open
+    → size opened.report + 2 * (events - 1) < 2 ^ 62
+opened-little seed events run opened some most is opens =
+    opened-few events run opened some (starts-little (generator seed) events run most is) opens
+
+pub all-told : (seed events : ℕ) (run opened : Running) (before text after : List ℕ) → run ≡ begun_run (generator seed) → opened ≡ played run Open
+    → text ≡ before ++ event_line Open → after ≡ text ++ event_lines (next_events (events - 1) opened) → after ≡ before ++ event_lines (seeded_events seed events)
+all-told seed events run opened before text after is opens put more =
+    more
+    ∙ ap₂ (λ (t : List ℕ) (r : Running). t ++ event_lines (next_events (events - 1) r)) put (opens ∙ ap (λ (r : Running). played r Open) is)
+    ∙ append_assoc before (event_line Open) (event_lines (next_events (events - 1) (opened_run seed)))

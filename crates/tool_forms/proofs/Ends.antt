@@ -110,11 +110,11 @@ lacks-text setting (pair ∷ pairs) none = go (is_same pair.0 setting) refl none
 
 -- a pair whose text is no value
 pub record Bad (pairs : Pairs) : Type 0 where
-  setting : Setting
-  text : Text
-  at : text_at setting pairs ≡ Some text
-  bad : value_of setting text ≡ None
-  own : (t : Table) → Owned t pairs → owns t setting ≡ true
+  pub setting : Setting
+  pub text : Text
+  pub at : text_at setting pairs ≡ Some text
+  pub bad : value_of setting text ≡ None
+  pub own : (t : Table) → Owned t pairs → owns t setting ≡ true
 
 pub some-bad : (pairs : Pairs) → Distinct pairs → gave pairs ≡ None → Bad pairs
 some-bad [] distinct none = cc none
