@@ -26,15 +26,15 @@ asked_form (first ∷ words) =
     else None
 
 -- the numbers of a form are within their bounds
-abbrev pub IsFormWithinBounds : Form → Type 0
-IsFormWithinBounds form.Capture = Unit {0}
-IsFormWithinBounds form.Unwrap = Unit {0}
-IsFormWithinBounds (form.Seed run) = IsRunWithinBounds run
+abbrev pub IsBridgeFormWithinBounds : Form → Type 0
+IsBridgeFormWithinBounds form.Capture = Unit {0}
+IsBridgeFormWithinBounds form.Unwrap = Unit {0}
+IsBridgeFormWithinBounds (form.Seed run) = IsRunWithinBounds run
 
 -- Only the words behind `seed` are settings.
-abbrev pub has_settings : List (String Global) → Bool
-has_settings [] = false
-has_settings (first ∷ words) = is_word first (codes "seed")
+abbrev pub has_bridge_settings : List (String Global) → Bool
+has_bridge_settings [] = false
+has_bridge_settings (first ∷ words) = is_word first (codes "seed")
 
 -- The line that answers all other words.
 abbrev pub bridge_usage : List ℕ

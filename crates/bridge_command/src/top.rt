@@ -4,7 +4,7 @@ ghost use Rattle.dccp_io.specs.Counts.{Rose};
 ghost use Rattle.bridge_capture.specs.Capturing.{frames_capture, transcript_accepted, transcript_refused};
 ghost use Rattle.bridge_seed.specs.Schedule.{seed_text};
 ghost use Rattle.bridge_unwrap.specs.Unwrapping.{is_unwrapped_faulty, unwrapped_pieces, unwrapped_text};
-ghost use Rattle.bridge_command.specs.Words.{OnCapture, OnSeed, OnUnwrap, asked_form, bridge_usage, has_settings};
+ghost use Rattle.bridge_command.specs.Words.{OnCapture, OnSeed, OnUnwrap, asked_form, bridge_usage, has_bridge_settings};
 ghost use Rattle.tool_output.specs.Ends.{SinkFails, IsWritten, Answers, StopsWithin, EndsForCause};
 
 use crate::words::{Form, USAGE, form_of};
@@ -32,7 +32,7 @@ pub fn bridge<S: Source, K: Sink>(
     // Words that are none of the forms come to the usage line, as far as the sink takes it. Where no memory was left to read settings, nothing
     // is written.
     ensures words { result ≡ Status.Words → asked_form words.now ≡ None }
-    ensures others { asked_form words.now ≡ None → (result ≡ Status.Words) ⊎ ((result ≡ Status.Memory) × (has_settings words.now ≡ true)) }
+    ensures others { asked_form words.now ≡ None → (result ≡ Status.Words) ⊎ ((result ≡ Status.Memory) × (has_bridge_settings words.now ≡ true)) }
     ensures unread { asked_form words.now ≡ None → input.new ≡ input.old }
     ensures usage { result ≡ Status.Words → IsWritten bridge_usage (K.taken output.old) (K.taken output.new) (SinkFails K.faults K.empty_takes output.old output.new) }
     ensures silent { asked_form words.now ≡ None → result ≡ Status.Memory → output.new ≡ output.old }

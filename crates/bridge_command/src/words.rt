@@ -1,6 +1,6 @@
 //! What the words after the program's name ask for.
 ghost use Rattle.std.specs.Prelude.{◌≡◌, IfOk, IfSome, IsOk, false};
-ghost use Rattle.bridge_command.specs.Words.{IsFormWithinBounds, asked_form, asked_seed, has_settings, stands_alone};
+ghost use Rattle.bridge_command.specs.Words.{IsBridgeFormWithinBounds, asked_form, asked_seed, has_bridge_settings, stands_alone};
 ghost use Rattle.tool_forms.specs.Words.{is_word};
 
 use seq_circle::NoMemory;
@@ -29,9 +29,9 @@ fn is_word(word: &String, text: &[u8]) -> bool
 
 // No word may follow.
 fn stands_alone(form: Form, words: &[String]) -> Option<Form>
-    requires { IsFormWithinBounds form }
+    requires { IsBridgeFormWithinBounds form }
     ensures value { result ≡ stands_alone form words.now }
-    ensures within { IfSome result IsFormWithinBounds }
+    ensures within { IfSome result IsBridgeFormWithinBounds }
 {
     if words.is_empty() { Some(form) } else { None }
 }
@@ -39,7 +39,7 @@ fn stands_alone(form: Form, words: &[String]) -> Option<Form>
 // The job that the words behind `seed` ask for.
 fn asked_seed(alloc: Global, words: &[String]) -> Result<Option<Form>, NoMemory>
     ensures value { IfOk result (λ form. form ≡ asked_seed words.now) }
-    ensures within { IfOk result (λ form. IfSome form IsFormWithinBounds) }
+    ensures within { IfOk result (λ form. IfSome form IsBridgeFormWithinBounds) }
 {
     match seed_run_of(alloc, words)? {
         Some(run) => Ok(Some(Form::Seed(run))),
@@ -53,8 +53,8 @@ fn asked_seed(alloc: Global, words: &[String]) -> Result<Option<Form>, NoMemory>
 #[tactic(auto, unfolding(crate::specs::Words::asked_form))]
 pub fn form_of(alloc: Global, words: &[String]) -> Result<Option<Form>, NoMemory>
     ensures value { IfOk result (λ form. form ≡ asked_form words.now) }
-    ensures within { IfOk result (λ form. IfSome form IsFormWithinBounds) }
-    ensures memory { has_settings words.now ≡ false → IsOk result }
+    ensures within { IfOk result (λ form. IfSome form IsBridgeFormWithinBounds) }
+    ensures memory { has_bridge_settings words.now ≡ false → IsOk result }
 {
     match words {
         [first, words @ ..] if is_word(first, b"capture") => Ok(stands_alone(Form::Capture, words)),
