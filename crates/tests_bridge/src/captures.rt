@@ -1,5 +1,5 @@
 //! Transcripts as captures: worked bytes, streams in pieces and streams that fail, and what is refused.
-use crate::calls::{Streams, comes, is_cut_off, is_refused};
+use crate::calls::{Streams, USAGE, comes, is_cut_off, is_refused};
 use bridge_command::Status;
 use std::alloc::Global;
 use std::test::Fail;
