@@ -78,8 +78,6 @@ fn refused_lines_of_transcripts(rt: HostRuntime) -> Result<(), Fail> {
     Ok(())
 }
 
-const USAGE: &[u8] = b"usage: dccp_bridge unwrap | capture\n";
-
 #[test]
 fn other_words_of_the_bridge(rt: HostRuntime) -> Result<(), Fail> {
     for words in ["", "walk", "Capture", "capture,capture", "show"] {
