@@ -201,6 +201,7 @@ fn tell_asked(
     Ok(())
 }
 
+#[derive(Drop)]
 struct Asking(Role);
 
 impl Table for Asking {
@@ -256,8 +257,10 @@ impl Table for ClosingServer {
 
 #[test]
 fn what_meets_a_wish(rt: HostRuntime) -> Result<(), Fail> {
-    holds(rt.alloc(), &Asking(Role::Server), AT_A_SERVER)?;
-    holds(rt.alloc(), &Asking(Role::Client), AT_A_CLIENT)
+    for (role, rows) in [(Role::Server, AT_A_SERVER), (Role::Client, AT_A_CLIENT)] {
+        holds(rt.alloc(), &Asking(role), rows)?;
+    }
+    Ok(())
 }
 
 #[test]

@@ -8,7 +8,7 @@ use crate::ends::{
     Endpoint, aborts, closes, fires, new_end, opens, plain, prefers, sends, sends_early,
     sends_soon, tell_frame, tell_packet,
 };
-use crate::tables::{Table, holds, pieces, tell_held, values};
+use crate::tables::{Table, holds, named, pieces, tell_held, values};
 use dccp_endpoint::{Config, Ports, Pseudo, Role, Timer};
 use dccp_packets::Outbox;
 use feature_lists::{Feature, Place};
@@ -81,15 +81,12 @@ fn tell_result<E: Debug + Drop>(
     tell_frame(alloc, out, told)
 }
 
-fn timer(text: &str) -> Option<Timer> {
-    match text {
-        "ack" => Some(Timer::Ack),
-        "request" => Some(Timer::Request),
-        "rto" => Some(Timer::Rto),
-        "close" => Some(Timer::Close),
-        _ => None,
-    }
-}
+const TIMERS: [(&str, Timer); 4] = [
+    ("ack", Timer::Ack),
+    ("request", Timer::Request),
+    ("rto", Timer::Rto),
+    ("close", Timer::Close),
+];
 
 fn tell_timer(
     alloc: Global,
@@ -98,7 +95,7 @@ fn tell_timer(
     out: &mut Outbox,
     told: &mut String,
 ) -> Result<(), Fail> {
-    let fired = fires(end, timer(text).ok_or("a timer")?, out);
+    let fired = fires(end, named(text, &TIMERS).ok_or("a timer")?, out);
     write!(told, " {fired}")?;
     tell_frame(alloc, out, told)
 }
@@ -115,37 +112,21 @@ fn tell_preference(
     tell_result(alloc, answer, out, told)
 }
 
-fn tell_sending(
+fn tell_data(
     alloc: Global,
     end: &mut Endpoint,
+    way: Way,
     data: &str,
     out: &mut Outbox,
     told: &mut String,
 ) -> Result<(), Fail> {
     let data = hex::decode(alloc, data)?;
-    tell_result(alloc, sends(end, &data, out), out, told)
-}
-
-fn tell_early(
-    alloc: Global,
-    end: &mut Endpoint,
-    data: &str,
-    out: &mut Outbox,
-    told: &mut String,
-) -> Result<(), Fail> {
-    let data = hex::decode(alloc, data)?;
-    tell_result(alloc, sends_early(end, &data, out), out, told)
-}
-
-fn tell_soon(
-    alloc: Global,
-    end: &mut Endpoint,
-    data: &str,
-    out: &mut Outbox,
-    told: &mut String,
-) -> Result<(), Fail> {
-    let data = hex::decode(alloc, data)?;
-    tell_result(alloc, sends_soon(end, &data, out), out, told)
+    let answer = match way {
+        Way::Send => sends(end, &data, out),
+        Way::Early => sends_early(end, &data, out),
+        Way::Soon => sends_soon(end, &data, out),
+    };
+    tell_result(alloc, answer, out, told)
 }
 
 fn tell_arrival(
@@ -204,23 +185,77 @@ fn tell_phase(end: &Endpoint, told: &mut String) -> Result<(), Fail> {
     Ok(write!(told, " {phase:?}")?)
 }
 
-// What the end shows.
+// What an end shows.
+#[derive(Clone, Copy)]
+pub(crate) enum Shown {
+    Marks,
+    Windows,
+    Floor,
+    Window,
+    Reported,
+    Held,
+    Phase,
+}
+
 pub(crate) fn tell_shown(
     end: &Endpoint,
-    verb: &str,
+    shown: Shown,
     rest: &str,
     told: &mut String,
 ) -> Result<(), Fail> {
-    match verb {
-        "marks" => tell_marks(end, told),
-        "windows" => tell_windows(end, told),
-        "floor" => tell_floor(end, told),
-        "window" => tell_window(end, told),
-        "reported" => tell_reported(end, rest, told),
-        "held" => tell_row(end, rest, told),
-        "phase" => tell_phase(end, told),
-        _ => Err(Fail::from("no such word")),
+    match shown {
+        Shown::Marks => tell_marks(end, told),
+        Shown::Windows => tell_windows(end, told),
+        Shown::Floor => tell_floor(end, told),
+        Shown::Window => tell_window(end, told),
+        Shown::Reported => tell_reported(end, rest, told),
+        Shown::Held => tell_row(end, rest, told),
+        Shown::Phase => tell_phase(end, told),
     }
+}
+
+// The calls that send data.
+#[derive(Clone, Copy)]
+enum Way {
+    Send,
+    Early,
+    Soon,
+}
+
+#[derive(Clone, Copy)]
+enum Verb {
+    Open,
+    Close,
+    Abort,
+    Timer,
+    Prefer,
+    Data(Way),
+    Packet,
+    Show(Shown),
+}
+
+const VERBS: [(&str, Verb); 16] = [
+    ("packet", Verb::Packet),
+    ("send", Verb::Data(Way::Send)),
+    ("early", Verb::Data(Way::Early)),
+    ("soon", Verb::Data(Way::Soon)),
+    ("open", Verb::Open),
+    ("close", Verb::Close),
+    ("abort", Verb::Abort),
+    ("timer", Verb::Timer),
+    ("prefer", Verb::Prefer),
+    ("marks", Verb::Show(Shown::Marks)),
+    ("windows", Verb::Show(Shown::Windows)),
+    ("floor", Verb::Show(Shown::Floor)),
+    ("window", Verb::Show(Shown::Window)),
+    ("reported", Verb::Show(Shown::Reported)),
+    ("held", Verb::Show(Shown::Held)),
+    ("phase", Verb::Show(Shown::Phase)),
+];
+
+fn verb_of(word: &str) -> Option<(Verb, &str)> {
+    let (name, rest) = word.split_once("/")?;
+    Some((named(name, &VERBS)?, rest))
 }
 
 fn tell_call(
@@ -230,18 +265,16 @@ fn tell_call(
     out: &mut Outbox,
     told: &mut String,
 ) -> Result<(), Fail> {
-    let (verb, rest) = word.split_once("/").ok_or("a word has its verb")?;
+    let (verb, rest) = verb_of(word).ok_or("a word has its verb")?;
     match verb {
-        "open" => tell_result(alloc, opens(end, out), out, told),
-        "close" => tell_result(alloc, closes(end, out), out, told),
-        "abort" => tell_result(alloc, aborts(end, out), out, told),
-        "timer" => tell_timer(alloc, end, rest, out, told),
-        "prefer" => tell_preference(alloc, end, rest, out, told),
-        "send" => tell_sending(alloc, end, rest, out, told),
-        "early" => tell_early(alloc, end, rest, out, told),
-        "soon" => tell_soon(alloc, end, rest, out, told),
-        "packet" => tell_arrival(alloc, end, rest, out, told),
-        _ => tell_shown(end, verb, rest, told),
+        Verb::Open => tell_result(alloc, opens(end, out), out, told),
+        Verb::Close => tell_result(alloc, closes(end, out), out, told),
+        Verb::Abort => tell_result(alloc, aborts(end, out), out, told),
+        Verb::Timer => tell_timer(alloc, end, rest, out, told),
+        Verb::Prefer => tell_preference(alloc, end, rest, out, told),
+        Verb::Data(way) => tell_data(alloc, end, way, rest, out, told),
+        Verb::Packet => tell_arrival(alloc, end, rest, out, told),
+        Verb::Show(shown) => tell_shown(end, shown, rest, told),
     }
 }
 

@@ -2,7 +2,7 @@
 //!
 //! Each word is a frame. Behind the colon stand how many were taken; the phase; GSS, GSR, OSR and GAR; the floor, and how
 //! many numbers are marked.
-use crate::calls::tell_shown;
+use crate::calls::{Shown, tell_shown};
 use crate::ends::{Endpoint, new_end, plain};
 use crate::tables::{Table, holds};
 use dccp_endpoint::{Frame, Role, feed};
@@ -51,8 +51,8 @@ fn feeds(end: &mut Endpoint, frames: &[Frame]) -> Option<u32> {
 fn tell_feeding(end: &mut Endpoint, frames: &[Frame], told: &mut String) -> Result<(), Fail> {
     let taken = feeds(end, frames).ok_or("a row has at most 100 frames")?;
     write!(told, "{taken}")?;
-    for verb in ["phase", "marks", "floor"] {
-        tell_shown(end, verb, "", told)?;
+    for shown in [Shown::Phase, Shown::Marks, Shown::Floor] {
+        tell_shown(end, shown, "", told)?;
     }
     Ok(())
 }

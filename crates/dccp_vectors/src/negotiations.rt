@@ -13,7 +13,7 @@
 //! | `confirm/here/8/010102@100` | a Confirm for the row comes on a packet that acknowledges a number, or `-` for none |
 //! | `held/here/8/`, `active/here/8/`, `due/` | what the row holds, the active wish, and the rows whose Change is due |
 use crate::features::tell_wish;
-use crate::tables::{Table, holds, numbered, pieces, tell_held, values};
+use crate::tables::{Table, holds, named, numbered, pieces, tell_held, values};
 use feature_lists::{Feature, Place, PreferFault, wish};
 use feature_machine::{Answer, Lists, Negotiation, Opening, Role2, Settling, Stand};
 use seq_circle::Seq48;
@@ -86,8 +86,8 @@ const STORIES: &str = "\
     server/ active/there/5/ active/here/5/: none 2\n\
     wish/there/8/5 offer/there/8/ server/ open/there/8/ open/here/4/ met/there/6/ open/there/6/ open/here/1/ due/: ok ok opens opens stays stays stays Here/4 There/8\n";
 
-// What a Change does to a row in each stand, at the server and at the client.
-const CHANGES: &str = "\
+// What comes to a row in each stand, at the server and at the client.
+const ROWS: &str = "\
     # A Change that is not valid\n\
     server/stable change/here/8/ held/here/8/: L8= 0\n\
     client/stable change/here/8/ held/here/8/: L8= 0\n\
@@ -125,11 +125,8 @@ const CHANGES: &str = "\
     server/stable must_change/here/8/09 held/here/8/: Fatal 0\n\
     client/stable must_change/here/8/09 held/here/8/: Fatal 0\n\
     server/changing must_change/here/8/09 held/here/8/: Fatal 0*\n\
-    client/changing must_change/here/8/09 held/here/8/: Fatal 0*\n";
-
-// What a Confirm does to a row in each stand.
-const CONFIRMS: &str = "\
-    # Where nothing was asked, where something else is wanted by now, without an acknowledgement, and of an older Change\n\
+    client/changing must_change/here/8/09 held/here/8/: Fatal 0*\n\
+    # A Confirm where nothing was asked, where something else is wanted by now, without an acknowledgement, and of an older Change\n\
     server/stable confirm/here/8/010201@100 held/here/8/: Ignored 0\n\
     client/stable confirm/here/8/020201@100 held/here/8/: Ignored 0\n\
     server/unstable confirm/here/8/010201@100 held/here/8/: Ignored 0!\n\
@@ -159,10 +156,8 @@ const CONFIRMS: &str = "\
     server/changing confirm/here/8/0109@100 held/here/8/: Fatal 0*\n\
     client/changing confirm/here/8/0109@100 held/here/8/: Fatal 0*\n\
     server/changing confirm/here/8/09@100 held/here/8/: Fatal 0*\n\
-    client/changing confirm/here/8/09@100 held/here/8/: Fatal 0*\n";
-
-// What a wish and a sending do to a row: the first of a wish's Changes counts, and of wishes that wait the last.
-const WISHES: &str = "\
+    client/changing confirm/here/8/09@100 held/here/8/: Fatal 0*\n\
+    # A wish, and a sending: the first of a wish's Changes counts, and of wishes that wait the last\n\
     server/stable prefer/here/8/2,1 held/here/8/ active/here/8/: Now 0* [2, 1]\n\
     client/stable prefer/here/8/2,1 held/here/8/ active/here/8/: Now 0* [2, 1]\n\
     server/changing send/here/8/105 active/here/8/ confirm/here/8/0101@100: [1, 2] Settled\n\
@@ -180,22 +175,6 @@ fn tell_result(answer: Result<(), PreferFault>, told: &mut String) -> Result<(),
     match answer {
         Ok(()) => Ok(told.push_str(" ok")?),
         Err(fault) => Ok(write!(told, " {fault:?}")?),
-    }
-}
-
-// What is done to the lists, or what is wished there.
-fn tell_lists(
-    lists: &mut Lists,
-    verb: &str,
-    (feature, place): (Feature, Place),
-    list: &[u64],
-    told: &mut String,
-) -> Result<(), Fail> {
-    match verb {
-        "wish" => tell_result(lists.set(feature, place, list), told),
-        "offer" => tell_result(lists.offer(feature, place, false), told),
-        "must" => tell_result(lists.offer(feature, place, true), told),
-        _ => tell_wish(&lists.wish(feature, place), told),
     }
 }
 
@@ -363,37 +342,85 @@ fn begins(lists: &mut Lists, rows: &mut Negotiation, role: Role2, stand: &str) -
     }
 }
 
-// A word that names a row.
+// What a word does that names a row.
+#[derive(Clone, Copy)]
+enum OfRow {
+    Wish,
+    Offer(bool),
+    Listed,
+    Prefer,
+    Open(bool),
+    Send,
+    Carries,
+    Active,
+    Held,
+}
+
 fn tell_row(
-    lists: &mut Lists,
-    rows: &mut Negotiation,
-    verb: &str,
+    (lists, rows): (&mut Lists, &mut Negotiation),
+    verb: OfRow,
     (key, list): ((Feature, Place), &[u64]),
     told: &mut String,
 ) -> Result<(), Fail> {
     match verb {
-        "wish" | "offer" | "must" | "listed" => tell_lists(lists, verb, key, list, told),
-        "prefer" => tell_preference(rows, key, list, told),
-        "open" => tell_opening(rows, key, false, told),
-        "met" => tell_opening(rows, key, true, told),
-        "send" => goes_out(rows, key, list),
-        "carries" => tell_carried(rows, key, told),
-        "active" => tell_wish(&rows.active(key.0, key.1), told),
-        "held" => tell_held(rows.held(key.0, key.1), told),
-        _ => Err(Fail::from("no such word")),
+        OfRow::Wish => tell_result(lists.set(key.0, key.1, list), told),
+        OfRow::Offer(must) => tell_result(lists.offer(key.0, key.1, must), told),
+        OfRow::Listed => tell_wish(&lists.wish(key.0, key.1), told),
+        OfRow::Prefer => tell_preference(rows, key, list, told),
+        OfRow::Open(met) => tell_opening(rows, key, met, told),
+        OfRow::Send => goes_out(rows, key, list),
+        OfRow::Carries => tell_carried(rows, key, told),
+        OfRow::Active => tell_wish(&rows.active(key.0, key.1), told),
+        OfRow::Held => tell_held(rows.held(key.0, key.1), told),
     }
 }
 
 fn tell_named(
     alloc: Global,
-    (lists, rows): (&mut Lists, &mut Negotiation),
-    verb: &str,
+    ends: (&mut Lists, &mut Negotiation),
+    verb: OfRow,
     rest: &str,
     told: &mut String,
 ) -> Result<(), Fail> {
     let (feature, place, list) = pieces(rest).ok_or("a row")?;
     let list = values(alloc, list)?;
-    tell_row(lists, rows, verb, ((feature, place), &list), told)
+    tell_row(ends, verb, ((feature, place), &list), told)
+}
+
+#[derive(Clone, Copy)]
+enum Verb {
+    Plain,
+    Begin(Role2),
+    Change(bool),
+    Confirm,
+    Due,
+    Row(OfRow),
+}
+
+const VERBS: [(&str, Verb); 18] = [
+    ("plain", Verb::Plain),
+    ("server", Verb::Begin(Role2::Server)),
+    ("client", Verb::Begin(Role2::Client)),
+    ("change", Verb::Change(false)),
+    ("must_change", Verb::Change(true)),
+    ("confirm", Verb::Confirm),
+    ("due", Verb::Due),
+    ("wish", Verb::Row(OfRow::Wish)),
+    ("offer", Verb::Row(OfRow::Offer(false))),
+    ("must", Verb::Row(OfRow::Offer(true))),
+    ("listed", Verb::Row(OfRow::Listed)),
+    ("prefer", Verb::Row(OfRow::Prefer)),
+    ("open", Verb::Row(OfRow::Open(false))),
+    ("met", Verb::Row(OfRow::Open(true))),
+    ("send", Verb::Row(OfRow::Send)),
+    ("carries", Verb::Row(OfRow::Carries)),
+    ("active", Verb::Row(OfRow::Active)),
+    ("held", Verb::Row(OfRow::Held)),
+];
+
+fn verb_of(word: &str) -> Option<(Verb, &str)> {
+    let (name, rest) = word.split_once("/")?;
+    Some((named(name, &VERBS)?, rest))
 }
 
 fn tell_word(
@@ -403,16 +430,14 @@ fn tell_word(
     word: &str,
     told: &mut String,
 ) -> Result<(), Fail> {
-    let (verb, rest) = word.split_once("/").ok_or("a word has its verb")?;
+    let (verb, rest) = verb_of(word).ok_or("a word has its verb")?;
     match verb {
-        "plain" => Ok(lists.plain()),
-        "server" => begins(lists, rows, Role2::Server, rest),
-        "client" => begins(lists, rows, Role2::Client, rest),
-        "change" => tell_change(alloc, rows, false, rest, told),
-        "must_change" => tell_change(alloc, rows, true, rest, told),
-        "confirm" => tell_confirm(alloc, rows, rest, told),
-        "due" => tell_due(rows, told),
-        _ => tell_named(alloc, (lists, rows), verb, rest, told),
+        Verb::Plain => Ok(lists.plain()),
+        Verb::Begin(role) => begins(lists, rows, role, rest),
+        Verb::Change(must) => tell_change(alloc, rows, must, rest, told),
+        Verb::Confirm => tell_confirm(alloc, rows, rest, told),
+        Verb::Due => tell_due(rows, told),
+        Verb::Row(verb) => tell_named(alloc, (lists, rows), verb, rest, told),
     }
 }
 
@@ -436,7 +461,5 @@ fn stories(rt: HostRuntime) -> Result<(), Fail> {
 
 #[test]
 fn the_table_of_negotiation(rt: HostRuntime) -> Result<(), Fail> {
-    holds(rt.alloc(), &Story, CHANGES)?;
-    holds(rt.alloc(), &Story, CONFIRMS)?;
-    holds(rt.alloc(), &Story, WISHES)
+    holds(rt.alloc(), &Story, ROWS)
 }

@@ -34,6 +34,16 @@ pub(crate) fn holds<T: Table>(alloc: Global, table: &T, rows: &str) -> Result<()
     Ok(())
 }
 
+// What stands under this name.
+pub(crate) fn named<T: Copy>(name: &str, table: &[(&str, T)]) -> Option<T> {
+    for (other, meaning) in table {
+        if name == *other {
+            return Some(*meaning);
+        }
+    }
+    None
+}
+
 fn place(text: &str) -> Option<Place> {
     match text {
         "here" => Some(Place::Here),
