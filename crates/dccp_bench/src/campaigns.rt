@@ -2,6 +2,7 @@
 
 ghost use Rattle.std.specs.Prelude.{◌≤◌};
 
+use crate::figures::{no_memory, since};
 use fault_campaign::{OpenGate, campaign};
 use std::io;
 use std::thread::Threads;
@@ -27,9 +28,9 @@ pub(crate) fn all<R: Threads + Sync>(rt: &HostRuntime, threads: &R, asked: u32) 
     let workers = workers_of(asked);
     let start = Instant::now(rt)?;
     let Ok(total) = campaign(threads, rt.alloc(), &OpenGate, 1, SEEDS, EVENTS, workers) else {
-        return Err(io::Error::other("no memory"));
+        return Err(no_memory());
     };
-    let spent = u64::try_from(start.elapsed(rt)?.as_nanos()).unwrap_or(u64::MAX);
+    let spent = since(rt, start)?;
     let frames = total.client_frames.saturating_add(total.server_frames);
     eprintln!(rt;
         "{} {} {} {} {}",

@@ -1,8 +1,10 @@
 //! Two ends that send each other data, of which some are lost, for a count of what they allocate.
 
+use crate::figures::no_memory;
 use ccid_two::Kinds;
 use dccp_endpoint::{Config, Endpoint, Feature, Outcome, Phase, Place, Role, Timer};
 use dccp_packets::Outbox;
+use seq_circle::NoMemory;
 use std::alloc::Global;
 use std::io;
 
@@ -15,14 +17,8 @@ const SWITCH: u32 = 512;
 const DATA: [u8; 64] = [85; 64];
 
 /// An end of the usual configuration.
-pub(crate) fn new_end(alloc: Global, role: Role) -> io::Result<End> {
-    let Ok(kinds) = Kinds::new(alloc) else {
-        return Err(io::Error::other("no memory"));
-    };
-    let Ok(end) = Endpoint::new(alloc, Config::usual(role), kinds) else {
-        return Err(io::Error::other("no memory"));
-    };
-    Ok(end)
+pub(crate) fn new_end(alloc: Global, role: Role) -> Result<End, NoMemory> {
+    Endpoint::new(alloc, Config::usual(role), Kinds::new(alloc)?)
 }
 
 /// Hands an end a frame; 1 where it delivers data.
@@ -45,6 +41,24 @@ struct Pair {
 }
 
 impl Pair {
+    fn new(client: End, server: End) -> Pair {
+        Pair {
+            client,
+            server,
+            from_client: Outbox::new(),
+            from_server: Outbox::new(),
+            delivered: 0,
+        }
+    }
+
+    // Tells whether both came to OPEN.
+    fn open(&mut self) -> bool {
+        let _ = self.client.open(&mut self.from_client);
+        self.client_to_server();
+        self.server_to_client();
+        self.client.phase() == Phase::Open && self.server.phase() == Phase::Open
+    }
+
     // What the client has just sent arrives at the server; then what that sends in answer arrives, and what the client
     // sends to that.
     fn client_to_server(&mut self) {
@@ -109,36 +123,33 @@ impl Pair {
             self.client_to_server();
         }
     }
-}
 
-// Two ends in OPEN.
-fn opened(alloc: Global) -> io::Result<Pair> {
-    let mut pair = Pair {
-        client: new_end(alloc, Role::Client)?,
-        server: new_end(alloc, Role::Server)?,
-        from_client: Outbox::new(),
-        from_server: Outbox::new(),
-        delivered: 0,
-    };
-    let _ = pair.client.open(&mut pair.from_client);
-    pair.client_to_server();
-    pair.server_to_client();
-    if pair.client.phase() != Phase::Open || pair.server.phase() != Phase::Open {
-        return Err(io::Error::other("the ends are not in OPEN"));
+    // So many rounds; gives the windows that were seen.
+    fn send_all(&mut self, rounds: u32) -> u64 {
+        let mut windows = 0u64;
+        for round in 0..rounds {
+            self.client_sends(round);
+            self.others(round);
+            windows = windows.wrapping_add(u64::from(self.client.window()));
+        }
+        windows
     }
-    Ok(pair)
 }
 
 /// Sends data so many times, with losses, reports, timeouts and changes of the CCID; gives how many data were
 /// delivered, and the windows that were seen.
 pub(crate) fn exchange(alloc: Global, rounds: u32) -> io::Result<u64> {
-    let mut pair = opened(alloc)?;
-    let mut windows = 0u64;
-    for round in 0..rounds {
-        pair.client_sends(round);
-        pair.others(round);
-        windows = windows.wrapping_add(u64::from(pair.client.window()));
+    let Ok(client) = new_end(alloc, Role::Client) else {
+        return Err(no_memory());
+    };
+    let Ok(server) = new_end(alloc, Role::Server) else {
+        return Err(no_memory());
+    };
+    let mut pair = Pair::new(client, server);
+    if !pair.open() {
+        return Err(io::Error::other("the ends are not in OPEN"));
     }
+    let windows = pair.send_all(rounds);
     if pair.delivered < u64::from(rounds / 2) {
         return Err(io::Error::other("too few data were delivered"));
     }

@@ -1,7 +1,8 @@
 //! What an end in OPEN does with packets of data that arrive, for their time and for a count of what it allocates.
 
 use crate::data::{End, arrive, new_end};
-use crate::frames::{PSEUDO, opening};
+use crate::figures::{ended, no_memory, since, told};
+use crate::frames::{PSEUDO, add, opening};
 use crate::passes::{Pass, over};
 use dccp_endpoint::{Phase, Role};
 use dccp_packets::{Frame, Header, Kind, Number, Outbox, encode};
@@ -78,12 +79,11 @@ fn put_data(number: Seq48, ack: Option<Seq48>, frame: &mut Frame) {
 
 // A server in OPEN, once the worked client's Request and its Ack have come.
 fn opened(alloc: Global) -> io::Result<End> {
-    let mut end = new_end(alloc, Role::Server)?;
-    let mut out = Outbox::new();
     let frames = opening(alloc)?;
-    for frame in &frames {
-        let _ = arrive(&mut end, frame, &mut out);
-    }
+    let Ok(mut end) = new_end(alloc, Role::Server) else {
+        return Err(no_memory());
+    };
+    let _ = arrive_all(&mut end, &frames);
     if end.phase() != Phase::Open {
         return Err(io::Error::other("the end is not in OPEN"));
     }
@@ -95,20 +95,34 @@ fn next_number(order: Order, newest: Seq48, place: u32) -> Seq48 {
     newest.add(if order.loses && place % 9 == 8 { 2 } else { 1 })
 }
 
-// The frames of so many packets that arrive. An end takes them while they are made, since they acknowledge its packets.
-fn frames(alloc: Global, order: Order, count: u32) -> io::Result<Vec<Vec<u8>>> {
-    let mut end = opened(alloc)?;
+// What an end that has taken all frames so far would be sent next.
+fn put_next(end: &End, order: Order, acknowledges: bool, place: u32, frame: &mut Frame) {
+    let marks = end.marks();
+    let ack = acknowledges.then_some(marks.gss);
+    put_data(next_number(order, marks.gsr, place), ack, frame);
+}
+
+// Makes the frames of so many packets that arrive; false where no memory was left. The end takes them while they are
+// made, since they acknowledge its packets.
+fn make(alloc: Global, end: &mut End, order: Order, count: u32, frames: &mut Vec<Vec<u8>>) -> bool {
     let mut out = Outbox::new();
     let mut frame = Frame::new();
-    let mut frames = Vec::new(alloc);
     for place in 0..count {
-        let marks = end.marks();
-        let ack = order.acknowledges.then_some(marks.gss);
-        put_data(next_number(order, marks.gsr, place), ack, &mut frame);
-        let _ = arrive(&mut end, frame.bytes(), &mut out);
-        let mut bytes = Vec::new(alloc);
-        bytes.extend_from_slice(frame.bytes())?;
-        frames.push(bytes)?;
+        put_next(end, order, order.acknowledges, place, &mut frame);
+        let _ = arrive(end, frame.bytes(), &mut out);
+        if !add(alloc, &frame, frames) {
+            return false;
+        }
+    }
+    true
+}
+
+// The frames of so many packets.
+fn frames(alloc: Global, order: Order, count: u32) -> io::Result<Vec<Vec<u8>>> {
+    let mut end = opened(alloc)?;
+    let mut frames = Vec::new(alloc);
+    if !make(alloc, &mut end, order, count, &mut frames) {
+        return Err(no_memory());
     }
     Ok(frames)
 }
@@ -123,42 +137,52 @@ fn arrive_all(end: &mut End, frames: &[Vec<u8>]) -> u64 {
     sum
 }
 
-// The nanoseconds since the start.
-fn spent(rt: &HostRuntime, start: Instant) -> io::Result<u64> {
-    Ok(u64::try_from(start.elapsed(rt)?.as_nanos()).unwrap_or(u64::MAX))
+// Hands the frames to a new end in OPEN; gives the nanoseconds and how many data it delivered.
+fn take_anew(rt: &HostRuntime, frames: &[Vec<u8>]) -> io::Result<(u64, u64)> {
+    let mut end = opened(rt.alloc())?;
+    let start = Instant::now(rt)?;
+    let delivered = arrive_all(&mut end, frames);
+    Ok((since(rt, start)?, delivered))
 }
 
-// Prints what was done and how many packets came, the nanoseconds and packets of all rounds, and what came of it.
-fn told(
+// Hands the frames to new ends, so many times.
+fn time_taking(
     rt: &HostRuntime,
-    what: (&str, usize),
-    spent: u64,
+    name: &str,
+    frames: &[Vec<u8>],
+    count: u32,
     rounds: u32,
-    sum: u64,
 ) -> io::Result<()> {
-    let packets = u64::from(rounds).saturating_mul(what.1 as u64).max(1);
-    eprintln!(rt; "{} {} {} {} {}", what.0, what.1, spent, packets, sum)
-}
-
-// Hands the frames to a new end in OPEN, so many times, and reads them as often without an end.
-fn measure(rt: &HostRuntime, order: Order, count: u32, rounds: u32) -> io::Result<()> {
-    let frames = frames(rt.alloc(), order, count)?;
-    let mut taken = 0u64;
+    let mut spent = 0u64;
     let mut sum = 0u64;
     for _ in 0..rounds {
-        let mut end = opened(rt.alloc())?;
-        let start = Instant::now(rt)?;
-        sum = sum.wrapping_add(arrive_all(&mut end, &frames));
-        taken = taken.saturating_add(spent(rt, start)?);
+        let (taken, delivered) = take_anew(rt, frames)?;
+        spent = spent.saturating_add(taken);
+        sum = sum.wrapping_add(delivered);
     }
-    told(rt, (order.name, frames.len()), taken, rounds, sum)?;
+    told(rt, (name, count), spent, packets(count, rounds), sum)
+}
+
+// Reads the frames without an end, so many times.
+fn time_reading(rt: &HostRuntime, frames: &[Vec<u8>], count: u32, rounds: u32) -> io::Result<()> {
     let start = Instant::now(rt)?;
-    let mut read = 0;
+    let mut sum = 0;
     for _ in 0..rounds {
-        read = over(Pass::All, &frames, read);
+        sum = over(Pass::All, frames, sum);
     }
-    let taken = spent(rt, start)?;
-    told(rt, ("read", frames.len()), taken, rounds, read)
+    ended(rt, ("read", count), start, packets(count, rounds), sum)
+}
+
+// How many packets so many rounds have.
+fn packets(count: u32, rounds: u32) -> u64 {
+    u64::from(count) * u64::from(rounds)
+}
+
+// Hands so many frames to ends and reads them, so many times.
+fn measure(rt: &HostRuntime, order: Order, count: u32, rounds: u32) -> io::Result<()> {
+    let frames = frames(rt.alloc(), order, count)?;
+    time_taking(rt, order.name, &frames, count, rounds)?;
+    time_reading(rt, &frames, count, rounds)
 }
 
 /// Prints the nanoseconds of 1,000 and of 16,000 packets in each order, as many packets of each.
@@ -174,16 +198,17 @@ pub(crate) fn all(rt: &HostRuntime, rounds: u32) -> io::Result<()> {
 /// delivered. In the second half of each phase the client acknowledges nothing, so that vectors are cut and the floor
 /// is pushed.
 pub(crate) fn take(alloc: Global, rounds: u32) -> io::Result<u64> {
-    let order = ORDERS[1];
     let mut end = opened(alloc)?;
+    Ok(take_all(&mut end, rounds))
+}
+
+fn take_all(end: &mut End, rounds: u32) -> u64 {
     let mut out = Outbox::new();
     let mut frame = Frame::new();
     let mut sum = 0u64;
     for round in 0..rounds {
-        let marks = end.marks();
-        let ack = (round % PHASE < PHASE / 2).then_some(marks.gss);
-        put_data(next_number(order, marks.gsr, round), ack, &mut frame);
-        sum = sum.wrapping_add(arrive(&mut end, frame.bytes(), &mut out));
+        put_next(end, ORDERS[1], round % PHASE < PHASE / 2, round, &mut frame);
+        sum = sum.wrapping_add(arrive(end, frame.bytes(), &mut out));
     }
-    Ok(sum)
+    sum
 }

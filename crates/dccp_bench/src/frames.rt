@@ -1,5 +1,6 @@
 //! The frames that are read.
 
+use crate::figures::no_memory;
 use dccp_options::OptWriter;
 use dccp_packets::{Frame, Header, Kind, Number, encode};
 use dccp_sum::{Pseudo, seal};
@@ -37,12 +38,24 @@ pub(crate) fn opening(alloc: Global) -> io::Result<Vec<Vec<u8>>> {
 fn decoded(alloc: Global, texts: &[&str]) -> io::Result<Vec<Vec<u8>>> {
     let mut frames = Vec::new(alloc);
     for text in texts {
-        let Ok(frame) = hex::decode(alloc, text) else {
+        if !add_decoded(alloc, text, &mut frames) {
             return Err(io::Error::other("a worked frame is no hexadecimal"));
-        };
-        frames.push(frame)?;
+        }
     }
     Ok(frames)
+}
+
+fn add_decoded(alloc: Global, text: &str, frames: &mut Vec<Vec<u8>>) -> bool {
+    match hex::decode(alloc, text) {
+        Ok(frame) => frames.push(frame).is_ok(),
+        Err(_) => false,
+    }
+}
+
+/// Puts a frame behind the others. False where no memory was left.
+pub(crate) fn add(alloc: Global, frame: &Frame, frames: &mut Vec<Vec<u8>>) -> bool {
+    let mut bytes = Vec::new(alloc);
+    bytes.extend_from_slice(frame.bytes()).is_ok() && frames.push(bytes).is_ok()
 }
 
 // Ack Vectors that fill an area behind the fixed part of a DataAck.
@@ -56,8 +69,8 @@ fn full_options() -> OptWriter {
     writer
 }
 
-/// A frame of 2,044 bytes: full options and full data.
-pub(crate) fn full(alloc: Global) -> io::Result<Vec<Vec<u8>>> {
+// A frame of 2,044 bytes: full options and full data.
+fn full_frame() -> Frame {
     let Some(number) = Seq48::new(1000) else {
         unreachable!()
     };
@@ -77,9 +90,14 @@ pub(crate) fn full(alloc: Global) -> io::Result<Vec<Vec<u8>>> {
     if frame.bytes().len() >= 8 {
         let _ = seal(&PSEUDO, frame.bytes_mut());
     }
+    frame
+}
+
+/// The frame of 2,044 bytes, alone.
+pub(crate) fn full(alloc: Global) -> io::Result<Vec<Vec<u8>>> {
     let mut frames = Vec::new(alloc);
-    let mut bytes = Vec::new(alloc);
-    bytes.extend_from_slice(frame.bytes())?;
-    frames.push(bytes)?;
+    if !add(alloc, &full_frame(), &mut frames) {
+        return Err(no_memory());
+    }
     Ok(frames)
 }

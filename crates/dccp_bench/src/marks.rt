@@ -3,12 +3,13 @@
 
 use crate::data::exchange;
 use crate::ends::take;
+use crate::figures::no_memory;
 use crate::ratios::zero;
 use ack_vectors::{Received, VectorBytes, Vectors};
 use ccid_two::Ccid2;
 use congestion_trait::{Congestion, FixedWindow};
 use dccp_options::{AckReport, options};
-use seq_circle::Seq48;
+use seq_circle::{NoMemory, Seq48};
 use std::alloc::Global;
 use std::io;
 
@@ -81,27 +82,35 @@ fn sends<C: Congestion>(control: &mut C, ccid: u8, rounds: u32) -> u64 {
     sum
 }
 
-/// So many rounds of each; the sum holds what every call answered.
-pub(crate) fn all(alloc: Global, rounds: u32) -> io::Result<u64> {
-    let Ok(mut received) = Received::new(alloc) else {
-        return Err(io::Error::other("no memory"));
+fn marked(alloc: Global, rounds: u32) -> Result<u64, NoMemory> {
+    let mut received = Received::new(alloc)?;
+    Ok(marks(&mut received, rounds))
+}
+
+fn sent_by_two(alloc: Global, rounds: u32) -> Result<u64, NoMemory> {
+    let mut control = Ccid2::new(alloc)?;
+    Ok(sends(&mut control, 2, rounds))
+}
+
+fn sent_by_fixed(alloc: Global, rounds: u32) -> Result<u64, NoMemory> {
+    let mut control = FixedWindow::new(alloc)?;
+    Ok(sends(&mut control, 248, rounds))
+}
+
+// So many rounds of each call but those of ends.
+fn rounds_of_each(alloc: Global, rounds: u32) -> Result<u64, NoMemory> {
+    let marked = marked(alloc, rounds)?;
+    let two = sent_by_two(alloc, rounds)?;
+    let fixed = sent_by_fixed(alloc, rounds)?;
+    Ok(marked.wrapping_add(two).wrapping_add(fixed))
+}
+
+/// Prints the sum of what every call answered, over so many rounds of each.
+pub(crate) fn all(rt: &HostRuntime, rounds: u32) -> io::Result<()> {
+    let taken = take(rt.alloc(), rounds)?;
+    let sent = exchange(rt.alloc(), rounds)?;
+    let Ok(others) = rounds_of_each(rt.alloc(), rounds) else {
+        return Err(no_memory());
     };
-    let Ok(mut ccid) = Ccid2::new(alloc) else {
-        return Err(io::Error::other("no memory"));
-    };
-    let Ok(mut fixed) = FixedWindow::new(alloc) else {
-        return Err(io::Error::other("no memory"));
-    };
-    let taken = take(alloc, rounds)?;
-    let sent = exchange(alloc, rounds)?;
-    let marked = marks(&mut received, rounds);
-    let two = sends(&mut ccid, 2, rounds);
-    let eight = sends(&mut fixed, 248, rounds);
-    Ok(
-        taken
-            .wrapping_add(sent)
-            .wrapping_add(marked)
-            .wrapping_add(two)
-            .wrapping_add(eight),
-    )
+    println!(rt; "marks {}", taken.wrapping_add(sent).wrapping_add(others))
 }

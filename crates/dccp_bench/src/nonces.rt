@@ -1,7 +1,8 @@
 //! The calls of an ECN-capable receiver and sender: marks in a full window, the writing of a vector and its check, at the sizes
 //! at which `ratios` times those of received numbers alone.
 
-use crate::ratios::{SIZES, WINDOW, newest, spent, told, zero};
+use crate::figures::{ended, no_memory};
+use crate::ratios::{SIZES, WINDOW, newest, zero};
 use ack_vectors::VectorBytes;
 use dccp_ecn::{Arrived, EcnReceived, NonceLedger};
 use run_list::Marked;
@@ -73,31 +74,53 @@ fn checks(ledger: &NonceLedger, ack: Seq48, bytes: &[u8], rounds: u32) -> u64 {
     sum
 }
 
-// Times so many writes, and so many checks of what was written, at one size.
+// Times so many writes, at one size.
+fn time_writes(
+    rt: &HostRuntime,
+    received: &EcnReceived,
+    out: &mut VectorBytes,
+    runs: u32,
+    rounds: u32,
+) -> io::Result<()> {
+    let start = Instant::now(rt)?;
+    let sum = writes(received, out, newest(runs), rounds);
+    ended(rt, ("write-ecn", runs), start, u64::from(rounds), sum)
+}
+
+// Times so many checks of what was written, at one size.
+fn time_checks(rt: &HostRuntime, bytes: &[u8], runs: u32, rounds: u32) -> io::Result<()> {
+    let ledger = sent_all(runs);
+    let start = Instant::now(rt)?;
+    let sum = checks(&ledger, newest(runs), bytes, rounds);
+    ended(rt, ("check", runs), start, u64::from(rounds), sum)
+}
+
 fn measure(rt: &HostRuntime, received: &mut EcnReceived, runs: u32, rounds: u32) -> io::Result<()> {
     take_every_second(received, runs);
     let mut out = VectorBytes::new();
+    time_writes(rt, received, &mut out, runs, rounds)?;
+    time_checks(rt, out.as_slice(), runs, rounds)
+}
+
+fn time_fills(rt: &HostRuntime, received: &mut EcnReceived, rounds: u32) -> io::Result<()> {
     let start = Instant::now(rt)?;
-    let sum = writes(received, &mut out, newest(runs), rounds);
-    told(rt, ("write-ecn", runs), spent(rt, start)?, rounds, sum)?;
-    let ledger = sent_all(runs);
-    let start = Instant::now(rt)?;
-    let sum = checks(&ledger, newest(runs), out.as_slice(), rounds);
-    told(rt, ("check", runs), spent(rt, start)?, rounds, sum)
+    let sum = fills(received, rounds);
+    let calls = u64::from(rounds) * u64::from(WINDOW);
+    ended(rt, ("in-order-ecn", WINDOW), start, calls, sum)
+}
+
+fn measure_all(rt: &HostRuntime, received: &mut EcnReceived, rounds: u32) -> io::Result<()> {
+    time_fills(rt, received, rounds / 64)?;
+    for runs in SIZES {
+        measure(rt, received, runs, rounds)?;
+    }
+    Ok(())
 }
 
 /// Prints the nanoseconds of marking all numbers of a window, and of so many writes and checks at each size.
 pub(crate) fn all(rt: &HostRuntime, rounds: u32) -> io::Result<()> {
     let Ok(mut received) = EcnReceived::new(rt.alloc()) else {
-        return Err(io::Error::other("no memory"));
+        return Err(no_memory());
     };
-    let fillings = rounds / 64;
-    let start = Instant::now(rt)?;
-    let sum = fills(&mut received, fillings);
-    let calls = fillings.saturating_mul(WINDOW);
-    told(rt, ("in-order-ecn", WINDOW), spent(rt, start)?, calls, sum)?;
-    for runs in SIZES {
-        measure(rt, &mut received, runs, rounds)?;
-    }
-    Ok(())
+    measure_all(rt, &mut received, rounds)
 }

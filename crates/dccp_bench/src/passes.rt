@@ -1,12 +1,15 @@
-//! What is done with each frame.
+//! What is done with each frame, over frames of worked runs and over a full frame.
 
-use crate::frames::PSEUDO;
+use crate::figures::{since, told_of};
+use crate::frames::{PSEUDO, full, worked};
 use dccp_options::options;
 use dccp_packets::decode;
 use dccp_sum::check;
+use std::io;
+use std::time::Instant;
 
 /// One of the things that are measured.
-#[derive(Clone, Copy, Debug, PartialEq, Eq)]
+#[derive(Clone, Copy)]
 pub(crate) enum Pass {
     /// The bytes are summed in a plain loop: the yardstick.
     Plain,
@@ -20,7 +23,7 @@ pub(crate) enum Pass {
     All,
 }
 
-pub(crate) const PASSES: [Pass; 5] = [
+const PASSES: [Pass; 5] = [
     Pass::Plain,
     Pass::Decode,
     Pass::Options,
@@ -31,8 +34,8 @@ pub(crate) const PASSES: [Pass; 5] = [
 const MOST_OPTIONS: usize = 1008;
 
 impl Pass {
-    /// Its name in the figures.
-    pub(crate) fn name(self) -> &'static str {
+    // Its name in the figures.
+    fn name(self) -> &'static str {
         match self {
             Pass::Plain => "plain",
             Pass::Decode => "decode",
@@ -99,4 +102,36 @@ pub(crate) fn over(pass: Pass, frames: &[Vec<u8>], sum: u64) -> u64 {
         sum = sum.wrapping_add(one(pass, frame));
     }
     sum
+}
+
+// Prints a pass and its frames, the nanoseconds and packets of all rounds, and the sum, so that none is left out.
+fn measure(
+    rt: &HostRuntime,
+    pass: Pass,
+    name: &str,
+    frames: &[Vec<u8>],
+    rounds: u32,
+) -> io::Result<()> {
+    let start = Instant::now(rt)?;
+    let mut sum = 0;
+    for _ in 0..rounds {
+        sum = over(pass, frames, sum);
+    }
+    let packets = u64::from(rounds).saturating_mul(frames.len() as u64);
+    told_of(rt, (pass.name(), name), since(rt, start)?, packets, sum)
+}
+
+fn measure_each(rt: &HostRuntime, name: &str, frames: &[Vec<u8>], rounds: u32) -> io::Result<()> {
+    for pass in PASSES {
+        measure(rt, pass, name, frames, rounds)?;
+    }
+    Ok(())
+}
+
+/// Reads packets so many times, in each pass.
+pub(crate) fn all(rt: &HostRuntime, rounds: u32) -> io::Result<()> {
+    let frames = worked(rt.alloc())?;
+    measure_each(rt, "worked", &frames, rounds)?;
+    let frames = full(rt.alloc())?;
+    measure_each(rt, "full", &frames, rounds)
 }

@@ -1,11 +1,12 @@
 //! Marks in a full window, and the writing of a vector and the taking of a report at some sizes: what is linear takes
 //! four times as long at the second as at the first.
 
+use crate::figures::{ended, no_memory, since, told};
 use ack_vectors::{Received, VectorBytes, Vectors};
 use congestion_trait::Flight;
 use dccp_options::{AckReport, OptWriter, options};
 use run_list::Marked;
-use seq_circle::Seq48;
+use seq_circle::{NoMemory, Seq48};
 use std::alloc::Global;
 use std::io;
 use std::time::Instant;
@@ -39,31 +40,23 @@ pub(crate) fn newest(runs: u32) -> Seq48 {
     zero().add(u64::from(runs) * 2).sub(1)
 }
 
-// Every second number from 1 to the newest.
-fn every_second(alloc: Global, runs: u32) -> io::Result<Received> {
-    let Ok(mut received) = Received::new(alloc) else {
-        return Err(io::Error::other("no memory"));
-    };
+// Takes every second number from 1 to the newest.
+fn take_every_second(received: &mut Received, runs: u32) {
     let mut number = zero().next();
     for _ in 0..runs {
         let _ = received.took(number);
         number = number.add(2);
     }
-    Ok(received)
 }
 
-// Every number from 0 to the newest but 1.
-fn all_but_one(alloc: Global, runs: u32) -> io::Result<Received> {
-    let Ok(mut received) = Received::new(alloc) else {
-        return Err(io::Error::other("no memory"));
-    };
+// Takes every number from 0 to the newest but 1.
+fn take_all_but_one(received: &mut Received, runs: u32) {
     let mut number = zero();
     let _ = received.took(number);
     for _ in 2..u64::from(runs) * 2 {
         number = number.next();
         let _ = received.took(number.next());
     }
-    Ok(received)
 }
 
 // Every number from 0 to the newest was sent, and no report has come.
@@ -77,15 +70,17 @@ fn send_all(flight: &mut Flight, runs: u32) {
 }
 
 // So many lists.
-fn lists(alloc: Global, count: u32) -> io::Result<Vec<Flight>> {
+fn lists(alloc: Global, count: u32) -> Result<Vec<Flight>, NoMemory> {
     let mut flights = Vec::new(alloc);
     for _ in 0..count {
-        let Ok(flight) = Flight::new(alloc) else {
-            return Err(io::Error::other("no memory"));
-        };
-        flights.push(flight)?;
+        add_list(alloc, &mut flights)?;
     }
     Ok(flights)
+}
+
+fn add_list(alloc: Global, flights: &mut Vec<Flight>) -> Result<(), NoMemory> {
+    let flight = Flight::new(alloc)?;
+    Ok(flights.push(flight)?)
 }
 
 // So many vectors are written.
@@ -138,39 +133,63 @@ fn fills(received: &mut Received, factor: u32, rounds: u32) -> u64 {
     sum
 }
 
-/// The nanoseconds since the start.
-pub(crate) fn spent(rt: &HostRuntime, start: Instant) -> io::Result<u64> {
-    Ok(u64::try_from(start.elapsed(rt)?.as_nanos()).unwrap_or(u64::MAX))
-}
-
-/// Prints a call and its size, the nanoseconds, the calls and the sum, so that none is left out.
-pub(crate) fn told(
+fn time_fills(
     rt: &HostRuntime,
-    call: (&str, u32),
-    spent: u64,
-    calls: u32,
-    sum: u64,
+    received: &mut Received,
+    order: (&str, u32),
+    rounds: u32,
 ) -> io::Result<()> {
-    eprintln!(rt; "{} {} {} {} {}", call.0, call.1, spent, calls, sum)
+    let start = Instant::now(rt)?;
+    let sum = fills(received, order.1, rounds);
+    let calls = u64::from(rounds) * u64::from(WINDOW);
+    ended(rt, (order.0, WINDOW), start, calls, sum)
 }
 
-/// Prints the nanoseconds of marking all numbers of a window, in order and scattered, so many times.
-pub(crate) fn marks(rt: &HostRuntime, rounds: u32) -> io::Result<()> {
+// Prints the nanoseconds of marking all numbers of a window, in order and scattered, so many times.
+fn time_marks(rt: &HostRuntime, rounds: u32) -> io::Result<()> {
     let Ok(mut received) = Received::new(rt.alloc()) else {
-        return Err(io::Error::other("no memory"));
+        return Err(no_memory());
     };
-    let calls = rounds.saturating_mul(WINDOW);
-    for (name, factor) in [("in-order", 1), ("scattered", SCATTERED)] {
-        let start = Instant::now(rt)?;
-        let sum = fills(&mut received, factor, rounds);
-        told(rt, (name, WINDOW), spent(rt, start)?, calls, sum)?;
-    }
-    Ok(())
+    time_fills(rt, &mut received, ("in-order", 1), rounds)?;
+    time_fills(rt, &mut received, ("scattered", SCATTERED), rounds)
 }
 
-// Prints the nanoseconds of so many reports of this vector, each by a list of which nothing was reported before: so each
-// changes all that it speaks of.
-fn news(rt: &HostRuntime, runs: u32, vector: &VectorBytes, rounds: u32) -> io::Result<()> {
+// Each list takes the report, of which nothing was reported before: so each changes all that it speaks of. Gives the
+// nanoseconds and the sum.
+fn take_anew(
+    rt: &HostRuntime,
+    flights: &mut [Flight],
+    report: &AckReport<'_>,
+    runs: u32,
+) -> io::Result<(u64, u64)> {
+    for flight in flights.iter_mut() {
+        send_all(flight, runs);
+    }
+    let start = Instant::now(rt)?;
+    let sum = each_once(flights, report);
+    Ok((since(rt, start)?, sum))
+}
+
+fn time_reports(
+    rt: &HostRuntime,
+    flights: &mut [Flight],
+    report: &AckReport<'_>,
+    runs: u32,
+    turns: u32,
+) -> io::Result<()> {
+    let mut spent = 0u64;
+    let mut sum = 0u64;
+    for _ in 0..turns {
+        let (taken, acked) = take_anew(rt, flights, report, runs)?;
+        spent = spent.saturating_add(taken);
+        sum = sum.wrapping_add(acked);
+    }
+    let calls = u64::from(turns) * u64::from(LISTS);
+    told(rt, ("report", runs), spent, calls, sum)
+}
+
+// Prints the nanoseconds of so many reports of this vector.
+fn news(rt: &HostRuntime, runs: u32, vector: &[u8], rounds: u32) -> io::Result<()> {
     if vector.len() > 253 {
         return Err(io::Error::other("more than one option"));
     }
@@ -179,70 +198,88 @@ fn news(rt: &HostRuntime, runs: u32, vector: &VectorBytes, rounds: u32) -> io::R
     let Some(report) = AckReport::of(newest(runs), options(writer.bytes(), false)) else {
         return Err(io::Error::other("no vector"));
     };
-    let mut flights = lists(rt.alloc(), LISTS)?;
-    let mut taken = 0u64;
-    let mut sum = 0u64;
-    let turns = rounds / LISTS;
-    for _ in 0..turns {
-        for flight in flights.as_mut_slice() {
-            send_all(flight, runs);
-        }
-        let start = Instant::now(rt)?;
-        sum = sum.wrapping_add(each_once(&mut flights, &report));
-        taken = taken.saturating_add(spent(rt, start)?);
-    }
-    told(
-        rt,
-        ("report", runs),
-        taken,
-        turns.saturating_mul(LISTS),
-        sum,
-    )
+    let Ok(mut flights) = lists(rt.alloc(), LISTS) else {
+        return Err(no_memory());
+    };
+    time_reports(rt, &mut flights, &report, runs, rounds / LISTS)
 }
 
-/// Prints the nanoseconds of so many writes and of so many reports, at one size.
-pub(crate) fn measure(rt: &HostRuntime, runs: u32, rounds: u32) -> io::Result<()> {
-    let received = every_second(rt.alloc(), runs)?;
-    let mut out = VectorBytes::new();
+fn time_writes(
+    rt: &HostRuntime,
+    received: &Received,
+    out: &mut VectorBytes,
+    runs: u32,
+    rounds: u32,
+) -> io::Result<()> {
     let start = Instant::now(rt)?;
-    let sum = writes(&received, &mut out, newest(runs), rounds);
-    told(rt, ("write", runs), spent(rt, start)?, rounds, sum)?;
+    let sum = writes(received, out, newest(runs), rounds);
+    ended(rt, ("write", runs), start, u64::from(rounds), sum)
+}
+
+// Prints the nanoseconds of so many writes and of so many reports, at one size.
+fn measure(rt: &HostRuntime, runs: u32, rounds: u32) -> io::Result<()> {
+    let Ok(mut received) = Received::new(rt.alloc()) else {
+        return Err(no_memory());
+    };
+    take_every_second(&mut received, runs);
+    let mut out = VectorBytes::new();
+    time_writes(rt, &received, &mut out, runs, rounds)?;
     news(rt, runs, &out, rounds)
 }
 
 // Takes the report that a set's vector makes, and gives how many packets it acknowledged.
-fn take_report(flight: &mut Flight, received: &Received, ack: Seq48) -> io::Result<u32> {
+fn take_report(flight: &mut Flight, received: &Received, ack: Seq48) -> Option<u32> {
     let mut out = VectorBytes::new();
     let _ = received.write(&mut out, ack, Vectors::One);
     let mut writer = OptWriter::new();
     let _ = writer.put(false, 38, &out);
-    let Some(report) = AckReport::of(ack, options(writer.bytes(), false)) else {
-        return Err(io::Error::other("no vector"));
-    };
-    Ok(flight.report(&report, None).acked)
+    let report = AckReport::of(ack, options(writer.bytes(), false))?;
+    Some(flight.report(&report, None).acked)
 }
 
-/// Prints the nanoseconds of so many reports of a small vector over a list whose second entry was lost and whose others
-/// are all Reported.
-pub(crate) fn behind_a_loss(rt: &HostRuntime, runs: u32, rounds: u32) -> io::Result<()> {
-    let ack = newest(runs);
-    let Ok(mut flight) = Flight::new(rt.alloc()) else {
-        return Err(io::Error::other("no memory"));
-    };
-    send_all(&mut flight, runs);
-    let received = all_but_one(rt.alloc(), runs)?;
-    let acked = take_report(&mut flight, &received, ack)?;
-    let Some(report) = AckReport::of(ack, options(&SMALL, false)) else {
+// A list whose second entry was lost and whose others are all Reported takes a small vector so many times.
+fn time_old_loss(
+    rt: &HostRuntime,
+    flight: &mut Flight,
+    runs: u32,
+    rounds: u32,
+    acked: u32,
+) -> io::Result<()> {
+    let Some(report) = AckReport::of(newest(runs), options(&SMALL, false)) else {
         return Err(io::Error::other("no vector"));
     };
     let start = Instant::now(rt)?;
-    let sum = again_and_again(&mut flight, &report, rounds);
-    let taken = spent(rt, start)?;
-    told(
-        rt,
-        ("old-loss", runs),
-        taken,
-        rounds,
-        sum.wrapping_add(u64::from(acked)),
-    )
+    let sum = again_and_again(flight, &report, rounds).wrapping_add(u64::from(acked));
+    ended(rt, ("old-loss", runs), start, u64::from(rounds), sum)
+}
+
+// Makes such a list; gives how many packets that acknowledged.
+fn lose_one(flight: &mut Flight, received: &mut Received, runs: u32) -> Option<u32> {
+    send_all(flight, runs);
+    take_all_but_one(received, runs);
+    take_report(flight, received, newest(runs))
+}
+
+// Prints the nanoseconds of so many reports to such a list.
+fn measure_behind_a_loss(rt: &HostRuntime, runs: u32, rounds: u32) -> io::Result<()> {
+    let Ok(mut flight) = Flight::new(rt.alloc()) else {
+        return Err(no_memory());
+    };
+    let Ok(mut received) = Received::new(rt.alloc()) else {
+        return Err(no_memory());
+    };
+    let Some(acked) = lose_one(&mut flight, &mut received, runs) else {
+        return Err(io::Error::other("no vector"));
+    };
+    time_old_loss(rt, &mut flight, runs, rounds, acked)
+}
+
+/// Prints the nanoseconds of marks, and those of writes and reports at each size.
+pub(crate) fn all(rt: &HostRuntime, rounds: u32) -> io::Result<()> {
+    time_marks(rt, rounds / 64)?;
+    for runs in SIZES {
+        measure(rt, runs, rounds)?;
+        measure_behind_a_loss(rt, runs, rounds)?;
+    }
+    Ok(())
 }

@@ -1,5 +1,6 @@
 //! Marks of a set of runs in several orders, over linked runs and over a plain row of them.
 
+use crate::figures::{no_memory, since, told_of};
 use crate::ratios::zero;
 use run_list::{Marked, PlainRuns, RunList, Runs};
 use std::io;
@@ -79,6 +80,19 @@ fn marks<R: Runs>(runs: &mut R, order: Order) -> u64 {
     sum
 }
 
+// Makes the marks of an order in a set that begins anew; gives the nanoseconds and how many are New.
+fn time_marks<R: Runs>(rt: &HostRuntime, runs: &mut R, order: Order) -> io::Result<(u64, u64)> {
+    runs.start(zero());
+    let before = if order.gaps {
+        marks(runs, EVERY_SECOND)
+    } else {
+        0
+    };
+    let start = Instant::now(rt)?;
+    let new = marks(runs, order);
+    Ok((since(rt, start)?, before.wrapping_add(new)))
+}
+
 // Prints what kind of set it is and the order, the nanoseconds of the marks of so many rounds, the marks and the sum.
 fn measure<R: Runs>(
     rt: &HostRuntime,
@@ -87,31 +101,37 @@ fn measure<R: Runs>(
     order: Order,
     rounds: u32,
 ) -> io::Result<()> {
-    let mut sum = 0u64;
     let mut spent = 0u64;
+    let mut sum = 0u64;
     for _ in 0..rounds {
-        runs.start(zero());
-        if order.gaps {
-            sum = sum.wrapping_add(marks(runs, EVERY_SECOND));
-        }
-        let start = Instant::now(rt)?;
-        sum = sum.wrapping_add(marks(runs, order));
-        let round = u64::try_from(start.elapsed(rt)?.as_nanos()).unwrap_or(u64::MAX);
-        spent = spent.saturating_add(round);
+        let (taken, new) = time_marks(rt, runs, order)?;
+        spent = spent.saturating_add(taken);
+        sum = sum.wrapping_add(new);
     }
-    let calls = u64::from(rounds).saturating_mul(u64::from(order.count));
-    eprintln!(rt; "{} {} {} {} {}", kind, order.name, spent, calls, sum)
+    let calls = u64::from(rounds) * u64::from(order.count);
+    told_of(rt, (kind, order.name), spent, calls, sum)
+}
+
+fn measure_each<R: Runs>(
+    rt: &HostRuntime,
+    kind: &str,
+    runs: &mut R,
+    rounds: u32,
+) -> io::Result<()> {
+    for order in ORDERS {
+        measure(rt, kind, runs, order, rounds)?;
+    }
+    Ok(())
 }
 
 /// Prints the nanoseconds of the marks of each order, so many times, over both kinds.
 pub(crate) fn all(rt: &HostRuntime, rounds: u32) -> io::Result<()> {
-    let (Ok(mut linked), Ok(mut plain)) = (RunList::new(rt.alloc()), PlainRuns::new(rt.alloc()))
-    else {
-        return Err(io::Error::other("no memory"));
+    let Ok(mut linked) = RunList::new(rt.alloc()) else {
+        return Err(no_memory());
     };
-    for order in ORDERS {
-        measure(rt, "linked", &mut linked, order, rounds)?;
-        measure(rt, "plain", &mut plain, order, rounds)?;
-    }
-    Ok(())
+    measure_each(rt, "linked", &mut linked, rounds)?;
+    let Ok(mut plain) = PlainRuns::new(rt.alloc()) else {
+        return Err(no_memory());
+    };
+    measure_each(rt, "plain", &mut plain, rounds)
 }

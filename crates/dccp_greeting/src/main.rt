@@ -58,6 +58,14 @@ struct Server {
 }
 
 impl Server {
+    fn new(alloc: Global) -> Server {
+        Server {
+            alloc,
+            connection: None,
+            got: Vec::new(alloc),
+        }
+    }
+
     // A datagram of a stranger. A real server takes addresses and port from its sender, and draws the number.
     fn meet(&mut self, datagram: &[u8], now: u64, network: &mut Wire) -> Option<()> {
         let addresses = Pseudo::V4 {
@@ -91,61 +99,112 @@ impl Server {
     }
 }
 
-// The client's side. A real client draws the number.
-fn client(alloc: Global) -> Option<Session<Kinds>> {
-    let addresses = Pseudo::V4 {
-        from: [192, 0, 2, 1],
-        to: [192, 0, 2, 2],
-    };
-    let ports = Ports {
-        own: 40_000,
-        peer: 5_001,
-    };
-    let config = Config::client(addresses, ports, SERVICE, Seq48::new(1_000)?);
-    Session::new(alloc, config, Kinds::new(alloc).ok()?).ok()
+// The client's side: its connection, and how far it has come.
+#[derive(Drop)]
+struct Client {
+    connection: Session<Kinds>,
+    is_sent: bool,
+    has_ended: bool,
 }
 
-// What the server got, or None where memory ran out or a call was refused.
-fn talk(alloc: Global) -> Option<Vec<u8>> {
-    let mut client = client(alloc)?;
-    let mut server = Server {
-        alloc,
-        connection: None,
-        got: Vec::new(alloc),
-    };
-    let mut to_server = Wire::new(alloc);
-    let mut to_client = Wire::new(alloc);
-    let mut is_sent = false;
-    client.open(0, &mut to_server).ok()?;
+impl Client {
+    // A real client draws the number.
+    fn new(alloc: Global) -> Option<Client> {
+        let addresses = Pseudo::V4 {
+            from: [192, 0, 2, 1],
+            to: [192, 0, 2, 2],
+        };
+        let ports = Ports {
+            own: 40_000,
+            peer: 5_001,
+        };
+        let config = Config::client(addresses, ports, SERVICE, Seq48::new(1_000)?);
+        let connection = Session::new(alloc, config, Kinds::new(alloc).ok()?).ok()?;
+        Some(Client {
+            connection,
+            is_sent: false,
+            has_ended: false,
+        })
+    }
+
+    fn arrived(&mut self, datagram: &[u8], now: u64, network: &mut Wire) {
+        if let News::Ended { .. } = self.connection.arrived(datagram, now, network) {
+            self.has_ended = true;
+        }
+    }
+
+    // Sends the greeting once it may, and closes once that has arrived.
+    fn talk(&mut self, now: u64, network: &mut Wire) {
+        if !self.is_sent {
+            // Refused until the connection is open, and where the window has no room.
+            self.is_sent = self.connection.send(b"hello", now, network).is_ok();
+        } else if self.connection.end().in_flight() == 0 {
+            let _ = self.connection.close(now, network);
+        }
+    }
+}
+
+// The wires from each side to the other.
+#[derive(Drop)]
+struct Wires {
+    to_server: Wire,
+    to_client: Wire,
+}
+
+impl Wires {
+    // The server's next datagram arrives, if there is one.
+    fn serve(&mut self, server: &mut Server, now: u64) -> Option<()> {
+        let Some(datagram) = self.to_server.take() else {
+            return Some(());
+        };
+        server.arrived(&datagram, now, &mut self.to_client)
+    }
+
+    // The client's.
+    fn answer(&mut self, client: &mut Client, now: u64) {
+        if let Some(datagram) = self.to_client.take() {
+            client.arrived(&datagram, now, &mut self.to_server);
+        }
+    }
+}
+
+// Both talk until the connection has ended. None where memory ran out or a call was refused.
+fn exchange(client: &mut Client, server: &mut Server, wires: &mut Wires) -> Option<()> {
+    client.connection.open(0, &mut wires.to_server).ok()?;
     // A turn takes 10 milliseconds. A real loop sleeps until a datagram comes, or `until_first` has gone by.
     for turn in 0..1_000 {
         let now = turn * 10;
-        if let Some(datagram) = to_server.take() {
-            server.arrived(&datagram, now, &mut to_client)?;
+        wires.serve(server, now)?;
+        wires.answer(client, now);
+        if client.has_ended {
+            return Some(());
         }
-        if let Some(datagram) = to_client.take() {
-            if let News::Ended { .. } = client.arrived(&datagram, now, &mut to_server) {
-                return Some(server.got);
-            }
-        }
-        if !is_sent {
-            // Refused until the connection is open, and where the window has no room.
-            is_sent = client.send(b"hello", now, &mut to_server).is_ok();
-        } else if client.end().in_flight() == 0 {
-            let _ = client.close(now, &mut to_server);
-        }
-        client.tick(now, &mut to_server);
-        server.tick(now, &mut to_client);
+        client.talk(now, &mut wires.to_server);
+        client.connection.tick(now, &mut wires.to_server);
+        server.tick(now, &mut wires.to_client);
     }
     None
 }
 
-fn main(rt: HostRuntime) -> ExitCode {
-    let Some(got) = talk(rt.alloc()) else {
-        return ExitCode::FAILURE;
+fn talk(alloc: Global, server: &mut Server) -> Option<()> {
+    let mut client = Client::new(alloc)?;
+    let mut wires = Wires {
+        to_server: Wire::new(alloc),
+        to_client: Wire::new(alloc),
     };
-    match println!(rt; "{} bytes: {:?}", got.len(), got) {
-        Ok(()) => ExitCode::SUCCESS,
-        Err(_) => ExitCode::FAILURE,
+    exchange(&mut client, server, &mut wires)
+}
+
+// Prints what came over the connection. Tells whether it was printed.
+fn print(rt: &HostRuntime, got: &[u8]) -> bool {
+    println!(rt; "{} bytes: {:?}", got.len(), got).is_ok()
+}
+
+fn main(rt: HostRuntime) -> ExitCode {
+    let mut server = Server::new(rt.alloc());
+    if talk(rt.alloc(), &mut server).is_some() && print(&rt, &server.got) {
+        ExitCode::SUCCESS
+    } else {
+        ExitCode::FAILURE
     }
 }

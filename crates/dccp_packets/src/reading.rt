@@ -3,7 +3,7 @@
 //! The refusals are laws on the grammar, and `decode` has one clause that its answer is the grammar's (`exact`).
 //! Callers write `match decode(bytes) { .. }`: `decode(bytes)?` has no proof today, since the value of its Result holds
 //! references beside a type with a model.
-ghost use Rattle.std.specs.Prelude.{◌≡◌, ◌<◌, ◌≤◌, length, MatchResult, IfOk, IsTrue};
+ghost use Rattle.std.specs.Prelude.{◌≡◌, ◌<◌, ◌≤◌, length, nat_lt, MatchResult, IfOk, IsTrue};
 ghost use Rattle.dccp_packets.specs.Grammar.{decoded, is_valid, HeaderFits};
 
 use crate::{Header, PacketType, fields};
@@ -37,6 +37,13 @@ pub enum Malformed {
 // The generic header with a short number.
 const SHORTEST: usize = 12;
 
+// Whether the Data Offset ends before the fixed part does.
+fn ends_before(offset: usize, fixed: usize) -> bool
+    ensures { result ≡ nat_lt offset fixed }
+{
+    offset < fixed
+}
+
 /// The packet that `bytes` are, borrowed from them, or the first cause in the order of `Malformed` (RFC 4340, section
 /// 5). Reserved bits are ignored. Its checksum and its options are not judged.
 pub fn decode(bytes: &[u8]) -> Result<Packet<'_>, Malformed>
@@ -56,7 +63,7 @@ pub fn decode(bytes: &[u8]) -> Result<Packet<'_>, Malformed>
     let long = fields::has_long_numbers(bytes);
     let fixed = packet_type.fixed_length(long);
     let offset = fields::data_offset_bytes(bytes);
-    if offset < fixed {
+    if ends_before(offset, fixed) {
         return Err(Malformed::OffsetSmall);
     }
     if bytes.len() < offset {

@@ -139,11 +139,9 @@ impl Server {
             let _ = self.alarms.remove(&peer);
             return;
         };
-        let condition = Condition {
-            phase: end.phase(),
-            in_flight: 0 < end.in_flight(),
-        };
-        let _ = self.alarms.insert(peer, arranged(alarms, &condition, now));
+        let _ = self
+            .alarms
+            .insert(peer, arranged(alarms, &Condition::of(end), now));
     }
 
     // The peer's end is told of the timer, if that has run out.
@@ -228,17 +226,28 @@ impl Guest {
         self.session.open(0, &mut self.to_server).ok()
     }
 
+    // Its next datagram arrives at the server, if there is one.
+    fn reach(&mut self, server: &mut Server, now: u64) -> Option<()> {
+        let Some(datagram) = self.to_server.take() else {
+            return Some(());
+        };
+        server.arrived(self.peer, &datagram, now, &mut self.to_guest)
+    }
+
+    // The server's.
+    fn hear(&mut self, now: u64) {
+        let Some(datagram) = self.to_guest.take() else {
+            return;
+        };
+        if let News::Ended { code } = self.session.arrived(&datagram, now, &mut self.to_server) {
+            self.ended = Some(code);
+        }
+    }
+
     // A datagram each way, and the timers of both.
     fn turn(&mut self, server: &mut Server, now: u64) -> Option<()> {
-        if let Some(datagram) = self.to_server.take() {
-            server.arrived(self.peer, &datagram, now, &mut self.to_guest)?;
-        }
-        if let Some(datagram) = self.to_guest.take() {
-            let news = self.session.arrived(&datagram, now, &mut self.to_server);
-            if let News::Ended { code } = news {
-                self.ended = Some(code);
-            }
-        }
+        self.reach(server, now)?;
+        self.hear(now);
         self.talk(now);
         self.session.tick(now, &mut self.to_server);
         server.tick(self.peer, now, &mut self.to_guest);
@@ -267,19 +276,21 @@ fn talk(alloc: Global, server: &mut Server) -> Option<u8> {
     exchange(server, &mut first, &mut second)
 }
 
-fn main(rt: HostRuntime) -> ExitCode {
-    let mut server = Server::new(rt.alloc());
-    let Some(code) = talk(rt.alloc(), &mut server) else {
-        return ExitCode::FAILURE;
-    };
-    let got = server.got.as_slice();
-    match println!(rt;
+// Prints what the server got and what the other was told. Tells whether it was printed.
+fn print(rt: &HostRuntime, got: &[u8], code: u8) -> bool {
+    println!(rt;
         "{} bytes: {:?}; the other was told {}",
         got.len(),
         got,
         code
-    ) {
-        Ok(()) => ExitCode::SUCCESS,
-        Err(_) => ExitCode::FAILURE,
+    )
+    .is_ok()
+}
+
+fn main(rt: HostRuntime) -> ExitCode {
+    let mut server = Server::new(rt.alloc());
+    match talk(rt.alloc(), &mut server) {
+        Some(code) if print(&rt, &server.got, code) => ExitCode::SUCCESS,
+        _ => ExitCode::FAILURE,
     }
 }

@@ -26,11 +26,11 @@ pub enum Shown {
     Skipped,
 }
 
-// One end: its address as a number, and its port.
-type End = (u128, u16);
+/// One end of a flow (own): its address as a number, and its port.
+pub type FlowEnd = (u128, u16);
 
 // The version of IP, and both ends, the lesser first.
-type Flow = (u8, End, End);
+type Flow = (u8, FlowEnd, FlowEnd);
 
 /// The flows that were seen, in the order in which they were first seen (own). A flow is the pair of both ends, in
 /// either direction. Contracts see the list of flows.
@@ -75,7 +75,8 @@ fn version_of(pseudo: &Pseudo) -> u8
     }
 }
 
-fn from_end(pseudo: &Pseudo, port: u16) -> End
+/// The end that a packet with these addresses and this source port goes from (own).
+pub fn from_end(pseudo: &Pseudo, port: u16) -> FlowEnd
     ensures { result ≡ from_end pseudo.now port }
 {
     match *pseudo {
@@ -84,7 +85,7 @@ fn from_end(pseudo: &Pseudo, port: u16) -> End
     }
 }
 
-fn to_end(pseudo: &Pseudo, port: u16) -> End
+fn to_end(pseudo: &Pseudo, port: u16) -> FlowEnd
     ensures { result ≡ to_end pseudo.now port }
 {
     match *pseudo {
@@ -93,13 +94,13 @@ fn to_end(pseudo: &Pseudo, port: u16) -> End
     }
 }
 
-fn is_lesser_end(a: End, b: End) -> bool
+fn is_lesser_end(a: FlowEnd, b: FlowEnd) -> bool
     ensures { result ≡ is_lesser_end a b }
 {
     a.0 < b.0 || (a.0 == b.0 && a.1 < b.1)
 }
 
-fn flow_between(version: u8, a: End, b: End) -> Flow
+fn flow_between(version: u8, a: FlowEnd, b: FlowEnd) -> Flow
     ensures { result ≡ flow_between version a b }
 {
     if is_lesser_end(b, a) {
@@ -189,6 +190,19 @@ impl Flows {
             Ok(()) => Ok(()),
             Err(_) => unreachable!(),
         }
+    }
+
+    /// The number of the flow between these addresses and ports, in either direction, from 1 in the order in which flows were
+    /// seen; a flow that was not seen before has the next one, and is noted. After NoMemory the flows are as before.
+    pub fn number(&mut self, pseudo: &Pseudo, from: u16, to: u16) -> Result<u64, NoMemory>
+        ensures number { IfOk result (λ number. number ≡ flow_number (flow_of pseudo.now from to) self.old) }
+        ensures noted { OnOk result (self.new ≡ with_flow (flow_of pseudo.now from to) self.old) }
+        ensures unchanged { OnErr result (self.new ≡ self.old) }
+    {
+        let flow = flow_of(pseudo, from, to);
+        let (known, number) = self.look_up(&flow);
+        self.note(flow, known)?;
+        Ok(number)
     }
 
     // Writes the line of a packet.

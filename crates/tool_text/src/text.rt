@@ -2,6 +2,7 @@
 #![tactic(auto, using(crate::proofs::Keeping::keeps_itself, crate::proofs::Keeping::keeps_on, crate::proofs::Keeping::keeps_through))]
 
 ghost use Rattle.std.specs.Prelude.{◌≡◌, ◌++◌, decimal, OnOk, OnErr};
+ghost use Rattle.std.specs.Str.{bytes_eq};
 ghost use Rattle.hex.specs.Hex.{encode_lower};
 ghost use Rattle.tool_text.specs.Text.{Keeps, labelled_number, hex_or_dash, v4_text};
 
@@ -11,6 +12,13 @@ use seq_circle::NoMemory;
 
 // How many bytes are put as digits at a time.
 const BLOCK: usize = 64;
+
+/// Whether bytes are just this text (own).
+pub fn is_text(bytes: &[u8], text: &[u8]) -> bool
+    ensures { result ≡ bytes_eq bytes.now text.now }
+{
+    bytes == text
+}
 
 /// Puts a piece at the text's end (own). NoMemory comes where the text could not grow, and leaves it as it was.
 pub fn put(text: &mut Vec<u8>, piece: &[u8]) -> Result<(), NoMemory>
