@@ -10,5 +10,6 @@ mod calls;
 mod captures;
 #[cfg(test)]
 mod frames;
+mod seeds;
 #[cfg(test)]
 mod unwraps;
