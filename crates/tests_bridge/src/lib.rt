@@ -10,6 +10,7 @@ mod calls;
 mod captures;
 #[cfg(test)]
 mod frames;
+#[cfg(test)]
 mod seeds;
 #[cfg(test)]
 mod unwraps;
