@@ -76,10 +76,9 @@ fn frames_of_a_capture(rt: HostRuntime) -> Result<(), Fail> {
 }
 
 // Of the other flow nothing goes to the client, and a third one isn't there.
-const NOTHING: [&str; 3] = [
+const NOTHING: [&str; 2] = [
     "frames,--flow,2,--side,client",
     "frames,--flow,3,--side,server",
-    "frames,--flow,0,--side,server",
 ];
 
 #[test]
