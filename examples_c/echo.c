@@ -14,7 +14,8 @@
 
 #include "dccp.h"
 
-enum { MOST_PEERS = 64, SERVICE = 42, ANSWERS_A_SECOND = 20 };
+/* MOST_HEARD: how many datagrams are heard before the timers are looked at again. */
+enum { MOST_PEERS = 64, SERVICE = 42, ANSWERS_A_SECOND = 20, MOST_HEARD = 64 };
 
 /* How many milliseconds a silent peer is waited for: eight minutes, the least for a handshake (RFC 4340, section 8.1.3). */
 enum { SILENCE = 480000 };
@@ -85,23 +86,24 @@ static void note(struct server *server, const dccp_peer *peer) {
     if (place != NULL) *place = (struct guest){.is_there = true, .heard = now(), .peer = *peer};
 }
 
-/* Hears one datagram. Where data came, they go back. */
-static void hear(struct server *server) {
+/* Hears one datagram, if one has come. Where data came, they go back. */
+static bool hear(struct server *server) {
     uint8_t bytes[DCCP_MOST_FRAME_BYTES + 1];
     struct sockaddr_in from;
     socklen_t size = sizeof from;
     dccp_frame frame;
     dccp_told told = {.kind = DCCP_TOOK};
     ssize_t length = recvfrom(server->socket, bytes, sizeof bytes, MSG_DONTWAIT, (struct sockaddr *)&from, &size);
-    if (length < 0) return;
+    if (length < 0) return false;
     dccp_peer peer = {.port = ntohs(from.sin_port)};
     memcpy(peer.address, &from.sin_addr, 4);
     uint32_t status = dccp_listener_arrive(&server->listener, &peer, first_number(), bytes, (size_t)length, now(), &frame, &told);
     if (may_answer(server, status, &told)) hand_over(server, &peer, &frame);
     note(server, &peer);
-    if (told.kind != DCCP_DATA) return;
+    if (told.kind != DCCP_DATA) return true;
     if (dccp_listener_send(&server->listener, &peer, bytes + told.first, told.past - told.first, now(), &frame) == DCCP_OK)
         hand_over(server, &peer, &frame);
+    return true;
 }
 
 /* Gives a peer up that is silent for too long: else Requests from forged addresses would take all places for good. */
@@ -140,6 +142,6 @@ int main(int count, char **words) {
     for (;;) {
         struct pollfd poll_fd = {.fd = server.socket, .events = POLLIN};
         poll(&poll_fd, 1, tick(&server));
-        hear(&server);
+        for (unsigned heard = 0; heard < MOST_HEARD && hear(&server); heard++) continue;
     }
 }

@@ -315,7 +315,8 @@ uint32_t dccp_listener_abort(dccp_listener *listener, const dccp_peer *peer, uin
  * answers DCCP_NOTHING_DUE. DCCP_NOT_MADE, DCCP_NO_MEMORY: nothing was told, and `peer` is as it was. */
 uint32_t dccp_listener_tick(dccp_listener *listener, uint64_t now, dccp_peer *peer, dccp_frame *frame);
 
-/* How many milliseconds it is until dccp_listener_tick has something to do; DCCP_NEVER where no timer runs. Ask again after every other call. */
+/* How many milliseconds it is until dccp_listener_tick has something to do; DCCP_NEVER where no timer runs. Ask again after other calls. Both
+ * go through the timers of all flows: so hear all datagrams that have come, and then ask. */
 uint64_t dccp_listener_until_first(dccp_listener *listener, uint64_t now);
 
 /* Reads the end of a peer. DCCP_OK; DCCP_NOT_MADE, DCCP_NO_FLOW, and `view` is as it was. */

@@ -3,4 +3,5 @@ pub mod Doings
 pub mod Going
 pub mod ListenerAsBox
 pub mod Placing
+pub mod Through
 pub mod Ticking

@@ -1,13 +1,13 @@
 -- What a listener of C's does with a peer, and the timers of its flows (own; the flows are the listener's).
-use Rattle.std.specs.Prelude.{◌≡◌, nat_lt, ℕ, Bool, true, false, List, [], ◌∷◌, Option, Some, None, IsSome, min, unwrap_or}
+use Rattle.std.specs.Prelude.{◌≡◌, nat_lt, ℕ, Bool, true, false, List, [], ◌∷◌, map, Option, Some, None, IsSome, min, unwrap_or}
 use Rattle.std.specs.BTreeMap.{insert_entry}
 use Rattle.std.specs.Map.{lookup, remove_entry}
 use Rattle.ccid_two.specs.Kinds.{kinds_control}
 use Rattle.dccp_endpoint.specs.Controlled.{in_flight_of}
 use Rattle.dccp_listener.specs.Chain.{Deed, Arrives, Calls, FlowCall, Fires, Sends, Closes, Aborts}
-use Rattle.dccp_listener.specs.Listens.{listening_after, listens}
+use Rattle.dccp_listener.specs.Listens.{listening_after, listens, turns_of}
 use Rattle.dccp_listener.specs.Peers.{FlowEnd, Listening, end_of_peer, is_peer, peer_cmp}
-use Rattle.dccp_listener.specs.Runs.{CallTold, Stepped}
+use Rattle.dccp_listener.specs.Runs.{CallTold, IsRunOfTurns, Stepped}
 use Rattle.dccp_listener.specs.declared.config.ListenConfig.{ListenConfig}
 use Rattle.dccp_listener.specs.declared.peer.Peer.{Peer}
 use Rattle.dccp_uses.specs.Alarms.{arranged, no_alarms, rung, until_first, with_delivery, with_progress}
@@ -101,3 +101,25 @@ least_wait now least (one ∷ rest) = least_wait now (min least (unwrap_or (unti
 abbrev pub IsDone : Listening → Listening → Peer → Deed → Option (List ℕ) → CallTold → Type 0
 IsDone before after peer deed frame told =
     (after ≡ listening_after before peer deed) × (frame ≡ (listens before peer deed).frame) × (told ≡ (listens before peer deed).told)
+
+-- a deed of a peer at a time
+pub record TimedDeed : Type 0 where
+  pub now : ℕ
+  pub peer : Peer
+  pub deed : Deed
+
+-- deeds one after another, where memory is found
+abbrev pub served_through : Served → List TimedDeed → Served
+served_through s [] = s
+served_through s (it ∷ later) = served_through (deed_served it.now s it.peer it.deed) later
+
+-- the same without their times
+abbrev pub untimed : List TimedDeed → List (Peer × Deed)
+untimed deeds = map (λ it. (it.peer, it.deed)) deeds
+
+-- Whatever the times, a list of deeds leads a listener that has begun through a run, of which each peer sees the chain of its own deeds.
+abbrev pub CallsAreARun : Type 0
+CallsAreARun =
+    (config : ListenConfig) (deeds : List TimedDeed)
+    → IsRunOfTurns (serving_begins config).listening (served_through (serving_begins config) deeds).listening
+    (turns_of (serving_begins config).listening (untimed deeds))

@@ -1,8 +1,15 @@
 //! What the definitions of the calls mean.
+ghost use Rattle.dccp_c.specs.Serving.{CallsAreARun};
 ghost use Rattle.dccp_c.specs.Ticking.{TicksAreATick};
 
 /// Ticks at one time, told one by one, are what a session's own tick does: each timer that has run out is told once, in
 /// its order; after six of them none is left (own).
 pub fn ticks_are_a_tick()
     ensures { TicksAreATick }
+{}
+
+/// Calls of a listener, where memory is found, are a run of it, whatever the times: so each peer is answered by the chain of
+/// its own calls (`each_peer_has_its_own_chain` of dccp_listener; own).
+pub fn calls_are_a_run()
+    ensures { CallsAreARun }
 {}

@@ -58,7 +58,8 @@ pub struct Listener {
     flows: Flows,
     /// The flows' time is counted in milliseconds from the first call that has one.
     begun: Option<Instant>,
-    due: Option<Instant>,
+    /// The time of the last call.
+    time: u64,
     accepted: VecDeque<SocketAddrV4>,
     frames: VecDeque<(SocketAddrV4, Transmit)>,
     events: VecDeque<(SocketAddrV4, Event)>,
@@ -72,7 +73,7 @@ impl Listener {
         Ok(Listener {
             flows,
             begun: None,
-            due: None,
+            time: 0,
             accepted: VecDeque::new(),
             frames: VecDeque::new(),
             events: VecDeque::new(),
@@ -107,7 +108,6 @@ impl Listener {
             _ => None,
         };
         self.events.extend(event.map(|it| (peer, it)));
-        self.called(now);
         ArriveError::answer(status)
     }
 
@@ -127,7 +127,6 @@ impl Listener {
         let time = self.time(now);
         let (status, frame) = self.flows.send(peer, data, time);
         queue(&mut self.frames, peer, frame, false);
-        self.called(now);
         FlowError::answer(status)
     }
 
@@ -136,7 +135,6 @@ impl Listener {
         let time = self.time(now);
         let (status, frame) = self.flows.close(peer, time);
         queue(&mut self.frames, peer, frame, false);
-        self.called(now);
         FlowError::answer(status)
     }
 
@@ -145,7 +143,6 @@ impl Listener {
         let time = self.time(now);
         let (status, frame) = self.flows.abort(peer, time);
         queue(&mut self.frames, peer, frame, false);
-        self.called(now);
         FlowError::answer(status)
     }
 
@@ -159,12 +156,14 @@ impl Listener {
             }
             queue(&mut self.frames, peer, frame, false);
         }
-        self.called(now);
     }
 
-    /// When [`Listener::handle_timeout`] has something to do; None where no timer runs. Ask again after every other call.
-    pub fn poll_timeout(&self) -> Option<Instant> {
-        self.due
+    /// When [`Listener::handle_timeout`] has something to do; None where no timer runs. Ask again after other calls. It goes through
+    /// the timers of all connections: so hand in all datagrams that have come, and then ask.
+    pub fn poll_timeout(&mut self) -> Option<Instant> {
+        let left = self.flows.until_first(self.time)?;
+        let begun = self.begun?;
+        Some(begun + Duration::from_millis(self.time + left))
     }
 
     /// The next peer whose connection is new. It may have gone again.
@@ -195,15 +194,8 @@ impl Listener {
     /// The time as the flows count it.
     fn time(&mut self, now: Instant) -> u64 {
         let begun = *self.begun.get_or_insert(now);
-        now.saturating_duration_since(begun).as_millis() as u64
-    }
-
-    /// Looks when the next timer runs out.
-    fn called(&mut self, now: Instant) {
-        let time = self.time(now);
-        let left = self.flows.until_first(time);
-        let ends = self.begun.zip(left);
-        self.due = ends.map(|(begun, left)| begun + Duration::from_millis(time + left));
+        self.time = now.saturating_duration_since(begun).as_millis() as u64;
+        self.time
     }
 }
 
