@@ -33,6 +33,32 @@ block-length (suc n) (x ∷ xs) fits all =
 room_behind : (bytes : List ℕ) (done size : ℕ) → done + size ≤ length bytes → size ≤ length (drop done bytes)
 room_behind bytes done size fits = grind (arith, common_steps)
 
+-- nor among fewer
+clear-by : (test : Bool) (n m k : ℕ) → suc k ≤ (if test then 0 else suc n) → (k ≤ n → n ≡ k + m) → (if test then 0 else suc n) ≡ suc k + m
+clear-by true n m k fits behind = absurd (omega (arith, fits))
+clear-by false n m k fits behind = let more : n ≡ k + m = behind (omega (arith, fits)) in omega (arith, more)
+
+pub clear_front : (clear : ℕ) (bytes : List ℕ) → clear ≤ text_length bytes → text_length bytes ≡ clear + text_length (drop clear bytes)
+clear_front zero bytes fits = omega arith
+clear_front (suc clear) [] fits = absurd (omega (arith, fits))
+clear_front (suc clear) (byte ∷ bytes) fits =
+    clear-by (byte == newline) (text_length bytes) (text_length (drop clear bytes)) clear fits (clear_front clear bytes)
+
+-- a line's bytes but the last are none
+one-clear-by : (test : Bool) (n m k : ℕ) → suc (suc k) ≤ suc (if test then 0 else suc n) → (suc k ≤ suc n → k ≤ m) → suc k ≤ (if test then 0 else suc m)
+one-clear-by true n m k fits behind = absurd (omega (arith, fits))
+one-clear-by false n m k fits behind = let more : k ≤ m = behind (omega (arith, fits)) in omega (arith, more)
+
+pub all_but_one_clear : (count : ℕ) (bytes : List ℕ) → 0 < count → count ≤ length bytes → count ≤ text_length bytes + 1 → count - 1 ≤ text_length (take count bytes)
+all_but_one_clear zero bytes some fits line = absurd (omega (arith, some))
+all_but_one_clear (suc zero) bytes some fits line = omega arith
+all_but_one_clear (suc (suc count)) [] some fits line = absurd (omega (arith, fits))
+all_but_one_clear (suc (suc count)) (byte ∷ bytes) some fits line =
+    let all : suc count ≤ text_length (take (suc (suc count)) (byte ∷ bytes)) =
+    one-clear-by (byte == newline) (text_length bytes) (text_length (take (suc count) bytes)) count (omega (arith, line))
+    (λ more. let last = all_but_one_clear (suc count) bytes (omega arith) (omega (arith, fits)) (omega (arith, more)) in omega (arith, last)) in
+    omega (arith, all)
+
 -- nor does one stand in a block behind them
 pub block_seen : (bytes : List ℕ) (done size : ℕ) → done + size ≤ length bytes → text_length bytes ≡ done + text_length (drop done bytes)
     → list_all (λ byte. not (byte == newline)) (take (done + size - done) (drop done bytes)) ≡ true → text_length bytes ≡ done + size + text_length (drop (done + size) bytes)
@@ -60,6 +86,9 @@ fits-by false n k fits = omega (arith, fits)
 pub text_length-fits : (xs : List ℕ) → text_length xs ≤ length xs
 text_length-fits [] = omega arith
 text_length-fits (x ∷ xs) = fits-by (x == newline) (text_length xs) (length xs) (text_length-fits xs)
+
+pub text_length_fits : (xs : List ℕ) → text_length xs ≤ length xs
+text_length_fits = text_length-fits
 
 -- the first bytes are no newline, and the scan goes on behind them
 scan-on : (xs ys : List ℕ) → text_length xs ≡ length xs → text_length (xs ++ ys) ≡ length xs + text_length (drop (length xs) (xs ++ ys))

@@ -81,9 +81,11 @@ made_out bytes (stands.Line count) = Line (take count bytes)
 made_out bytes stands.TooLong = Long (take one_too_many bytes)
 made_out bytes stands.TooMuch = Much
 
--- A line that was made out has some of the pending bytes, is not too long, and lies within the bytes that an input may have.
+-- A line that was made out has some of the pending bytes, is not too long, lies within the bytes that an input may have, and has no newline
+-- but at its end.
 abbrev pub IsLineOf : ℕ → List ℕ → Stands → Type 0
-IsLineOf given bytes (stands.Line count) = (0 < count) × (count ≤ length bytes) × (count ≤ one_too_many) × (given + count ≤ most_input_bytes)
+IsLineOf given bytes (stands.Line count) =
+    (0 < count) × (count ≤ length bytes) × (count ≤ one_too_many) × (given + count ≤ most_input_bytes) × (count ≤ suc (text_length bytes))
 IsLineOf given bytes _ = ⊤
 
 -- The first line is pending to its newline, or so many bytes are, or all that is left.

@@ -3,7 +3,7 @@
 //! A line that was given is let go at the next call and not before, so lending needs no second block. One that is too
 //! long or too much is never let go. Why no further line comes is kept all the same, so that each further call reads
 //! nothing.
-ghost use Rattle.std.specs.Prelude.{◌≡◌, ◌+◌, ◌≤◌, ◌==◌, [], length, take, drop, not, true, None, IfOk, OnErr, IfSome};
+ghost use Rattle.std.specs.Prelude.{◌≡◌, ◌+◌, ◌≤◌, ◌<◌, ◌==◌, [], length, take, drop, not, true, None, IfOk, OnErr, IfSome};
 ghost use Rattle.std.specs.List.{list_all};
 ghost use Rattle.dccp_io.specs.Counts.{Rose};
 ghost use Rattle.dccp_io.specs.Ahead.{ahead_of};
@@ -108,17 +108,53 @@ fn text_length(bytes: &[u8], seen: usize) -> usize
     bytes.len()
 }
 
+// The same, where at least so many stand before it.
+#[tactic(auto, using(crate::proofs::NextLine::clear_front, crate::proofs::NextLine::text_length_fits))]
+fn text_length_behind(bytes: &[u8], clear: usize) -> usize
+    requires { clear ≤ text_length bytes.now }
+    ensures value { result ≡ text_length bytes.now }
+    ensures fits { result ≤ length bytes.now }
+{
+    text_length(bytes, clear)
+}
+
+// How many bytes a line has without its newline, which is at most its last byte: the line that so many pending bytes are.
+#[tactic(auto, using(crate::proofs::NextLine::all_but_one_clear))]
+fn text_of_line(pending: &[u8], count: usize) -> usize
+    requires some { 0 < count }
+    requires fits { count ≤ length pending.now }
+    requires line { count ≤ text_length pending.now + 1 }
+    ensures { result ≡ text_length (take count pending.now) }
+{
+    text_length_behind(&pending[..count], count - 1)
+}
+
+// How many bytes stand before the first newline behind so many.
+fn text_length_after(pending: &[u8], count: usize) -> usize
+    requires { count ≤ length pending.now }
+    ensures { result ≡ text_length (drop count pending.now) }
+{
+    let (_, rest) = pending.split_at(count);
+    text_length(rest, 0)
+}
+
 // Reads on until the first line's newline is pending, or so many bytes of it are, or the input ends; answers how many
-// bytes stand before the newline.
-fn seek<S: Source>(source: &mut S, ahead: &mut ReadAhead, asked: usize) -> Result<usize, Failed>
-    requires { asked ≤ ahead.old.size }
+// bytes stand before the newline, of which `clear` are known.
+fn seek<S: Source>(
+    source: &mut S,
+    ahead: &mut ReadAhead,
+    asked: usize,
+    clear: usize,
+) -> Result<usize, Failed>
+    requires asked { asked ≤ ahead.old.size }
+    requires clear { clear ≤ text_length ahead.old.pending }
     ensures seeks { Seeks S.left S.faults S.lender ahead.old ahead.new source.old source.new }
     ensures value { IfOk result (λ seen. seen ≡ text_length ahead.new.pending) }
     ensures sought { IfOk result (λ seen. IsSought asked ahead.new.pending (S.left source.new)) }
     ensures unread { is_line_settled asked ahead.old.pending ≡ true → source.new ≡ source.old }
     ensures cause { OnErr result (Rose (S.faults source.old) (S.faults source.new)) }
 {
-    let mut seen = text_length(ahead.pending(), 0);
+    let mut seen = text_length_behind(ahead.pending(), clear);
     while seen < asked {
         if seen < ahead.len() {
             return Ok(seen);
@@ -136,7 +172,8 @@ fn seek<S: Source>(source: &mut S, ahead: &mut ReadAhead, asked: usize) -> Resul
 #[tactic(auto, using(crate::proofs::NextLine::first_line_length))]
 fn line_length(pending: &[u8], seen: usize) -> usize
     requires { seen ≡ text_length pending.now }
-    ensures { result ≡ length (first_line pending.now) }
+    ensures value { result ≡ length (first_line pending.now) }
+    ensures fits { result ≤ seen + 1 }
 {
     let held = pending.len();
     if held <= seen {
@@ -175,21 +212,25 @@ fn enough(given: u64) -> usize
 }
 
 // The bytes that are pending settle what stands next: the first line's newline is among them, or so many bytes of it are.
-fn is_line_settled(asked: usize, pending: &[u8]) -> bool
+// At least `clear` of them stand before a newline.
+fn is_line_settled(asked: usize, pending: &[u8], clear: usize) -> bool
+    requires { clear ≤ text_length pending.now }
     ensures { result ≡ is_line_settled asked pending.now }
 {
-    let seen = text_length(pending, 0);
+    let seen = text_length_behind(pending, clear);
     asked <= seen || seen < pending.len()
 }
 
-// Reads on until it is known what stands next.
+// Reads on until it is known what stands next, where at least `clear` pending bytes stand before a newline.
 fn stands_next<S: Source>(
     source: &mut S,
     ahead: &mut ReadAhead,
     given: u64,
+    clear: usize,
 ) -> Result<Stands, Failed>
     requires size { ahead.old.size ≡ 8192 }
     requires within { given ≤ 16777216 }
+    requires clear { clear ≤ text_length ahead.old.pending }
     ensures seeks { Seeks S.left S.faults S.lender ahead.old ahead.new source.old source.new }
     ensures next { IfOk result (λ stands. IfSome (ahead_of ahead.old (S.left source.old)) (λ bytes. next_in_bytes given bytes ≡ made_out ahead.new.pending stands)) }
     ensures fits { IfOk result (λ stands. IsLineOf given ahead.new.pending stands) }
@@ -197,7 +238,7 @@ fn stands_next<S: Source>(
     ensures cause { OnErr result (Rose (S.faults source.old) (S.faults source.new)) }
 {
     let asked = enough(given);
-    let seen = seek(source, ahead, asked)?;
+    let seen = seek(source, ahead, asked, clear)?;
     Ok(first_in(ahead.pending(), seen, given))
 }
 
@@ -209,13 +250,17 @@ pub struct Lines<S: Drop> {
     ahead: ReadAhead,
     // How many of the pending bytes are those of the line that was given last.
     used: usize,
+    // How many bytes that line has without its newline.
+    text: usize,
+    // So many bytes behind that line, or more, stand before a newline.
+    clear: usize,
     given: u64,
     stop: Option<Stop>,
 }
 
 impl<S: Drop> Model for Lines<S> {
     ghost use Rattle.std.specs.Prelude.{◌≡◌, ◌≤◌, take, drop, length};
-    ghost use Rattle.dccp_io.specs.Lines.{LinesState};
+    ghost use Rattle.dccp_io.specs.Lines.{LinesState, text_length};
 
     ghost Value = { LinesState S };
 
@@ -228,7 +273,8 @@ impl<S: Drop> Model for Lines<S> {
     } };
 
     ghost invariant = { λ l. (l.used ≤ length l.ahead.pending)
-        × (length l.ahead.pending ≤ 8192) × (l.ahead.size ≡ 8192) × (l.given ≤ 16777216) };
+        × (length l.ahead.pending ≤ 8192) × (l.ahead.size ≡ 8192) × (l.given ≤ 16777216)
+        × (l.text ≡ text_length (take l.used l.ahead.pending)) × (l.clear ≤ text_length (drop l.used l.ahead.pending)) };
 }
 
 impl<S: Source + Drop> Lines<S> {
@@ -247,6 +293,8 @@ impl<S: Source + Drop> Lines<S> {
             source,
             ahead,
             used: 0,
+            text: 0,
+            clear: 0,
             given: 0,
             stop: None,
         })
@@ -263,9 +311,12 @@ impl<S: Source + Drop> Lines<S> {
         if let Some(stop) = self.stop {
             return Err(stop);
         }
+        let clear = self.clear;
         self.ahead.pass(self.used);
         self.used = 0;
-        match stands_next(&mut self.source, &mut self.ahead, self.given) {
+        self.text = 0;
+        self.clear = 0;
+        match stands_next(&mut self.source, &mut self.ahead, self.given, clear) {
             Err(_) => {
                 self.stop = Some(Stop::Failed);
                 Err(Stop::Failed)
@@ -281,6 +332,8 @@ impl<S: Source + Drop> Lines<S> {
             Ok(Stands::End) => Ok(false),
             Ok(Stands::Line(count)) => {
                 self.used = count;
+                self.text = text_of_line(self.ahead.pending(), count);
+                self.clear = text_length_after(self.ahead.pending(), count);
                 self.given += count as u64;
                 Ok(true)
             }
@@ -296,7 +349,7 @@ impl<S: Source + Drop> Lines<S> {
             return true;
         }
         let (_, pending) = self.ahead.pending().split_at(self.used);
-        is_line_settled(enough(self.given), pending)
+        is_line_settled(enough(self.given), pending, self.clear)
     }
 
     /// The line that was given last, with its newline.
@@ -310,8 +363,7 @@ impl<S: Source + Drop> Lines<S> {
     pub fn text(&self) -> &[u8]
         ensures { result.now ≡ text_of self.now.line }
     {
-        let line = self.line();
-        &line[..text_length(line, 0)]
+        &self.line()[..self.text]
     }
 
     // The front of a line that is too long.

@@ -8,4 +8,4 @@ returns-clause-value c =
     let some : 0 < c.line_length-line.result = search rules in
     let inside : c.args.given + min c.line_length-line.result 4097 ≤ 16777216 = search rules in
     let short : c.args.seen < 4097 = search rules in
-    next-line c.args.given c.line_length-line.result c.args.pending.now c.line_length-line.ensures some inside (rw (sym c.requires.seen) short)
+    next-line c.args.given c.line_length-line.result c.args.pending.now c.line_length-line.ensures.value some inside (rw (sym c.requires.seen) short)
