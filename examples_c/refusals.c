@@ -1,5 +1,5 @@
-/* A Request byte by byte, each refusal of the library in turn, what a server accepts, a timer in counted time, and each allocation refused:
- * a line for each that is not answered as the header says. */
+/* A Request byte by byte, each refusal of the library in turn, what a server accepts, a timer in counted time, a listener and its flows,
+ * and each allocation refused: a line for each that is not answered as the header says. */
 #include <stdio.h>
 #include <stdlib.h>
 #include <string.h>
@@ -318,6 +318,170 @@ static void a_connection(void) {
     same("blocks behind free", 0, held);
 }
 
+static const dccp_peer guest = {.address = {10, 0, 0, 1}, .port = 40000};
+
+static void without_a_listener(void) {
+    dccp_listener none = DCCP_NO_LISTENER;
+    dccp_peer peer = guest;
+    dccp_frame frame;
+    dccp_told told;
+    dccp_view view;
+    uint8_t byte = 0;
+    same("a datagram without a listener", DCCP_NOT_MADE, dccp_listener_arrive(&none, &guest, 0, &byte, 1, 0, &frame, &told));
+    same("send without one", DCCP_NOT_MADE, dccp_listener_send(&none, &guest, &byte, 1, 0, &frame));
+    same("close without one", DCCP_NOT_MADE, dccp_listener_close(&none, &guest, 0, &frame));
+    same("abort without one", DCCP_NOT_MADE, dccp_listener_abort(&none, &guest, 0, &frame));
+    same("a tick without one", DCCP_NOT_MADE, dccp_listener_tick(&none, 0, &peer, &frame));
+    same("the time until then", DCCP_NEVER, dccp_listener_until_first(&none, 0));
+    same("a look without one", DCCP_NOT_MADE, dccp_listener_look(&none, &guest, &view));
+    same("a peer without one", DCCP_NOT_MADE, dccp_listener_peer(&none, 0, &peer));
+    same("its frame", 0, frame.length);
+    dccp_listener_free(&none);
+}
+
+static void limits_of_a_listener(void) {
+    dccp_listener listener = DCCP_NO_LISTENER;
+    dccp_settings settings = server();
+    dccp_wish wish = {.values = {31}, .count = 1, .feature = DCCP_SEQUENCE_WINDOW};
+    same("1,024 flows", DCCP_OK, dccp_listener_make(&listener, &settings, &wish, 0, 1024));
+    same("no flows", DCCP_UNKNOWN, dccp_listener_make(&listener, &settings, &wish, 0, 0));
+    same("a listener behind a refused make", false, listener.made);
+    same("1,025 flows", DCCP_UNKNOWN, dccp_listener_make(&listener, &settings, &wish, 0, 1025));
+    same("a window of 31", DCCP_BAD_LIST, dccp_listener_make(&listener, &settings, &wish, 1, 1));
+    settings.is_v6 = true;
+    same("IPv6", DCCP_UNKNOWN, dccp_listener_make(&listener, &settings, &wish, 0, 1));
+    same("blocks that are kept", 0, held);
+}
+
+/* A listener of at most one peer. */
+static dccp_listener begun(void) {
+    dccp_listener listener = DCCP_NO_LISTENER;
+    dccp_settings settings = server();
+    dccp_wish none = {.count = 0};
+    same("a listener", DCCP_OK, dccp_listener_make(&listener, &settings, &none, 0, 1));
+    return listener;
+}
+
+/* A datagram of a client, from this address. */
+static uint32_t arrives(dccp_listener *listener, uint8_t last, const dccp_frame *datagram, dccp_frame *frame, dccp_told *told) {
+    dccp_peer peer = {.address = {10, 0, 0, last}, .port = 40000};
+    return dccp_listener_arrive(listener, &peer, 2000, datagram->bytes, datagram->length, 0, frame, told);
+}
+
+/* A Request for a service, of a client at another address. */
+static dccp_frame other_request(uint8_t last) {
+    dccp_end end = DCCP_NONE;
+    dccp_settings settings = client;
+    dccp_wish none = {.count = 0};
+    dccp_frame frame;
+    settings.own_address[3] = last;
+    same("another client", DCCP_OK, dccp_make(&end, &settings, &none, 0));
+    same("its open", DCCP_OK, dccp_open(&end, 0, &frame));
+    dccp_free(&end);
+    return frame;
+}
+
+/* Each code of a listener: strangers, a flow, one too many (RFC 4340, section 5.6), and its end. */
+static void a_listener(void) {
+    dccp_listener listener = begun();
+    dccp_frame frame, first = request(client.service), second = other_request(3), elsewhere = request(client.service + 1);
+    dccp_peer peer = {.port = 1};
+    dccp_told told;
+    dccp_view view;
+    static uint8_t bytes[DCCP_MOST_FRAME_BYTES + 1];
+    same("2^48", DCCP_UNKNOWN, dccp_listener_arrive(&listener, &guest, (uint64_t)1 << 48, bytes, 0, 0, &frame, &told));
+    same("2,045 bytes", DCCP_TOO_LONG, dccp_listener_arrive(&listener, &guest, 0, bytes, sizeof bytes, 0, &frame, &told));
+    same("a Request for another service", DCCP_OK, arrives(&listener, 1, &elsewhere, &frame, &told));
+    same("what became of it", DCCP_SENT_RESET, told.kind);
+    same("the code: Bad Service Code", 8, told.code);
+    same("its flow", DCCP_NO_FLOW, dccp_listener_look(&listener, &guest, &view));
+    same("the first place", DCCP_NO_FLOW, dccp_listener_peer(&listener, 0, &peer));
+    same("what stood there", 1, peer.port);
+    same("data for no flow", DCCP_NO_FLOW, dccp_listener_send(&listener, &guest, bytes, 1, 0, &frame));
+    same("a Request", DCCP_OK, arrives(&listener, 1, &first, &frame, &told));
+    same("its Response", 1, (frame.bytes[8] >> 1) & 15);
+    same("its flow", DCCP_OK, dccp_listener_look(&listener, &guest, &view));
+    same("its phase", DCCP_RESPOND, view.phase);
+    same("its first number", 2000, view.iss);
+    same("its place", DCCP_OK, dccp_listener_peer(&listener, 0, &peer));
+    same("its port", guest.port, peer.port);
+    same("data in RESPOND", DCCP_NOT_OPEN, dccp_listener_send(&listener, &guest, bytes, 1, 0, &frame));
+    same("close in RESPOND", DCCP_NOT_OPEN, dccp_listener_close(&listener, &guest, 0, &frame));
+    told.kind = DCCP_TOOK;
+    same("one too many", DCCP_BUSY, arrives(&listener, 3, &second, &frame, &told));
+    same("its Reset", 7, (frame.bytes[8] >> 1) & 15);
+    same("the code: Too Busy", 9, frame.bytes[24]);
+    same("what is told", DCCP_TOOK, told.kind);
+    same("the second place", DCCP_NO_FLOW, dccp_listener_peer(&listener, 1, &peer));
+    same("abort", DCCP_OK, dccp_listener_abort(&listener, &guest, 0, &frame));
+    same("its Reset", 7, (frame.bytes[8] >> 1) & 15);
+    same("abort again", DCCP_NO_FLOW, dccp_listener_abort(&listener, &guest, 0, &frame));
+    same("room for the other", DCCP_OK, arrives(&listener, 3, &second, &frame, &told));
+    same("the first place", DCCP_OK, dccp_listener_peer(&listener, 0, &peer));
+    same("whose it is", 3, peer.address[3]);
+    dccp_listener_free(&listener);
+    same("blocks behind free", 0, held);
+}
+
+/* A client and its flow: an Ack of the flow waits for 200 milliseconds (RFC 4340, section 8.1.5), and data that arrive are told. */
+static void a_flow(void) {
+    dccp_listener listener = begun();
+    dccp_end end = DCCP_NONE;
+    dccp_wish vectors = {.values = {1}, .count = 1, .feature = DCCP_SEND_ACK_VECTOR, .is_offered = true};
+    dccp_frame frame, answer;
+    dccp_peer peer;
+    dccp_told told;
+    same("a client", DCCP_OK, dccp_make(&end, &client, &vectors, 1));
+    same("its open", DCCP_OK, dccp_open(&end, 0, &frame));
+    while (frame.length) {
+        same("a frame that arrives", DCCP_OK, arrives(&listener, 1, &frame, &answer, &told));
+        if (answer.length == 0) break;
+        same("its answer", DCCP_OK, dccp_receive(&end, answer.bytes, answer.length, 0, &frame, &told));
+    }
+    same("the client's phase", DCCP_OPEN, look(&end).phase);
+    same("data", DCCP_OK, dccp_send(&end, (const uint8_t *)"abc", 3, 0, &frame));
+    same("their arrival", DCCP_OK, arrives(&listener, 1, &frame, &answer, &told));
+    same("what became of them", DCCP_DATA, told.kind);
+    same("the data themselves", 0, memcmp(frame.bytes + told.first, "abc", 3) != 0);
+    same("data back", DCCP_OK, dccp_listener_send(&listener, &guest, frame.bytes + told.first, 3, 0, &answer));
+    same("their arrival", DCCP_OK, dccp_receive(&end, answer.bytes, answer.length, 0, &frame, &told));
+    same("what became of them", DCCP_DATA, told.kind);
+    same("the time until a timer", 200, dccp_listener_until_first(&listener, 0));
+    same("a tick before that", DCCP_NOTHING_DUE, dccp_listener_tick(&listener, 199, &peer, &frame));
+    same("a tick", DCCP_OK, dccp_listener_tick(&listener, 200, &peer, &frame));
+    same("whose timer it was", guest.port, peer.port);
+    same("its Ack", 3, (frame.bytes[8] >> 1) & 15);
+    same("close", DCCP_OK, dccp_listener_close(&listener, &guest, 200, &frame));
+    dccp_free(&end);
+    dccp_listener_free(&listener);
+    same("blocks behind free", 0, held);
+}
+
+/* Each allocation that a flow takes is refused in turn: then there is none, nothing is left, and nothing is kept but the first block of the
+ * timers' map, which is allocated first. */
+static void memory_of_a_flow(void) {
+    dccp_frame datagram = request(client.service), frame;
+    dccp_view view;
+    dccp_told told;
+    for (unsigned at = 1;; at++) {
+        dccp_listener listener = begun();
+        unsigned before = held;
+        refused = at;
+        uint32_t status = arrives(&listener, 1, &datagram, &frame, &told);
+        bool is_reached = refused == 0;
+        refused = 0;
+        same("a flow that may want memory", is_reached ? DCCP_NO_MEMORY : DCCP_OK, status);
+        if (is_reached) {
+            same("its frame", 0, frame.length);
+            same("the flow", DCCP_NO_FLOW, dccp_listener_look(&listener, &guest, &view));
+            same("blocks that are kept", before + (at > 1), held);
+        }
+        dccp_listener_free(&listener);
+        same("blocks behind free", 0, held);
+        if (!is_reached) break;
+    }
+}
+
 int main(void) {
     without_an_end();
     wishes();
@@ -327,5 +491,10 @@ int main(void) {
     memory(make);
     memory(accept);
     a_connection();
+    without_a_listener();
+    limits_of_a_listener();
+    a_listener();
+    a_flow();
+    memory_of_a_flow();
     return wrong;
 }

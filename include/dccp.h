@@ -1,7 +1,8 @@
-/* One end of a DCCP connection (RFC 4340) with CCID 2 (RFC 4341) and feature negotiation.
+/* One end of a DCCP connection (RFC 4340) with CCID 2 (RFC 4341) and feature negotiation, and a server of many peers.
  *
  * The library has no socket, no clock and no thread. Datagrams that arrived and the time go in, and each call leaves at most
- * one frame, which the caller sends to the peer. It takes memory in dccp_make and dccp_accept alone.
+ * one frame, which the caller sends to the peer. It takes memory in dccp_make, dccp_accept and dccp_listener_make, and in
+ * dccp_listener_arrive from a peer that has no flow, which keeps a block for timers at most where none is opened.
  *
  * Order of calls: begin a handle with DCCP_NONE; a client makes an end in it and opens it, a server lets dccp_accept make it of
  * a peer's first datagram. From then on dccp_receive for each datagram, dccp_tick as soon as dccp_until_first has gone by,
@@ -12,6 +13,11 @@
  * After every call: if frame.length is not 0, its bytes go to the peer, whatever the call answered. A call that was refused has changed
  * nothing and leaves no bytes. But where dccp_make or dccp_accept made no end the handle holds none any more, and dccp_accept may leave
  * an answer to the datagram.
+ *
+ * A server of many peers holds a dccp_listener, begun with DCCP_NO_LISTENER, in place of an end for each: dccp_listener_make, then
+ * dccp_listener_arrive for each datagram with the address that it came from, dccp_listener_tick as soon as dccp_listener_until_first has
+ * gone by, and dccp_listener_send, dccp_listener_close and dccp_listener_abort for the peers that have a flow. The frame of a call goes to
+ * the peer that the call names, or that dccp_listener_tick has named. Each peer is answered as a server of its own would answer it.
  *
  * The caller keeps to this, which nothing checks:
  *   - A handle is passed to one call at a time. It may go to another thread, if the two are ordered by a lock or a join.
@@ -40,7 +46,7 @@ extern "C" {
 typedef enum dccp_status {
     DCCP_OK = 0,
     DCCP_NOT_MADE = 1,       /* the handle holds no end */
-    DCCP_NO_MEMORY = 2,      /* dccp_make, dccp_accept: no memory was to be had */
+    DCCP_NO_MEMORY = 2,      /* no memory was to be had for an end, a listener or a flow */
     DCCP_NOT_FRESH = 3,      /* dccp_open: a server's end, or one that was opened before */
     DCCP_NOT_OPEN = 4,       /* the connection is in no phase for the call */
     DCCP_TOO_LONG = 5,       /* more than 1,024 bytes of data, or more than 2,044 of a datagram */
@@ -51,7 +57,9 @@ typedef enum dccp_status {
     DCCP_NOT_LIVE = 10,      /* dccp_abort: there is no connection */
     DCCP_UNKNOWN = 11,       /* no feature or timer has this number, or the first number is not below 2^48 */
     DCCP_NOTHING_DUE = 12,   /* dccp_tick: no timer has run out; dccp_timer: this one has nothing to do */
-    DCCP_NO_CONNECTION = 13  /* dccp_accept: the datagram opens no connection */
+    DCCP_NO_CONNECTION = 13, /* dccp_accept: the datagram opens no connection */
+    DCCP_BUSY = 14,          /* dccp_listener_arrive: as many flows stand as may, and the datagram would open one more */
+    DCCP_NO_FLOW = 15        /* a call of a listener: the peer has no flow, or none stands at the place */
 } dccp_status;
 
 /* Where a connection stands (RFC 4340, section 8.4). */
@@ -134,6 +142,25 @@ typedef struct dccp_end {
 #else
 #define DCCP_NONE ((dccp_end){NULL, false})
 #endif
+
+/* A handle: a listener, or none. */
+typedef struct dccp_listener {
+    void *opaque;
+    bool made;
+} dccp_listener;
+
+/* A handle without a listener; each begins so. */
+#ifdef __cplusplus
+#define DCCP_NO_LISTENER (dccp_listener{nullptr, false})
+#else
+#define DCCP_NO_LISTENER ((dccp_listener){NULL, false})
+#endif
+
+/* A peer of a listener: whom a datagram came from, or a frame goes to. */
+typedef struct dccp_peer {
+    uint8_t address[4]; /* of IPv4, in network order */
+    uint16_t port;      /* in the byte order of the machine */
+} dccp_peer;
 
 /* What an end is made from. */
 typedef struct dccp_settings {
@@ -251,6 +278,52 @@ uint32_t dccp_look(dccp_end *end, dccp_view *view);
 
 /* Reads what an end holds for a feature. DCCP_OK; DCCP_NOT_MADE or DCCP_UNKNOWN, and `state` is as it was. */
 uint32_t dccp_feature(dccp_end *end, uint32_t feature, bool at_peer, dccp_feature_state *state);
+
+/* Makes a listener in the handle, for at most `most` flows at a time, 1 to 1,024. One that the handle held is freed first, also where making
+ * fails; then the handle holds none. Of the settings count the own address and port, the service, `is_plain` and `is_v6`, which has to be
+ * false. The wishes are those of each peer's end, which makes no offer by itself. The statuses of dccp_make, and DCCP_UNKNOWN for IPv6 and for
+ * another `most`. A flow takes about 90 KB, which it gives back where it ends. */
+uint32_t dccp_listener_make(dccp_listener *listener, const dccp_settings *settings, const dccp_wish *wishes, size_t count, uint16_t most);
+
+/* Frees what the handle holds, with all flows. Afterwards it holds none, and may be freed again or made again. */
+void dccp_listener_free(dccp_listener *listener);
+
+/* A datagram has come from this peer. Its flow hears it, or it opens one, if it is a Request that a server's end takes up: that has
+ * `first_number` as the number of its first packet, below 2^48, which nobody can guess; draw one for each datagram, or for each whose peer has
+ * no flow. DCCP_OK, and what became of it in `told`; a flow that has ended by it is there no more. DCCP_BUSY: it would open one flow more than
+ * may stand; nothing has changed, and the frame is a Reset with code 9, Too Busy. Then the owner may close or abort a flow to make room, or
+ * let the peer ask again. DCCP_NO_MEMORY, DCCP_UNKNOWN for the number, DCCP_TOO_LONG over 2,044 bytes, DCCP_NOT_MADE: nothing has changed and
+ * nothing is left. But for DCCP_OK `told` is as it was. Anybody may call forth the frame of DCCP_BUSY, and those of DCCP_SYNCED and
+ * DCCP_SENT_RESET: limit how many go out in a second. One that is left out is a lost frame. */
+uint32_t dccp_listener_arrive(dccp_listener *listener, const dccp_peer *peer, uint64_t first_number, const uint8_t *datagram, size_t length,
+                              uint64_t now, dccp_frame *frame, dccp_told *told);
+
+/* Sends data to a peer, as dccp_send does it once the flow is DCCP_OPEN. DCCP_OK; DCCP_NOT_MADE, DCCP_NO_FLOW; DCCP_NOT_OPEN, DCCP_TOO_LONG,
+ * DCCP_WINDOW_FULL, DCCP_NO_MEMORY; DCCP_NOT_NEGOTIATED: the peer sends no Ack Vectors. A flow's end asks for nothing by itself, so its peer
+ * has to offer them: by a wish for DCCP_SEND_ACK_VECTOR, not at_peer, of the value 1, that is_offered. */
+uint32_t dccp_listener_send(dccp_listener *listener, const dccp_peer *peer, const uint8_t *data, size_t length, uint64_t now,
+                            dccp_frame *frame);
+
+/* Closes a peer's connection in order, as dccp_close. DCCP_OK; DCCP_NOT_MADE, DCCP_NO_FLOW, DCCP_NOT_OPEN, DCCP_NO_MEMORY. */
+uint32_t dccp_listener_close(dccp_listener *listener, const dccp_peer *peer, uint64_t now, dccp_frame *frame);
+
+/* Ends a peer's connection at once, and its flow with it. DCCP_OK; DCCP_NOT_MADE, DCCP_NO_FLOW; DCCP_NOT_LIVE in DCCP_TIMEWAIT;
+ * DCCP_NO_MEMORY. */
+uint32_t dccp_listener_abort(dccp_listener *listener, const dccp_peer *peer, uint64_t now, dccp_frame *frame);
+
+/* Tells a flow the first of its timers that has run out, and names its peer. DCCP_OK, also where that leaves no frame: call it again until it
+ * answers DCCP_NOTHING_DUE. DCCP_NOT_MADE, DCCP_NO_MEMORY: nothing was told, and `peer` is as it was. */
+uint32_t dccp_listener_tick(dccp_listener *listener, uint64_t now, dccp_peer *peer, dccp_frame *frame);
+
+/* How many milliseconds it is until dccp_listener_tick has something to do; DCCP_NEVER where no timer runs. Ask again after every other call. */
+uint64_t dccp_listener_until_first(dccp_listener *listener, uint64_t now);
+
+/* Reads the end of a peer. DCCP_OK; DCCP_NOT_MADE, DCCP_NO_FLOW, and `view` is as it was. */
+uint32_t dccp_listener_look(dccp_listener *listener, const dccp_peer *peer, dccp_view *view);
+
+/* Names the peer at this place, from 0, among those that have a flow, in the order of their addresses and ports. DCCP_OK; DCCP_NOT_MADE, or
+ * DCCP_NO_FLOW past the last, and `peer` is as it was. */
+uint32_t dccp_listener_peer(dccp_listener *listener, uint16_t place, dccp_peer *peer);
 
 #ifdef __cplusplus
 }

@@ -4,9 +4,9 @@ ghost use Rattle.bridge_records.specs.Interfaces as spec;
 ghost use Rattle.bridge_records.specs.Interfaces.{link_in, needs_nanos, units_of, seconds_of, nanos_of, fraction_of};
 
 use crate::classic::is_known_link;
-use crate::numbers::{behind, read_u16, read_u32, read_u64};
+use crate::numbers::{read_u16, read_u32, read_u64};
 use bridge_pieces::PieceFault;
-use capture_reader::Order;
+use capture_reader::{Order, behind};
 
 /// An interface of a section.
 #[derive(Clone, Copy)]

@@ -1,5 +1,5 @@
 //! Numbers in a capture's own byte order.
-ghost use Rattle.std.specs.Prelude.{◌≡◌, ◌+◌, ◌≤◌, length, drop};
+ghost use Rattle.std.specs.Prelude.{◌≡◌, ◌+◌, ◌≤◌, length};
 ghost use Rattle.capture_reader.specs.Format.{ordered_number_at};
 
 use byteorder::{BigEndian, ByteOrder, LittleEndian};
@@ -36,12 +36,4 @@ pub(crate) fn read_u64(order: Order, bytes: &[u8], place: usize) -> u64
         Order::Big => BigEndian::read_u64(&bytes[place..]),
         Order::Little => LittleEndian::read_u64(&bytes[place..]),
     }
-}
-
-/// The bytes behind so many.
-pub(crate) fn behind(bytes: &[u8], count: usize) -> &[u8]
-    requires { count ≤ length bytes.now }
-    ensures { result.now ≡ drop count bytes.now }
-{
-    &bytes[count..]
 }

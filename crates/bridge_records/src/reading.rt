@@ -15,14 +15,11 @@ use crate::interfaces::{Interface, interface_of, needs_nanos};
 use crate::numbers::read_u32;
 use crate::packets::{enhanced_head, simple_head};
 use bridge_pieces::PieceFault;
-use capture_reader::{Format, Order};
+use capture_reader::{Format, MOST_CAPTURED, Order};
 use capture_writer::RecordHeader;
 use seq_circle::NoMemory;
 use std::alloc::Global;
 use std::marker::Model;
-
-// The most bytes of a record.
-const MOST_CAPTURED: u32 = 262_144;
 
 // The most interfaces of a section that are kept.
 const MOST_INTERFACES: usize = 256;
@@ -165,7 +162,7 @@ impl CaptureFile {
         ensures { ReadsPiece (spec.by_header self.old format (head_in format.order piece.now)) piece.now self.old self.new result }
     {
         let head = record_header(format.order, piece);
-        if MOST_CAPTURED < head.captured {
+        if MOST_CAPTURED < head.captured as usize {
             return Err(PieceFault::TooLong);
         }
         if head.captured == 0 {
@@ -313,7 +310,7 @@ impl CaptureFile {
         requires { start ≤ 16 }
         ensures { ReadsPiece (spec.by_packet self.old order link head start piece.now) piece.now self.old self.new result }
     {
-        if MOST_CAPTURED < head.captured {
+        if MOST_CAPTURED < head.captured as usize {
             return Err(PieceFault::TooLong);
         }
         if piece.len() < start + head.captured as usize + 4 {

@@ -8,4 +8,5 @@ mod links;
 mod unwrapping;
 
 pub use crate::laws::{each_record_is_unwrapped, what_show_shows_stays};
-pub use crate::unwrapping::unwrap_capture;
+pub use crate::links::ip_start;
+pub use crate::unwrapping::{fault_name, put_fault, unwrap_capture};

@@ -1,5 +1,5 @@
 //! `unwrap`: a job over the pieces of a capture.
-ghost use Rattle.std.specs.Prelude.{◌≡◌, ◌≢◌, ◌+◌, ◌≤◌, ◌++◌, ℕ, List, length, drop, false, OnOk, Some};
+ghost use Rattle.std.specs.Prelude.{◌≡◌, ◌≢◌, ◌+◌, ◌≤◌, ◌++◌, ℕ, List, length, false, OnOk, Some};
 ghost use Rattle.bridge_records.specs.Reading.{bytes_held};
 ghost use Rattle.capture_writer.specs.Writing.{header_for, raw_record};
 ghost use Rattle.dccp_io.specs.Counts.{Rose, one_more};
@@ -10,6 +10,7 @@ ghost use Rattle.bridge_unwrap.specs.Unwrapping.{first_unwrapping, is_unwrapped_
 use crate::links::ip_start;
 use bridge_pieces::{PieceFault, PieceJob, run_pieces};
 use bridge_records::{CaptureFile, Found};
+use capture_reader::behind;
 use capture_writer::{RecordHeader, put_file_header, put_record_header};
 use dccp_io::{Sink, Source};
 use seq_circle::NoMemory;
@@ -46,14 +47,6 @@ fn header_behind(head: &RecordHeader, start: usize, bytes: &[u8]) -> RecordHeade
     }
 }
 
-// The bytes behind so many.
-fn behind(bytes: &[u8], count: usize) -> &[u8]
-    requires { count ≤ length bytes.now }
-    ensures { result.now ≡ drop count bytes.now }
-{
-    &bytes[count..]
-}
-
 // Puts the record that is made of one of this link type, with the bytes that were captured of it.
 #[tactic(auto, unfolding(crate::specs::Unwrapping::unwrapped))]
 fn put_unwrapped(
@@ -79,7 +72,8 @@ fn put_unwrapped(
     Ok(())
 }
 
-fn fault_name(fault: PieceFault) -> &'static [u8]
+/// Why a capture is refused, as a word (own).
+pub fn fault_name(fault: PieceFault) -> &'static [u8]
     ensures { result.now ≡ piece_fault_name fault }
 {
     match fault {
@@ -93,8 +87,9 @@ fn fault_name(fault: PieceFault) -> &'static [u8]
     }
 }
 
-// Puts the line of a fault, behind so many records.
-fn put_fault(text: &mut Vec<u8>, records: u64, fault: PieceFault) -> Result<(), NoMemory>
+/// Puts the line of a fault of a capture, behind so many records (own). NoMemory comes where the text could not grow; then a front
+/// of the line may stand there.
+pub fn put_fault(text: &mut Vec<u8>, records: u64, fault: PieceFault) -> Result<(), NoMemory>
     ensures { OnOk result (text.new.items ≡ text.old.items ++ unwrap_closing false records (Some fault)) }
 {
     put(text, b"capture ")?;

@@ -16,4 +16,4 @@ pub use crate::captures::Captures;
 pub use crate::fault::CaptureFault;
 pub use crate::format::{Format, Order};
 pub use crate::laws::{a_capture_has_one_list_of_records, cut_short_comes_before_too_large};
-pub use crate::record::Record;
+pub use crate::record::{MOST_CAPTURED, Record, behind};

@@ -1,5 +1,5 @@
 //! Records, and how many bytes they need.
-ghost use Rattle.std.specs.Prelude.{◌≡◌, ◌≢◌, ◌+◌, ◌≤◌, ◌<◌, ◌^◌, [], length, IfOk, IfErr, IfSome};
+ghost use Rattle.std.specs.Prelude.{◌≡◌, ◌≢◌, ◌+◌, ◌≤◌, ◌<◌, ◌^◌, [], drop, length, IfOk, IfErr, IfSome};
 ghost use Rattle.capture_reader.specs.State.{IsOfRecords};
 ghost use Rattle.capture_reader.specs.Records.{missing, record_header, header_in};
 
@@ -33,11 +33,19 @@ pub(crate) struct RecordHeader {
     pub(crate) original: u32,
 }
 
+/// The bytes behind so many (own).
+pub fn behind(bytes: &[u8], count: usize) -> &[u8]
+    requires { count ≤ length bytes.now }
+    ensures { result.now ≡ drop count bytes.now }
+{
+    &bytes[count..]
+}
+
 /// The bytes of a record's header.
 pub(crate) const RECORD_HEADER: usize = 16;
 
 /// The most bytes of a record that a reader gives.
-pub(crate) const MOST_CAPTURED: usize = 262_144;
+pub const MOST_CAPTURED: usize = 262_144;
 
 /// The most bytes of a capture that count.
 pub(crate) const MOST_BYTES: u64 = 4_294_967_296;

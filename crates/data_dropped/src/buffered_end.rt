@@ -71,7 +71,8 @@ impl<C: Congestion + Drop> BufferedEnd<C> {
     ghost use Rattle.std.specs.Prelude.{◌≡◌, ◌≤◌, IfOk, IsTrue};
     ghost use Rattle.data_dropped.specs.Buffering.{begins_buffered};
 
-    /// An end of its configuration, as `Endpoint::new` makes it, and an empty inbox for 1 to 1,024 packets.
+    /// An end of its configuration, as `Endpoint::new` makes it, and an empty inbox for 1 to 1,024 packets. NoMemory
+    /// where either finds none; no other call takes any.
     pub fn new(
         alloc: Global,
         config: Config,

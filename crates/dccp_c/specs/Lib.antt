@@ -1,8 +1,12 @@
 pub mod Accepting
 pub mod Codes
 pub mod Doing
+pub mod Founding
 pub mod Keeping
+pub mod KeepingListener
+pub mod Listening
 pub mod Making
 pub mod Seeing
+pub mod Serving
 pub mod Telling
 pub mod Ticking

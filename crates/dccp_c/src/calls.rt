@@ -15,7 +15,7 @@ use crate::codes::{
 use crate::held::{Held, first_due};
 use crate::making::{as_server, configured_by};
 use crate::readers::{seen, seen_feature};
-use crate::told::told_of;
+use crate::told::tell;
 use crate::{End, FeatureState, Frame, Settings, Told, View, Wish};
 use dccp_endpoint::MOST_FRAME_BYTES;
 use std::alloc::Global;
@@ -77,7 +77,7 @@ pub extern "C" fn dccp_accept(
     let Ok(mut held) = Held::new(alloc, config) else {
         return NO_MEMORY;
     };
-    *told = told_of(&held.receive(datagram, now));
+    tell(&held.receive(datagram, now), told);
     frame.fill(&held.out);
     if held.is_listening() {
         return NO_CONNECTION;
@@ -94,7 +94,7 @@ pub extern "C" fn dccp_free(end: &mut End, alloc: Global)
     drop(end.take(alloc));
 }
 
-/// `Session::open`.
+/// `Session::open` at `now`, in milliseconds as in each call. Answers DONE, NOT_MADE or NOT_FRESH.
 #[unsafe(no_mangle)]
 pub extern "C" fn dccp_open(end: &mut End, alloc: Global, now: u64, frame: &mut Frame) -> u32
     ensures end { end_in end.new.kept.value ≡ kept_after (c_opens now) (end_in end.old.kept.value) }
@@ -111,7 +111,7 @@ pub extern "C" fn dccp_open(end: &mut End, alloc: Global, now: u64, frame: &mut 
     open_code(&answer)
 }
 
-/// `Session::send`.
+/// `Session::send`. Answers DONE, NOT_MADE, NOT_OPEN, TOO_LONG, NOT_NEGOTIATED or WINDOW_FULL.
 #[unsafe(no_mangle)]
 pub extern "C" fn dccp_send(
     end: &mut End,
@@ -134,7 +134,7 @@ pub extern "C" fn dccp_send(
     send_code(&answer)
 }
 
-/// `Session::close`.
+/// `Session::close`. Answers DONE, NOT_MADE or NOT_OPEN.
 #[unsafe(no_mangle)]
 pub extern "C" fn dccp_close(end: &mut End, alloc: Global, now: u64, frame: &mut Frame) -> u32
     ensures end { end_in end.new.kept.value ≡ kept_after (c_closes now) (end_in end.old.kept.value) }
@@ -151,7 +151,7 @@ pub extern "C" fn dccp_close(end: &mut End, alloc: Global, now: u64, frame: &mut
     close_code(&answer)
 }
 
-/// `Session::abort`.
+/// `Session::abort`. Answers DONE, NOT_MADE or NOT_LIVE.
 #[unsafe(no_mangle)]
 pub extern "C" fn dccp_abort(end: &mut End, alloc: Global, now: u64, frame: &mut Frame) -> u32
     ensures end { end_in end.new.kept.value ≡ kept_after (c_aborts now) (end_in end.old.kept.value) }
@@ -281,7 +281,7 @@ pub extern "C" fn dccp_receive(
         return NOT_MADE;
     };
     let outcome = held.receive(datagram, now);
-    *told = told_of(&outcome);
+    tell(&outcome, told);
     frame.fill(&held.out);
     end.put(held);
     DONE

@@ -49,6 +49,12 @@ pub const NOTHING_DUE: u32 = 12;
 /// The datagram opens no connection.
 pub const NO_CONNECTION: u32 = 13;
 
+/// A listener has as many flows as it may, and the datagram would open one more.
+pub const BUSY: u32 = 14;
+
+/// The peer has no flow.
+pub const NO_FLOW: u32 = 15;
+
 pub(crate) fn open_code(answer: &Result<(), OpenFault>) -> u32
     ensures { result ≡ open_code answer.now }
 {

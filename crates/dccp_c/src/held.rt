@@ -24,7 +24,7 @@ pub struct Held {
 }
 
 // What the timers of an end go by.
-fn condition(end: &Endpoint<Kinds>) -> Condition
+pub(crate) fn condition(end: &Endpoint<Kinds>) -> Condition
     ensures { result ≡ condition_of kinds_control end.now }
 {
     Condition {

@@ -15,17 +15,25 @@
 mod calls;
 mod codes;
 mod end;
+mod founding;
 mod frame;
 mod held;
 mod kept;
+mod kept_listener;
 mod laws;
+mod listener;
+mod listener_calls;
 mod making;
+mod peer;
 mod readers;
+mod serving;
 mod told;
 
 pub use crate::end::End;
 pub use crate::frame::Frame;
 pub use crate::laws::ticks_are_a_tick;
+pub use crate::listener::ListenerHandle;
 pub use crate::making::{Settings, Wish};
+pub use crate::peer::PeerAddress;
 pub use crate::readers::{FeatureState, View};
 pub use crate::told::Told;

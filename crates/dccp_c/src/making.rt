@@ -49,7 +49,7 @@ pub struct Wish {
     pub is_mandatory: bool,
 }
 
-fn first_four(address: &[u8; 16]) -> [u8; 4]
+pub(crate) fn first_four(address: &[u8; 16]) -> [u8; 4]
     ensures { result ≡ first_four address.now }
 {
     [address[0], address[1], address[2], address[3]]

@@ -1,5 +1,4 @@
--- What an end says has room on its packets: an Ack Vector of at most 255 bytes, the Confirms for a packet, of at most 354 bytes, and 18
--- Changes of at most 12 bytes each.
+-- What an end says has room on its packets: a vector of 255 bytes at most, Confirms of 354, and 18 Changes of 12 each.
 use Rattle.std.proofs.Common.{◌≡◌, ℕ, ◌+◌, ◌*◌, ◌-◌, ◌%◌, ◌≤◌, ◌<◌, nat_lt, ◌==◌, Bool, true, false, not, ◌&&◌, ◌||◌, if◌then◌else◌, List, [], ◌∷◌, ◌++◌, zero, suc, length, map, replicate, Option, Some, None, Result, Ok, Err, refl, ap, sym, ◌∙◌, subst, arith, eqb-true, get_or-set_same, length-set}
 use Rattle.std.specs.Prelude.{slice_index_or, slice_set, filter}
 use Rattle.std.specs.List.{All}
@@ -222,8 +221,7 @@ feature-used used left number (Some feature) is size free =
     one-used used (place_in_used left number) every_place (omega (arith, below, at, size)) free
     (ap (λ (place : ℕ). has_spot place every_place) (sym at) ∙ has-row feature (place_of left))
 
--- What holds of each reading: the rows are sound, and the Confirms are few and short, and shorter where no row answers; and a fault has
--- the code 5 or 6.
+-- Of each reading: rows are sound, Confirms few and short, and shorter where no row answers; a fault has code 5 or 6.
 pub record IsBounded (h : Heeding) : Type 0 where
   pub rows : IsNegotiation h.rows
   pub size : length h.used ≡ 512

@@ -1,5 +1,5 @@
 //! What one end answers, as a listener tells it.
-ghost use Rattle.std.specs.Prelude.{◌≡◌, ◌≤◌, length};
+ghost use Rattle.std.specs.Prelude.{◌≡◌, ◌≤◌, None, length};
 ghost use Rattle.ccid_two.specs.Kinds.{kinds_control};
 ghost use Rattle.dccp_endpoint.specs.Feeding.{receiving};
 ghost use Rattle.two_ends.specs.World.{seen_of};
@@ -7,7 +7,7 @@ ghost use Rattle.dccp_listener.specs.Chain.{Calls, call_of, flow_step, is_given_
 
 use crate::Act;
 use ccid_two::Kinds;
-use dccp_endpoint::{AbortFault, CloseFault, Endpoint, Outbox, Outcome, Phase};
+use dccp_endpoint::{AbortFault, CloseFault, Endpoint, NoMemory, Outbox, Outcome, Phase};
 use world_events::{Refusal, Seen};
 
 /// The phase in which an end is given up.
@@ -46,4 +46,12 @@ pub(crate) fn receive(end: &mut Endpoint<Kinds>, bytes: &[u8], out: &mut Outbox)
     ensures { record { after = end.new; frame = out.new; answer = result } ≡ receiving kinds_control end.old bytes.now }
 {
     end.receive(bytes, out)
+}
+
+/// Nothing goes out where there was no memory.
+pub(crate) fn without_memory(out: &mut Outbox) -> NoMemory
+    ensures { out.new ≡ None }
+{
+    out.clear();
+    NoMemory
 }

@@ -64,6 +64,7 @@ impl Listener {
         requires { IsListening config }
         ensures { result ≡ record { config = config; flows = [] } }
     {
+        // A look at a wish gives the prover that the lists are sound.
         let _wish = config.lists.wish(Feature::Ccid, Place::Here);
         Listener {
             alloc,

@@ -1,5 +1,5 @@
 //! The two calls of a listener, over its configuration and its map of flows.
-ghost use Rattle.std.specs.Prelude.{◌≡◌, ◌≤◌, ◌+◌, ◌↔◌, None, Ok, IfOk, IsErr, OnErr, false, length};
+ghost use Rattle.std.specs.Prelude.{◌≡◌, ◌≤◌, ◌+◌, ◌↔◌, None, Ok, IfOk, IsErr, IsTrue, OnErr, false, length};
 ghost use Rattle.ccid_two.specs.Kinds.{at_first, kinds_control};
 ghost use Rattle.dccp_endpoint.specs.Controlled.{begins};
 ghost use Rattle.dccp_endpoint.specs.Feeding.{receiving};
@@ -10,6 +10,7 @@ ghost use Rattle.dccp_listener.specs.Moves.{IsTakenIn};
 ghost use Rattle.dccp_listener.specs.Peers.{end_of_peer, is_peer};
 ghost use Rattle.dccp_listener.specs.Runs.{Stepped, told_of};
 
+use crate::answers::without_memory;
 use crate::config::config_for;
 use crate::flows::{Held, act_at, hear_at, put_flow};
 use crate::greeting::{greet, refuse};
@@ -39,11 +40,15 @@ fn admit(
     let (end, outcome) = greet(alloc, config, bytes, out)?;
     match put_flow(alloc, flows, peer, end) {
         Ok(()) => Ok(outcome),
-        Err(fault) => {
-            out.clear();
-            Err(fault)
-        }
+        Err(_) => Err(without_memory(out)),
     }
+}
+
+// As many flows stand as may.
+fn is_full(config: &ListenConfig, flows: &BTreeMap<Peer, Held>) -> bool
+    ensures { IsTrue result ↔ (config.now.most ≤ length flows.now.entries) }
+{
+    config.most as usize <= flows.len()
 }
 
 /// A datagram of a peer.
@@ -69,7 +74,7 @@ pub(crate) fn arrive(
     if let Some(outcome) = turn_away(&own, bytes, out) {
         return Ok(Heard::Flow(outcome));
     }
-    if config.most as usize <= flows.len() {
+    if is_full(config, flows) {
         refuse(&own, bytes, out);
         return Ok(Heard::Busy);
     }

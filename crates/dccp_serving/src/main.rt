@@ -139,11 +139,9 @@ impl Server {
             let _ = self.alarms.remove(&peer);
             return;
         };
-        let condition = Condition {
-            phase: end.phase(),
-            in_flight: 0 < end.in_flight(),
-        };
-        let _ = self.alarms.insert(peer, arranged(alarms, &condition, now));
+        let _ = self
+            .alarms
+            .insert(peer, arranged(alarms, &Condition::of(end), now));
     }
 
     // The peer's end is told of the timer, if that has run out.

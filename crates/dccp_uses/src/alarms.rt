@@ -2,7 +2,7 @@
 ghost use Rattle.std.specs.Prelude.{◌≡◌};
 ghost use Rattle.dccp_uses.specs.Alarms.{alarm_after, alarm_of, arranged, arranged_alarm, first_again, first_wait, has_run_out, time_left, next_wait, no_alarms, rung, runs_in, set_back, sooner, starting_wait, with_delivery, with_progress};
 
-use dccp_endpoint::{Phase, Timer};
+use dccp_endpoint::{Congestion, Endpoint, Phase, Timer};
 
 /// A timer that runs: since when, and for how long.
 #[derive(Clone, Copy, Debug, PartialEq, Eq)]
@@ -29,6 +29,20 @@ pub struct Condition {
     pub phase: Phase,
     /// Whether data packets are in flight.
     pub in_flight: bool,
+}
+
+impl Condition {
+    ghost use Rattle.dccp_uses.specs.Session.{condition_of};
+
+    /// What the timers of this end go by now (own).
+    pub fn of<C: Congestion>(end: &Endpoint<C>) -> Condition
+        ensures { result ≡ condition_of C.control end.now }
+    {
+        Condition {
+            phase: end.phase(),
+            in_flight: 0 < end.in_flight(),
+        }
+    }
 }
 
 /// The timers that run for an end, of the six that it has: six fields and not a list, so that a call takes no memory.
@@ -109,7 +123,7 @@ fn sooner(left: Option<u64>, alarm: Option<Alarm>, now: u64) -> Option<u64>
     }
 }
 
-/// Whether an alarm has run out.
+/// Whether an alarm has run out by `now`, in milliseconds from the beginning from which its `since` counts (own).
 pub fn has_run_out(alarm: Option<Alarm>, now: u64) -> bool
     ensures { result ≡ has_run_out alarm now }
 {
@@ -184,7 +198,8 @@ fn arranged_alarm(alarms: &Alarms, timer: Timer, condition: &Condition, now: u64
     )
 }
 
-/// The timers as they run for an end in this condition.
+/// The timers as they run from `now` on for an end in this condition (own): after each call of the end, and behind
+/// `rung`, `with_progress` and `with_delivery` where one of these has its place.
 pub fn arranged(alarms: &Alarms, condition: &Condition, now: u64) -> Alarms
     ensures { result ≡ arranged alarms.now condition.now now }
 {
@@ -212,7 +227,8 @@ fn set_back(alarm: Option<Alarm>, now: u64) -> Option<Alarm>
     }
 }
 
-/// The timers once this one has run out. The timer rto also begins with a longer wait from now on.
+/// The timers once this one has run out at `now`, in milliseconds, and its call was made of the end (own): it waits
+/// twice as long the next time, up to 64 seconds. The timer rto also begins with a longer wait from then on.
 pub fn rung(alarms: &Alarms, timer: Timer, now: u64) -> Alarms
     ensures { result ≡ rung alarms.now timer now }
 {
@@ -242,8 +258,8 @@ fn first_again(alarm: Option<Alarm>, wait: u64) -> Option<Alarm>
     }
 }
 
-/// The timers where a packet that arrived took something out of flight, or not: the timer rto begins anew, with its
-/// first wait.
+/// The timers where a packet that arrived took something out of flight, or not (own): the timer rto begins anew, with
+/// its first wait.
 pub fn with_progress(alarms: &Alarms, progress: bool) -> Alarms
     ensures { result ≡ with_progress alarms.now progress }
 {
@@ -255,7 +271,7 @@ pub fn with_progress(alarms: &Alarms, progress: bool) -> Alarms
     alarms
 }
 
-/// The timers where data were delivered, or not: an Ack goes out no later than after its timer's first wait.
+/// The timers where data were delivered, or not (own): an Ack goes out no later than after its timer's first wait.
 pub fn with_delivery(alarms: &Alarms, delivered: bool) -> Alarms
     ensures { result ≡ with_delivery alarms.now delivered }
 {

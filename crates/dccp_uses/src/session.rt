@@ -89,23 +89,12 @@ impl<C: Congestion> Session<C> {
         self.end.window().saturating_sub(self.end.in_flight())
     }
 
-    // What the timers go by.
-    fn condition(&self) -> Condition
-        ensures { result ≡ condition_of C.control self.now.end }
-    {
-        Condition {
-            phase: self.end.phase(),
-            in_flight: 0 < self.end.in_flight(),
-        }
-    }
-
     // The timers run from now on as the end needs them.
     fn arrange(&mut self, now: u64)
         ensures end { self.new.end ≡ self.old.end }
         ensures alarms { self.new.alarms ≡ arranged self.old.alarms (condition_of C.control self.old.end) now }
     {
-        let condition = self.condition();
-        self.alarms = arranged(&self.alarms, &condition, now);
+        self.alarms = arranged(&self.alarms, &Condition::of(&self.end), now);
     }
 
     /// A client asks for its service, once: its Request goes out. Refused as `Endpoint::open` is; then nothing has

@@ -1,9 +1,9 @@
 //! Flows, and the lines of their packets.
-ghost use Rattle.std.specs.Prelude.{◌≡◌, ◌≤◌, length, [], None, IfOk, OnOk, OnErr, true};
+ghost use Rattle.std.specs.Prelude.{◌≡◌, ◌≤◌, ◌%◌, ◌^◌, length, [], None, IfOk, OnOk, OnErr, true};
 ghost use Rattle.byteorder.specs.Endian.{big_number};
 ghost use Rattle.capture_reader.specs.Records.{entry_of};
 ghost use Rattle.packet_show.specs.Network.{carried_by};
-ghost use Rattle.packet_show.specs.Flows.{version_of, from_end, to_end, is_lesser_end, flow_between, flow_of, flow_number, number_if_seen, with_flow};
+ghost use Rattle.packet_show.specs.Flows.{blended, version_of, from_end, to_end, is_lesser_end, flow_between, flow_of, flow_number, key_of, mixed, number_if_seen, with_flow};
 ghost use Rattle.packet_show.specs.Lines.{shows, shows_packet, shows_malformed, parts_by, Shows};
 
 use crate::network::{Datagram, carried};
@@ -26,21 +26,32 @@ pub enum Shown {
     Skipped,
 }
 
-// One end: its address as a number, and its port.
-type End = (u128, u16);
+/// One end of a flow (own): its address as a number, and its port.
+pub type FlowEnd = (u128, u16);
 
 // The version of IP, and both ends, the lesser first.
-type Flow = (u8, End, End);
+type Flow = (u8, FlowEnd, FlowEnd);
+
+// Under which a flow is found: its mixed number, both ports and the version, and both addresses.
+type FlowKey = (u64, (u16, u16, u8), (u128, u128));
+
+// Odd numbers without a pattern: the fractions of the golden ratio and of the square root of two, times 2^64.
+const GOLDEN: u64 = 0x9e37_79b9_7f4a_7c15;
+
+const ROOT_OF_TWO: u64 = 0x6a09_e667_f3bc_c909;
+
+const PORTS: u64 = 65_536;
 
 /// The flows that were seen, in the order in which they were first seen (own). A flow is the pair of both ends, in
 /// either direction. Contracts see the list of flows.
 ///
 /// A flow is found by comparing with others, as many as the logarithm of how many there are. So whoever chose the ends
-/// cannot make that slow, as they could in a table that hashes them by a rule which they know.
+/// cannot make that slow, as they could in a table that hashes them by a rule which they know. What is compared begins with a
+/// number that is mixed from both ends, which mostly decides at once; where ends were chosen so that it does not, the rest does.
 #[derive(Drop)]
 pub struct Flows {
     seen: Vec<Flow>,
-    numbers: BTreeMap<Flow, u64>,
+    numbers: BTreeMap<FlowKey, u64>,
 }
 
 impl Model for Flows {
@@ -75,7 +86,8 @@ fn version_of(pseudo: &Pseudo) -> u8
     }
 }
 
-fn from_end(pseudo: &Pseudo, port: u16) -> End
+/// The end that a packet with these addresses and this source port goes from (own).
+pub fn from_end(pseudo: &Pseudo, port: u16) -> FlowEnd
     ensures { result ≡ from_end pseudo.now port }
 {
     match *pseudo {
@@ -84,7 +96,7 @@ fn from_end(pseudo: &Pseudo, port: u16) -> End
     }
 }
 
-fn to_end(pseudo: &Pseudo, port: u16) -> End
+fn to_end(pseudo: &Pseudo, port: u16) -> FlowEnd
     ensures { result ≡ to_end pseudo.now port }
 {
     match *pseudo {
@@ -93,13 +105,13 @@ fn to_end(pseudo: &Pseudo, port: u16) -> End
     }
 }
 
-fn is_lesser_end(a: End, b: End) -> bool
+fn is_lesser_end(a: FlowEnd, b: FlowEnd) -> bool
     ensures { result ≡ is_lesser_end a b }
 {
     a.0 < b.0 || (a.0 == b.0 && a.1 < b.1)
 }
 
-fn flow_between(version: u8, a: End, b: End) -> Flow
+fn flow_between(version: u8, a: FlowEnd, b: FlowEnd) -> Flow
     ensures { result ≡ flow_between version a b }
 {
     if is_lesser_end(b, a) {
@@ -116,6 +128,38 @@ fn flow_of(pseudo: &Pseudo, from: u16, to: u16) -> Flow
         version_of(pseudo),
         from_end(pseudo, from),
         to_end(pseudo, to),
+    )
+}
+
+// The low 64 bits of a number.
+fn low(number: u128) -> u64
+    ensures { result ≡ number % 2 ^ 64 }
+{
+    (number % (1 << 64)) as u64
+}
+
+fn blended(number: u64, factor: u64, more: u64) -> u64
+    ensures { result ≡ blended number factor more }
+{
+    number.wrapping_mul(factor).wrapping_add(more)
+}
+
+// A number that seldom is the same for two flows.
+fn mixed(flow: &Flow) -> u64
+    ensures { result ≡ mixed flow.now }
+{
+    let ports = blended(u64::from(flow.1.1), PORTS, u64::from(flow.2.1));
+    let other = blended(low(flow.2.0), ROOT_OF_TWO, ports);
+    blended(low(flow.1.0), GOLDEN, other)
+}
+
+fn key_of(flow: &Flow) -> FlowKey
+    ensures { result ≡ key_of flow.now }
+{
+    (
+        mixed(flow),
+        (flow.1.1, flow.2.1, flow.0),
+        (flow.1.0, flow.2.0),
     )
 }
 
@@ -141,7 +185,7 @@ impl Flows {
     fn number_if_seen(&self, flow: &Flow) -> Option<u64>
         ensures { result ≡ number_if_seen flow.now self.now }
     {
-        match self.numbers.get(flow) {
+        match self.numbers.get(&key_of(flow)) {
             Some(number) => Some(*number),
             None => None,
         }
@@ -181,7 +225,7 @@ impl Flows {
     {
         let number = self.seen.len() as u64 + 1;
         self.seen.reserve(1)?;
-        match self.numbers.insert(flow, number) {
+        match self.numbers.insert(key_of(&flow), number) {
             Ok(_) => {}
             Err(_) => return Err(NoMemory),
         }
@@ -189,6 +233,19 @@ impl Flows {
             Ok(()) => Ok(()),
             Err(_) => unreachable!(),
         }
+    }
+
+    /// The number of the flow between these addresses and ports, in either direction, from 1 in the order in which flows were
+    /// seen; a flow that was not seen before has the next one, and is noted. After NoMemory the flows are as before.
+    pub fn number(&mut self, pseudo: &Pseudo, from: u16, to: u16) -> Result<u64, NoMemory>
+        ensures number { IfOk result (λ number. number ≡ flow_number (flow_of pseudo.now from to) self.old) }
+        ensures noted { OnOk result (self.new ≡ with_flow (flow_of pseudo.now from to) self.old) }
+        ensures unchanged { OnErr result (self.new ≡ self.old) }
+    {
+        let flow = flow_of(pseudo, from, to);
+        let (known, number) = self.look_up(&flow);
+        self.note(flow, known)?;
+        Ok(number)
     }
 
     // Writes the line of a packet.

@@ -13,5 +13,10 @@ mod numbers;
 mod options;
 mod packet;
 
-pub use crate::flows::{Flows, Shown};
+pub use crate::flows::{FlowEnd, Flows, Shown, from_end};
 pub use crate::laws::a_flow_has_both_directions;
+pub use crate::names::{sum_name, type_name};
+pub use crate::network::{Datagram, carried};
+pub use crate::numbers::{put_from, put_to};
+pub use crate::options::{put_mark, put_option};
+pub use crate::packet::put_packet;

@@ -9,7 +9,8 @@ use dccp_sum::SumFault;
 // The first option type that is a CCID's own (RFC 4340, section 10.3).
 const FIRST_OF_CCIDS: u8 = 128;
 
-pub(crate) fn type_name(packet_type: PacketType) -> &'static [u8]
+/// The name of a packet type (RFC 4340, section 5.1).
+pub fn type_name(packet_type: PacketType) -> &'static [u8]
     ensures { result.now ≡ type_name packet_type }
 {
     match packet_type {
@@ -26,7 +27,8 @@ pub(crate) fn type_name(packet_type: PacketType) -> &'static [u8]
     }
 }
 
-pub(crate) fn sum_name(checked: Result<(), SumFault>) -> &'static [u8]
+/// The verdict on a checksum as a word (RFC 4340, section 9): `ok`, `wrong`, or `coverage` where CsCov passes the packet's end.
+pub fn sum_name(checked: Result<(), SumFault>) -> &'static [u8]
     ensures { result.now ≡ sum_name checked }
 {
     match checked {

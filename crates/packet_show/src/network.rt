@@ -1,20 +1,21 @@
 //! DCCP in captured records: Ethernet, IPv4 (RFC 791, section 3.1) and IPv6 (RFC 8200, section 3).
-ghost use Rattle.std.specs.Prelude.{◌≡◌, ◌+◌, ◌≤◌, length, take, drop, option_map, IfSome};
+ghost use Rattle.std.specs.Prelude.{◌≡◌, ◌+◌, ◌≤◌, length, take, option_map, IfSome};
 ghost use Rattle.packet_show.specs.Network.{FitsIp, carried_by, bytes_at, version, v4_header, v4_total, is_unfragmented, is_v4, behind_v4, in_v4, v6_payload, is_v6, behind_v6, in_v6, in_ip, in_frame, in_ethernet, carried};
 ghost use Rattle.dccp_packets.specs.Grammar.{number_at};
 
 use byteorder::{BigEndian, ByteOrder};
+use capture_reader::behind;
 use dccp_sum::Pseudo;
 
-/// A DCCP packet in a record, as far as it was captured.
+/// A DCCP packet in a record, as far as it was captured (own).
 #[derive(Clone, Copy)]
-pub(crate) struct Datagram<'a> {
+pub struct Datagram<'a> {
     /// The addresses between which it travels.
-    pub(crate) pseudo: Pseudo,
-    /// The bytes that were captured of it.
-    pub(crate) bytes: &'a [u8],
+    pub pseudo: Pseudo,
+    /// The bytes that were captured of it, at most 65,535.
+    pub bytes: &'a [u8],
     /// Whether these are all that the IP length leaves.
-    pub(crate) whole: bool,
+    pub whole: bool,
 }
 
 const ETHERNET: u32 = 1;
@@ -66,14 +67,6 @@ fn v6_address(bytes: &[u8], place: usize) -> [u8; 16]
     let mut address = [0; 16];
     address.copy_from_slice(&bytes[place..place + 16]);
     address
-}
-
-// The bytes behind so many.
-fn behind(bytes: &[u8], count: usize) -> &[u8]
-    requires { count ≤ length bytes.now }
-    ensures { result.now ≡ drop count bytes.now }
-{
-    &bytes[count..]
 }
 
 // As many bytes as that, or all of fewer.
@@ -225,9 +218,10 @@ fn in_ethernet(bytes: &[u8]) -> Option<Datagram<'_>>
     )
 }
 
-/// The DCCP packet in a record of this link type, or None exactly where there is none: it is no IPv4 or IPv6 of
-/// protocol 33, a fragment, or an IP header that was not captured whole or does not hold together.
-pub(crate) fn carried(link: u32, bytes: &[u8]) -> Option<Datagram<'_>>
+/// The DCCP packet in a record of this link type, 1 (Ethernet) or 101 (raw IP), or None exactly where there is none: it is no
+/// IPv4 or IPv6 of protocol 33, a fragment, or an IP header that was not captured whole or does not hold together (RFC 791,
+/// section 3.1; RFC 8200, section 3).
+pub fn carried(link: u32, bytes: &[u8]) -> Option<Datagram<'_>>
     ensures value { option_map carried_by result ≡ carried link bytes.now }
     ensures fits { IfSome result FitsIp }
 {

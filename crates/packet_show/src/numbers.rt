@@ -89,8 +89,9 @@ fn put_v6(text: &mut Vec<u8>, address: [u8; 16]) -> Result<(), NoMemory>
     put_groups(text, &address[2..])
 }
 
-/// Puts the address that a packet goes from.
-pub(crate) fn put_from(text: &mut Vec<u8>, pseudo: &Pseudo) -> Result<(), NoMemory>
+/// Puts the address that a packet goes from (own): four decimal numbers parted by dots, or eight groups in lower-case
+/// hexadecimal parted by colons. NoMemory comes where the text could not grow; then a front of the address may stand there.
+pub fn put_from(text: &mut Vec<u8>, pseudo: &Pseudo) -> Result<(), NoMemory>
     ensures ok { OnOk result (text.new.items ≡ text.old.items ++ from_text pseudo.now) }
     ensures front { Keeps text.old.items text.new.items }
 {
@@ -100,8 +101,8 @@ pub(crate) fn put_from(text: &mut Vec<u8>, pseudo: &Pseudo) -> Result<(), NoMemo
     }
 }
 
-/// Puts the address that a packet goes to.
-pub(crate) fn put_to(text: &mut Vec<u8>, pseudo: &Pseudo) -> Result<(), NoMemory>
+/// Puts the address that a packet goes to (own), as `put_from` does. NoMemory comes as from there.
+pub fn put_to(text: &mut Vec<u8>, pseudo: &Pseudo) -> Result<(), NoMemory>
     ensures ok { OnOk result (text.new.items ≡ text.old.items ++ to_text pseudo.now) }
     ensures front { Keeps text.old.items text.new.items }
 {

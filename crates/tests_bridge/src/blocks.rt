@@ -1,5 +1,5 @@
 //! A pcapng file of two sections, unwrapped in pieces of any length, and what is refused in one.
-use crate::calls::{Streams, answer_to};
+use crate::calls::{Streams, comes, is_refused};
 use bridge_command::Status;
 use std::alloc::Global;
 use std::test::Fail;
@@ -38,8 +38,8 @@ const SECTION: usize = 32;
 const FILE_HEADER: usize = 24;
 
 fn unwraps(alloc: Global, most: usize, input: &[u8], records: &[u8]) -> Result<bool, Fail> {
-    let answer = answer_to(alloc, &Streams::of(most), "unwrap", input)?;
-    Ok(answer.status == Status::Done && answer.bytes.as_slice() == records)
+    let done = (Status::Done, records);
+    comes(alloc, &Streams::of(most), ("unwrap", input), done)
 }
 
 #[test]
@@ -92,13 +92,7 @@ fn refuses(
     line: &str,
 ) -> Result<bool, Fail> {
     let input = changed(alloc, BLOCKS, place, byte)?;
-    let answer = answer_to(alloc, &Streams::of(4096), "unwrap", &input)?;
-    let (records, last) = answer
-        .bytes
-        .as_slice()
-        .split_at(written.min(answer.bytes.len()));
-    let is_front = records.len() == written && RECORDS.starts_with(records);
-    Ok(answer.status == Status::Input && is_front && last == line.as_bytes())
+    is_refused(alloc, 4096, ("unwrap", &input), (RECORDS, written), line)
 }
 
 #[test]

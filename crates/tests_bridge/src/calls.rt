@@ -1,8 +1,11 @@
-//! Calls of the second tool over streams in memory.
+//! Calls of the second tool over streams in memory. No test holds an answer: what it has to be is asked of a function here.
 use bridge_command::{Status, bridge};
 use dccp_io::{MemorySink, MemorySource};
 use std::alloc::Global;
 use std::test::Fail;
+
+/// The line that answers words which are none of the forms, as docs/TOOL.md has it.
+pub(crate) const USAGE: &[u8] = b"usage: dccp_bridge capture | unwrap | seed --seed S --events E\n";
 
 // More than any output here has.
 const ROOM: usize = 4096;
@@ -22,6 +25,24 @@ impl Streams {
             failing_read: None,
             failing_write: None,
             most,
+        }
+    }
+
+    /// The read with this number fails, of seven bytes each.
+    pub(crate) fn failing_read(number: u64) -> Streams {
+        Streams {
+            failing_read: Some(number),
+            failing_write: None,
+            most: 7,
+        }
+    }
+
+    /// So does the write.
+    pub(crate) fn failing_write(number: u64) -> Streams {
+        Streams {
+            failing_read: None,
+            failing_write: Some(number),
+            most: 7,
         }
     }
 }
@@ -69,4 +90,42 @@ pub(crate) fn answer_to(
     let status = bridge(alloc, &words, &mut source, &mut sink);
     let bytes = sink.taken().to_vec(alloc)?;
     Ok(Answer { status, bytes })
+}
+
+/// Whether a call with these words, over this input, ends so and writes these bytes.
+pub(crate) fn comes(
+    alloc: Global,
+    streams: &Streams,
+    (words, input): (&str, &[u8]),
+    (status, bytes): (Status, &[u8]),
+) -> Result<bool, Fail> {
+    let answer = answer_to(alloc, streams, words, input)?;
+    Ok(answer.status == status && answer.bytes.as_slice() == bytes)
+}
+
+/// Whether it ends so behind a front of these bytes that lacks something.
+pub(crate) fn is_cut_off(
+    alloc: Global,
+    streams: &Streams,
+    (words, input): (&str, &[u8]),
+    (status, bytes): (Status, &[u8]),
+) -> Result<bool, Fail> {
+    let answer = answer_to(alloc, streams, words, input)?;
+    let is_front = bytes.starts_with(answer.bytes.as_slice());
+    Ok(answer.status == status && is_front && answer.bytes.len() < bytes.len())
+}
+
+/// Whether its input, so many bytes a call, is refused by this line, behind so many of these bytes.
+pub(crate) fn is_refused(
+    alloc: Global,
+    most: usize,
+    (words, input): (&str, &[u8]),
+    (records, written): (&[u8], usize),
+    line: &str,
+) -> Result<bool, Fail> {
+    let answer = answer_to(alloc, &Streams::of(most), words, input)?;
+    let bytes = answer.bytes.as_slice();
+    let (front, last) = bytes.split_at(written.min(bytes.len()));
+    let is_front = front.len() == written && records.starts_with(front);
+    Ok(answer.status == Status::Input && is_front && last == line.as_bytes())
 }

@@ -1,5 +1,5 @@
 //! Transcripts as captures: worked bytes, streams in pieces and streams that fail, and what is refused.
-use crate::calls::{Answer, Streams, answer_to};
+use crate::calls::{Streams, USAGE, comes, is_cut_off, is_refused};
 use bridge_command::Status;
 use std::alloc::Global;
 use std::test::Fail;
@@ -33,15 +33,17 @@ const CAPTURE: &[u8] =
 // The bytes of the file header.
 const FILE_HEADER: usize = 24;
 
-fn is(answer: &Answer, status: Status, bytes: &[u8]) -> bool {
-    answer.status == status && answer.bytes.as_slice() == bytes
-}
-
 #[test]
 fn frames_of_a_transcript(rt: HostRuntime) -> Result<(), Fail> {
     for most in [1, 7, 4096] {
-        let answer = answer_to(rt.alloc(), &Streams::of(most), "capture", TRANSCRIPT)?;
-        assert!(rt; is(&answer, Status::Done, CAPTURE), "{most} bytes a call");
+        let done = (Status::Done, CAPTURE);
+        let told = comes(
+            rt.alloc(),
+            &Streams::of(most),
+            ("capture", TRANSCRIPT),
+            done,
+        )?;
+        assert!(rt; told, "{most} bytes a call");
     }
     Ok(())
 }
@@ -64,13 +66,8 @@ const REFUSED: [(&str, &str); 13] = [
 ];
 
 fn refuses(alloc: Global, line: &str, refusal: &str) -> Result<bool, Fail> {
-    let answer = answer_to(alloc, &Streams::of(4096), "capture", line.as_bytes())?;
-    let (header, text) = answer
-        .bytes
-        .as_slice()
-        .split_at(FILE_HEADER.min(answer.bytes.len()));
-    let is_right = header == &CAPTURE[..FILE_HEADER] && text == refusal.as_bytes();
-    Ok(answer.status == Status::Input && is_right)
+    let header = (CAPTURE, FILE_HEADER);
+    is_refused(alloc, 4096, ("capture", line.as_bytes()), header, refusal)
 }
 
 #[test]
@@ -84,36 +81,24 @@ fn refused_lines_of_transcripts(rt: HostRuntime) -> Result<(), Fail> {
 #[test]
 fn other_words_of_the_bridge(rt: HostRuntime) -> Result<(), Fail> {
     for words in ["", "walk", "Capture", "capture,capture", "show"] {
-        let answer = answer_to(rt.alloc(), &Streams::of(7), words, TRANSCRIPT)?;
-        assert!(rt;
-            is(
-                &answer,
-                Status::Words,
-                b"usage: dccp_bridge unwrap | capture\n"
-            ),
-            "{words}"
-        );
+        let usage = (Status::Words, USAGE);
+        let told = comes(rt.alloc(), &Streams::of(7), (words, TRANSCRIPT), usage)?;
+        assert!(rt; told, "{words}");
     }
     Ok(())
 }
 
-// A front of the capture that lacks something.
-fn is_cut_off(answer: &Answer, status: Status) -> bool {
-    let is_front = CAPTURE.starts_with(answer.bytes.as_slice());
-    answer.status == status && is_front && answer.bytes.len() < CAPTURE.len()
+fn fails(alloc: Global, streams: &Streams, status: Status) -> Result<bool, Fail> {
+    is_cut_off(alloc, streams, ("capture", TRANSCRIPT), (status, CAPTURE))
 }
 
 #[test]
 fn failing_streams_of_the_bridge(rt: HostRuntime) -> Result<(), Fail> {
     for number in [1, 2, 30] {
-        let mut streams = Streams::of(7);
-        streams.failing_read = Some(number);
-        let answer = answer_to(rt.alloc(), &streams, "capture", TRANSCRIPT)?;
-        assert!(rt; is_cut_off(&answer, Status::Read), "read {number}");
-        let mut streams = Streams::of(7);
-        streams.failing_write = Some(number);
-        let answer = answer_to(rt.alloc(), &streams, "capture", TRANSCRIPT)?;
-        assert!(rt; is_cut_off(&answer, Status::Write), "write {number}");
+        let read = fails(rt.alloc(), &Streams::failing_read(number), Status::Read)?;
+        assert!(rt; read, "read {number}");
+        let write = fails(rt.alloc(), &Streams::failing_write(number), Status::Write)?;
+        assert!(rt; write, "write {number}");
     }
     Ok(())
 }

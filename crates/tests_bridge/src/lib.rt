@@ -9,4 +9,8 @@ mod calls;
 #[cfg(test)]
 mod captures;
 #[cfg(test)]
+mod frames;
+#[cfg(test)]
+mod seeds;
+#[cfg(test)]
 mod unwraps;

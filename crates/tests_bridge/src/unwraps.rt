@@ -1,5 +1,5 @@
 //! A capture of the "any" device of Linux, unwrapped in pieces of any length and over streams that fail; and what is refused.
-use crate::calls::{Streams, answer_to};
+use crate::calls::{Streams, comes, is_cut_off, is_refused};
 use bridge_command::Status;
 use std::test::Fail;
 
@@ -25,52 +25,51 @@ const RAW: &[u8] =
 #[test]
 fn records_of_the_any_device(rt: HostRuntime) -> Result<(), Fail> {
     for most in [1, 7, 4096] {
-        let answer = answer_to(rt.alloc(), &Streams::of(most), "unwrap", ANY)?;
-        assert!(rt;
-            answer.status == Status::Done && answer.bytes.as_slice() == RAW,
-            "{most} bytes a call"
-        );
+        let done = (Status::Done, RAW);
+        let unwraps = comes(rt.alloc(), &Streams::of(most), ("unwrap", ANY), done)?;
+        assert!(rt; unwraps, "{most} bytes a call");
     }
     Ok(())
 }
 
 // Where the input is cut, the records that are written before, and the line behind them.
-const CUT: [(usize, usize, &[u8]); 5] = [
-    (0, 0, b"capture CutShort after record 0\n"),
-    (23, 0, b"capture CutShort after record 0\n"),
-    (39, 24, b"capture CutShort after record 0\n"),
-    (63, 24, b"capture CutShort after record 0\n"),
-    (65, 44, b"capture CutShort after record 1\n"),
+const CUT: [(usize, usize, &str); 5] = [
+    (0, 0, "capture CutShort after record 0\n"),
+    (23, 0, "capture CutShort after record 0\n"),
+    (39, 24, "capture CutShort after record 0\n"),
+    (63, 24, "capture CutShort after record 0\n"),
+    (65, 44, "capture CutShort after record 1\n"),
 ];
 
 #[test]
 fn captures_that_are_cut(rt: HostRuntime) -> Result<(), Fail> {
     for (size, written, line) in CUT {
-        let answer = answer_to(rt.alloc(), &Streams::of(7), "unwrap", &ANY[..size])?;
-        let (records, last) = answer
-            .bytes
-            .as_slice()
-            .split_at(written.min(answer.bytes.len()));
-        let holds = answer.status == Status::Input && records == &RAW[..written] && last == line;
-        assert!(rt; holds, "{size} bytes");
+        let refused = is_refused(rt.alloc(), 7, ("unwrap", &ANY[..size]), (RAW, written), line)?;
+        assert!(rt; refused, "{size} bytes");
     }
     Ok(())
 }
 
 #[test]
 fn failing_streams_of_unwrap(rt: HostRuntime) -> Result<(), Fail> {
-    let mut streams = Streams::of(7);
-    streams.failing_read = Some(12);
-    let answer = answer_to(rt.alloc(), &streams, "unwrap", ANY)?;
+    let read = (Status::Read, RAW);
     assert!(rt;
-        answer.status == Status::Read && RAW.starts_with(answer.bytes.as_slice()),
+        is_cut_off(
+            rt.alloc(),
+            &Streams::failing_read(12),
+            ("unwrap", ANY),
+            read
+        )?,
         "a read"
     );
-    let mut streams = Streams::of(7);
-    streams.failing_write = Some(2);
-    let answer = answer_to(rt.alloc(), &streams, "unwrap", ANY)?;
+    let write = (Status::Write, RAW);
     assert!(rt;
-        answer.status == Status::Write && RAW.starts_with(answer.bytes.as_slice()),
+        is_cut_off(
+            rt.alloc(),
+            &Streams::failing_write(2),
+            ("unwrap", ANY),
+            write
+        )?,
         "a write"
     );
     Ok(())

@@ -4,7 +4,7 @@ ghost use Rattle.std.specs.Prelude.{◌≤◌, length};
 
 use crate::tables::{Table, holds};
 use dccp_options::kinds::{ACK_VECTOR_0, CHANGE_L};
-use dccp_options::{AckReport, Opt, OptFault, OptFull, OptWriter, options};
+use dccp_options::{AckReport, Opt, OptFault, OptFull, OptWriter, Run, options};
 use seq_circle::Seq48;
 use std::alloc::Global;
 use std::test::Fail;
@@ -19,10 +19,14 @@ const REPORTS: &str = "\
     Ack 02000000 2: none\n\
     Data 260301260202270480410000 2: none\n";
 
+fn tell_run(run: &Run, told: &mut String) -> Result<(), Fail> {
+    let (number, count, state) = (run.hi.get(), run.count, run.state);
+    Ok(write!(told, " {number}-{count}-{state}")?)
+}
+
 fn tell_runs(report: &AckReport<'_>, told: &mut String) -> Result<(), Fail> {
     for run in report.runs() {
-        let (number, count, state) = (run.hi.get(), run.count, run.state);
-        write!(told, " {number}-{count}-{state}")?;
+        tell_run(&run, told)?;
     }
     Ok(())
 }
@@ -86,9 +90,9 @@ fn reports_by_vectors(rt: HostRuntime) -> Result<(), Fail> {
 
 const AREAS: &str = "\
     # Two options as they are written: where each begins, whether it is mandatory, its type and its data\n\
-    Ack 2603050120040601: 0 false 38 [5] 4 true 32 [6, 1]\n\
+    Ack 2603050120040601: 0 false 38,5 4 true 32,6,1\n\
     # No length, and one that is too long\n\
-    Ack 0226: 0 false 2 []\n\
+    Ack 0226: 0 false 2\n\
     Ack 260400: -\n\
     # The same behind Mandatory\n\
     Ack 01260400: MandatoryAtEnd\n\
@@ -100,9 +104,12 @@ const AREAS: &str = "\
     Data 2609250301: -\n";
 
 fn tell_option(option: &Opt<'_>, told: &mut String) -> Result<(), Fail> {
-    let (place, mandatory) = (option.place, option.mandatory);
-    let (kind, body) = (option.kind, option.body);
-    Ok(write!(told, " {place} {mandatory} {kind} {body:?}")?)
+    let (place, mandatory, kind) = (option.place, option.mandatory, option.kind);
+    write!(told, " {place} {mandatory} {kind}")?;
+    for byte in option.body {
+        write!(told, ",{byte}")?;
+    }
+    Ok(())
 }
 
 fn tell_options(area: &[u8], on_data: bool, told: &mut String) -> Result<(), Fail> {

@@ -119,19 +119,25 @@ fn place_letter(role: Role, phase: Phase, kind: PacketType) -> char {
     }
 }
 
+const NAMES: [(&str, Phase); 9] = [
+    ("Closed", Phase::Closed),
+    ("Listen", Phase::Listen),
+    ("Request", Phase::Request),
+    ("Respond", Phase::Respond),
+    ("PartOpen", Phase::PartOpen),
+    ("Open", Phase::Open),
+    ("CloseReq", Phase::CloseReq),
+    ("Closing", Phase::Closing),
+    ("TimeWait", Phase::TimeWait),
+];
+
 fn phase_of(name: &str) -> Option<Phase> {
-    match name {
-        "Closed" => Some(Phase::Closed),
-        "Listen" => Some(Phase::Listen),
-        "Request" => Some(Phase::Request),
-        "Respond" => Some(Phase::Respond),
-        "PartOpen" => Some(Phase::PartOpen),
-        "Open" => Some(Phase::Open),
-        "CloseReq" => Some(Phase::CloseReq),
-        "Closing" => Some(Phase::Closing),
-        "TimeWait" => Some(Phase::TimeWait),
-        _ => None,
+    for (other, phase) in NAMES {
+        if name == other {
+            return Some(phase);
+        }
     }
+    None
 }
 
 fn letter(table: &str, phase: Phase, kind: PacketType) -> char {

@@ -10,16 +10,19 @@ pub(crate) trait Table {
     fn tell(&self, alloc: Global, words: &str, told: &mut String) -> Result<(), Fail>;
 }
 
-fn row_holds<T: Table>(alloc: Global, table: &T, row: &str) -> Result<(), Fail> {
-    let (words, wanted) = row.split_once(": ").ok_or("a row has a colon")?;
-    let mut told = String::new(alloc);
-    table.tell(alloc, words, &mut told)?;
-    let got = told.as_str().trim_start();
+fn are_same(words: &str, got: &str, wanted: &str) -> Result<(), Fail> {
     if got == wanted {
         Ok(())
     } else {
         Err(Fail::new(format_args!("{words}: {got}")))
     }
+}
+
+fn row_holds<T: Table>(alloc: Global, table: &T, row: &str) -> Result<(), Fail> {
+    let (words, wanted) = row.split_once(": ").ok_or("a row has a colon")?;
+    let mut told = String::new(alloc);
+    table.tell(alloc, words, &mut told)?;
+    are_same(words, told.as_str().trim_start(), wanted)
 }
 
 // Fails at the first row of which something else comes, with that.

@@ -55,7 +55,7 @@ const STORIES: &str = "\
     uneven acks/1500: true\n\
     uneven acks/1501: false\n\
     # The first packet received: the eight numbers before it and behind it\n\
-    new marks begin/Response/2000/2 marks begin/Request/7/ marks: [0, 281474976710655, 0, 0, 0, 0, 100, 100] [0, 281474976710655, 2, 2000, 2000, 2000, 100, 100] [0, 281474976710655, 2, 7, 7, 7, 100, 100]\n";
+    new marks begin/Response/2000/2 marks begin/Request/7/ marks: 0 281474976710655 0 0 0 0 100 100 0 281474976710655 2 2000 2000 2000 100 100 0 281474976710655 2 7 7 7 100 100\n";
 
 // The numbers of marks: ISS, GSS, GAR, ISR, GSR, OSR, and the widths of this end's and of the peer's window.
 type Numbers = [u64; 8];
@@ -151,20 +151,26 @@ fn tell_verdict(verdict: Verdict, told: &mut String) -> Result<(), Fail> {
     Ok(())
 }
 
-fn type_of(name: &str) -> Option<PacketType> {
-    match name {
-        "Request" => Some(PacketType::Request),
-        "Response" => Some(PacketType::Response),
-        "Data" => Some(PacketType::Data),
-        "Ack" => Some(PacketType::Ack),
-        "DataAck" => Some(PacketType::DataAck),
-        "CloseReq" => Some(PacketType::CloseReq),
-        "Close" => Some(PacketType::Close),
-        "Reset" => Some(PacketType::Reset),
-        "Sync" => Some(PacketType::Sync),
-        "SyncAck" => Some(PacketType::SyncAck),
-        _ => None,
+const TYPES: [(&str, PacketType); 10] = [
+    ("Request", PacketType::Request),
+    ("Response", PacketType::Response),
+    ("Data", PacketType::Data),
+    ("Ack", PacketType::Ack),
+    ("DataAck", PacketType::DataAck),
+    ("CloseReq", PacketType::CloseReq),
+    ("Close", PacketType::Close),
+    ("Reset", PacketType::Reset),
+    ("Sync", PacketType::Sync),
+    ("SyncAck", PacketType::SyncAck),
+];
+
+pub(crate) fn type_of(name: &str) -> Option<PacketType> {
+    for (other, kind) in TYPES {
+        if name == other {
+            return Some(kind);
+        }
     }
+    None
 }
 
 // A type, a number, and the acknowledgement number that stands there exactly where the type has one.
@@ -241,8 +247,10 @@ fn begins(marks: &mut Marks, word: &str) -> Result<(), Fail> {
 }
 
 fn tell_marks(marks: &Marks, told: &mut String) -> Result<(), Fail> {
-    let numbers = numbers_of(marks);
-    Ok(write!(told, " {numbers:?}")?)
+    for number in numbers_of(marks) {
+        write!(told, " {number}")?;
+    }
+    Ok(())
 }
 
 fn tell_word(marks: &mut Marks, word: &str, told: &mut String) -> Result<(), Fail> {

@@ -1,5 +1,6 @@
 //! Flight lists and the fixed window: what is sent, reported and lost, as lists of calls, each with its
 //! answer. One helper makes all calls: a proof follows each value that a function holds through each of its steps.
+use crate::lists::all_come;
 use congestion_trait::{Congestion, FixedWindow, Flight, FlightNews};
 use dccp_options::{AckReport, options};
 use seq_circle::Seq48;
@@ -84,10 +85,7 @@ fn first_other(flight: &mut Flight, calls: &[Call]) -> Option<usize> {
 // Makes these calls of a new list, one after another.
 fn play(alloc: Global, calls: &[Call]) -> Result<(), Fail> {
     let mut flight = Flight::new(alloc)?;
-    match first_other(&mut flight, calls) {
-        None => Ok(()),
-        Some(place) => Err(Fail::new(format_args!("call {place}"))),
-    }
+    all_come(first_other(&mut flight, calls))
 }
 
 // 10 to 15 are out. 17 and 16 lie outside the list, and 15 is marked. Two later ones make nothing lost, and three do;
@@ -178,6 +176,9 @@ fn is_open(fixed: &FixedWindow) -> bool {
 
 // What does not hold of a new window.
 fn fault_of(fixed: &mut FixedWindow) -> Option<&'static str> {
+    if !fixed.knows(248) || fixed.knows(2) {
+        return Some("the CCID");
+    }
     if sends_eight(fixed) != Some(true) {
         return Some("eight that may be sent");
     }
@@ -199,10 +200,17 @@ fn fault_of(fixed: &mut FixedWindow) -> Option<&'static str> {
     }
 }
 
+fn fault_of_a_new_window(alloc: Global) -> Option<&'static str> {
+    match FixedWindow::new(alloc) {
+        Ok(mut fixed) => fault_of(&mut fixed),
+        Err(_) => Some("no memory"),
+    }
+}
+
 #[test]
 fn fixed_window_is_eight(rt: HostRuntime) -> Result<(), Fail> {
-    let mut fixed = FixedWindow::new(rt.alloc())?;
-    assert!(rt; fixed.knows(248) && !fixed.knows(2));
-    assert_eq!(rt; fault_of(&mut fixed), None);
-    Ok(())
+    match fault_of_a_new_window(rt.alloc()) {
+        None => Ok(()),
+        Some(fault) => Err(Fail::from(fault)),
+    }
 }

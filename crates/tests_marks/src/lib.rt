@@ -5,6 +5,8 @@
 #[cfg(test)]
 mod flights;
 #[cfg(test)]
+mod lists;
+#[cfg(test)]
 mod nonces;
 #[cfg(test)]
 mod runs;

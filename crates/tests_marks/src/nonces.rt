@@ -1,4 +1,5 @@
 //! Cases with nonces, as lists of calls or events, each with its answer.
+use crate::lists::all_come;
 use ack_vectors::VectorBytes;
 use dccp_ecn::{
     Arrived, Check, EcnEvent, EcnFault, EcnReceived, EcnSeen, EcnVector, EcnWorld, NonceLedger,
@@ -129,10 +130,7 @@ fn first_other(received: &mut EcnReceived, calls: &[Call]) -> Option<usize> {
 // Makes these calls of a new receiver, one after another.
 fn play(alloc: Global, calls: &[Call]) -> Result<(), Fail> {
     let mut received = EcnReceived::new(alloc).ok().ok_or("no memory")?;
-    match first_other(&mut received, calls) {
-        None => Ok(()),
-        Some(place) => Err(Fail::new(format_args!("call {place}"))),
-    }
+    all_come(first_other(&mut received, calls))
 }
 
 const FIRST_RECEIPTS_COUNT: [Call; 17] = [
@@ -273,10 +271,7 @@ fn first_other_entry(ledger: &mut NonceLedger, entries: &[Entry]) -> Option<usiz
 
 fn keep(first: u64, entries: &[Entry]) -> Result<(), Fail> {
     let mut ledger = NonceLedger::new(Seq48::new(first).ok_or("no number")?);
-    match first_other_entry(&mut ledger, entries) {
-        None => Ok(()),
-        Some(place) => Err(Fail::new(format_args!("entry {place}"))),
-    }
+    all_come(first_other_entry(&mut ledger, entries))
 }
 
 const CHECKS: [Entry; 14] = [
@@ -350,22 +345,26 @@ fn is_first_report(world: &EcnWorld, ack: u64, kind: u8, bytes: &[u8]) -> bool {
     number.get() == ack && its_kind == kind && its_bytes == bytes
 }
 
-// Lets these events happen, and then asks for the first report.
-fn happen(
-    alloc: Global,
+// A report by the number that it acknowledges, the type of its option and its bytes.
+type Reported = (u64, u8, &'static [u8]);
+
+// The place of the first event of which something else is seen, or the number of events where the first report is another.
+fn first_other_in(
+    world: &mut EcnWorld,
     happenings: &[Happening],
-    ack: u64,
-    kind: u8,
-    bytes: &[u8],
-) -> Result<(), Fail> {
+    (ack, kind, bytes): Reported,
+) -> Option<usize> {
+    let other = first_other_event(world, happenings);
+    if other.is_none() && !is_first_report(world, ack, kind, bytes) {
+        return Some(happenings.len());
+    }
+    other
+}
+
+// Lets these events happen, and then asks for the first report.
+fn happen(alloc: Global, happenings: &[Happening], report: Reported) -> Result<(), Fail> {
     let mut world = EcnWorld::new(alloc).ok().ok_or("no memory")?;
-    if let Some(place) = first_other_event(&mut world, happenings) {
-        return Err(Fail::new(format_args!("event {place}")));
-    }
-    if !is_first_report(&world, ack, kind, bytes) {
-        return Err(Fail::new(format_args!("the report")));
-    }
-    Ok(())
+    all_come(first_other_in(&mut world, happenings, report))
 }
 
 const NONCES_CHECKED: [Happening; 12] = [
@@ -385,7 +384,7 @@ const NONCES_CHECKED: [Happening; 12] = [
 
 #[test]
 fn nonces_checked(rt: HostRuntime) -> Result<(), Fail> {
-    happen(rt.alloc(), &NONCES_CHECKED, 3, 38, &[0x00, 0x40, 0x00])
+    happen(rt.alloc(), &NONCES_CHECKED, (3, 38, &[0x00, 0x40, 0x00]))
 }
 
 const MARKED_FIRST: [Happening; 7] = [
@@ -400,5 +399,5 @@ const MARKED_FIRST: [Happening; 7] = [
 
 #[test]
 fn marked_first(rt: HostRuntime) -> Result<(), Fail> {
-    happen(rt.alloc(), &MARKED_FIRST, 1, 38, &[0x40])
+    happen(rt.alloc(), &MARKED_FIRST, (1, 38, &[0x40]))
 }

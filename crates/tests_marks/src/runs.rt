@@ -1,5 +1,6 @@
 //! Sets of numbers as runs, linked and plain: marks and floors, as lists of calls, each with its
 //! answer. One helper makes all calls: a proof follows each value that a function holds through each of its steps.
+use crate::lists::all_come;
 use run_list::{Marked, PlainRuns, RunCall, RunList, Runs, Stretch, replay_runs};
 use seq_circle::Seq48;
 use std::alloc::Global;
@@ -275,11 +276,14 @@ const ROW: [Call; 9] = [
     Call::Mark(11, Marked::BelowFloor),
 ];
 
+fn play_of_a_row(alloc: Global, calls: &[Call]) -> Result<(), Fail> {
+    let mut set = PlainRuns::new(alloc).ok().ok_or("no memory")?;
+    all_come(first_other(&mut set, calls))
+}
+
 #[test]
 fn a_plain_row(rt: HostRuntime) -> Result<(), Fail> {
-    let mut set = PlainRuns::new(rt.alloc()).ok().ok_or("no memory")?;
-    assert_eq!(rt; first_other(&mut set, &ROW), None);
-    Ok(())
+    play_of_a_row(rt.alloc(), &ROW)
 }
 
 // A start at 10, marks of 10, 12, 12 and 9, a floor raised to 11, and marks of 10 and 11.
@@ -305,13 +309,18 @@ fn replays<R: Runs>(runs: &mut R) -> bool {
     }
 }
 
+fn linked_runs_replay(alloc: Global) -> Option<bool> {
+    Some(replays(&mut RunList::new(alloc).ok()?))
+}
+
+fn plain_runs_replay(alloc: Global) -> Option<bool> {
+    Some(replays(&mut PlainRuns::new(alloc).ok()?))
+}
+
 #[test]
-fn a_list_of_calls(rt: HostRuntime) -> Result<(), Fail> {
-    let mut linked = RunList::new(rt.alloc()).ok().ok_or("no memory")?;
-    assert!(rt; replays(&mut linked), "linked");
-    let mut plain = PlainRuns::new(rt.alloc()).ok().ok_or("no memory")?;
-    assert!(rt; replays(&mut plain), "plain");
-    Ok(())
+fn a_list_of_calls(rt: HostRuntime) {
+    assert!(rt; linked_runs_replay(rt.alloc()) == Some(true), "linked");
+    assert!(rt; plain_runs_replay(rt.alloc()) == Some(true), "plain");
 }
 
 // Two runs become one, and all start anew.
@@ -327,10 +336,12 @@ fn holds_each_time<R: Runs>(set: &mut R, times: u32, calls: &[Call]) -> bool {
     true
 }
 
+fn joins_each_time(alloc: Global, times: u32) -> Option<bool> {
+    Some(holds_each_time(&mut RunList::new(alloc).ok()?, times, &JOINED))
+}
+
 // More often than a set has nodes: 1,024.
 #[test]
-fn nodes_are_used_again(rt: HostRuntime) -> Result<(), Fail> {
-    let mut set = RunList::new(rt.alloc()).ok().ok_or("no memory")?;
-    assert!(rt; holds_each_time(&mut set, 1025, &JOINED));
-    Ok(())
+fn nodes_are_used_again(rt: HostRuntime) {
+    assert!(rt; joins_each_time(rt.alloc(), 1025) == Some(true));
 }

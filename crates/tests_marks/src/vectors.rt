@@ -1,5 +1,6 @@
 //! Received numbers: marks, Ack Vectors and the records that raise the floor, as lists of calls, each with its
 //! answer. One helper makes all calls: a proof follows each value that a function holds through each of its steps.
+use crate::lists::all_come;
 use ack_vectors::{Received, VectorBytes, Vectors};
 use run_list::Marked;
 use seq_circle::Seq48;
@@ -147,10 +148,7 @@ fn first_other(received: &mut Received, calls: &[Call]) -> Option<usize> {
 // Makes these calls of a new set, one after another.
 fn play(alloc: Global, calls: &[Call]) -> Result<(), Fail> {
     let mut received = Received::new(alloc).ok().ok_or("no memory")?;
-    match first_other(&mut received, calls) {
-        None => Ok(()),
-        Some(place) => Err(Fail::new(format_args!("call {place}"))),
-    }
+    all_come(first_other(&mut received, calls))
 }
 
 const VECTOR_OF_RECEIVED: [Call; 5] = [

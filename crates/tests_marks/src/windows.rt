@@ -1,5 +1,6 @@
 //! Windows of CCID 2, and a change of the kind: how they open and are halved, as lists of calls, each with its
 //! answer. One helper makes all calls: a proof follows each value that a function holds through each of its steps.
+use crate::lists::all_come;
 use ccid_two::{Ccid2, Kinds};
 use congestion_trait::Congestion;
 use dccp_options::{AckReport, options};
@@ -105,19 +106,26 @@ fn time_out<C: Congestion>(control: &mut C) -> Option<bool> {
     Some(true)
 }
 
+// Whether a control shows what it has to. None where that is not known of every control.
+fn shows<C: Congestion>(control: &C, call: Call) -> Option<bool> {
+    match call {
+        Call::Know(ccid, known) => Some(control.knows(ccid) == known),
+        Call::MaySend(more) => Some(control.may_send() == more),
+        Call::Window(window) => Some(control.window() == window),
+        Call::InFlight(count) => Some(control.in_flight() == count),
+        _ => None,
+    }
+}
+
 // Whether a call comes to what it has to. None where that is not known of every control, or the call may not be made.
 fn holds<C: Congestion>(control: &mut C, call: Call) -> Option<bool> {
     match call {
         Call::Start(ccid) => start(control, ccid),
-        Call::Know(ccid, known) => Some(control.knows(ccid) == known),
         Call::Send(first, past) => send_each(control, first, past),
         Call::Tell(ack, received) => tell(control, ack, received),
         Call::Fill(behind, until, ratio) => fill(control, behind, until, ratio),
         Call::Timeout => time_out(control),
-        Call::MaySend(more) => Some(control.may_send() == more),
-        Call::Window(window) => Some(control.window() == window),
-        Call::InFlight(count) => Some(control.in_flight() == count),
-        Call::Threshold(_) | Call::Shown(..) => None,
+        _ => shows(control, call),
     }
 }
 
@@ -150,20 +158,27 @@ fn first_other_of_kinds(kinds: &mut Kinds, calls: &[Call]) -> Option<usize> {
     None
 }
 
+// The same of two lists, one behind the other.
+fn first_other_of_two(control: &mut Ccid2, before: &[Call], calls: &[Call]) -> Option<usize> {
+    if let Some(place) = first_other(control, before) {
+        return Some(place);
+    }
+    Some(first_other(control, calls)?.saturating_add(before.len()))
+}
+
 // Makes the calls of the first list of a new control, and then those of the second.
 fn play_behind(alloc: Global, before: &[Call], calls: &[Call]) -> Result<(), Fail> {
     let mut control = Ccid2::new(alloc)?;
-    if let Some(place) = first_other(&mut control, before) {
-        return Err(Fail::new(format_args!("call {place}")));
-    }
-    match first_other(&mut control, calls) {
-        None => Ok(()),
-        Some(place) => Err(Fail::new(format_args!("call {place} behind {} more", before.len()))),
-    }
+    all_come(first_other_of_two(&mut control, before, calls))
 }
 
 fn play(alloc: Global, calls: &[Call]) -> Result<(), Fail> {
     play_behind(alloc, &[], calls)
+}
+
+fn play_of_kinds(alloc: Global, calls: &[Call]) -> Result<(), Fail> {
+    let mut kinds = Kinds::new(alloc)?;
+    all_come(first_other_of_kinds(&mut kinds, calls))
 }
 
 // At 8 the lost 5 halves the window, and at 12 the lost 9 does not halve it again.
@@ -227,9 +242,7 @@ const KINDS_SWITCH: [Call; 19] = [
 
 #[test]
 fn kinds_switch(rt: HostRuntime) -> Result<(), Fail> {
-    let mut kinds = Kinds::new(rt.alloc())?;
-    assert_eq!(rt; first_other_of_kinds(&mut kinds, &KINDS_SWITCH), None);
-    Ok(())
+    play_of_kinds(rt.alloc(), &KINDS_SWITCH)
 }
 
 // Of four that are received slow start takes in two at most, and half the Ack Ratio rounded down, but one at least.
@@ -473,15 +486,18 @@ fn slow_start_past_the_threshold(rt: HostRuntime) -> Result<(), Fail> {
     play_behind(rt.alloc(), &TIMED_OUT_AT_47, &PAST_THE_THRESHOLD)
 }
 
+const BEHIND_A_TIMEOUT: [&[Call]; 5] = [
+    &MARKED_BEHIND_A_SECOND_TIMEOUT,
+    &MARKED_47,
+    &MARKED_48,
+    &MARKED_AFTER_A_START,
+    &TIMED_OUT_AFTER_A_START,
+];
+
 #[test]
 fn the_mark_of_a_timeout(rt: HostRuntime) -> Result<(), Fail> {
-    play_behind(
-        rt.alloc(),
-        &TIMED_OUT_AT_47,
-        &MARKED_BEHIND_A_SECOND_TIMEOUT,
-    )?;
-    play_behind(rt.alloc(), &TIMED_OUT_AT_47, &MARKED_47)?;
-    play_behind(rt.alloc(), &TIMED_OUT_AT_47, &MARKED_48)?;
-    play_behind(rt.alloc(), &TIMED_OUT_AT_47, &MARKED_AFTER_A_START)?;
-    play_behind(rt.alloc(), &TIMED_OUT_AT_47, &TIMED_OUT_AFTER_A_START)
+    for calls in BEHIND_A_TIMEOUT {
+        play_behind(rt.alloc(), &TIMED_OUT_AT_47, calls)?;
+    }
+    Ok(())
 }

@@ -1,87 +1,179 @@
-//! Captures in both byte orders and resolutions, cut anywhere, and at their limits. A reader stands in a helper, and a call
-//! of it in one of its own that answers whether it holds. For a proof follows each value that a function holds through
-//! each of its steps.
+//! Captures over sources that give their bytes in any pieces.
+use crate::tables::{Table, holds};
 use capture_reader::{CaptureFault, Captures, Record};
-use dccp_io::{MemorySource, Source};
+use dccp_io::{MemorySource, Source, read_all};
 use std::alloc::Global;
 use std::test::Fail;
 
-// The capture of one packet: its file header, its record's header, and the packet.
-const ONE_PACKET: [u8; 80] = [
-    0xd4, 0xc3, 0xb2, 0xa1, 2, 0, 4, 0, 0, 0, 0, 0, 0, 0, 0, 0, 0xff, 0xff, 0, 0, 0x65, 0, 0, 0, 1,
-    0, 0, 0, 0x20, 0xa1, 7, 0, 0x28, 0, 0, 0, 0x28, 0, 0, 0, 0x45, 0, 0, 0x28, 0, 1, 0, 0, 0x40,
-    0x21, 0x66, 0xb2, 0x0a, 0, 0, 1, 0x0a, 0, 0, 2, 0x9c, 0x40, 0x13, 0x89, 5, 0, 0x31, 0xec, 1, 0,
-    0, 0, 0, 0, 3, 0xe8, 0, 0, 0, 0x2a,
-];
+// How many bytes a call of the source gives at most, and the number of the call that fails, or `-`; the bytes; and calls.
+// `next` gives a record: its number, the seconds and the fraction, whether that counts nanoseconds, the link type, how many
+// bytes the packet had, and those that were captured. `holds` tells whether a record is held, and `left` what is left of the
+// source.
+const STORIES: &str = "\
+    # The capture of one packet, and that all of it is read\n\
+    1 - d4c3b2a1020004000000000000000000ffff0000650000000100000020a1070028000000280000004500002800010000402166b20a0000010a0000029c401389050031ec01000000000003e80000002a next next next left: 1 1 500000 false 101 40 [69, 0, 0, 40, 0, 1, 0, 0, 64, 33, 102, 178, 10, 0, 0, 1, 10, 0, 0, 2, 156, 64, 19, 137, 5, 0, 49, 236, 1, 0, 0, 0, 0, 0, 3, 232, 0, 0, 0, 42] end end []\n\
+    7 - d4c3b2a1020004000000000000000000ffff0000650000000100000020a1070028000000280000004500002800010000402166b20a0000010a0000029c401389050031ec01000000000003e80000002a next next next left: 1 1 500000 false 101 40 [69, 0, 0, 40, 0, 1, 0, 0, 64, 33, 102, 178, 10, 0, 0, 1, 10, 0, 0, 2, 156, 64, 19, 137, 5, 0, 49, 236, 1, 0, 0, 0, 0, 0, 3, 232, 0, 0, 0, 42] end end []\n\
+    4096 - d4c3b2a1020004000000000000000000ffff0000650000000100000020a1070028000000280000004500002800010000402166b20a0000010a0000029c401389050031ec01000000000003e80000002a next next next left: 1 1 500000 false 101 40 [69, 0, 0, 40, 0, 1, 0, 0, 64, 33, 102, 178, 10, 0, 0, 1, 10, 0, 0, 2, 156, 64, 19, 137, 5, 0, 49, 236, 1, 0, 0, 0, 0, 0, 3, 232, 0, 0, 0, 42] end end []\n\
+    # Both byte orders, microseconds and nanoseconds, and both link types: three records, of which the middle one is empty\n\
+    5 - d4c3b2a102000400090909090909090909090909010000000100000002000000050000000600000066697273740300000000286bee0000000001000000ffffffff05000000090000000a000000746865207468697264 next next next next: 1 1 2 false 1 6 [102, 105, 114, 115, 116] 2 3 4000000000 false 1 1 [] 3 4294967295 5 false 1 10 [116, 104, 101, 32, 116, 104, 105, 114, 100] end\n\
+    5 - a1b2c3d4000200040909090909090909090909090000000100000001000000020000000500000006666972737400000003ee6b28000000000000000001ffffffff00000005000000090000000a746865207468697264 next next next next: 1 1 2 false 1 6 [102, 105, 114, 115, 116] 2 3 4000000000 false 1 1 [] 3 4294967295 5 false 1 10 [116, 104, 101, 32, 116, 104, 105, 114, 100] end\n\
+    5 - 4d3cb2a102000400090909090909090909090909650000000100000002000000050000000600000066697273740300000000286bee0000000001000000ffffffff05000000090000000a000000746865207468697264 next next next next: 1 1 2 true 101 6 [102, 105, 114, 115, 116] 2 3 4000000000 true 101 1 [] 3 4294967295 5 true 101 10 [116, 104, 101, 32, 116, 104, 105, 114, 100] end\n\
+    5 - a1b23c4d000200040909090909090909090909090000006500000001000000020000000500000006666972737400000003ee6b28000000000000000001ffffffff00000005000000090000000a746865207468697264 next next next next: 1 1 2 true 101 6 [102, 105, 114, 115, 116] 2 3 4000000000 true 101 1 [] 3 4294967295 5 true 101 10 [116, 104, 101, 32, 116, 104, 105, 114, 100] end\n\
+    # Three short records in pieces\n\
+    1 - a1b23c4d0002000409090909090909090909090900000065000000010000000200000001000000026100000003000000040000000000000001000000050000000600000002000000036263 next next next next: 1 1 2 true 101 2 [97] 2 3 4 true 101 1 [] 3 5 6 true 101 3 [98, 99] end\n\
+    7 - a1b23c4d0002000409090909090909090909090900000065000000010000000200000001000000026100000003000000040000000000000001000000050000000600000002000000036263 next next next next: 1 1 2 true 101 2 [97] 2 3 4 true 101 1 [] 3 5 6 true 101 3 [98, 99] end\n\
+    4096 - a1b23c4d0002000409090909090909090909090900000065000000010000000200000001000000026100000003000000040000000000000001000000050000000600000002000000036263 next next next next: 1 1 2 true 101 2 [97] 2 3 4 true 101 1 [] 3 5 6 true 101 3 [98, 99] end\n\
+    # File headers: CutShort comes before BadMagic, that before BadVersion, and that before BadLink\n\
+    100 - a1b2c3d40002000409090909090909090909090900000001 next: end\n\
+    100 - a0b2c3d40002000409090909090909090909090900000001 next: BadMagic\n\
+    100 - a1b2c34d0002000409090909090909090909090900000001 next: BadMagic\n\
+    100 - a1b2c3d40102000409090909090909090909090900000001 next: BadVersion\n\
+    100 - a1b2c3d40001000409090909090909090909090900000001 next: BadVersion\n\
+    100 - a1b2c3d40003000409090909090909090909090900000001 next: BadVersion\n\
+    100 - a1b2c3d40002000309090909090909090909090900000001 next: BadVersion\n\
+    100 - a1b2c3d40002000509090909090909090909090900000001 next: BadVersion\n\
+    100 - a1b2c3d40002010409090909090909090909090900000001 next: BadVersion\n\
+    100 - a1b2c3d40002000409090909090909090909090901000001 next: BadLink\n\
+    100 - a1b2c3d40002000409090909090909090909090900000000 next: BadLink\n\
+    100 - a1b2c3d40002000409090909090909090909090900000002 next: BadLink\n\
+    100 - a1b2c3d4000200040909090909090909090909090000000c next: BadLink\n\
+    100 - a1b2c3d400020004090909090909090909090909000000e4 next: BadLink\n\
+    100 - a1b2c3d40002000409090909090909090909090900000064 next: BadLink\n\
+    100 - a1b2c3d40002000309090909090909090909090900000002 next: BadVersion\n\
+    100 - 00b2c3d40002000309090909090909090909090900000002 next: BadMagic\n\
+    100 - 00b2c3d400020003090909090909090909090909000000 next: CutShort\n\
+    # A refused source is handed back: of 28 bytes 26 were read\n\
+    26 - 00b2c3d4000200040909090909090909090909090000000172657374 left: BadMagic [115, 116]\n\
+    # A record, and the header of one of 262,145 bytes: it is judged behind its header\n\
+    4096 - a1b2c3d400020004090909090909090909090909000000010000000100000002000000050000000673686f727400000001000000020004000100000000 next next next: 1 1 2 false 1 6 [115, 104, 111, 114, 116] RecordTooLong RecordTooLong\n\
+    4096 - a1b2c3d400020004090909090909090909090909000000010000000100000002000000050000000673686f7274000000010000000200040001000000 next next: 1 1 2 false 1 6 [115, 104, 111, 114, 116] CutShort\n\
+    # A failing read. In pieces of 10 bytes the third call gives the last of the file header, and the sixth stands in the packet\n\
+    10 1 d4c3b2a1020004000000000000000000ffff0000650000000100000020a1070028000000280000004500002800010000402166b20a0000010a0000029c401389050031ec01000000000003e80000002a next: ReadFault\n\
+    10 3 d4c3b2a1020004000000000000000000ffff0000650000000100000020a1070028000000280000004500002800010000402166b20a0000010a0000029c401389050031ec01000000000003e80000002a next: ReadFault\n\
+    10 6 d4c3b2a1020004000000000000000000ffff0000650000000100000020a1070028000000280000004500002800010000402166b20a0000010a0000029c401389050031ec01000000000003e80000002a next next: ReadFault ReadFault\n\
+    10 8 d4c3b2a1020004000000000000000000ffff0000650000000100000020a1070028000000280000004500002800010000402166b20a0000010a0000029c401389050031ec01000000000003e80000002a next next: ReadFault ReadFault\n\
+    10 9 d4c3b2a1020004000000000000000000ffff0000650000000100000020a1070028000000280000004500002800010000402166b20a0000010a0000029c401389050031ec01000000000003e80000002a next next: 1 1 500000 false 101 40 [69, 0, 0, 40, 0, 1, 0, 0, 64, 33, 102, 178, 10, 0, 0, 1, 10, 0, 0, 2, 156, 64, 19, 137, 5, 0, 49, 236, 1, 0, 0, 0, 0, 0, 3, 232, 0, 0, 0, 42] ReadFault\n\
+    # The fault comes again with no further read, and the call that failed took nothing\n\
+    10 6 d4c3b2a1020004000000000000000000ffff0000650000000100000020a1070028000000280000004500002800010000402166b20a0000010a0000029c401389050031ec01000000000003e80000002a next next left: ReadFault ReadFault [102, 178, 10, 0, 0, 1, 10, 0, 0, 2, 156, 64, 19, 137, 5, 0, 49, 236, 1, 0, 0, 0, 0, 0, 3, 232, 0, 0, 0, 42]\n\
+    # A record is held once all its bytes were read, and no read follows where a fault ended the capture\n\
+    1000 - d4c3b2a1020004000000000000000000ffff0000650000000100000020a1070028000000280000004500002800010000402166b20a0000010a0000029c401389050031ec01000000000003e80000002a holds next holds next holds next: true 1 1 500000 false 101 40 [69, 0, 0, 40, 0, 1, 0, 0, 64, 33, 102, 178, 10, 0, 0, 1, 10, 0, 0, 2, 156, 64, 19, 137, 5, 0, 49, 236, 1, 0, 0, 0, 0, 0, 3, 232, 0, 0, 0, 42] false end false end\n\
+    1000 - d4c3b2a1020004000000000000000000ffff0000650000000100000020a1070028000000280000004500002800010000402166b20a0000010a0000029c401389050031ec01000000000003e8000000 holds next holds next holds next: false CutShort true CutShort true CutShort\n\
+    24 - d4c3b2a1020004000000000000000000ffff0000650000000100000020a1070028000000280000004500002800010000402166b20a0000010a0000029c401389050031ec01000000000003e80000002a holds next holds next: false 1 1 500000 false 101 40 [69, 0, 0, 40, 0, 1, 0, 0, 64, 33, 102, 178, 10, 0, 0, 1, 10, 0, 0, 2, 156, 64, 19, 137, 5, 0, 49, 236, 1, 0, 0, 0, 0, 0, 3, 232, 0, 0, 0, 42] false end\n";
 
-// A source over these bytes that gives at most `most` a call, and whose calls with the listed numbers fail.
+// A source over these bytes that gives at most `most` a call, and whose call with this number fails.
 fn source_of(
     alloc: Global,
     bytes: &[u8],
-    failing: &[u64],
+    failing: Option<u64>,
     most: usize,
 ) -> Result<MemorySource, Fail> {
-    let bytes = bytes.to_vec(alloc)?;
-    Ok(MemorySource::new(bytes, failing.to_vec(alloc)?, most.max(1)))
+    let mut numbers = Vec::new(alloc);
+    if let Some(number) = failing {
+        numbers.push(number)?;
+    }
+    Ok(MemorySource::new(bytes.to_vec(alloc)?, numbers, most.max(1)))
 }
 
-// A reader over such a source.
-fn reader(
-    alloc: Global,
-    bytes: &[u8],
-    failing: &[u64],
-    most: usize,
-) -> Result<Captures<MemorySource>, Fail> {
-    match Captures::new(alloc, source_of(alloc, bytes, failing, most)?) {
-        Ok(captures) => Ok(captures),
-        Err(_) => Err(Fail::from("a capture")),
+fn tell_record(record: &Record<'_>, told: &mut String) -> Result<(), Fail> {
+    let (number, seconds, fraction) = (record.number, record.seconds, record.fraction);
+    write!(told, " {number} {seconds} {fraction}")?;
+    let (nanos, link, original) = (record.nanos, record.link, record.original);
+    write!(told, " {nanos} {link} {original}")?;
+    let bytes = record.bytes;
+    Ok(write!(told, " {bytes:?}")?)
+}
+
+fn tell_next(captures: &mut Captures<MemorySource>, told: &mut String) -> Result<(), Fail> {
+    match captures.next() {
+        Ok(Some(record)) => tell_record(&record, told),
+        Ok(None) => Ok(told.push_str(" end")?),
+        Err(fault) => Ok(write!(told, " {fault:?}")?),
     }
 }
 
-// Whether the next record is this one.
-fn gives(captures: &mut Captures<MemorySource>, record: &Record<'_>) -> bool {
-    captures.next() == Ok(Some(*record))
+fn tell_held(captures: &Captures<MemorySource>, told: &mut String) -> Result<(), Fail> {
+    let held = captures.holds_next();
+    Ok(write!(told, " {held}")?)
 }
 
-// Whether no record is left.
-fn ends(captures: &mut Captures<MemorySource>) -> bool {
-    captures.next() == Ok(None)
+fn tell_calls(
+    captures: &mut Captures<MemorySource>,
+    calls: &str,
+    told: &mut String,
+) -> Result<(), Fail> {
+    for call in calls.split_whitespace() {
+        match call {
+            "next" => tell_next(captures, told)?,
+            "holds" => tell_held(captures, told)?,
+            _ => {}
+        }
+    }
+    Ok(())
 }
 
-// Whether the next record is refused for this cause.
-fn fails(captures: &mut Captures<MemorySource>, fault: CaptureFault) -> bool {
-    captures.next() == Err(fault)
+// What is left of a source, where that is asked for.
+fn tell_left(
+    alloc: Global,
+    source: &mut MemorySource,
+    calls: &str,
+    told: &mut String,
+) -> Result<(), Fail> {
+    if !calls.ends_with("left") {
+        return Ok(());
+    }
+    match read_all(alloc, source, 100) {
+        Ok(rest) => Ok(write!(told, " {rest:?}")?),
+        Err(_) => Err(Fail::from("no fault")),
+    }
 }
 
-// How many bytes of a block of four the next call of a source gives, and the block.
-fn read_of(source: &mut MemorySource) -> (Option<usize>, [u8; 4]) {
-    let mut block = [0; 4];
-    (source.read(&mut block).ok(), block)
+fn tell_story(
+    alloc: Global,
+    source: MemorySource,
+    calls: &str,
+    told: &mut String,
+) -> Result<(), Fail> {
+    match Captures::new(alloc, source) {
+        Ok(mut captures) => {
+            tell_calls(&mut captures, calls, told)?;
+            tell_left(alloc, &mut captures.into_source(), calls, told)
+        }
+        Err((fault, mut source)) => {
+            write!(told, " {fault:?}")?;
+            tell_left(alloc, &mut source, calls, told)
+        }
+    }
 }
 
-// How a capture is read: the sums of what its records tell, and its end.
+// How many bytes a call gives, the call that fails, the bytes and the calls of a row.
+fn parts_of(words: &str) -> Option<(usize, Option<u64>, &str, &str)> {
+    let (most, rest) = words.split_once(" ")?;
+    let (failing, rest) = rest.split_once(" ")?;
+    let (bytes, calls) = rest.split_once(" ")?;
+    Some((most.parse().ok()?, failing.parse().ok(), bytes, calls))
+}
+
+struct Stories;
+
+impl Table for Stories {
+    fn tell(&self, alloc: Global, words: &str, told: &mut String) -> Result<(), Fail> {
+        let (most, failing, bytes, calls) = parts_of(words).ok_or("a story")?;
+        let bytes = hex::decode(alloc, bytes)?;
+        tell_story(alloc, source_of(alloc, &bytes, failing, most)?, calls, told)
+    }
+}
+
+#[test]
+fn records_in_any_pieces(rt: HostRuntime) -> Result<(), Fail> {
+    holds(rt.alloc(), &Stories, STORIES)
+}
+
+// How a capture is read: how many records it has, and of how many bytes, and its end.
 #[derive(Clone, Copy, PartialEq)]
 struct Summary {
     records: u64,
     bytes: u64,
-    sum: u64,
     end: Option<CaptureFault>,
-}
-
-fn mixed_with(sum: u64, value: u64) -> u64 {
-    sum.wrapping_mul(31).wrapping_add(value)
-}
-
-// Adds what a record tells into one number, so that any other value in it would be seen.
-fn mixed(sum: u64, record: &Record<'_>) -> u64 {
-    let sum = mixed_with(sum, u64::from(record.seconds));
-    let sum = mixed_with(sum, u64::from(record.fraction));
-    let sum = mixed_with(sum, u64::from(record.original));
-    let mut sum = mixed_with(sum, record.number);
-    for byte in record.bytes {
-        sum = mixed_with(sum, u64::from(*byte));
-    }
-    sum
 }
 
 // Adds the next record to a summary. False where there is none.
@@ -90,7 +182,6 @@ fn add_next<S: Source + Drop>(captures: &mut Captures<S>, summary: &mut Summary)
         Ok(Some(record)) => {
             summary.records = record.number;
             summary.bytes = summary.bytes.wrapping_add(record.bytes.len() as u64);
-            summary.sum = mixed(summary.sum, &record);
             true
         }
         Ok(None) => false,
@@ -105,7 +196,6 @@ fn ended_by(end: Option<CaptureFault>) -> Summary {
     Summary {
         records: 0,
         bytes: 0,
-        sum: 0,
         end,
     }
 }
@@ -129,417 +219,117 @@ fn summed<S: Source + Drop>(alloc: Global, source: S) -> Summary {
     }
 }
 
-fn summary_of(alloc: Global, bytes: &[u8], failing: &[u64], most: usize) -> Result<Summary, Fail> {
-    Ok(summed(alloc, source_of(alloc, bytes, failing, most)?))
+fn summary_of(alloc: Global, bytes: &[u8], most: usize) -> Result<Summary, Fail> {
+    Ok(summed(alloc, source_of(alloc, bytes, None, most)?))
 }
 
-// Whether a capture has so many records, and this end.
-fn is_read(
-    alloc: Global,
-    bytes: &[u8],
-    most: usize,
-    records: u64,
-    end: Option<CaptureFault>,
-) -> Result<bool, Fail> {
-    let summary = summary_of(alloc, bytes, &[], most)?;
-    Ok(summary.records == records && summary.end == end)
+// From which size on the first bytes of a capture have such an end, behind so many records: of the capture of one packet,
+// and of one of three records of 17, 16 and 18 bytes.
+const PREFIXES_OF_ONE: &str = "\
+    d4c3b2a1020004000000000000000000ffff0000650000000100000020a1070028000000280000004500002800010000402166b20a0000010a0000029c401389050031ec01000000000003e80000002a: 0 CutShort-0 24 end-0 25 CutShort-0 80 end-1\n";
+
+const PREFIXES_OF_THREE: &str = "\
+    a1b23c4d0002000409090909090909090909090900000065000000010000000200000001000000026100000003000000040000000000000001000000050000000600000002000000036263: 0 CutShort-0 24 end-0 25 CutShort-0 41 end-1 42 CutShort-1 57 end-2 58 CutShort-2 75 end-3\n";
+
+fn tell_summary(size: usize, summary: &Summary, told: &mut String) -> Result<(), Fail> {
+    let records = summary.records;
+    match summary.end {
+        Some(fault) => Ok(write!(told, " {size} {fault:?}-{records}")?),
+        None => Ok(write!(told, " {size} end-{records}")?),
+    }
 }
 
-// Whether the record is given, and then the end twice.
-fn gives_one_packet(captures: &mut Captures<MemorySource>) -> bool {
-    let wanted = Record {
-        number: 1,
-        seconds: 1,
-        fraction: 500_000,
-        nanos: false,
-        link: 101,
-        original: 40,
-        bytes: &ONE_PACKET[40..],
-    };
-    gives(captures, &wanted) && ends(captures) && ends(captures)
-}
+// Over a source that gives so many bytes a call.
+struct Prefixes(usize);
 
-// Whether nothing is left of the source.
-fn has_read_all(captures: Captures<MemorySource>) -> bool {
-    read_of(&mut captures.into_source()).0 == Some(0)
-}
-
-#[test]
-fn capture_of_one_packet(rt: HostRuntime) -> Result<(), Fail> {
-    for most in [1, 7, 4096] {
-        let mut captures = reader(rt.alloc(), &ONE_PACKET, &[], most)?;
-        assert!(rt; gives_one_packet(&mut captures), "{most} bytes a read");
-        assert!(rt; has_read_all(captures), "{most} bytes a read");
+fn tell_prefixes(alloc: Global, bytes: &[u8], most: usize, told: &mut String) -> Result<(), Fail> {
+    let mut last = None;
+    for size in 0..=bytes.len() {
+        let summary = summary_of(alloc, &bytes[..size], most)?;
+        if last != Some(summary) {
+            tell_summary(size, &summary, told)?;
+            last = Some(summary);
+        }
     }
     Ok(())
 }
 
-// How the first bytes of it end.
-fn end_of_front(size: usize) -> Option<CaptureFault> {
-    if size == 24 {
-        None
-    } else {
-        Some(CaptureFault::CutShort)
+impl Table for Prefixes {
+    fn tell(&self, alloc: Global, words: &str, told: &mut String) -> Result<(), Fail> {
+        tell_prefixes(alloc, &hex::decode(alloc, words)?, self.0, told)
     }
 }
 
 #[test]
-fn capture_cut_short(rt: HostRuntime) -> Result<(), Fail> {
-    for size in 0..80 {
-        let holds = is_read(rt.alloc(), &ONE_PACKET[..size], 7, 0, end_of_front(size))?;
-        assert!(rt; holds, "{size} bytes");
+fn every_prefix_of_a_capture(rt: HostRuntime) -> Result<(), Fail> {
+    holds(rt.alloc(), &Prefixes(7), PREFIXES_OF_ONE)?;
+    holds(rt.alloc(), &Prefixes(1), PREFIXES_OF_THREE)
+}
+
+// A short record between the file header and a long one, a long one's header, and a short record.
+const PARTS: [&str; 3] = [
+    "a1b2c3d400020004090909090909090909090909000000010000000100000002000000050000000673686f727400000001000000020004000000040001",
+    "00000001000000020004000000040001",
+    "0000000100000002000000050000000673686f7274",
+];
+
+fn put_part(alloc: Global, capture: &mut Vec<u8>, part: &str) -> Result<(), Fail> {
+    Ok(capture.extend_from_slice(&hex::decode(alloc, part)?)?)
+}
+
+// The bytes of a long record.
+fn put_sevens(capture: &mut Vec<u8>) -> Result<(), Fail> {
+    for _ in 0..262_144 {
+        capture.push(7)?;
     }
     Ok(())
 }
 
-// Appends a number in the byte order of the capture.
-fn push_number(capture: &mut Vec<u8>, big: bool, number: u32) -> Result<(), Fail> {
-    let digits = if big {
-        number.to_be_bytes()
-    } else {
-        number.to_le_bytes()
-    };
-    Ok(capture.extend_from_slice(&digits)?)
+fn put_long_records(alloc: Global, capture: &mut Vec<u8>) -> Result<(), Fail> {
+    put_part(alloc, capture, PARTS[0])?;
+    put_sevens(capture)?;
+    put_part(alloc, capture, PARTS[1])?;
+    put_sevens(capture)?;
+    put_part(alloc, capture, PARTS[2])
 }
 
-// A record's seconds, the fraction of the next one, how many bytes its packet had, and those that were captured.
-type Row<'a> = (u32, u32, u32, &'a [u8]);
-
-fn push_record(capture: &mut Vec<u8>, big: bool, row: &Row<'_>) -> Result<(), Fail> {
-    let (seconds, fraction, original, bytes) = *row;
-    let Ok(captured) = u32::try_from(bytes.len()) else {
-        return Err(Fail::from("a short record"));
-    };
-    for number in [seconds, fraction, captured, original] {
-        push_number(capture, big, number)?;
-    }
-    Ok(capture.extend_from_slice(bytes)?)
-}
-
-// A capture of these records.
-fn capture_of(
-    alloc: Global,
-    header: &[u8; 24],
-    big: bool,
-    rows: &[Row<'_>],
-) -> Result<Vec<u8>, Fail> {
-    let mut capture = header.to_vec(alloc)?;
-    for row in rows {
-        push_record(&mut capture, big, row)?;
-    }
+// A capture of 524,386 bytes, with two records of the greatest length.
+fn capture_of_long_records(alloc: Global) -> Result<Vec<u8>, Fail> {
+    let mut capture = Vec::new(alloc);
+    put_long_records(alloc, &mut capture)?;
     Ok(capture)
 }
 
-const LITTLE_MICROS: [u8; 24] = [
-    0xd4, 0xc3, 0xb2, 0xa1, 2, 0, 4, 0, 9, 9, 9, 9, 9, 9, 9, 9, 9, 9, 9, 9, 1, 0, 0, 0,
-];
-
-const BIG_MICROS: [u8; 24] = [
-    0xa1, 0xb2, 0xc3, 0xd4, 0, 2, 0, 4, 9, 9, 9, 9, 9, 9, 9, 9, 9, 9, 9, 9, 0, 0, 0, 1,
-];
-
-const LITTLE_NANOS: [u8; 24] = [
-    0x4d, 0x3c, 0xb2, 0xa1, 2, 0, 4, 0, 9, 9, 9, 9, 9, 9, 9, 9, 9, 9, 9, 9, 0x65, 0, 0, 0,
-];
-
-const BIG_NANOS: [u8; 24] = [
-    0xa1, 0xb2, 0x3c, 0x4d, 0, 2, 0, 4, 9, 9, 9, 9, 9, 9, 9, 9, 9, 9, 9, 9, 0, 0, 0, 0x65,
-];
-
-// Three records, of which the middle one is empty.
-const ROWS: [Row<'static>; 3] = [
-    (1, 2, 6, b"first"),
-    (3, 4_000_000_000, 1, b""),
-    (4_294_967_295, 5, 10, b"the third"),
-];
-
-// Whether the next record is the one of this row, under this number.
-fn gives_row(
-    captures: &mut Captures<MemorySource>,
-    number: u64,
-    nanos: bool,
-    link: u32,
-    row: &Row<'_>,
-) -> bool {
-    let (seconds, fraction, original, bytes) = *row;
-    let wanted = Record {
-        number,
-        seconds,
-        fraction,
-        nanos,
-        link,
-        original,
-        bytes,
-    };
-    gives(captures, &wanted)
-}
-
-// The number of the first of the three records that is not given, or 4 where no end follows.
-fn first_other(captures: &mut Captures<MemorySource>, nanos: bool, link: u32) -> Option<u64> {
-    for (number, row) in (1..4u64).zip(ROWS) {
-        if !gives_row(captures, number, nanos, link, &row) {
-            return Some(number);
-        }
-    }
-    if ends(captures) { None } else { Some(4) }
-}
-
-// A file header, whether its numbers are big-endian, whether it counts nanoseconds, and its link type.
-const FORMATS: [(&[u8; 24], bool, bool, u32); 4] = [
-    (&LITTLE_MICROS, false, false, 1),
-    (&BIG_MICROS, true, false, 1),
-    (&LITTLE_NANOS, false, true, 101),
-    (&BIG_NANOS, true, true, 101),
-];
-
-fn first_other_of(
+// Whether a capture has so many records, of so many bytes, and this end.
+fn is_long(
     alloc: Global,
-    header: &[u8; 24],
-    big: bool,
-    nanos: bool,
-    link: u32,
-) -> Result<Option<u64>, Fail> {
-    let capture = capture_of(alloc, header, big, &ROWS)?;
-    let mut captures = reader(alloc, &capture, &[], 5)?;
-    Ok(first_other(&mut captures, nanos, link))
+    capture: &[u8],
+    most: usize,
+    (records, bytes, end): (u64, u64, Option<CaptureFault>),
+) -> Result<bool, Fail> {
+    let wanted = Summary {
+        records,
+        bytes,
+        end,
+    };
+    Ok(summary_of(alloc, capture, most)? == wanted)
 }
 
-#[test]
-fn byte_orders_and_resolutions(rt: HostRuntime) -> Result<(), Fail> {
-    for (header, big, nanos, link) in &FORMATS {
-        let other = first_other_of(rt.alloc(), *header, *big, *nanos, *link)?;
-        assert!(rt; other.is_none(), "{big} {nanos}: record {other:?}");
-    }
-    Ok(())
-}
-
-// How many records the first bytes of a capture of three have, and how it ends there: the records have 17, 16 and 18
-// bytes.
-fn records_and_end(size: usize) -> (u64, Option<CaptureFault>) {
-    match size {
-        24 => (0, None),
-        41 => (1, None),
-        57 => (2, None),
-        75 => (3, None),
-        0..41 => (0, Some(CaptureFault::CutShort)),
-        42..57 => (1, Some(CaptureFault::CutShort)),
-        _ => (2, Some(CaptureFault::CutShort)),
-    }
-}
-
-// The first size at which a capture that is cut there is not read as it has to be.
-fn first_other_size(alloc: Global, capture: &[u8]) -> Result<Option<usize>, Fail> {
-    for size in 24..76usize {
-        let front = capture.get(..size).ok_or("a capture of 75 bytes")?;
-        let (records, end) = records_and_end(size);
-        if !is_read(alloc, front, 1, records, end)? {
-            return Ok(Some(size));
-        }
-    }
-    Ok(None)
-}
-
-// How many bytes a read gives where these are not summed as by one byte a read.
-fn first_other_piece(alloc: Global, capture: &[u8]) -> Result<Option<usize>, Fail> {
-    let by_bytes = summary_of(alloc, capture, &[], 1)?;
-    for most in [7, 4096] {
-        if summary_of(alloc, capture, &[], most)? != by_bytes {
-            return Ok(Some(most));
-        }
-    }
-    Ok(None)
-}
-
-// A capture of 75 bytes.
-fn three_short_records(alloc: Global) -> Result<Vec<u8>, Fail> {
-    let rows: [Row<'_>; 3] = [(1, 2, 2, b"a"), (3, 4, 1, b""), (5, 6, 3, b"bc")];
-    capture_of(alloc, &BIG_NANOS, true, &rows)
-}
-
-#[test]
-fn every_prefix_of_three_records(rt: HostRuntime) -> Result<(), Fail> {
-    let capture = three_short_records(rt.alloc())?;
-    let size = first_other_size(rt.alloc(), &capture)?;
-    let most = first_other_piece(rt.alloc(), &capture)?;
-    assert!(rt;
-        size.is_none() && most.is_none(),
-        "{size:?} bytes, {most:?} a read"
-    );
-    Ok(())
-}
-
-// Places of a file header with what stands there, how many of its bytes come, and why it is refused: CutShort before
-// BadMagic, that before BadVersion, and that before BadLink.
-const REFUSALS: [(&[(usize, u8)], usize, Option<CaptureFault>); 18] = [
-    (&[(0, 0xa1)], 24, None),
-    (&[(0, 0xa0)], 24, Some(CaptureFault::BadMagic)),
-    (&[(3, 0x4d)], 24, Some(CaptureFault::BadMagic)),
-    (&[(4, 1)], 24, Some(CaptureFault::BadVersion)),
-    (&[(5, 1)], 24, Some(CaptureFault::BadVersion)),
-    (&[(5, 3)], 24, Some(CaptureFault::BadVersion)),
-    (&[(7, 3)], 24, Some(CaptureFault::BadVersion)),
-    (&[(7, 5)], 24, Some(CaptureFault::BadVersion)),
-    (&[(6, 1)], 24, Some(CaptureFault::BadVersion)),
-    (&[(20, 1)], 24, Some(CaptureFault::BadLink)),
-    (&[(23, 0)], 24, Some(CaptureFault::BadLink)),
-    (&[(23, 2)], 24, Some(CaptureFault::BadLink)),
-    (&[(23, 12)], 24, Some(CaptureFault::BadLink)),
-    (&[(23, 228)], 24, Some(CaptureFault::BadLink)),
-    (&[(23, 100)], 24, Some(CaptureFault::BadLink)),
-    (&[(7, 3), (23, 2)], 24, Some(CaptureFault::BadVersion)),
-    (&[(0, 0), (7, 3), (23, 2)], 24, Some(CaptureFault::BadMagic)),
-    (&[(0, 0), (7, 3), (23, 2)], 23, Some(CaptureFault::CutShort)),
-];
-
-// The file header with these changes.
-fn changed_header(changes: &[(usize, u8)]) -> [u8; 24] {
-    let mut header = BIG_MICROS;
-    for (place, byte) in changes {
-        if *place < header.len() {
-            header[*place] = *byte;
-        }
-    }
-    header
-}
-
-// The place of the first row whose header is not refused as it has to be.
-fn first_other_refusal(alloc: Global) -> Result<Option<usize>, Fail> {
-    for (place, (changes, size, fault)) in REFUSALS.iter().enumerate() {
-        let header = changed_header(*changes);
-        if !is_read(alloc, &header[..(*size).min(24)], 100, 0, *fault)? {
-            return Ok(Some(place));
-        }
-    }
-    Ok(None)
-}
-
-#[test]
-fn refused_file_headers(rt: HostRuntime) -> Result<(), Fail> {
-    assert_eq!(rt; first_other_refusal(rt.alloc())?, None);
-    Ok(())
-}
-
-// A capture of 524,386 bytes.
-fn capture_of_long_records(alloc: Global) -> Result<Vec<u8>, Fail> {
-    let long = vec![in alloc; 7; 262_144]?;
-    let rows: [Row<'_>; 4] = [
-        (1, 2, 6, b"short"),
-        (1, 2, 262_145, &long),
-        (1, 2, 262_145, &long),
-        (1, 2, 6, b"short"),
-    ];
-    capture_of(alloc, &BIG_MICROS, true, &rows)
-}
-
-// Whether it is read to its end, so many bytes a read.
-fn are_long_records(alloc: Global, capture: &[u8], most: usize) -> Result<bool, Fail> {
-    let summary = summary_of(alloc, capture, &[], most)?;
-    Ok((summary.records, summary.bytes, summary.end) == (4, 524_298, None))
-}
-
-// How many bytes a read gives where it is not, or 0 where it is not seen that the third record is cut.
-fn first_other_of_long(alloc: Global, capture: &[u8]) -> Result<Option<usize>, Fail> {
+fn are_long_records(alloc: Global, capture: &[u8]) -> Result<bool, Fail> {
     for most in [4096, 100_000, 1_000_000] {
-        if !are_long_records(alloc, capture, most)? {
-            return Ok(Some(most));
+        if !is_long(alloc, capture, most, (4, 524_298, None))? {
+            return Ok(false);
         }
     }
     let front = &capture[..capture.len().saturating_sub(22)];
-    let is_cut = is_read(alloc, front, 4096, 2, Some(CaptureFault::CutShort))?;
-    Ok(if is_cut { None } else { Some(0) })
+    let cut = (2, 262_149, Some(CaptureFault::CutShort));
+    is_long(alloc, front, 4096, cut)
 }
 
 #[test]
 fn records_of_the_greatest_length(rt: HostRuntime) -> Result<(), Fail> {
-    let other = first_other_of_long(rt.alloc(), &capture_of_long_records(rt.alloc())?)?;
-    assert!(rt; other.is_none(), "{other:?} bytes a read");
-    Ok(())
-}
-
-// A record, and the header of one of 262,145 bytes.
-const TOO_LONG: [u8; 61] = [
-    0xa1, 0xb2, 0xc3, 0xd4, 0, 2, 0, 4, 9, 9, 9, 9, 9, 9, 9, 9, 9, 9, 9, 9, 0, 0, 0, 1, 0, 0, 0, 1,
-    0, 0, 0, 2, 0, 0, 0, 5, 0, 0, 0, 6, b's', b'h', b'o', b'r', b't', 0, 0, 0, 1, 0, 0, 0, 2, 0, 4,
-    0, 1, 0, 0, 0, 0,
-];
-
-// Whether a record comes, and then the fault, twice.
-fn fails_behind_a_record(captures: &mut Captures<MemorySource>, fault: CaptureFault) -> bool {
-    captures.next().is_ok() && fails(captures, fault) && fails(captures, fault)
-}
-
-fn is_too_long(alloc: Global, bytes: &[u8]) -> Result<bool, Fail> {
-    let mut captures = reader(alloc, bytes, &[], 4096)?;
-    Ok(fails_behind_a_record(&mut captures, CaptureFault::RecordTooLong))
-}
-
-#[test]
-fn a_record_that_is_too_long(rt: HostRuntime) -> Result<(), Fail> {
-    assert!(rt; is_too_long(rt.alloc(), &TOO_LONG)?);
-    assert!(rt;
-        is_read(
-            rt.alloc(),
-            &TOO_LONG[..60],
-            4096,
-            1,
-            Some(CaptureFault::CutShort)
-        )?,
-        "judged behind its header"
-    );
-    Ok(())
-}
-
-// Whether a capture whose call with this number fails has so many records before that.
-fn fails_behind(alloc: Global, call: u64, records: u64) -> Result<bool, Fail> {
-    let summary = summary_of(alloc, &ONE_PACKET, &[call], 10)?;
-    Ok(summary.records == records && summary.end == Some(CaptureFault::ReadFault))
-}
-
-// In pieces of 10 bytes the third call gives the last of the file header, and the sixth stands in the packet.
-#[test]
-fn a_failing_read_in_a_record(rt: HostRuntime) -> Result<(), Fail> {
-    for (call, records) in [(1, 0), (3, 0), (6, 0), (8, 0), (9, 1)] {
-        assert!(rt; fails_behind(rt.alloc(), call, records)?, "call {call}");
-    }
-    Ok(())
-}
-
-// What the call of the source gives behind one that failed.
-fn read_behind_a_fault(alloc: Global) -> Result<Option<(Option<usize>, [u8; 4])>, Fail> {
-    let mut captures = reader(alloc, &ONE_PACKET, &[6], 10)?;
-    let fault = CaptureFault::ReadFault;
-    if !fails(&mut captures, fault) || !fails(&mut captures, fault) {
-        return Ok(None);
-    }
-    Ok(Some(read_of(&mut captures.into_source())))
-}
-
-// The fault comes again with no further read, and the call that failed took nothing.
-#[test]
-fn a_fault_stays(rt: HostRuntime) -> Result<(), Fail> {
-    let (count, block) = read_behind_a_fault(rt.alloc())?.ok_or("the fault, twice")?;
-    assert!(rt; count == Some(4) && block == [0x66, 0xb2, 0x0a, 0]);
-    Ok(())
-}
-
-// The source that is handed back, where a capture is refused for its first bytes.
-fn handed_back(alloc: Global, bytes: &[u8]) -> Result<Option<MemorySource>, Fail> {
-    match Captures::new(alloc, source_of(alloc, bytes, &[], 26)?) {
-        Err((CaptureFault::BadMagic, source)) => Ok(Some(source)),
-        _ => Ok(None),
-    }
-}
-
-// Of the 28 bytes 26 were read.
-#[test]
-fn a_refused_source_is_handed_back(rt: HostRuntime) -> Result<(), Fail> {
-    let bytes = [
-        0, 0xb2, 0xc3, 0xd4, 0, 2, 0, 4, 9, 9, 9, 9, 9, 9, 9, 9, 9, 9, 9, 9, 0, 0, 0, 1, b'r',
-        b'e', b's', b't',
-    ];
-    let mut source = handed_back(rt.alloc(), &bytes)?.ok_or("no capture")?;
-    let (count, block) = read_of(&mut source);
-    assert!(rt; count == Some(2) && &block == b"st\0\0");
+    let capture = capture_of_long_records(rt.alloc())?;
+    assert!(rt; are_long_records(rt.alloc(), &capture)?);
     Ok(())
 }
 
@@ -576,40 +366,5 @@ fn texts_of_faults(rt: HostRuntime) -> Result<(), Fail> {
     for (fault, text) in TEXTS {
         assert!(rt; is_shown(rt.alloc(), fault, text)?, "{text}");
     }
-    Ok(())
-}
-
-// Whether the reader holds what its next calls answer, one after the other, as told here.
-fn holds_in_turn(captures: &mut Captures<MemorySource>, held: &[bool]) -> bool {
-    for wanted in held {
-        if captures.holds_next() != *wanted {
-            return false;
-        }
-        let _ = captures.next();
-    }
-    true
-}
-
-fn is_held(alloc: Global, bytes: &[u8], most: usize, held: &[bool]) -> Result<bool, Fail> {
-    let mut captures = reader(alloc, bytes, &[], most)?;
-    Ok(holds_in_turn(&mut captures, held))
-}
-
-// A record is held once all its bytes were read, and no read follows where a fault ended the capture.
-#[test]
-fn a_reader_tells_when_it_holds_a_record(rt: HostRuntime) -> Result<(), Fail> {
-    let alloc = rt.alloc();
-    assert!(rt;
-        is_held(alloc, &ONE_PACKET, 1000, &[true, false, false])?,
-        "the whole capture"
-    );
-    assert!(rt;
-        is_held(alloc, &ONE_PACKET[..79], 1000, &[false, true, true])?,
-        "one byte less"
-    );
-    assert!(rt;
-        is_held(alloc, &ONE_PACKET, 24, &[false, false])?,
-        "the header by itself"
-    );
     Ok(())
 }

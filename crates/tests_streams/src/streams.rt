@@ -1,209 +1,105 @@
-//! Sources and sinks, read and written one call at a time. A call stands in a helper, whose answer a test
-//! compares: a proof follows each value that a function holds through each of its steps.
+//! Sources and sinks, read and written one call at a time.
 ghost use Rattle.std.specs.Prelude.{◌≡◌};
 
+use crate::tables::{Table, holds};
+use crate::texts::tell_bytes;
 use dccp_io::{
-    Failed, InputFault, MemorySink, MemorySource, ReadAhead, Sink, Source, StdSink, StdSource,
-    SureSink, SureSource, read_all, write_all,
+    Failed, MemorySink, MemorySource, ReadAhead, Sink, Source, StdSink, StdSource, SureSink,
+    SureSource, read_all, write_all,
 };
 use std::alloc::Global;
 use std::io;
 use std::io::{Error, ErrorKind, Read, Write};
 use std::test::Fail;
 
-// A source over this text, of which a call gives at most `most`, and whose calls with the listed numbers fail.
-fn source_of(
+// A kind of source or sink; how many bytes a call gives or takes at most; the number of the call that fails, or `-`; and
+// what stands behind them.
+fn parts_of(words: &str) -> Option<(&str, usize, Option<u64>, &str)> {
+    let (kind, rest) = words.split_once(" ")?;
+    let (most, rest) = rest.split_once(" ")?;
+    let (failing, rest) = rest.split_once(" ")?;
+    Some((kind, most.parse().ok()?, failing.parse().ok(), rest))
+}
+
+fn numbers_of(alloc: Global, failing: Option<u64>) -> Result<Vec<u64>, Fail> {
+    let mut numbers = Vec::new(alloc);
+    if let Some(number) = failing {
+        numbers.push(number)?;
+    }
+    Ok(numbers)
+}
+
+// An input, and calls: `read` reads a block of 4 bytes, and tells what that then has; a number reads all up to that limit.
+const SOURCES: &str = "\
+    # A call of a source gives what it has, and one that fails leaves the block as it was\n\
+    memory 2 2 hello read read read read read: 2 [104, 101, 0, 0] Failed [104, 101, 0, 0] 2 [108, 108, 0, 0] 1 [111, 108, 0, 0] 0 [111, 108, 0, 0]\n\
+    # To the limit of three bytes, and then to the end\n\
+    memory 2 - hello 3 3: [104, 101, 108] [108, 111]\n\
+    lent 2 - hello 3 3: [104, 101, 108] [108, 111]\n\
+    # A fault in the middle\n\
+    memory 2 2 hello 100: Read\n\
+    # Sources that never fail, and standard input\n\
+    sure 1 - hello 100: [104, 101, 108, 108, 111]\n\
+    standard 1 - hello 100: [104, 101, 108, 108, 111]\n\
+    # An interruption is no fault, but a broken pipe is\n\
+    interrupted 1 - - read 100: 1 [2, 0, 0, 0] [1, 0]\n\
+    broken 1 - - read: Failed [0, 0, 0, 0]\n";
+
+fn tell_read<S: Source>(
+    source: &mut S,
+    block: &mut [u8; 4],
+    told: &mut String,
+) -> Result<(), Fail> {
+    match source.read(block) {
+        Ok(count) => write!(told, " {count}")?,
+        Err(Failed) => told.push_str(" Failed")?,
+    }
+    Ok(write!(told, " {block:?}")?)
+}
+
+fn tell_all<S: Source>(
     alloc: Global,
-    text: &[u8],
-    failing: &[u64],
-    most: usize,
-) -> Result<MemorySource, Fail> {
-    let bytes = text.to_vec(alloc)?;
-    Ok(MemorySource::new(bytes, failing.to_vec(alloc)?, most.max(1)))
-}
-
-// A sink with room for 9 bytes, of which a call takes at most `most`, and whose calls with the listed numbers fail.
-fn sink_of(alloc: Global, failing: &[u64], most: usize) -> Result<MemorySink, Fail> {
-    match MemorySink::new(alloc, failing.to_vec(alloc)?, most, 9) {
-        Ok(sink) => Ok(sink),
-        Err(_) => Err(Fail::from("no memory")),
+    source: &mut S,
+    most: &str,
+    told: &mut String,
+) -> Result<(), Fail> {
+    match read_all(alloc, source, most.parse().ok().ok_or("a limit")?) {
+        Ok(input) => Ok(write!(told, " {input:?}")?),
+        Err(fault) => Ok(write!(told, " {fault:?}")?),
     }
 }
 
-fn read_once<S: Source>(source: &mut S, block: &mut [u8; 4]) -> Result<usize, Failed> {
-    source.read(block)
-}
-
-fn write_once<K: Sink>(sink: &mut K, piece: &[u8]) -> Result<usize, Failed> {
-    sink.write(piece)
-}
-
-fn write_whole<K: Sink>(sink: &mut K, piece: &[u8]) -> Result<(), Failed> {
-    write_all(sink, piece)
-}
-
-fn input_of<S: Source>(alloc: Global, source: &mut S, most: usize) -> Result<Vec<u8>, InputFault> {
-    read_all(alloc, source, most)
-}
-
-// Whether the input is this text, or begins with it where that has `most` bytes.
-fn gives<S: Source>(alloc: Global, source: &mut S, most: usize, text: &[u8]) -> bool {
-    match input_of(alloc, source, most) {
-        Ok(input) => input.as_slice() == text,
-        Err(_) => false,
-    }
-}
-
-// A read of a block of 4 bytes by its answer, and what the block then has.
-type ReadRow<'a> = (Result<usize, Failed>, &'a [u8]);
-
-// The place of the first of these reads that comes to something else.
-fn first_other_read(source: &mut MemorySource, rows: &[ReadRow<'_>]) -> Option<usize> {
+fn tell_reads<S: Source>(
+    alloc: Global,
+    source: &mut S,
+    calls: &str,
+    told: &mut String,
+) -> Result<(), Fail> {
     let mut block = [0; 4];
-    for (place, (answer, left)) in rows.iter().enumerate() {
-        if read_once(source, &mut block) != *answer || block.as_slice() != *left {
-            return Some(place);
+    for call in calls.split_whitespace() {
+        if call == "read" {
+            tell_read(source, &mut block, told)?;
+        } else {
+            tell_all(alloc, source, call, told)?;
         }
     }
-    None
-}
-
-// Reads `hello`, two bytes a call, of which the second fails.
-fn first_other_read_of_hello(alloc: Global, rows: &[ReadRow<'_>]) -> Result<Option<usize>, Fail> {
-    let mut source = source_of(alloc, b"hello", &[2], 2)?;
-    Ok(first_other_read(&mut source, rows))
-}
-
-const READS: [ReadRow<'static>; 5] = [
-    (Ok(2), b"he\0\0"),
-    (Err(Failed), b"he\0\0"),
-    (Ok(2), b"ll\0\0"),
-    (Ok(1), b"ol\0\0"),
-    (Ok(0), b"ol\0\0"),
-];
-
-#[test]
-fn memory_source_fails_at_the_listed_call(rt: HostRuntime) -> Result<(), Fail> {
-    assert_eq!(rt; first_other_read_of_hello(rt.alloc(), &READS)?, None);
     Ok(())
 }
 
-// A piece that is written whole by its answer, and what the sink has taken then.
-type WriteRow<'a> = (&'a [u8], Result<(), Failed>, &'a [u8]);
-
-// The place of the first of these pieces that comes to something else.
-fn first_other_write(sink: &mut MemorySink, rows: &[WriteRow<'_>]) -> Option<usize> {
-    for (place, (piece, answer, taken)) in rows.iter().enumerate() {
-        if write_whole(sink, *piece) != *answer || sink.taken() != *taken {
-            return Some(place);
-        }
-    }
-    None
-}
-
-// The same of a new sink.
-fn first_other_write_of(
+fn tell_memory(
     alloc: Global,
-    failing: &[u64],
-    most: usize,
-    rows: &[WriteRow<'_>],
-) -> Result<Option<usize>, Fail> {
-    let mut sink = sink_of(alloc, failing, most)?;
-    Ok(first_other_write(&mut sink, rows))
-}
-
-// A byte a call, up to the third call, and the rest.
-const WRITES: [WriteRow<'static>; 2] = [(b"hello", Err(Failed), b"he"), (b"llo", Ok(()), b"hello")];
-
-#[test]
-fn memory_sink_fails_at_the_listed_call(rt: HostRuntime) -> Result<(), Fail> {
-    assert_eq!(rt; first_other_write_of(rt.alloc(), &[3], 1, &WRITES)?, None);
-    Ok(())
-}
-
-// Pieces, and how many bytes of each a sink with room for 9 takes, at most 4 a call: the least of the three numbers.
-const TAKES: [(&[u8], usize); 4] = [(b"hello", 4), (b"abc", 3), (b"hello", 2), (b"h", 0)];
-
-// The place of the first of these pieces of which another number is taken.
-fn first_other_take(alloc: Global) -> Result<Option<usize>, Fail> {
-    let mut sink = sink_of(alloc, &[], 4)?;
-    for (place, (piece, count)) in TAKES.iter().enumerate() {
-        if write_once(&mut sink, *piece) != Ok(*count) {
-            return Ok(Some(place));
-        }
+    (most, failing): (usize, Option<u64>),
+    is_lent: bool,
+    (input, calls): (&str, &str),
+    told: &mut String,
+) -> Result<(), Fail> {
+    let bytes = input.as_bytes().to_vec(alloc)?;
+    let mut source = MemorySource::new(bytes, numbers_of(alloc, failing)?, most.max(1));
+    if is_lent {
+        tell_reads(alloc, &mut &mut source, calls, told)
+    } else {
+        tell_reads(alloc, &mut source, calls, told)
     }
-    Ok(None)
-}
-
-#[test]
-fn a_sink_takes_what_it_may(rt: HostRuntime) -> Result<(), Fail> {
-    assert_eq!(rt; first_other_take(rt.alloc())?, None);
-    Ok(())
-}
-
-// A whole piece, and one of no bytes.
-const WRITES_OF_NOTHING: [WriteRow<'static>; 2] = [
-    (b"hello", Err(Failed), b""),
-    (b"", Ok(()), b""),
-];
-
-fn takes_nothing(alloc: Global) -> Result<bool, Fail> {
-    let mut sink = sink_of(alloc, &[], 0)?;
-    Ok(write_once(&mut sink, b"hello") == Ok(0))
-}
-
-#[test]
-fn a_sink_that_takes_nothing_fails(rt: HostRuntime) -> Result<(), Fail> {
-    assert!(rt; takes_nothing(rt.alloc())?, "one call");
-    assert_eq!(rt;
-        first_other_write_of(rt.alloc(), &[], 0, &WRITES_OF_NOTHING)?,
-        None
-    );
-    Ok(())
-}
-
-// Whether `hello` is read to the limit of three bytes, and then to its end.
-fn is_read_in_two(alloc: Global) -> Result<bool, Fail> {
-    let mut source = source_of(alloc, b"hello", &[], 2)?;
-    Ok(gives(alloc, &mut &mut source, 3, b"hel") && gives(alloc, &mut source, 3, b"lo"))
-}
-
-#[test]
-fn input_is_read_whole_or_to_the_limit(rt: HostRuntime) -> Result<(), Fail> {
-    assert!(rt; is_read_in_two(rt.alloc())?);
-    Ok(())
-}
-
-fn is_surely_read(alloc: Global) -> Result<bool, Fail> {
-    let mut source = SureSource::new(b"hello".to_vec(alloc)?);
-    Ok(gives(alloc, &mut source, 100, b"hello"))
-}
-
-#[test]
-fn source_and_sink_that_never_fail(rt: HostRuntime) -> Result<(), Fail> {
-    assert!(rt; is_surely_read(rt.alloc())?, "read");
-    assert!(rt;
-        write_whole(&mut SureSink::new(), b"hello").is_ok(),
-        "written"
-    );
-    Ok(())
-}
-
-fn fails_in_the_middle(alloc: Global) -> Result<bool, Fail> {
-    let mut source = source_of(alloc, b"hello", &[2], 2)?;
-    Ok(input_of(alloc, &mut source, 100).err() == Some(InputFault::Read))
-}
-
-#[test]
-fn a_fault_in_the_middle_of_the_input(rt: HostRuntime) -> Result<(), Fail> {
-    assert!(rt; fails_in_the_middle(rt.alloc())?);
-    Ok(())
-}
-
-#[test]
-fn standard_source_over_bytes(rt: HostRuntime) {
-    let mut source = StdSource::new(b"hello".as_slice());
-    assert!(rt; gives(rt.alloc(), &mut source, 100, b"hello"));
 }
 
 // A reader that is interrupted once, and then gives a byte a call.
@@ -228,21 +124,6 @@ impl Read for Interrupted {
     }
 }
 
-// Whether an interruption is no fault, and the first byte is read.
-fn reads_one<S: Source>(source: &mut S) -> bool {
-    let mut block = [9; 4];
-    read_once(source, &mut block) == Ok(1) && block == [2, 9, 9, 9]
-}
-
-#[test]
-fn standard_source_over_an_interrupted_reader(rt: HostRuntime) {
-    let mut source = StdSource::new(Interrupted {
-        interrupted: false,
-        left: 3,
-    });
-    assert!(rt; reads_one(&mut source) && gives(rt.alloc(), &mut source, 100, &[1, 0]));
-}
-
 // A reader that is interrupted once, and then broken.
 #[derive(Drop)]
 struct Broken {
@@ -259,21 +140,111 @@ impl Read for Broken {
     }
 }
 
-#[test]
-fn standard_source_over_a_broken_reader(rt: HostRuntime) {
-    let mut source = StdSource::new(Broken { interrupted: false });
-    assert!(rt; read_once(&mut source, &mut [0; 4]).is_err());
+fn tell_interrupted(alloc: Global, calls: &str, told: &mut String) -> Result<(), Fail> {
+    let reader = Interrupted {
+        interrupted: false,
+        left: 3,
+    };
+    tell_reads(alloc, &mut StdSource::new(reader), calls, told)
 }
 
-fn is_written_to_a_vec(alloc: Global) -> bool {
-    let mut written = Vec::new(alloc);
-    write_whole(&mut StdSink::new(&mut written), b"hello").is_ok()
-        && written.as_slice() == b"hello".as_slice()
+fn tell_broken(alloc: Global, calls: &str, told: &mut String) -> Result<(), Fail> {
+    let reader = Broken { interrupted: false };
+    tell_reads(alloc, &mut StdSource::new(reader), calls, told)
+}
+
+fn tell_sure(alloc: Global, input: &str, calls: &str, told: &mut String) -> Result<(), Fail> {
+    let mut source = SureSource::new(input.as_bytes().to_vec(alloc)?);
+    tell_reads(alloc, &mut source, calls, told)
+}
+
+fn tell_standard(alloc: Global, input: &str, calls: &str, told: &mut String) -> Result<(), Fail> {
+    tell_reads(alloc, &mut StdSource::new(input.as_bytes()), calls, told)
+}
+
+struct Sources;
+
+impl Table for Sources {
+    fn tell(&self, alloc: Global, words: &str, told: &mut String) -> Result<(), Fail> {
+        let (kind, most, failing, rest) = parts_of(words).ok_or("a source")?;
+        let (input, calls) = rest.split_once(" ").ok_or("an input and calls")?;
+        match kind {
+            "sure" => tell_sure(alloc, input, calls, told),
+            "standard" => tell_standard(alloc, input, calls, told),
+            "interrupted" => tell_interrupted(alloc, calls, told),
+            "broken" => tell_broken(alloc, calls, told),
+            _ => {
+                let is_lent = kind == "lent";
+                tell_memory(alloc, (most, failing), is_lent, (input, calls), told)
+            }
+        }
+    }
 }
 
 #[test]
-fn standard_sink_over_a_vec(rt: HostRuntime) {
-    assert!(rt; is_written_to_a_vec(rt.alloc()));
+fn sources_call_by_call(rt: HostRuntime) -> Result<(), Fail> {
+    holds(rt.alloc(), &Sources, SOURCES)
+}
+
+// Pieces that are written whole, or behind `once=` by one call; and what was taken in the end.
+const SINKS: &str = "\
+    # A byte a call, up to the third, and then the rest\n\
+    memory 1 3 hello: Failed [he]\n\
+    memory 1 3 hello llo: Failed ok [hello]\n\
+    # The least of the piece, what a call takes, and the room\n\
+    memory 4 - once=hello once=abc once=hello once=h: 4 3 2 0 [hellabche]\n\
+    # A sink that takes nothing has taken a piece of no bytes whole\n\
+    memory 0 - once=hello hello: 0 Failed []\n\
+    memory 0 - hello whole=: Failed ok []\n\
+    sure 0 - hello: ok []\n\
+    # Standard output, and over a writer that is interrupted at every other call and takes one byte at the others\n\
+    standard 0 - hello: ok [hello]\n\
+    narrow 0 - once=hello ello: 1 ok [hello]\n";
+
+fn tell_write<K: Sink>(sink: &mut K, piece: &str, told: &mut String) -> Result<(), Fail> {
+    match sink.write(piece.as_bytes()) {
+        Ok(count) => Ok(write!(told, " {count}")?),
+        Err(Failed) => Ok(told.push_str(" Failed")?),
+    }
+}
+
+fn tell_whole<K: Sink>(sink: &mut K, piece: &str, told: &mut String) -> Result<(), Fail> {
+    Ok(told.push_str(match write_all(sink, piece.as_bytes()) {
+        Ok(()) => " ok",
+        Err(Failed) => " Failed",
+    })?)
+}
+
+fn tell_writes<K: Sink>(sink: &mut K, pieces: &str, told: &mut String) -> Result<(), Fail> {
+    for word in pieces.split_whitespace() {
+        match word.split_once("=") {
+            Some(("once", piece)) => tell_write(sink, piece, told)?,
+            Some((_, piece)) => tell_whole(sink, piece, told)?,
+            None => tell_whole(sink, word, told)?,
+        }
+    }
+    Ok(())
+}
+
+fn tell_taken(taken: &[u8], told: &mut String) -> Result<(), Fail> {
+    tell_bytes(" [", taken, told)?;
+    Ok(told.push_str("]")?)
+}
+
+// A sink with room for 9 bytes.
+fn tell_memory_sink(
+    alloc: Global,
+    (most, failing): (usize, Option<u64>),
+    pieces: &str,
+    told: &mut String,
+) -> Result<(), Fail> {
+    match MemorySink::new(alloc, numbers_of(alloc, failing)?, most, 9) {
+        Ok(mut sink) => {
+            tell_writes(&mut sink, pieces, told)?;
+            tell_taken(sink.taken(), told)
+        }
+        Err(_) => Err(Fail::from("no memory")),
+    }
 }
 
 // A writer that is interrupted at every other call, and otherwise takes one byte.
@@ -305,23 +276,43 @@ impl Write for Narrow {
     }
 }
 
-// Whether a call of a sink takes one byte of `hello`, and the others are then written.
-fn writes_one_and_the_rest<K: Sink>(sink: &mut K) -> bool {
-    write_once(sink, b"hello") == Ok(1) && write_whole(sink, b"ello").is_ok()
-}
-
-fn is_written_by_bytes(alloc: Global) -> bool {
+fn tell_narrow(alloc: Global, pieces: &str, told: &mut String) -> Result<(), Fail> {
     let mut narrow = Narrow {
         interrupted: false,
         taken: Vec::new(alloc),
     };
-    writes_one_and_the_rest(&mut StdSink::new(&mut narrow))
-        && narrow.taken.as_slice() == b"hello".as_slice()
+    tell_writes(&mut StdSink::new(&mut narrow), pieces, told)?;
+    tell_taken(&narrow.taken, told)
+}
+
+fn tell_vec(alloc: Global, pieces: &str, told: &mut String) -> Result<(), Fail> {
+    let mut written = Vec::new(alloc);
+    tell_writes(&mut StdSink::new(&mut written), pieces, told)?;
+    tell_taken(&written, told)
+}
+
+fn tell_sure_sink(pieces: &str, told: &mut String) -> Result<(), Fail> {
+    tell_writes(&mut SureSink::new(), pieces, told)?;
+    tell_taken(&[], told)
+}
+
+struct Sinks;
+
+impl Table for Sinks {
+    fn tell(&self, alloc: Global, words: &str, told: &mut String) -> Result<(), Fail> {
+        let (kind, most, failing, pieces) = parts_of(words).ok_or("a sink")?;
+        match kind {
+            "sure" => tell_sure_sink(pieces, told),
+            "standard" => tell_vec(alloc, pieces, told),
+            "narrow" => tell_narrow(alloc, pieces, told),
+            _ => tell_memory_sink(alloc, (most, failing), pieces, told),
+        }
+    }
 }
 
 #[test]
-fn standard_sink_over_a_writer_of_one_byte_a_call(rt: HostRuntime) {
-    assert!(rt; is_written_by_bytes(rt.alloc()));
+fn sinks_call_by_call(rt: HostRuntime) -> Result<(), Fail> {
+    holds(rt.alloc(), &Sinks, SINKS)
 }
 
 // Whether so many bytes of a block of 4 bytes can pass, the next read ahead then gives this answer, and these are
@@ -375,7 +366,8 @@ fn fault_ahead(ahead: &mut ReadAhead, source: &mut MemorySource) -> Option<&'sta
 }
 
 fn fault_ahead_of(alloc: Global) -> Result<Option<&'static str>, Fail> {
-    let mut source = source_of(alloc, b"hello there", &[4], 3)?;
+    let bytes = b"hello there".to_vec(alloc)?;
+    let mut source = MemorySource::new(bytes, numbers_of(alloc, Some(4))?, 3);
     match ReadAhead::new(alloc, 4) {
         Ok(mut ahead) => Ok(fault_ahead(&mut ahead, &mut source)),
         Err(_) => Err(Fail::from("no memory")),

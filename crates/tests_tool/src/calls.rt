@@ -48,6 +48,11 @@ impl Answer {
     pub(crate) fn is(&self, status: Status, text: &str) -> bool {
         self.status == status && self.text.as_slice() == text.as_bytes()
     }
+
+    /// Whether the input was refused, with this at the end of the text.
+    pub(crate) fn is_refused(&self, end: &str) -> bool {
+        self.status == Status::Input && self.text.ends_with(end.as_bytes())
+    }
 }
 
 fn status_of(name: &str) -> Option<Status> {
@@ -125,10 +130,10 @@ pub(crate) fn comes<R: Threads + Sync>(
     rt: &R,
     alloc: Global,
     streams: &Streams,
-    (words, input): (&str, &str),
+    (words, input): (&str, &[u8]),
     (status, text): (Status, &str),
 ) -> Result<bool, Fail> {
-    let answer = answer_to(rt, alloc, &OpenGate, streams, words, input.as_bytes())?;
+    let answer = answer_to(rt, alloc, &OpenGate, streams, words, input)?;
     Ok(answer.is(status, text))
 }
 
@@ -141,7 +146,13 @@ pub(crate) fn lines_come<R: Threads + Sync>(
     (status, text): (Status, &str),
 ) -> Result<(), Fail> {
     for words in lines.lines() {
-        if !comes(rt, alloc, streams, (words, input), (status, text))? {
+        if !comes(
+            rt,
+            alloc,
+            streams,
+            (words, input.as_bytes()),
+            (status, text),
+        )? {
             return Err(Fail::new(format_args!("{words}")));
         }
     }
@@ -155,7 +166,13 @@ fn case_comes<R: Threads + Sync>(
     case: &str,
 ) -> Result<bool, Fail> {
     let (words, input, status, text) = parts_of(case).ok_or("a case")?;
-    comes(rt, alloc, streams, (words, input), (status, text))
+    comes(
+        rt,
+        alloc,
+        streams,
+        (words, input.as_bytes()),
+        (status, text),
+    )
 }
 
 /// Fails at the first case of a text that does not come out over streams of so many bytes a call.

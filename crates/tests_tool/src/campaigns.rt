@@ -3,7 +3,9 @@ use crate::calls::{Streams, answer_to, lines_come};
 use crate::gates::HoldFirst;
 use crate::schedules::show_usage;
 use dccp_command::Status;
+use std::alloc::Global;
 use std::test::Fail;
+use std::thread::Threads;
 
 // The first call of the source would fail.
 const UNREAD: Streams = Streams {
@@ -115,14 +117,20 @@ fn refused_words_of_campaigns(rt: HostRuntime) -> Result<(), Fail> {
     show_usage(&rt, rt.alloc(), OTHER_WORDS)
 }
 
+// Whether this campaign comes out whose first seed is held until the other three have begun, and whether they did.
+fn held<R: Threads + Sync>(rt: &R, alloc: Global) -> Result<(bool, bool), Fail> {
+    let gate = HoldFirst::new();
+    let words = "campaign,--first,5,--seeds,4,--events,120,--workers,2";
+    let answer = answer_to(rt, alloc, &gate, &UNREAD, words, b"")?;
+    Ok((answer.is(Status::Done, FOUR_SEEDS), gate.has_met()))
+}
+
 // Two workers run beside each other and claim as they go: one alone, or two with two seeds each from the start, would
 // leave the first seed held.
 #[test]
 fn a_held_seed_holds_no_other(rt: HostRuntime) -> Result<(), Fail> {
-    let gate = HoldFirst::new();
-    let words = "campaign,--first,5,--seeds,4,--events,120,--workers,2";
-    let answer = answer_to(&rt, rt.alloc(), &gate, &UNREAD, words, b"")?;
-    assert!(rt; answer.is(Status::Done, FOUR_SEEDS));
-    assert!(rt; gate.has_met(), "the other three began meanwhile");
+    let (comes, met) = held(&rt, rt.alloc())?;
+    assert!(rt; met, "the other three began meanwhile");
+    assert!(rt; comes);
     Ok(())
 }

@@ -2,6 +2,7 @@
 ghost use Rattle.std.specs.Prelude.{◌≡◌, ◌<◌};
 
 use campaign_claims::{Claimer, Claims, make_claims};
+use std::alloc::Global;
 use std::test::Fail;
 use std::thread::{Threads, join};
 
@@ -43,25 +44,36 @@ fn claim_both<R: Threads + Sync>(
     (mine, first != second)
 }
 
+// What four claims of two numbers answer, by two claimers in turn, and the word once they are joined.
+fn claimed_in_turn(alloc: Global) -> Result<([Option<u64>; 4], u64), Fail> {
+    let (claims, mut claimer) = make_claims(alloc, 2)?;
+    let mut other = claimer.split(&claims)?;
+    let first = claimer.claim(&claims);
+    let second = other.claim(&claims);
+    let third = other.claim(&claims);
+    let fourth = claimer.claim(&claims);
+    claimer.join(&claims, other);
+    Ok(([first, second, third, fourth], claims.close(claimer)))
+}
+
 #[test]
 fn claims_in_turn(rt: HostRuntime) -> Result<(), Fail> {
-    let (claims, mut claimer) = make_claims(rt.alloc(), 2)?;
-    let mut other = claimer.split(&claims)?;
-    assert_eq!(rt; claimer.claim(&claims), Some(0), "the first claim");
-    assert_eq!(rt; other.claim(&claims), Some(1), "of the split one");
-    assert_eq!(rt; other.claim(&claims), None, "of the split one, in vain");
-    assert_eq!(rt; claimer.claim(&claims), None, "of the first one, in vain");
-    claimer.join(&claims, other);
-    assert_eq!(rt; claims.close(claimer), 4, "the word");
+    let (claimed, word) = claimed_in_turn(rt.alloc())?;
+    assert!(rt; claimed == [Some(0), Some(1), None, None], "{claimed:?}");
+    assert!(rt; word == 4, "the word {word}");
     Ok(())
+}
+
+// Whether each of two threads has a number of its own, and the word once they are joined.
+fn claimed_by_two<R: Threads + Sync>(rt: &R, alloc: Global) -> Result<(bool, u64), Fail> {
+    let (claims, mut claimer) = make_claims(alloc, 2)?;
+    let other = claimer.split(&claims)?;
+    let (last, apart) = claim_both(rt, &claims, claimer, other);
+    Ok((apart, claims.close(last)))
 }
 
 #[test]
 fn claims_by_two_threads(rt: HostRuntime) -> Result<(), Fail> {
-    let (claims, mut claimer) = make_claims(rt.alloc(), 2)?;
-    let other = claimer.split(&claims)?;
-    let (last, apart) = claim_both(&rt, &claims, claimer, other);
-    assert!(rt; apart, "each has a number of its own");
-    assert_eq!(rt; claims.close(last), 2, "the word");
+    assert!(rt; claimed_by_two(&rt, rt.alloc())? == (true, 2));
     Ok(())
 }

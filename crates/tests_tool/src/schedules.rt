@@ -62,7 +62,7 @@ fn is_refused<R: Threads + Sync>(rt: &R, alloc: Global, row: &str) -> Result<boo
     let (schedule, wanted) = row.split_once("=> ").ok_or("a line")?;
     let bytes = schedule.as_bytes();
     let answer = answer_to(rt, alloc, &OpenGate, &Streams::of(4096), "run", bytes)?;
-    Ok(answer.status == Status::Input && answer.text.ends_with(wanted.as_bytes()))
+    Ok(answer.is_refused(wanted))
 }
 
 // The faults of a line by itself, some behind a schedule that has begun.
@@ -192,7 +192,13 @@ fn ends<R: Threads + Sync>(
     status: Status,
     text: &'static str,
 ) -> Result<bool, Fail> {
-    comes(rt, alloc, streams, ("run", HANDSHAKE), (status, text))
+    comes(
+        rt,
+        alloc,
+        streams,
+        ("run", HANDSHAKE.as_bytes()),
+        (status, text),
+    )
 }
 
 #[test]
@@ -226,6 +232,18 @@ fn is_block(answer: &Answer, front: &str, least: usize, most: usize) -> bool {
     begins && least <= written.len() && written.len() < most
 }
 
+// Whether a call whose second write fails does so.
+fn writes_block<R: Threads + Sync>(
+    rt: &R,
+    alloc: Global,
+    (words, input): (&str, &[u8]),
+    front: &str,
+    (least, most): (usize, usize),
+) -> Result<bool, Fail> {
+    let answer = answer_to(rt, alloc, &OpenGate, &SECOND_BLOCK, words, input)?;
+    Ok(is_block(&answer, front, least, most))
+}
+
 fn many_openings(alloc: Global) -> Result<Vec<u8>, Fail> {
     let mut schedule = Vec::new(alloc);
     for _ in 0..3000 {
@@ -234,13 +252,22 @@ fn many_openings(alloc: Global) -> Result<Vec<u8>, Fail> {
     Ok(schedule)
 }
 
+fn writes_openings<R: Threads + Sync>(rt: &R, alloc: Global) -> Result<bool, Fail> {
+    let schedule = many_openings(alloc)?;
+    writes_block(
+        rt,
+        alloc,
+        ("run", &schedule),
+        "1 open: ok\nsent c0 ",
+        (4096, 25 * 3000),
+    )
+}
+
 // The text of a schedule that does not wait goes out in blocks of at least 4,096 bytes: neither line by line nor when it
 // is whole. Each further line is `N open: refused NotFresh`.
 #[test]
 fn blocks_of_a_schedule(rt: HostRuntime) -> Result<(), Fail> {
-    let schedule = many_openings(rt.alloc())?;
-    let answer = answer_to(&rt, rt.alloc(), &OpenGate, &SECOND_BLOCK, "run", &schedule)?;
-    assert!(rt; is_block(&answer, "1 open: ok\nsent c0 ", 4096, 25 * 3000));
+    assert!(rt; writes_openings(&rt, rt.alloc())?);
     Ok(())
 }
 
@@ -277,55 +304,69 @@ fn capture_of(alloc: Global, count: usize) -> Result<Vec<u8>, Fail> {
     Ok(capture)
 }
 
-fn shown<R: Threads + Sync>(
+// Whether a capture of that record so many times is shown so.
+fn is_shown<R: Threads + Sync>(
     rt: &R,
     alloc: Global,
     streams: &Streams,
-    capture: &[u8],
-) -> Result<Answer, Fail> {
-    answer_to(rt, alloc, &OpenGate, streams, "show", capture)
+    count: usize,
+    (status, text): (Status, &str),
+) -> Result<bool, Fail> {
+    let capture = capture_of(alloc, count)?;
+    comes(rt, alloc, streams, ("show", &capture), (status, text))
 }
 
 #[test]
 fn capture_of_one_packet(rt: HostRuntime) -> Result<(), Fail> {
-    let capture = capture_of(rt.alloc(), 1)?;
     for most in [1, 7, 4096] {
-        let answer = shown(&rt, rt.alloc(), &Streams::of(most), &capture)?;
-        assert!(rt; answer.is(Status::Done, ONE_RECORD), "{most} bytes a call");
+        let whole = (Status::Done, ONE_RECORD);
+        assert!(rt;
+            is_shown(&rt, rt.alloc(), &Streams::of(most), 1, whole)?,
+            "{most} bytes a call"
+        );
     }
     Ok(())
 }
 
+// The 13th read of seven bytes fails.
+const THIRTEENTH_PIECE: Streams = Streams {
+    failing_read: Some(13),
+    failing_write: None,
+    given: 7,
+    taken: 4096,
+};
+
 // The lines of whole records are written where the source fails inside the second.
 #[test]
 fn failing_source_of_a_capture(rt: HostRuntime) -> Result<(), Fail> {
-    let streams = Streams {
-        failing_read: Some(13),
-        failing_write: None,
-        given: 7,
-        taken: 4096,
-    };
-    let capture = capture_of(rt.alloc(), 1000)?;
-    let answer = shown(&rt, rt.alloc(), &streams, &capture)?;
-    assert!(rt; answer.is(Status::Read, RECORD_LINE));
+    let cut = (Status::Read, RECORD_LINE);
+    assert!(rt; is_shown(&rt, rt.alloc(), &THIRTEENTH_PIECE, 1000, cut)?);
     Ok(())
+}
+
+fn writes_records<R: Threads + Sync>(rt: &R, alloc: Global) -> Result<bool, Fail> {
+    let capture = capture_of(alloc, 1000)?;
+    let size = RECORD_LINE.len();
+    writes_block(
+        rt,
+        alloc,
+        ("show", &capture),
+        RECORD_LINE,
+        (10 * size, 900 * size),
+    )
 }
 
 // The text of a capture that does not wait goes out in blocks: neither line by line nor when it is whole.
 #[test]
 fn blocks_of_a_capture(rt: HostRuntime) -> Result<(), Fail> {
-    let capture = capture_of(rt.alloc(), 1000)?;
-    let answer = shown(&rt, rt.alloc(), &SECOND_BLOCK, &capture)?;
-    let size = RECORD_LINE.len();
-    assert!(rt; is_block(&answer, RECORD_LINE, 10 * size, 900 * size));
+    assert!(rt; writes_records(&rt, rt.alloc())?);
     Ok(())
 }
 
 // The line of a record goes out before more of a capture is read.
 #[test]
 fn records_are_answered_before_more_is_read(rt: HostRuntime) -> Result<(), Fail> {
-    let capture = capture_of(rt.alloc(), 3)?;
-    let answer = shown(&rt, rt.alloc(), &SECOND_PIECE, &capture)?;
-    assert!(rt; answer.is(Status::Write, RECORD_LINE));
+    let cut = (Status::Write, RECORD_LINE);
+    assert!(rt; is_shown(&rt, rt.alloc(), &SECOND_PIECE, 3, cut)?);
     Ok(())
 }

@@ -5,11 +5,12 @@ ghost use Rattle.tool_forms.specs.Commands.{IsReadBy, bare_command, chosen_in, c
 ghost use Rattle.tool_forms.specs.Settings.{bare_name, least, most};
 ghost use Rattle.tool_forms.specs.Tables as table;
 
-use crate::settings::{Setting, Way, is_text};
+use crate::settings::{Setting, Way};
 use clap::error::ErrorKind;
 use clap::{Arg, ArgAction, ArgMatches, Command, Error};
 use seq_circle::NoMemory;
 use std::alloc::{AllocError, Global};
+use tool_text::is_text;
 
 // An option that has one value.
 fn option<'a>(alloc: Global, name: &'a str) -> Arg<'a>
@@ -103,6 +104,22 @@ pub(crate) fn listen_command<'a>(alloc: Global) -> Result<Command<'a>, AllocErro
     ensures { IfOk result (λ c. app_of c ≡ command_of table.Listen) }
 {
     with_setting(alloc, bare_command(alloc), Setting::Most)
+}
+
+/// The command that reads the words behind the second program's `seed`.
+pub(crate) fn seed_command<'a>(alloc: Global) -> Result<Command<'a>, AllocError>
+    ensures { IfOk result (λ c. app_of c ≡ command_of table.Seed) }
+{
+    let command = with_setting(alloc, bare_command(alloc), Setting::Seed)?;
+    with_setting(alloc, command, Setting::Events)
+}
+
+/// The command that reads the words behind the second program's `frames`.
+pub(crate) fn frames_command<'a>(alloc: Global) -> Result<Command<'a>, AllocError>
+    ensures { IfOk result (λ c. app_of c ≡ command_of table.Frames) }
+{
+    let command = with_setting(alloc, bare_command(alloc), Setting::Flow)?;
+    with_setting(alloc, command, Setting::Side)
 }
 
 // One of the words is `--`, which `clap` would take as the last word.

@@ -12,6 +12,7 @@ use crate::settings::{Setting, side_in};
 use clap::ArgMatches;
 use seq_circle::NoMemory;
 use std::alloc::Global;
+use tool_text::is_text;
 use world_events::Side;
 
 /// A job of the tool (own).
@@ -55,7 +56,7 @@ pub const USAGE: &[u8] =
 fn is_word(word: &String, text: &[u8]) -> bool
     ensures { result ≡ is_word word.now text.now }
 {
-    word.as_bytes() == text
+    is_text(word.as_bytes(), text)
 }
 
 // The replay that the matches ask for.

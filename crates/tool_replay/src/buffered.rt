@@ -1,6 +1,5 @@
 //! A replay at an end with a receive buffer, while it is played: frames arrive, and an application reads, or stops reading.
 ghost use Rattle.std.specs.Prelude.{◌≡◌, ℕ, ◌++◌, ◌+◌, ◌^◌, ◌<◌, ◌≤◌, List, codes, decimal, length, IfOk, OnOk};
-ghost use Rattle.std.specs.Str.{bytes_eq};
 ghost use Rattle.ccid_two.specs.Kinds.{kinds_control};
 ghost use Rattle.data_dropped.specs.Buffering.{Buffered, buffers};
 ghost use Rattle.schedule_text.specs.Results.{HasItsData};
@@ -8,8 +7,8 @@ ghost use Rattle.tool_lines.specs.Jobs.{Judges};
 ghost use Rattle.tool_replay.specs.Replay.{count, reply_line};
 ghost use Rattle.tool_replay.specs.Buffered.{arrival_line, begun_buffered, buffered_frame_taken, buffered_from, buffered_job, dropped_text, first_buffered, item_line, item_read, read_item_line, moved_on, reading_stopped};
 
-use crate::end_lines::{put_end_line, put_frame_line};
-use crate::replay::{addresses, arriving, put_open_line, replay_config};
+use crate::end_lines::put_end_line;
+use crate::replay::{addresses, arriving, put_open_line, put_reply, replay_config};
 use ccid_two::Kinds;
 use data_dropped::{Arrival, BufferedEnd, Got};
 use dccp_packets::{Frame, Outbox};
@@ -17,7 +16,7 @@ use schedule_text::{print_result, read_frame};
 use seq_circle::NoMemory;
 use std::alloc::Global;
 use tool_lines::LineJob;
-use tool_text::{put, put_hex_or_dash, put_number};
+use tool_text::{is_text, put, put_hex_or_dash, put_number};
 use tool_words::LineFault;
 use world_events::{Seen, Side};
 
@@ -86,11 +85,7 @@ impl BufferedReplay {
         ensures value { OnOk result (self.new ≡ moved_on self.old self.old.end out.now) }
         ensures text { OnOk result (text.new.items ≡ text.old.items ++ reply_line self.old.side self.old.sent out.now) }
     {
-        let Some(frame) = out.frame() else {
-            return Ok(());
-        };
-        put_frame_line(text, self.side, self.sent, frame.bytes())?;
-        self.sent += 1;
+        self.sent += put_reply(text, self.side, self.sent, out)?;
         Ok(())
     }
 
@@ -151,11 +146,11 @@ impl LineJob for BufferedReplay {
         line: &[u8],
         text: &mut Vec<u8>,
     ) -> Result<Result<(), LineFault>, NoMemory> {
-        if is_word(line, b"read") {
+        if is_text(line, b"read") {
             self.read(number, text)?;
             return Ok(Ok(()));
         }
-        if is_word(line, b"stop") {
+        if is_text(line, b"stop") {
             self.stop(number, text)?;
             return Ok(Ok(()));
         }
@@ -172,13 +167,6 @@ impl LineJob for BufferedReplay {
     fn finish(&mut self, _alloc: Global, text: &mut Vec<u8>) -> Result<(), NoMemory> {
         put_end_line(text, self.side, self.end.end())
     }
-}
-
-// The line is this word alone.
-fn is_word(line: &[u8], word: &[u8]) -> bool
-    ensures { result ≡ bytes_eq line.now word.now }
-{
-    line == word
 }
 
 // Puts a line's number, and a text behind it.

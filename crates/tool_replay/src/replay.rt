@@ -77,11 +77,7 @@ impl Replay {
         ensures value { OnOk result (self.new ≡ record self.old { sent = self.old.sent + count out.now }) }
         ensures text { OnOk result (text.new.items ≡ text.old.items ++ reply_line self.old.side self.old.sent out.now) }
     {
-        let Some(frame) = out.frame() else {
-            return Ok(());
-        };
-        put_frame_line(text, self.side, self.sent, frame.bytes())?;
-        self.sent += 1;
+        self.sent += put_reply(text, self.side, self.sent, out)?;
         Ok(())
     }
 
@@ -134,6 +130,24 @@ impl LineJob for Replay {
     fn finish(&mut self, _alloc: Global, text: &mut Vec<u8>) -> Result<(), NoMemory> {
         put_end_line(text, self.side, &self.end)
     }
+}
+
+/// Puts the line of the frame that a step sent, if it sent one, and tells how many frames that were.
+pub(crate) fn put_reply(
+    text: &mut Vec<u8>,
+    side: Side,
+    sent: u64,
+    out: &Outbox,
+) -> Result<u64, NoMemory>
+    ensures value { IfOk result (λ frames. frames ≡ count out.now) }
+    ensures few { IfOk result (λ frames. frames ≤ 1) }
+    ensures text { OnOk result (text.new.items ≡ text.old.items ++ reply_line side sent out.now) }
+{
+    let Some(frame) = out.frame() else {
+        return Ok(0);
+    };
+    put_frame_line(text, side, sent, frame.bytes())?;
+    Ok(1)
 }
 
 /// Puts the line of the call `open`.

@@ -11,4 +11,6 @@ mod text;
 
 pub use crate::names::malformed_name;
 pub use crate::numbers::number_up_to;
-pub use crate::text::{put, put_counted, put_hex, put_hex_or_dash, put_named, put_number, put_v4};
+pub use crate::text::{
+    is_text, put, put_counted, put_hex, put_hex_or_dash, put_named, put_number, put_v4,
+};

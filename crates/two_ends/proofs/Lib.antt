@@ -37,6 +37,7 @@ pub mod Calling
 pub mod Believing
 pub mod Consequences
 pub mod Spelling
+pub mod Wanting
 pub mod Preferring
 pub mod Nearing
 pub mod RowsFar

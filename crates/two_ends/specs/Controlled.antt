@@ -94,3 +94,7 @@ begins_with control client server for_client for_server =
       for_client = (begins control client for_client).congestion;
       for_server = (begins control server for_server).congestion;
     }
+
+-- A whole schedule of two ends that have sent and received nothing.
+abbrev pub plays_from_start : {C : Type 0} → Control C → Config → Config → C → C → List Event → Controlled C
+plays_from_start control client server for_client for_server events = plays control (begins_with control client server for_client for_server) events

@@ -44,6 +44,14 @@ Heard control w = (side : Side) (n : ℕ) → Contains (reported_of control (con
 abbrev pub processed_by : Half → SentFrame → List ℕ
 processed_by half frame = take frame.processed half.processed
 
+-- nothing was cut of the vector by which a frame acknowledges this number
+abbrev pub IsUncut : Half → SentFrame → ℕ → Type 0
+IsUncut half frame ack = is_whole_under (has (processed_by half frame)) frame.floor ack half.end.config.vectors ≡ true
+
+-- a number from the first received on that lies below the floor
+abbrev pub LiesBelowFloor : Half → ℕ → Type 0
+LiesBelowFloor half n = distance half.end.marks.isr n < distance half.end.marks.isr (floor_of half.end)
+
 -- A frame acknowledges a number and carries Ack Vectors, whose bytes are joined here.
 pub record CarriesVector (frame : SentFrame) (ack : ℕ) (bytes : List ℕ) : Type 0 where
   pub acknowledges : frame.ack ≡ Some ack
@@ -68,7 +76,7 @@ pub record ToldIn (w : WorldState) (side : Side) (n : ℕ) : Type 0 where
   pub bytes : List ℕ
   pub is_there : slice_get (half_of w side).frames index ≡ Some frame
   pub vector_is : CarriesVector frame ack bytes
-  pub whole : is_whole_under (has (processed_by (half_of w side) frame)) frame.floor ack (half_of w side).end.config.vectors ≡ true
+  pub whole : IsUncut (half_of w side) frame ack
   pub heard : Contains (half_of w (other side)).processed frame.number
   pub reaches : IsWithin n frame.floor ack
 
@@ -79,5 +87,5 @@ pub data NeedsNoReport (w : WorldState) (side : Side) (n : ℕ) : Type 0 where
 
 -- every number from the first received up to the floor
 abbrev pub Told : WorldState → Type 0
-Told w = (side : Side) (n : ℕ) → n < 2 ^ 48 → distance (half_of w side).end.marks.isr n < distance (half_of w side).end.marks.isr (floor_of (half_of w side).end)
+Told w = (side : Side) (n : ℕ) → n < 2 ^ 48 → LiesBelowFloor (half_of w side) n
     → NeedsNoReport w side n

@@ -3,11 +3,10 @@
 //! Each part of `Safe` has a function whose clauses follow from it and from no weaker one. They are what a reader may
 //! hold against the definitions, by plain counts where numbers are in them.
 ghost use Rattle.std.specs.Prelude.{◌≡◌, ◌≢◌, ℕ, ◌+◌, ◌^◌, ◌<◌, ◌≤◌, List, [], ◌∷◌, ◌++◌, length, Some, None, Err, IsTrue, IsSome, Contains, take, drop, slice_get};
-ghost use Rattle.ack_vectors.specs.Vector.{is_whole_under};
 ghost use Rattle.congestion_trait.specs.Flight.{Has};
 ghost use Rattle.congestion_trait.specs.declared.flight.Standing.TheVariants as standing;
 ghost use Rattle.dccp_endpoint.specs.Drafts.{Fits};
-ghost use Rattle.dccp_endpoint.specs.End.{floor_of, held_of};
+ghost use Rattle.dccp_endpoint.specs.End.{held_of};
 ghost use Rattle.dccp_endpoint.specs.declared.config.Config.{Config};
 ghost use Rattle.dccp_options.specs.Vectors.{is_received, state_at};
 ghost use Rattle.dccp_packets.specs.Grammar.{Parts, is_long};
@@ -19,8 +18,7 @@ ghost use Rattle.feature_lists.specs.declared.features.Feature.{Feature};
 ghost use Rattle.feature_lists.specs.declared.features.Place.{Place};
 ghost use Rattle.feature_lists.specs.declared.features.Place.TheVariants as place;
 ghost use Rattle.feature_machine.specs.declared.stands.Stand.TheVariants.{Stable};
-ghost use Rattle.run_list.specs.MarkedSet.{has};
-ghost use Rattle.seq_circle.specs.Circle.{IsBefore, IsFrom, IsWithin, distance};
+ghost use Rattle.seq_circle.specs.Circle.{IsBefore, IsFrom, IsWithin};
 ghost use Rattle.seq_circle.specs.Counts.{number_of};
 ghost use Rattle.world_events.specs.Actors.{other};
 ghost use Rattle.world_events.specs.declared.event.Event.{Event};
@@ -28,14 +26,14 @@ ghost use Rattle.world_events.specs.declared.event.Side.{Side};
 ghost use Rattle.world_events.specs.declared.event.Side.TheVariants.{Client, Server};
 ghost use Rattle.two_ends.specs.declared.frames.SentFrame.{SentFrame};
 ghost use Rattle.two_ends.specs.Asked.{AllIsAsked, KeepsInitialValues};
-ghost use Rattle.two_ends.specs.Controlled.{Controlled, begins_with, congestion_of, happens_to, plays};
+ghost use Rattle.two_ends.specs.Controlled.{Controlled, begins_with, congestion_of, happens_to, plays_from_start};
 ghost use Rattle.two_ends.specs.Counted.{AreAmongFirst, AreResets};
 ghost use Rattle.two_ends.specs.Frames.{ack_in_width, in_width, packet_of};
 ghost use Rattle.two_ends.specs.Negotiated.{HasSent, IsNotNegotiable, IsServerPriority, IsSettled, last_list_sent, last_value, list_said, pair_was_negotiated, value_said};
 ghost use Rattle.two_ends.specs.Numbered.{Facts};
 ghost use Rattle.two_ends.specs.Pairs.{FeatureAt, held_at, said_by};
 ghost use Rattle.two_ends.specs.Preferred.{AsksNothing, IsLastAsked, WantsValues, row_of, values_configured};
-ghost use Rattle.two_ends.specs.Reported.{CarriesVector};
+ghost use Rattle.two_ends.specs.Reported.{CarriesVector, IsUncut, LiesBelowFloor, processed_by};
 ghost use Rattle.two_ends.specs.Safe.{Safe};
 ghost use Rattle.two_ends.specs.Shared.{ChangesByLists};
 ghost use Rattle.two_ends.specs.World.{WorldState, half_of};
@@ -85,15 +83,15 @@ pub fn values_come_from_both_sides<C: Congestion>()
 pub fn vectors_tell_what_was_processed<C: Congestion>()
     ensures received { (w : Controlled C) → Safe C.control w → (side : Side) (index : ℕ) (frame : SentFrame) (ack n : ℕ) (bytes : List ℕ)
         → slice_get (half_of w.world side).frames index ≡ Some frame → CarriesVector frame ack bytes → ack < 2 ^ 48 → n < 2 ^ 48
-        → IsTrue (is_received (state_at ack bytes n)) → Contains (take frame.processed (half_of w.world side).processed) n }
+        → IsTrue (is_received (state_at ack bytes n)) → Contains (processed_by (half_of w.world side) frame) n }
     ensures all { (w : Controlled C) → Safe C.control w → (side : Side) (index : ℕ) (frame : SentFrame) (ack n : ℕ) (bytes : List ℕ)
         → slice_get (half_of w.world side).frames index ≡ Some frame → CarriesVector frame ack bytes
-        → IsTrue (is_whole_under (has (take frame.processed (half_of w.world side).processed)) frame.floor ack (half_of w.world side).end.config.vectors) → frame.floor < 2 ^ 48 → ack < 2 ^ 48 → n < 2 ^ 48
-        → IsFrom frame.floor ack → IsWithin n frame.floor ack → Contains (take frame.processed (half_of w.world side).processed) n
+        → IsUncut (half_of w.world side) frame ack → frame.floor < 2 ^ 48 → ack < 2 ^ 48 → n < 2 ^ 48
+        → IsFrom frame.floor ack → IsWithin n frame.floor ack → Contains (processed_by (half_of w.world side) frame) n
         → IsTrue (is_received (state_at ack bytes n)) }
     ensures none_after { (w : Controlled C) → Safe C.control w → (side : Side) (index : ℕ) (frame : SentFrame) (ack n : ℕ) (bytes : List ℕ)
         → slice_get (half_of w.world side).frames index ≡ Some frame → CarriesVector frame ack bytes
-        → Contains (take frame.processed (half_of w.world side).processed) n → IsBefore ack n → ⊥ }
+        → Contains (processed_by (half_of w.world side) frame) n → IsBefore ack n → ⊥ }
 {}
 
 /// What *told* comes to, by plain counts. If no whole vector that the other side processed has told of a number below
@@ -101,10 +99,9 @@ pub fn vectors_tell_what_was_processed<C: Congestion>()
 /// that number's: it has processed one that is 2,048 after it or more.
 pub fn what_none_told_is_far_behind<C: Congestion>()
     ensures { (w : Controlled C) → Safe C.control w → (side : Side) (iss count n : ℕ) → iss < 2 ^ 48 → 1 ≤ count → count + 2047 ≤ 2 ^ 47
-        → n ≡ number_of iss count
-        → distance (half_of w.world side).end.marks.isr n < distance (half_of w.world side).end.marks.isr (floor_of (half_of w.world side).end)
+        → n ≡ number_of iss count → LiesBelowFloor (half_of w.world side) n
         → ((index : ℕ) (frame : SentFrame) (ack : ℕ) (bytes : List ℕ) → slice_get (half_of w.world side).frames index ≡ Some frame
-        → CarriesVector frame ack bytes → IsTrue (is_whole_under (has (take frame.processed (half_of w.world side).processed)) frame.floor ack (half_of w.world side).end.config.vectors)
+        → CarriesVector frame ack bytes → IsUncut (half_of w.world side) frame ack
         → IsWithin n frame.floor ack → Contains (half_of w.world (other side)).processed frame.number → ⊥)
         → AreAmongFirst iss (count + 2047) (half_of w.world side).processed → ⊥ }
 {}
@@ -126,9 +123,9 @@ pub fn frames_spell_their_numbers()
 /// frames (own). An event sends one frame at most.
 pub fn few_frames_are_never_far<C: Congestion>()
     ensures { (client server : Config) (for_client for_server : C) (events : List Event) (next : Event) → Fits client → Fits server
-        → length (plays C.control (begins_with C.control client server for_client for_server) events).world.client.frames < 2 ^ 23
-        → length (plays C.control (begins_with C.control client server for_client for_server) events).world.server.frames < 2 ^ 23
-        → happens_to C.control (plays C.control (begins_with C.control client server for_client for_server) events) next ≢ Err WorldFault.FarShort }
+        → length (plays_from_start C.control client server for_client for_server events).world.client.frames < 2 ^ 23
+        → length (plays_from_start C.control client server for_client for_server events).world.server.frames < 2 ^ 23
+        → happens_to C.control (plays_from_start C.control client server for_client for_server events) next ≢ Err WorldFault.FarShort }
 {
     every_step_has_one_effect();
 }
@@ -155,7 +152,7 @@ pub fn what_is_reported_arrived<C: Congestion>()
 /// stands, after every list of events (RFC 4340, section 6).
 pub fn what_none_asked_for_stays<C: Congestion>()
     ensures { (client server : Config) (for_client for_server : C) (events : List Event) → client.role ≡ role.Client → server.role ≡ role.Server
-        → Fits client → Fits server → KeepsInitialValues (plays C.control (begins_with C.control client server for_client for_server) events).world }
+        → Fits client → Fits server → KeepsInitialValues (plays_from_start C.control client server for_client for_server events).world }
 {
     every_step_has_one_effect();
 }
@@ -165,7 +162,7 @@ pub fn what_none_asked_for_stays<C: Congestion>()
 /// what its owner last asked for and was not refused, or else what was configured.
 pub fn last_lists_are_active<C: Congestion>()
     ensures { (client server : Config) (for_client for_server : C) (events : List Event) → client.role ≡ role.Client → server.role ≡ role.Server
-        → Fits client → Fits server → AllIsAsked (plays C.control (begins_with C.control client server for_client for_server) events).world }
+        → Fits client → Fits server → AllIsAsked (plays_from_start C.control client server for_client for_server events).world }
 {
     every_step_has_one_effect();
 }
@@ -178,11 +175,11 @@ pub fn what_was_asked_last_is_wanted<C: Congestion>()
     ensures asked { (client server : Config) (for_client for_server : C) (events : List Event) → Fits client → Fits server
         → (side : Side) (feature : Feature) (place : Place) (values : List ℕ)
         → IsLastAsked C.control (begins_with C.control client server for_client for_server) events side feature place values
-        → WantsValues (row_of (plays C.control (begins_with C.control client server for_client for_server) events).world side feature place) values }
+        → WantsValues (row_of (plays_from_start C.control client server for_client for_server events).world side feature place) values }
     ensures configured { (client server : Config) (for_client for_server : C) (events : List Event) → Fits client → Fits server
         → (side : Side) (feature : Feature) (place : Place)
         → AsksNothing C.control (begins_with C.control client server for_client for_server) events side feature place
-        → WantsValues (row_of (plays C.control (begins_with C.control client server for_client for_server) events).world side feature place)
+        → WantsValues (row_of (plays_from_start C.control client server for_client for_server events).world side feature place)
         (values_configured (begins_with C.control client server for_client for_server).world side feature place) }
 {
     every_step_has_one_effect();
@@ -194,8 +191,8 @@ pub fn what_was_asked_last_is_wanted<C: Congestion>()
 pub fn values_change_by_shared_lists<C: Congestion>()
     ensures { (client server : Config) (for_client for_server : C) (events : List Event) (next : Event) → client.role ≡ role.Client
         → server.role ≡ role.Server → Fits client → Fits server
-        → ChangesByLists (plays C.control (begins_with C.control client server for_client for_server) events).world
-        (plays C.control (begins_with C.control client server for_client for_server) (events ++ next ∷ [])).world }
+        → ChangesByLists (plays_from_start C.control client server for_client for_server events).world
+        (plays_from_start C.control client server for_client for_server (events ++ next ∷ [])).world }
 {
     every_step_has_one_effect();
 }

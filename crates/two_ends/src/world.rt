@@ -5,7 +5,7 @@
 //! one place.
 ghost use Rattle.std.specs.Prelude.{◌≡◌, ◌<◌, ◌^◌, List};
 ghost use Rattle.dccp_endpoint.specs.Drafts.{Fits};
-ghost use Rattle.two_ends.specs.Controlled.{begins_with, plays};
+ghost use Rattle.two_ends.specs.Controlled.{begins_with, plays_from_start};
 ghost use Rattle.two_ends.specs.Delivered.{IsDeliveredOnce};
 ghost use Rattle.two_ends.specs.Numbered.{Facts};
 ghost use Rattle.two_ends.specs.Safe.{Safe};
@@ -178,7 +178,7 @@ fn service_fits(service: u32)
 /// always fit.
 pub fn every_run_is_safe<C: Congestion>()
     ensures { (client server : Config) (for_client for_server : C) (events : List Event) → client.role ≡ role.Client → server.role ≡ role.Server
-        → Fits client → Fits server → Safe C.control (plays C.control (begins_with C.control client server for_client for_server) events) }
+        → Fits client → Fits server → Safe C.control (plays_from_start C.control client server for_client for_server events) }
 {
     every_step_has_one_effect();
 }
@@ -187,7 +187,7 @@ pub fn every_run_is_safe<C: Congestion>()
 /// two configurations, whatever their roles, whose fields fit their widths.
 pub fn every_run_numbers_its_frames<C: Congestion>()
     ensures { (client server : Config) (for_client for_server : C) (events : List Event) → Fits client → Fits server
-        → Facts (plays C.control (begins_with C.control client server for_client for_server) events).world }
+        → Facts (plays_from_start C.control client server for_client for_server events).world }
 {
     every_step_has_one_effect();
 }

@@ -5,17 +5,17 @@
 //! The client of `talk`, in Rust or in C, may speak to it. One that is silent for eight minutes is given up. It runs until it is
 //! stopped.
 
-use dccp::{Config, Endpoint, Event, MOST_FRAME_BYTES};
+use dccp::{ArriveError, Config, Event, Listener, MOST_FRAME_BYTES};
 use std::collections::{BTreeMap, VecDeque};
 use std::env;
 use std::error::Error;
 use std::fs::File;
 use std::io::{self, ErrorKind, Read};
-use std::net::{SocketAddr, UdpSocket};
+use std::net::{Ipv4Addr, SocketAddr, SocketAddrV4, UdpSocket};
 use std::time::{Duration, Instant};
 
 const SERVICE: u32 = 42;
-const MOST_PEERS: usize = 1_000;
+const MOST_PEERS: u16 = 1_000;
 /// What is kept for a peer while its window is full; what is more is dropped.
 const MOST_WAITING: usize = 64;
 /// How long a silent peer is waited for: eight minutes, the least for a handshake (RFC 4340, section 8.1.3).
@@ -71,10 +71,10 @@ struct Peer {
     waiting: VecDeque<Vec<u8>>,
 }
 
-type Peers = BTreeMap<SocketAddr, Peer>;
+type Peers = BTreeMap<SocketAddrV4, Peer>;
 
 /// Takes what the server tells: who is new, what data came, and who has gone.
-fn take_news(server: &mut Endpoint, peers: &mut Peers, now: Instant) {
+fn take_news(server: &mut Listener, peers: &mut Peers, now: Instant) {
     while let Some(address) = server.poll_accept() {
         let (heard, waiting) = (now, VecDeque::new());
         peers.insert(address, Peer { heard, waiting });
@@ -94,31 +94,31 @@ fn take_news(server: &mut Endpoint, peers: &mut Peers, now: Instant) {
 }
 
 /// Sends back what the window of each peer has room for.
-fn send_back(server: &mut Endpoint, peers: &mut Peers, now: Instant) {
+fn send_back(server: &mut Listener, peers: &mut Peers, now: Instant) {
     for (address, peer) in peers {
         while let Some(data) = peer.waiting.front() {
-            match server.call(*address, |it| it.send(data, now)) {
-                Some(Ok(())) => drop(peer.waiting.pop_front()),
-                _ => break,
+            match server.send(*address, data, now) {
+                Ok(()) => drop(peer.waiting.pop_front()),
+                Err(_) => break,
             }
         }
     }
 }
 
 /// Gives up the peers that are silent for too long: else Requests from forged addresses would take all places for good.
-fn give_up(server: &mut Endpoint, peers: &mut Peers, now: Instant) {
+fn give_up(server: &mut Listener, peers: &mut Peers, now: Instant) {
     peers.retain(|address, peer| {
         let is_silent = SILENCE < now.saturating_duration_since(peer.heard);
         if is_silent {
             // Where it is refused, the connection has gone by itself.
-            let _ = server.call(*address, |it| it.abort(now));
+            let _ = server.abort(*address, now);
         }
         !is_silent
     });
 }
 
 /// Sends each frame to its peer. One that the socket does not take is lost.
-fn hand_over(server: &mut Endpoint, socket: &UdpSocket, answers: &mut Answers) {
+fn hand_over(server: &mut Listener, socket: &UdpSocket, answers: &mut Answers) {
     while let Some((address, frame)) = server.poll_transmit() {
         if !frame.is_answer || answers.may_answer() {
             let _ = socket.send_to(&frame.bytes, address);
@@ -128,12 +128,10 @@ fn hand_over(server: &mut Endpoint, socket: &UdpSocket, answers: &mut Answers) {
 
 fn main() -> Result<(), Box<dyn Error>> {
     let port = env::args().nth(1).ok_or("echo PORT")?.parse()?;
-    let own = SocketAddr::from(([127, 0, 0, 1], port));
+    let own = SocketAddrV4::new(Ipv4Addr::LOCALHOST, port);
     let socket = UdpSocket::bind(own)?;
     let mut random = File::open("/dev/urandom")?;
-    let mut server = Endpoint::new(MOST_PEERS, move |peer| {
-        Config::server(own, peer, SERVICE, first_number(&mut random))
-    });
+    let mut server = Listener::new(&Config::listener(own, SERVICE), MOST_PEERS)?;
     let (mut room, mut peers) = ([0; MOST_FRAME_BYTES + 1], Peers::new());
     let mut answers = Answers {
         second: Instant::now(),
@@ -145,9 +143,12 @@ fn main() -> Result<(), Box<dyn Error>> {
         let wait = due.saturating_duration_since(Instant::now());
         let found = receive(&socket, &mut room, wait)?;
         let now = Instant::now();
-        if let Some((length, address)) = found {
-            if let Err(fault) = server.handle_datagram(address, &room[..length], now) {
-                eprintln!("echo: {address}: {fault}");
+        if let Some((length, SocketAddr::V4(address))) = found {
+            let first = first_number(&mut random);
+            match server.handle_datagram(address, first, &room[..length], now) {
+                // A peer that finds the server busy is told so.
+                Ok(()) | Err(ArriveError::Busy) => {}
+                Err(fault) => eprintln!("echo: {address}: {fault}"),
             }
             if let Some(peer) = peers.get_mut(&address) {
                 peer.heard = now;

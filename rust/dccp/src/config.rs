@@ -1,7 +1,7 @@
 //! What a connection is made from.
 
 use crate::{Feature, Place, sys};
-use std::net::{IpAddr, SocketAddr};
+use std::net::{IpAddr, SocketAddr, SocketAddrV4};
 
 /// What an end is made from: whose it is, between which addresses, and what it wishes for its features.
 #[derive(Clone, Debug)]
@@ -20,6 +20,12 @@ impl Config {
     /// A server's end for one peer, which serves this Service Code; else as [`Config::client`].
     pub fn server(own: SocketAddr, peer: SocketAddr, service: u32, first_number: u64) -> Config {
         Config::between(own, peer, service, first_number, true)
+    }
+
+    /// The ends of a [`Listener`](crate::Listener) at this address and port, which serve this Service Code. What it asks for by
+    /// [`Config::offer`] is left out.
+    pub fn listener(own: SocketAddrV4, service: u32) -> Config {
+        Config::between(own.into(), own.into(), service, 0, true)
     }
 
     fn between(

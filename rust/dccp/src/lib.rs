@@ -1,7 +1,7 @@
 //! One end of a DCCP connection (RFC 4340) with CCID 2 (RFC 4341) and feature negotiation, over the proved library for C.
 //!
 //! It has no socket, no clock and no thread. A [`Connection`] takes datagrams and the time, and gives frames and events; an [`Endpoint`]
-//! does so for a server of many peers.
+//! does so for a server of many peers, and so does a [`Listener`], over IPv4 and by the listener of the library.
 //! `docs/LIBRARY.md` of the repository says what of it is proved: the library below, and nothing of this crate.
 //!
 //! ```
@@ -45,15 +45,18 @@ mod config;
 mod connection;
 mod end;
 mod endpoint;
+mod flows;
+mod listener;
 mod names;
 mod sys;
 
 pub use crate::config::Config;
 pub use crate::connection::{Accepted, Connection, Event, Transmit};
 pub use crate::endpoint::Endpoint;
+pub use crate::listener::Listener;
 pub use crate::names::{
-    AbortError, CloseError, Feature, Held, MakeError, OpenError, Phase, Place, PreferError,
-    SendError,
+    AbortError, ArriveError, CloseError, Feature, FlowError, Held, ListenError, MakeError,
+    OpenError, Phase, Place, PreferError, SendError,
 };
 
 /// The longest frame, and the longest datagram that is taken.

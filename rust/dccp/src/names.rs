@@ -192,3 +192,51 @@ refusals! {
         NotLive = NOT_LIVE, "there is no connection";
     }
 }
+
+refusals! {
+    /// Why no listener was made.
+    ListenError {
+        /// No memory was to be had.
+        NoMemory = NO_MEMORY, "no memory for a listener";
+        /// The flows at a time are not 1 to 1,024.
+        Limit = UNKNOWN, "a listener has 1 to 1,024 flows";
+        /// The values of a wish are none, over eight, twice the same, not permitted, or not just one where one is due.
+        BadList = BAD_LIST, "values that a feature may not have";
+        /// A wish for Sequence Window or Ack Ratio of the peer, which it alone sets.
+        NotOurs = NOT_OURS, "a feature that the peer alone sets";
+    }
+}
+
+refusals! {
+    /// Why a datagram changed nothing.
+    ArriveError {
+        /// As many flows stand as may, and it would open one more; a Reset that says so waits to be sent.
+        Busy = BUSY, "as many connections as may be";
+        /// No memory was to be had for a flow.
+        NoMemory = NO_MEMORY, "no memory for a connection";
+        /// The first number is not below 2^48.
+        FirstNumber = UNKNOWN, "the first number is not below 2^48";
+        /// It has more than 2,044 bytes.
+        TooLong = TOO_LONG, "a datagram of more than 2,044 bytes";
+    }
+}
+
+refusals! {
+    /// Why a call of a peer's flow was refused; the first that holds.
+    FlowError {
+        /// The peer has no flow.
+        NoFlow = NO_FLOW, "no connection to this peer";
+        /// `send`: the phase is not `Open`. `close`: it is neither that nor `PartOpen`.
+        NotOpen = NOT_OPEN, "the connection is not open";
+        /// `abort`: the phase is `TimeWait`.
+        NotLive = NOT_LIVE, "there is no connection";
+        /// There are more than 1,024 bytes.
+        TooLong = TOO_LONG, "more than 1,024 bytes of data";
+        /// The peer sends no Ack Vectors yet, which CCID 2 needs.
+        NotNegotiated = NOT_NEGOTIATED, "the peer sends no Ack Vectors yet";
+        /// As many packets are in flight as may be: offer the data again, or drop them.
+        WindowFull = WINDOW_FULL, "as many packets are in flight as may be";
+        /// No memory was to be had.
+        NoMemory = NO_MEMORY, "no memory";
+    }
+}

@@ -9,6 +9,19 @@ pub struct End {
 }
 
 #[repr(C)]
+pub struct ListenerHandle {
+    pub opaque: *mut c_void,
+    pub is_made: bool,
+}
+
+#[repr(C)]
+#[derive(Clone, Copy, Default)]
+pub struct PeerAddress {
+    pub address: [u8; 4],
+    pub port: u16,
+}
+
+#[repr(C)]
 #[derive(Clone, Debug)]
 pub struct Settings {
     pub own_address: [u8; 16],
@@ -87,6 +100,8 @@ pub const NOT_OURS: u32 = 9;
 pub const NOT_LIVE: u32 = 10;
 pub const UNKNOWN: u32 = 11;
 pub const NO_CONNECTION: u32 = 13;
+pub const BUSY: u32 = 14;
+pub const NO_FLOW: u32 = 15;
 
 pub const DATA: u32 = 1;
 pub const SYNCED: u32 = 3;
@@ -94,6 +109,8 @@ pub const WAS_RESET: u32 = 4;
 pub const SENT_RESET: u32 = 5;
 
 const _: () = assert!(size_of::<End>() == 16 && std::mem::offset_of!(End, is_made) == 8);
+const _: () = assert!(size_of::<ListenerHandle>() == 16);
+const _: () = assert!(std::mem::offset_of!(ListenerHandle, is_made) == 8);
 
 unsafe extern "C" {
     pub fn dccp_make(
@@ -149,5 +166,60 @@ unsafe extern "C" {
         feature: u32,
         at_peer: bool,
         state: *mut FeatureState,
+    ) -> u32;
+    pub fn dccp_listener_make(
+        listener: *mut ListenerHandle,
+        settings: *const Settings,
+        wishes: *const Wish,
+        wishes_count: usize,
+        most: u16,
+    ) -> u32;
+    pub fn dccp_listener_free(listener: *mut ListenerHandle);
+    pub fn dccp_listener_arrive(
+        listener: *mut ListenerHandle,
+        peer: *const PeerAddress,
+        first_number: u64,
+        datagram: *const u8,
+        datagram_count: usize,
+        now: u64,
+        frame: *mut Frame,
+        told: *mut Told,
+    ) -> u32;
+    pub fn dccp_listener_send(
+        listener: *mut ListenerHandle,
+        peer: *const PeerAddress,
+        payload: *const u8,
+        payload_count: usize,
+        now: u64,
+        frame: *mut Frame,
+    ) -> u32;
+    pub fn dccp_listener_close(
+        listener: *mut ListenerHandle,
+        peer: *const PeerAddress,
+        now: u64,
+        frame: *mut Frame,
+    ) -> u32;
+    pub fn dccp_listener_abort(
+        listener: *mut ListenerHandle,
+        peer: *const PeerAddress,
+        now: u64,
+        frame: *mut Frame,
+    ) -> u32;
+    pub fn dccp_listener_tick(
+        listener: *mut ListenerHandle,
+        now: u64,
+        peer: *mut PeerAddress,
+        frame: *mut Frame,
+    ) -> u32;
+    pub fn dccp_listener_until_first(listener: *mut ListenerHandle, now: u64) -> u64;
+    pub fn dccp_listener_look(
+        listener: *mut ListenerHandle,
+        peer: *const PeerAddress,
+        view: *mut View,
+    ) -> u32;
+    pub fn dccp_listener_peer(
+        listener: *mut ListenerHandle,
+        place: u16,
+        peer: *mut PeerAddress,
     ) -> u32;
 }

@@ -1,8 +1,11 @@
 //! Connections in one process, whose time is counted on and whose frames are lost by number.
 
-use dccp::{Accepted, Config, Connection, Endpoint, Event, Feature, Phase, Place, Transmit};
+use dccp::{
+    Accepted, ArriveError, Config, Connection, Endpoint, Event, Feature, FlowError, ListenError,
+    Listener, Phase, Place, Transmit,
+};
 use std::error::Error;
-use std::net::SocketAddr;
+use std::net::{SocketAddr, SocketAddrV4};
 use std::time::{Duration, Instant};
 
 const SERVICE: u32 = 42;
@@ -339,4 +342,73 @@ fn a_server_tells_the_timers_of_all_its_peers() -> Result<(), Box<dyn Error>> {
     assert_eq!(told.len(), 2);
     assert!(told.iter().all(|(_, frame)| kind(frame) == 3));
     Ok(())
+}
+
+/// Frames arrive at a listener and at a client until there are no more.
+fn settle(
+    server: &mut Listener,
+    here: SocketAddrV4,
+    client: &mut Connection,
+    now: Instant,
+) -> Result<(), ArriveError> {
+    loop {
+        while let Some(frame) = client.poll_transmit() {
+            server.handle_datagram(here, 2_000, &frame.bytes, now)?;
+        }
+        let Some((peer, frame)) = server.poll_transmit() else {
+            return Ok(());
+        };
+        assert_eq!(peer, here);
+        client.handle_datagram(&frame.bytes, now);
+    }
+}
+
+#[test]
+fn a_listener_keeps_its_flows_until_they_end() -> Result<(), Box<dyn Error>> {
+    let there = SocketAddrV4::new([10, 0, 0, 2].into(), 5_001);
+    let peers = [1, 2].map(|it| SocketAddrV4::new([10, 0, 1, it].into(), 40_000));
+    let mut server = Listener::new(&Config::listener(there, SERVICE), 2)?;
+    let (now, mut clients) = (Instant::now(), Vec::new());
+    for peer in peers {
+        let config = Config::client(peer.into(), there.into(), SERVICE, 1_000);
+        let mut client = Connection::new(&config)?;
+        client.open(now)?;
+        settle(&mut server, peer, &mut client, now)?;
+        assert_eq!(server.poll_accept(), Some(peer));
+        clients.push(client);
+    }
+    assert_eq!(server.peers(), peers);
+    // The timer Ack waits for 200 milliseconds at first (RFC 4340, section 8.1.5).
+    let due = server.poll_timeout().ok_or("a timer")?;
+    assert_eq!(due - now, Duration::from_millis(200));
+    server.handle_timeout(due - Duration::from_millis(1));
+    assert_eq!(server.poll_transmit(), None);
+    server.handle_timeout(due);
+    let told: Vec<_> = std::iter::from_fn(|| server.poll_transmit()).collect();
+    assert_eq!(told.iter().map(|it| it.0).collect::<Vec<_>>(), peers);
+    assert!(told.iter().all(|(_, frame)| kind(frame) == 3));
+    // The server is asked to close, and answers by a Reset: its flow ends with that.
+    clients[0].close(due)?;
+    settle(&mut server, peers[0], &mut clients[0], due)?;
+    let ended = (peers[0], Event::Ended { code: 1 });
+    assert_eq!(
+        (server.poll_event(), server.phase(peers[0])),
+        (Some(ended), None)
+    );
+    server.abort(peers[1], due)?;
+    assert_eq!(server.peers(), []);
+    assert_eq!((server.poll_event(), server.poll_timeout()), (None, None));
+    assert_eq!(server.abort(peers[1], due), Err(FlowError::NoFlow));
+    Ok(())
+}
+
+#[test]
+fn a_listener_has_limits() {
+    let there = SocketAddrV4::new([10, 0, 0, 2].into(), 5_001);
+    let config = Config::listener(there, SERVICE);
+    for most in [0, 1_025] {
+        assert_eq!(Listener::new(&config, most).err(), Some(ListenError::Limit));
+    }
+    let narrow = config.wish(Feature::SequenceWindow, Place::Here, &[31]);
+    assert_eq!(Listener::new(&narrow, 1).err(), Some(ListenError::BadList));
 }

@@ -1,0 +1,55 @@
+//! A box with a listener that C holds, or none, as a pointer that says nothing of what it points to.
+ghost use Rattle.std.specs.Prelude.{◌≡◌, ◌≢◌, Some, None, Option};
+ghost use Rattle.dccp_c.specs.KeepingListener.{InnerListener, inner_listener_coded, listener_owns};
+
+use crate::kept::{Opaque, Parts};
+use crate::serving::Serving;
+use std::alloc::Global;
+use std::marker::Model;
+
+/// A box with a listener, or none, which only contracts tell apart.
+#[repr(C)]
+#[derive(Drop)]
+pub struct KeptListener {
+    ptr: *mut Opaque,
+    alloc: Global,
+    pub ghost value: { Option InnerListener } by { inner_listener_coded },
+}
+
+impl Model for KeptListener {
+    ghost also_owns = { λ k. listener_owns k.alloc k.ptr k.value };
+}
+
+impl KeptListener {
+    pub(crate) fn of_parts(parts: Parts<Serving, Global>) -> KeptListener
+        ensures { result.value ≡ Some parts.value }
+    {
+        let Parts { ptr, alloc } = parts;
+        KeptListener {
+            ptr: ptr.cast::<Opaque>(),
+            alloc,
+        }
+    }
+
+    pub(crate) fn into_parts(self) -> Parts<Serving, Global>
+        requires { self.value ≢ None }
+        ensures { Some result.value ≡ self.value }
+    {
+        let KeptListener { ptr, alloc } = self;
+        Parts {
+            ptr: ptr.cast::<Serving>(),
+            alloc,
+        }
+    }
+
+    pub(crate) fn none(alloc: Global) -> KeptListener
+        ensures { result.value ≡ None }
+    {
+        KeptListener {
+            ptr: std::ptr::null_mut(),
+            alloc,
+        }
+    }
+}
+
+unsafe impl Send for KeptListener {}

@@ -1,0 +1,221 @@
+//! A server of many peers by one value of the library.
+
+use crate::flows::Flows;
+use crate::{ArriveError, Config, Event, FlowError, ListenError, Phase, Transmit, sys};
+use std::collections::VecDeque;
+use std::net::SocketAddrV4;
+use std::time::{Duration, Instant};
+
+/// A server of many peers over one socket of IPv4, at most 1,024 at a time, whose connections the library keeps. Each peer is answered
+/// just as a server of its own would answer it, whatever the others send (`docs/LIBRARY.md`); what they may do is to take all places.
+/// It makes an end only for a datagram that opens a connection. It has no socket and no clock.
+///
+/// After each call, [`poll_accept`](Listener::poll_accept), [`poll_transmit`](Listener::poll_transmit) and
+/// [`poll_event`](Listener::poll_event) are asked until they have nothing more: what waits there has no bound.
+/// [`handle_timeout`](Listener::handle_timeout) is called once [`poll_timeout`](Listener::poll_timeout) has gone by. A connection that is
+/// closed goes by itself. A peer that has fallen silent keeps its place until it is aborted, which is left to the owner.
+///
+/// ```
+/// use dccp::{ArriveError, Config, Connection, Event, Feature, Listener, Place};
+/// use std::net::SocketAddrV4;
+/// use std::time::Instant;
+///
+/// let (here, there): (SocketAddrV4, SocketAddrV4) = ("192.0.2.1:40000".parse()?, "192.0.2.2:5001".parse()?);
+/// let now = Instant::now();
+/// let mut server = Listener::new(&Config::listener(there, 42), 1)?;
+/// // The server's end asks for nothing, and sends data only to a peer that sends Ack Vectors: the client offers them.
+/// let config = Config::client(here.into(), there.into(), 42, 1_000);
+/// let mut client = Connection::new(&config.offer(Feature::SendAckVector, Place::Here, &[1]))?;
+/// client.open(now)?;
+/// loop {
+///     while let Some(frame) = client.poll_transmit() {
+///         // A real server draws the first number.
+///         server.handle_datagram(here, 2_000, &frame.bytes, now)?;
+///     }
+///     let Some((_, frame)) = server.poll_transmit() else { break };
+///     client.handle_datagram(&frame.bytes, now);
+/// }
+/// assert_eq!(server.poll_accept(), Some(here));
+/// server.send(here, b"hello", now)?;
+/// let (peer, frame) = server.poll_transmit().ok_or("a frame")?;
+/// client.handle_datagram(&frame.bytes, now);
+/// assert_eq!((peer, client.poll_event()), (here, Some(Event::Data(b"hello".to_vec()))));
+///
+/// // Another peer finds the server busy, and is told so.
+/// let other: SocketAddrV4 = "192.0.2.3:40000".parse()?;
+/// let mut late = Connection::new(&Config::client(other.into(), there.into(), 42, 1_000))?;
+/// late.open(now)?;
+/// let request = late.poll_transmit().ok_or("a Request")?;
+/// assert_eq!(server.handle_datagram(other, 2_000, &request.bytes, now), Err(ArriveError::Busy));
+/// let (_, reset) = server.poll_transmit().ok_or("a Reset")?;
+/// late.handle_datagram(&reset.bytes, now);
+/// // RFC 4340, section 5.6: Too Busy.
+/// assert_eq!(late.poll_event(), Some(Event::Ended { code: 9 }));
+/// # Ok::<(), Box<dyn std::error::Error>>(())
+/// ```
+#[derive(Debug)]
+pub struct Listener {
+    flows: Flows,
+    /// The flows' time is counted in milliseconds from the first call that has one.
+    begun: Option<Instant>,
+    due: Option<Instant>,
+    accepted: VecDeque<SocketAddrV4>,
+    frames: VecDeque<(SocketAddrV4, Transmit)>,
+    events: VecDeque<(SocketAddrV4, Event)>,
+}
+
+impl Listener {
+    /// A server of at most so many peers at a time, 1 to 1,024. The configuration is a [`Config::listener`].
+    pub fn new(config: &Config, most: u16) -> Result<Listener, ListenError> {
+        let mut flows = Flows::none();
+        ListenError::answer(flows.make(config.settings(), config.wishes(), most))?;
+        Ok(Listener {
+            flows,
+            begun: None,
+            due: None,
+            accepted: VecDeque::new(),
+            frames: VecDeque::new(),
+            events: VecDeque::new(),
+        })
+    }
+
+    /// A datagram has arrived from this peer. Where it opens a connection, `first_number` is that of its first packet here, below 2^48:
+    /// one that nobody can guess (RFC 4340, section 7.2). Refused, it has changed nothing; of `Busy` the peer is told.
+    pub fn handle_datagram(
+        &mut self,
+        peer: SocketAddrV4,
+        first_number: u64,
+        datagram: &[u8],
+        now: Instant,
+    ) -> Result<(), ArriveError> {
+        let (was, time) = (self.phase(peer), self.time(now));
+        let (status, frame, told) = self.flows.arrive(peer, first_number, datagram, time);
+        let is_answer = status == sys::BUSY || matches!(told.kind, sys::SYNCED | sys::SENT_RESET);
+        queue(&mut self.frames, peer, frame, is_answer);
+        let is = self.phase(peer);
+        if was.is_none() && is.is_some() {
+            self.accepted.push_back(peer);
+        }
+        let has_ended = match told.kind {
+            sys::WAS_RESET => was != Some(Phase::TimeWait),
+            sys::SENT_RESET => was.is_some() && is.is_none(),
+            _ => false,
+        };
+        let event = match told.kind {
+            sys::DATA => Some(Event::Data(datagram[told.first..told.past].to_vec())),
+            _ if has_ended => Some(Event::Ended { code: told.code }),
+            _ => None,
+        };
+        self.events.extend(event.map(|it| (peer, it)));
+        self.called(now);
+        ArriveError::answer(status)
+    }
+
+    /// Sends data to a peer, 0 to 1,024 bytes, in one packet. It has to send Ack Vectors, for which the end here does not ask: the peer
+    /// offers them (`SendAckVector`, [`Place::Here`](crate::Place::Here), 1). A refused call changes nothing.
+    ///
+    /// ```
+    /// use dccp::{Config, FlowError, Listener};
+    /// use std::time::Instant;
+    ///
+    /// let mut server = Listener::new(&Config::listener("192.0.2.2:5001".parse()?, 42), 1_024)?;
+    /// let early = server.send("192.0.2.1:40000".parse()?, b"early", Instant::now());
+    /// assert_eq!(early, Err(FlowError::NoFlow));
+    /// # Ok::<(), Box<dyn std::error::Error>>(())
+    /// ```
+    pub fn send(&mut self, peer: SocketAddrV4, data: &[u8], now: Instant) -> Result<(), FlowError> {
+        let time = self.time(now);
+        let (status, frame) = self.flows.send(peer, data, time);
+        queue(&mut self.frames, peer, frame, false);
+        self.called(now);
+        FlowError::answer(status)
+    }
+
+    /// Closes the connection to a peer in order, as [`Connection::close`](crate::Connection::close).
+    pub fn close(&mut self, peer: SocketAddrV4, now: Instant) -> Result<(), FlowError> {
+        let time = self.time(now);
+        let (status, frame) = self.flows.close(peer, time);
+        queue(&mut self.frames, peer, frame, false);
+        self.called(now);
+        FlowError::answer(status)
+    }
+
+    /// Ends the connection to a peer at once.
+    pub fn abort(&mut self, peer: SocketAddrV4, now: Instant) -> Result<(), FlowError> {
+        let time = self.time(now);
+        let (status, frame) = self.flows.abort(peer, time);
+        queue(&mut self.frames, peer, frame, false);
+        self.called(now);
+        FlowError::answer(status)
+    }
+
+    /// Tells each timer of each connection that has run out. Calling it early does nothing.
+    pub fn handle_timeout(&mut self, now: Instant) {
+        let time = self.time(now);
+        loop {
+            let (status, peer, frame) = self.flows.tick(time);
+            if status != sys::DONE {
+                break;
+            }
+            queue(&mut self.frames, peer, frame, false);
+        }
+        self.called(now);
+    }
+
+    /// When [`Listener::handle_timeout`] has something to do; None where no timer runs. Ask again after every other call.
+    pub fn poll_timeout(&self) -> Option<Instant> {
+        self.due
+    }
+
+    /// The next peer whose connection is new. It may have gone again.
+    pub fn poll_accept(&mut self) -> Option<SocketAddrV4> {
+        self.accepted.pop_front()
+    }
+
+    /// The next frame, and the peer to whom it goes.
+    pub fn poll_transmit(&mut self) -> Option<(SocketAddrV4, Transmit)> {
+        self.frames.pop_front()
+    }
+
+    /// The next that the owner is told, and of which peer.
+    pub fn poll_event(&mut self) -> Option<(SocketAddrV4, Event)> {
+        self.events.pop_front()
+    }
+
+    /// Where the connection to a peer stands; None where there is none.
+    pub fn phase(&mut self, peer: SocketAddrV4) -> Option<Phase> {
+        self.flows.look(peer).map(|it| Phase::of(it.phase))
+    }
+
+    /// The peers that have a connection, in the order of their addresses and ports.
+    pub fn peers(&mut self) -> Vec<SocketAddrV4> {
+        (0..).map_while(|place| self.flows.peer(place)).collect()
+    }
+
+    /// The time as the flows count it.
+    fn time(&mut self, now: Instant) -> u64 {
+        let begun = *self.begun.get_or_insert(now);
+        now.saturating_duration_since(begun).as_millis() as u64
+    }
+
+    /// Looks when the next timer runs out.
+    fn called(&mut self, now: Instant) {
+        let time = self.time(now);
+        let left = self.flows.until_first(time);
+        let ends = self.begun.zip(left);
+        self.due = ends.map(|(begun, left)| begun + Duration::from_millis(time + left));
+    }
+}
+
+/// Keeps the frame that a call has left, if any.
+fn queue(
+    frames: &mut VecDeque<(SocketAddrV4, Transmit)>,
+    peer: SocketAddrV4,
+    frame: &[u8],
+    is_answer: bool,
+) {
+    if !frame.is_empty() {
+        let bytes = frame.to_vec();
+        frames.push_back((peer, Transmit { bytes, is_answer }));
+    }
+}
