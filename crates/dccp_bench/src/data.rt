@@ -41,14 +41,16 @@ struct Pair {
 }
 
 impl Pair {
-    fn new(client: End, server: End) -> Pair {
-        Pair {
+    fn new(alloc: Global) -> Result<Pair, NoMemory> {
+        let client = new_end(alloc, Role::Client)?;
+        let server = new_end(alloc, Role::Server)?;
+        Ok(Pair {
             client,
             server,
             from_client: Outbox::new(),
             from_server: Outbox::new(),
             delivered: 0,
-        }
+        })
     }
 
     // Tells whether both came to OPEN.
@@ -134,24 +136,25 @@ impl Pair {
         }
         windows
     }
+
+    // Opens both, and sends so many times.
+    fn exchange(&mut self, rounds: u32) -> io::Result<u64> {
+        if !self.open() {
+            return Err(io::Error::other("the ends are not in OPEN"));
+        }
+        let windows = self.send_all(rounds);
+        if self.delivered < u64::from(rounds / 2) {
+            return Err(io::Error::other("too few data were delivered"));
+        }
+        Ok(self.delivered.wrapping_add(windows))
+    }
 }
 
 /// Sends data so many times, with losses, reports, timeouts and changes of the CCID; gives how many data were
 /// delivered, and the windows that were seen.
 pub(crate) fn exchange(alloc: Global, rounds: u32) -> io::Result<u64> {
-    let Ok(client) = new_end(alloc, Role::Client) else {
-        return Err(no_memory());
-    };
-    let Ok(server) = new_end(alloc, Role::Server) else {
-        return Err(no_memory());
-    };
-    let mut pair = Pair::new(client, server);
-    if !pair.open() {
-        return Err(io::Error::other("the ends are not in OPEN"));
+    match Pair::new(alloc) {
+        Ok(mut pair) => pair.exchange(rounds),
+        Err(_) => Err(no_memory()),
     }
-    let windows = pair.send_all(rounds);
-    if pair.delivered < u64::from(rounds / 2) {
-        return Err(io::Error::other("too few data were delivered"));
-    }
-    Ok(pair.delivered.wrapping_add(windows))
 }

@@ -77,17 +77,23 @@ fn put_data(number: Seq48, ack: Option<Seq48>, frame: &mut Frame) {
     }
 }
 
-// A server in OPEN, once the worked client's Request and its Ack have come.
-fn opened(alloc: Global) -> io::Result<End> {
-    let frames = opening(alloc)?;
-    let Ok(mut end) = new_end(alloc, Role::Server) else {
-        return Err(no_memory());
+// Brings a server to OPEN by the worked client's Request and its Ack. False where no memory was left for these.
+fn open(alloc: Global, end: &mut End) -> bool {
+    let Some(frames) = opening(alloc) else {
+        return false;
     };
-    let _ = arrive_all(&mut end, &frames);
-    if end.phase() != Phase::Open {
-        return Err(io::Error::other("the end is not in OPEN"));
+    let _ = arrive_all(end, &frames);
+    end.phase() == Phase::Open
+}
+
+// A server in OPEN.
+fn opened(alloc: Global) -> Option<End> {
+    let mut end = new_end(alloc, Role::Server).ok()?;
+    if open(alloc, &mut end) {
+        Some(end)
+    } else {
+        None
     }
-    Ok(end)
 }
 
 // The number of the client's next packet that arrives, after so many.
@@ -117,14 +123,12 @@ fn make(alloc: Global, end: &mut End, order: Order, count: u32, frames: &mut Vec
     true
 }
 
-// The frames of so many packets.
-fn frames(alloc: Global, order: Order, count: u32) -> io::Result<Vec<Vec<u8>>> {
-    let mut end = opened(alloc)?;
-    let mut frames = Vec::new(alloc);
-    if !make(alloc, &mut end, order, count, &mut frames) {
-        return Err(no_memory());
+// The same, by an end of its own.
+fn make_anew(alloc: Global, order: Order, count: u32, frames: &mut Vec<Vec<u8>>) -> bool {
+    match opened(alloc) {
+        Some(mut end) => make(alloc, &mut end, order, count, frames),
+        None => false,
     }
-    Ok(frames)
 }
 
 // Hands an end all frames; gives how many data it delivered.
@@ -137,12 +141,19 @@ fn arrive_all(end: &mut End, frames: &[Vec<u8>]) -> u64 {
     sum
 }
 
-// Hands the frames to a new end in OPEN; gives the nanoseconds and how many data it delivered.
-fn take_anew(rt: &HostRuntime, frames: &[Vec<u8>]) -> io::Result<(u64, u64)> {
-    let mut end = opened(rt.alloc())?;
+// Hands the frames to an end; gives the nanoseconds and how many data it delivered.
+fn time_arrivals(rt: &HostRuntime, end: &mut End, frames: &[Vec<u8>]) -> io::Result<(u64, u64)> {
     let start = Instant::now(rt)?;
-    let delivered = arrive_all(&mut end, frames);
+    let delivered = arrive_all(end, frames);
     Ok((since(rt, start)?, delivered))
+}
+
+// The same by a new end in OPEN.
+fn take_anew(rt: &HostRuntime, frames: &[Vec<u8>]) -> io::Result<(u64, u64)> {
+    match opened(rt.alloc()) {
+        Some(mut end) => time_arrivals(rt, &mut end, frames),
+        None => Err(no_memory()),
+    }
 }
 
 // Hands the frames to new ends, so many times.
@@ -178,18 +189,36 @@ fn packets(count: u32, rounds: u32) -> u64 {
     u64::from(count) * u64::from(rounds)
 }
 
-// Hands so many frames to ends and reads them, so many times.
+// Times both over the frames of an order.
+fn time_both(
+    rt: &HostRuntime,
+    name: &str,
+    frames: &[Vec<u8>],
+    count: u32,
+    rounds: u32,
+) -> io::Result<()> {
+    time_taking(rt, name, frames, count, rounds)?;
+    time_reading(rt, frames, count, rounds)
+}
+
 fn measure(rt: &HostRuntime, order: Order, count: u32, rounds: u32) -> io::Result<()> {
-    let frames = frames(rt.alloc(), order, count)?;
-    time_taking(rt, order.name, &frames, count, rounds)?;
-    time_reading(rt, &frames, count, rounds)
+    let mut frames = Vec::new(rt.alloc());
+    if !make_anew(rt.alloc(), order, count, &mut frames) {
+        return Err(no_memory());
+    }
+    time_both(rt, order.name, &frames, count, rounds)
+}
+
+// 1,000 packets and 16,000, as many packets of each.
+fn measure_few_and_many(rt: &HostRuntime, order: Order, rounds: u32) -> io::Result<()> {
+    measure(rt, order, FEW, rounds.saturating_mul(16))?;
+    measure(rt, order, MANY, rounds)
 }
 
 /// Prints the nanoseconds of 1,000 and of 16,000 packets in each order, as many packets of each.
 pub(crate) fn all(rt: &HostRuntime, rounds: u32) -> io::Result<()> {
-    for order in ORDERS {
-        measure(rt, order, FEW, rounds.saturating_mul(16))?;
-        measure(rt, order, MANY, rounds)?;
+    for order in &ORDERS {
+        measure_few_and_many(rt, *order, rounds)?;
     }
     Ok(())
 }
@@ -197,9 +226,9 @@ pub(crate) fn all(rt: &HostRuntime, rounds: u32) -> io::Result<()> {
 /// Makes so many packets in one place and hands each to an end in OPEN, with every tenth lost; gives how many data it
 /// delivered. In the second half of each phase the client acknowledges nothing, so that vectors are cut and the floor
 /// is pushed.
-pub(crate) fn take(alloc: Global, rounds: u32) -> io::Result<u64> {
+pub(crate) fn take(alloc: Global, rounds: u32) -> Option<u64> {
     let mut end = opened(alloc)?;
-    Ok(take_all(&mut end, rounds))
+    Some(take_all(&mut end, rounds))
 }
 
 fn take_all(end: &mut End, rounds: u32) -> u64 {

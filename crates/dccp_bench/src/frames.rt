@@ -1,12 +1,10 @@
 //! The frames that are read.
 
-use crate::figures::no_memory;
 use dccp_options::OptWriter;
 use dccp_packets::{Frame, Header, Kind, Number, encode};
 use dccp_sum::{Pseudo, seal};
 use seq_circle::Seq48;
 use std::alloc::Global;
-use std::io;
 
 // From the client to the server, as the full frame travels.
 pub(crate) const PSEUDO: Pseudo = Pseudo::V4 {
@@ -25,24 +23,32 @@ const WORKED: [&str; 7] = [
     "13899c400700fc3207000000000007d300000000000003ed26030000",
 ];
 
-/// The worked frames.
-pub(crate) fn worked(alloc: Global) -> io::Result<Vec<Vec<u8>>> {
+/// The worked frames. None where no memory was left.
+pub(crate) fn worked(alloc: Global) -> Option<Vec<Vec<u8>>> {
     decoded(alloc, &WORKED)
 }
 
 /// Those of them that take a server to OPEN: the client's Request and its Ack.
-pub(crate) fn opening(alloc: Global) -> io::Result<Vec<Vec<u8>>> {
+pub(crate) fn opening(alloc: Global) -> Option<Vec<Vec<u8>>> {
     decoded(alloc, &[WORKED[0], WORKED[2]])
 }
 
-fn decoded(alloc: Global, texts: &[&str]) -> io::Result<Vec<Vec<u8>>> {
+fn decoded(alloc: Global, texts: &[&str]) -> Option<Vec<Vec<u8>>> {
     let mut frames = Vec::new(alloc);
+    if add_all(alloc, texts, &mut frames) {
+        Some(frames)
+    } else {
+        None
+    }
+}
+
+fn add_all(alloc: Global, texts: &[&str], frames: &mut Vec<Vec<u8>>) -> bool {
     for text in texts {
-        if !add_decoded(alloc, text, &mut frames) {
-            return Err(io::Error::other("a worked frame is no hexadecimal"));
+        if !add_decoded(alloc, text, frames) {
+            return false;
         }
     }
-    Ok(frames)
+    true
 }
 
 fn add_decoded(alloc: Global, text: &str, frames: &mut Vec<Vec<u8>>) -> bool {
@@ -93,11 +99,12 @@ fn full_frame() -> Frame {
     frame
 }
 
-/// The frame of 2,044 bytes, alone.
-pub(crate) fn full(alloc: Global) -> io::Result<Vec<Vec<u8>>> {
+/// The frame of 2,044 bytes, alone. None where no memory was left.
+pub(crate) fn full(alloc: Global) -> Option<Vec<Vec<u8>>> {
     let mut frames = Vec::new(alloc);
-    if !add(alloc, &full_frame(), &mut frames) {
-        return Err(no_memory());
+    if add(alloc, &full_frame(), &mut frames) {
+        Some(frames)
+    } else {
+        None
     }
-    Ok(frames)
 }

@@ -62,9 +62,9 @@ const FORMS: [(&str, Form); 14] = [
 ];
 
 fn form_of(word: &str) -> Option<Form> {
-    for (name, form) in FORMS {
-        if word == name {
-            return Some(form);
+    for (name, form) in &FORMS {
+        if word == *name {
+            return Some(*form);
         }
     }
     None

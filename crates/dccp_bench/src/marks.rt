@@ -107,7 +107,9 @@ fn rounds_of_each(alloc: Global, rounds: u32) -> Result<u64, NoMemory> {
 
 /// Prints the sum of what every call answered, over so many rounds of each.
 pub(crate) fn all(rt: &HostRuntime, rounds: u32) -> io::Result<()> {
-    let taken = take(rt.alloc(), rounds)?;
+    let Some(taken) = take(rt.alloc(), rounds) else {
+        return Err(no_memory());
+    };
     let sent = exchange(rt.alloc(), rounds)?;
     let Ok(others) = rounds_of_each(rt.alloc(), rounds) else {
         return Err(no_memory());

@@ -111,8 +111,8 @@ fn time_fills(rt: &HostRuntime, received: &mut EcnReceived, rounds: u32) -> io::
 
 fn measure_all(rt: &HostRuntime, received: &mut EcnReceived, rounds: u32) -> io::Result<()> {
     time_fills(rt, received, rounds / 64)?;
-    for runs in SIZES {
-        measure(rt, received, runs, rounds)?;
+    for runs in &SIZES {
+        measure(rt, received, *runs, rounds)?;
     }
     Ok(())
 }

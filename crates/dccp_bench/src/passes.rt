@@ -1,6 +1,6 @@
 //! What is done with each frame, over frames of worked runs and over a full frame.
 
-use crate::figures::{since, told_of};
+use crate::figures::{no_memory, since, told_of};
 use crate::frames::{PSEUDO, full, worked};
 use dccp_options::options;
 use dccp_packets::decode;
@@ -122,16 +122,26 @@ fn measure(
 }
 
 fn measure_each(rt: &HostRuntime, name: &str, frames: &[Vec<u8>], rounds: u32) -> io::Result<()> {
-    for pass in PASSES {
-        measure(rt, pass, name, frames, rounds)?;
+    for pass in &PASSES {
+        measure(rt, *pass, name, frames, rounds)?;
     }
     Ok(())
 }
 
 /// Reads packets so many times, in each pass.
 pub(crate) fn all(rt: &HostRuntime, rounds: u32) -> io::Result<()> {
-    let frames = worked(rt.alloc())?;
-    measure_each(rt, "worked", &frames, rounds)?;
-    let frames = full(rt.alloc())?;
-    measure_each(rt, "full", &frames, rounds)
+    measure_all(rt, "worked", worked(rt.alloc()), rounds)?;
+    measure_all(rt, "full", full(rt.alloc()), rounds)
+}
+
+fn measure_all(
+    rt: &HostRuntime,
+    name: &str,
+    frames: Option<Vec<Vec<u8>>>,
+    rounds: u32,
+) -> io::Result<()> {
+    match frames {
+        Some(frames) => measure_each(rt, name, &frames, rounds),
+        None => Err(no_memory()),
+    }
 }

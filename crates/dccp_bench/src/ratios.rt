@@ -277,9 +277,13 @@ fn measure_behind_a_loss(rt: &HostRuntime, runs: u32, rounds: u32) -> io::Result
 /// Prints the nanoseconds of marks, and those of writes and reports at each size.
 pub(crate) fn all(rt: &HostRuntime, rounds: u32) -> io::Result<()> {
     time_marks(rt, rounds / 64)?;
-    for runs in SIZES {
-        measure(rt, runs, rounds)?;
-        measure_behind_a_loss(rt, runs, rounds)?;
+    for runs in &SIZES {
+        measure_both(rt, *runs, rounds)?;
     }
     Ok(())
+}
+
+fn measure_both(rt: &HostRuntime, runs: u32, rounds: u32) -> io::Result<()> {
+    measure(rt, runs, rounds)?;
+    measure_behind_a_loss(rt, runs, rounds)
 }

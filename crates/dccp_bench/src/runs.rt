@@ -118,8 +118,8 @@ fn measure_each<R: Runs>(
     runs: &mut R,
     rounds: u32,
 ) -> io::Result<()> {
-    for order in ORDERS {
-        measure(rt, kind, runs, order, rounds)?;
+    for order in &ORDERS {
+        measure(rt, kind, runs, *order, rounds)?;
     }
     Ok(())
 }
