@@ -8,7 +8,7 @@ use Rattle.tool_forms.specs.Words.{is_word}
 use Rattle.tool_forms.specs.declared.bridge_words.FlowSide.{FlowSide}
 use Rattle.tool_forms.specs.declared.bridge_words.SeedRun.{SeedRun}
 
--- No word may follow `capture` and `unwrap`.
+-- No word may follow `capture`, `unwrap` and `json`.
 abbrev pub stands_alone : Form → List (String Global) → Option Form
 stands_alone form [] = Some form
 stands_alone form (word ∷ words) = None
@@ -21,7 +21,7 @@ asked_seed words = option_and_then (λ run. Some (form.Seed run)) (seed_run_of w
 abbrev pub asked_flow : List (String Global) → Option Form
 asked_flow words = option_and_then (λ asked. Some (form.Frames asked)) (flow_side_of words)
 
--- The form that the words have: `capture`, `unwrap`, `seed` or `frames`.
+-- The form that the words have: `capture`, `unwrap`, `seed`, `frames` or `json`.
 unfoldable pub asked_form : List (String Global) → Option Form
 asked_form [] = None
 asked_form (first ∷ words) =
@@ -29,6 +29,7 @@ asked_form (first ∷ words) =
     else if is_word first (codes "unwrap") then stands_alone form.Unwrap words
     else if is_word first (codes "seed") then asked_seed words
     else if is_word first (codes "frames") then asked_flow words
+    else if is_word first (codes "json") then stands_alone form.Json words
     else None
 
 -- the numbers of a form are within their bounds
@@ -37,6 +38,7 @@ IsBridgeFormWithinBounds form.Capture = Unit {0}
 IsBridgeFormWithinBounds form.Unwrap = Unit {0}
 IsBridgeFormWithinBounds (form.Seed run) = IsRunWithinBounds run
 IsBridgeFormWithinBounds (form.Frames asked) = IsFlowWithinBounds asked
+IsBridgeFormWithinBounds form.Json = Unit {0}
 
 -- Only the words behind `seed` and `frames` are settings.
 abbrev pub has_bridge_settings : List (String Global) → Bool
@@ -45,7 +47,7 @@ has_bridge_settings (first ∷ words) = is_word first (codes "seed") || is_word 
 
 -- The line that answers all other words.
 abbrev pub bridge_usage : List ℕ
-bridge_usage = codes "usage: dccp_bridge capture | unwrap | seed --seed S --events E | frames --flow F --side server|client\n"
+bridge_usage = codes "usage: dccp_bridge capture | unwrap | seed --seed S --events E | frames --flow F --side server|client | json\n"
 
 -- For `capture`, over a source that tells its bytes, something holds of them.
 abbrev pub OnCapture : List (String Global) → Option (List ℕ) → (List ℕ → Type 0) → Type 0
@@ -63,3 +65,7 @@ OnSeed words Holds = (run : SeedRun) → asked_form words ≡ Some (form.Seed ru
 abbrev pub OnFrames : List (String Global) → Option (List ℕ) → (FlowSide → List ℕ → Type 0) → Type 0
 OnFrames words told Holds =
     (asked : FlowSide) → asked_form words ≡ Some (form.Frames asked) → (bytes : List ℕ) → told ≡ Some bytes → Holds asked bytes
+
+-- and for `json`
+abbrev pub OnJson : List (String Global) → Option (List ℕ) → (List ℕ → Type 0) → Type 0
+OnJson words told Holds = asked_form words ≡ Some form.Json → (bytes : List ℕ) → told ≡ Some bytes → Holds bytes

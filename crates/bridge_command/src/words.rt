@@ -18,11 +18,13 @@ pub enum Form {
     Seed(SeedRun),
     /// `frames` makes lines of `replay` of the packets of a flow that go to a side.
     Frames(FlowSide),
+    /// `json` makes an object of JSON of each record of a capture.
+    Json,
 }
 
 /// The line that answers words which are none of the forms (own). It names all forms.
 pub const USAGE: &[u8] =
-    b"usage: dccp_bridge capture | unwrap | seed --seed S --events E | frames --flow F --side server|client\n";
+    b"usage: dccp_bridge capture | unwrap | seed --seed S --events E | frames --flow F --side server|client | json\n";
 
 fn is_word(word: &String, text: &[u8]) -> bool
     ensures { result ≡ is_word word.now text.now }
@@ -75,6 +77,7 @@ pub fn form_of(alloc: Global, words: &[String]) -> Result<Option<Form>, NoMemory
         [first, words @ ..] if is_word(first, b"unwrap") => Ok(stands_alone(Form::Unwrap, words)),
         [first, words @ ..] if is_word(first, b"seed") => asked_seed(alloc, words),
         [first, words @ ..] if is_word(first, b"frames") => asked_flow(alloc, words),
+        [first, words @ ..] if is_word(first, b"json") => Ok(stands_alone(Form::Json, words)),
         _ => Ok(None),
     }
 }
