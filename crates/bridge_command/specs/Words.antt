@@ -1,13 +1,14 @@
 -- What the words after the second tool's name ask for (own).
-use Rattle.std.specs.Prelude.{◌≡◌, ℕ, Bool, false, List, [], ◌∷◌, codes, Option, Some, None, option_and_then, if◌then◌else◌, String}
+use Rattle.std.specs.Prelude.{◌≡◌, ◌||◌, ℕ, Bool, false, List, [], ◌∷◌, codes, Option, Some, None, option_and_then, if◌then◌else◌, String}
 use Rattle.std.specs.declared.alloc.Global.{Global}
 use Rattle.bridge_command.specs.declared.words.Form.{Form}
 use Rattle.bridge_command.specs.declared.words.Form.TheVariants as form
-use Rattle.tool_forms.specs.BridgeWords.{IsRunWithinBounds, seed_run_of}
+use Rattle.tool_forms.specs.BridgeWords.{IsFlowWithinBounds, IsRunWithinBounds, flow_side_of, seed_run_of}
 use Rattle.tool_forms.specs.Words.{is_word}
+use Rattle.tool_forms.specs.declared.bridge_words.FlowSide.{FlowSide}
 use Rattle.tool_forms.specs.declared.bridge_words.SeedRun.{SeedRun}
 
--- No word may follow `capture` and `unwrap`.
+-- No word may follow `capture`, `unwrap` and `json`.
 abbrev pub stands_alone : Form → List (String Global) → Option Form
 stands_alone form [] = Some form
 stands_alone form (word ∷ words) = None
@@ -16,13 +17,19 @@ stands_alone form (word ∷ words) = None
 abbrev pub asked_seed : List (String Global) → Option Form
 asked_seed words = option_and_then (λ run. Some (form.Seed run)) (seed_run_of words)
 
--- The form that the words have: `capture`, `unwrap` or `seed`.
+-- The words behind `frames`.
+abbrev pub asked_flow : List (String Global) → Option Form
+asked_flow words = option_and_then (λ asked. Some (form.Frames asked)) (flow_side_of words)
+
+-- The form that the words have: `capture`, `unwrap`, `seed`, `frames` or `json`.
 unfoldable pub asked_form : List (String Global) → Option Form
 asked_form [] = None
 asked_form (first ∷ words) =
     if is_word first (codes "capture") then stands_alone form.Capture words
     else if is_word first (codes "unwrap") then stands_alone form.Unwrap words
     else if is_word first (codes "seed") then asked_seed words
+    else if is_word first (codes "frames") then asked_flow words
+    else if is_word first (codes "json") then stands_alone form.Json words
     else None
 
 -- the numbers of a form are within their bounds
@@ -30,15 +37,17 @@ abbrev pub IsBridgeFormWithinBounds : Form → Type 0
 IsBridgeFormWithinBounds form.Capture = Unit {0}
 IsBridgeFormWithinBounds form.Unwrap = Unit {0}
 IsBridgeFormWithinBounds (form.Seed run) = IsRunWithinBounds run
+IsBridgeFormWithinBounds (form.Frames asked) = IsFlowWithinBounds asked
+IsBridgeFormWithinBounds form.Json = Unit {0}
 
--- Only the words behind `seed` are settings.
+-- Only the words behind `seed` and `frames` are settings.
 abbrev pub has_bridge_settings : List (String Global) → Bool
 has_bridge_settings [] = false
-has_bridge_settings (first ∷ words) = is_word first (codes "seed")
+has_bridge_settings (first ∷ words) = is_word first (codes "seed") || is_word first (codes "frames")
 
 -- The line that answers all other words.
 abbrev pub bridge_usage : List ℕ
-bridge_usage = codes "usage: dccp_bridge capture | unwrap | seed --seed S --events E\n"
+bridge_usage = codes "usage: dccp_bridge capture | unwrap | seed --seed S --events E | frames --flow F --side server|client | json\n"
 
 -- For `capture`, over a source that tells its bytes, something holds of them.
 abbrev pub OnCapture : List (String Global) → Option (List ℕ) → (List ℕ → Type 0) → Type 0
@@ -51,3 +60,12 @@ OnUnwrap words told Holds = asked_form words ≡ Some form.Unwrap → (bytes : L
 -- for `seed`, which reads nothing, something holds of the run that is asked for
 abbrev pub OnSeed : List (String Global) → (SeedRun → Type 0) → Type 0
 OnSeed words Holds = (run : SeedRun) → asked_form words ≡ Some (form.Seed run) → Holds run
+
+-- for `frames`, over a source that tells its bytes, something holds of the side of a flow that is asked for, and of them
+abbrev pub OnFrames : List (String Global) → Option (List ℕ) → (FlowSide → List ℕ → Type 0) → Type 0
+OnFrames words told Holds =
+    (asked : FlowSide) → asked_form words ≡ Some (form.Frames asked) → (bytes : List ℕ) → told ≡ Some bytes → Holds asked bytes
+
+-- and for `json`
+abbrev pub OnJson : List (String Global) → Option (List ℕ) → (List ℕ → Type 0) → Type 0
+OnJson words told Holds = asked_form words ≡ Some form.Json → (bytes : List ℕ) → told ≡ Some bytes → Holds bytes

@@ -9,5 +9,5 @@ mod words;
 
 pub use crate::top::bridge;
 pub use crate::words::{Form, USAGE, form_of};
-pub use tool_forms::SeedRun;
+pub use tool_forms::{FlowSide, SeedRun};
 pub use tool_output::Status;

@@ -1,11 +1,11 @@
 //! What the words after the program's name ask for.
 ghost use Rattle.std.specs.Prelude.{◌≡◌, IfOk, IfSome, IsOk, false};
-ghost use Rattle.bridge_command.specs.Words.{IsBridgeFormWithinBounds, asked_form, asked_seed, has_bridge_settings, stands_alone};
+ghost use Rattle.bridge_command.specs.Words.{IsBridgeFormWithinBounds, asked_flow, asked_form, asked_seed, has_bridge_settings, stands_alone};
 ghost use Rattle.tool_forms.specs.Words.{is_word};
 
 use seq_circle::NoMemory;
 use std::alloc::Global;
-use tool_forms::{SeedRun, seed_run_of};
+use tool_forms::{FlowSide, SeedRun, flow_side_of, seed_run_of};
 
 /// A job of the second tool (own).
 #[derive(Clone, Copy, Debug, PartialEq, Eq)]
@@ -16,10 +16,15 @@ pub enum Form {
     Unwrap,
     /// `seed` makes a schedule of a campaign's seed.
     Seed(SeedRun),
+    /// `frames` makes lines of `replay` of the packets of a flow that go to a side.
+    Frames(FlowSide),
+    /// `json` makes an object of JSON of each record of a capture.
+    Json,
 }
 
 /// The line that answers words which are none of the forms (own). It names all forms.
-pub const USAGE: &[u8] = b"usage: dccp_bridge capture | unwrap | seed --seed S --events E\n";
+pub const USAGE: &[u8] =
+    b"usage: dccp_bridge capture | unwrap | seed --seed S --events E | frames --flow F --side server|client | json\n";
 
 fn is_word(word: &String, text: &[u8]) -> bool
     ensures { result ≡ is_word word.now text.now }
@@ -47,9 +52,20 @@ fn asked_seed(alloc: Global, words: &[String]) -> Result<Option<Form>, NoMemory>
     }
 }
 
+// The job that the words behind `frames` ask for.
+fn asked_flow(alloc: Global, words: &[String]) -> Result<Option<Form>, NoMemory>
+    ensures value { IfOk result (λ form. form ≡ asked_flow words.now) }
+    ensures within { IfOk result (λ form. IfSome form IsBridgeFormWithinBounds) }
+{
+    match flow_side_of(alloc, words)? {
+        Some(asked) => Ok(Some(Form::Frames(asked))),
+        None => Ok(None),
+    }
+}
+
 /// The job that these words ask for, those after the program's name, or None where they are none of the forms (own).
-/// NoMemory comes only for words behind `seed`, whose settings are read by a command of `clap`, and then says nothing of
-/// them.
+/// NoMemory comes only for words behind `seed` and `frames`, whose settings are read by a command of `clap`, and then says
+/// nothing of them.
 #[tactic(auto, unfolding(crate::specs::Words::asked_form))]
 pub fn form_of(alloc: Global, words: &[String]) -> Result<Option<Form>, NoMemory>
     ensures value { IfOk result (λ form. form ≡ asked_form words.now) }
@@ -60,6 +76,8 @@ pub fn form_of(alloc: Global, words: &[String]) -> Result<Option<Form>, NoMemory
         [first, words @ ..] if is_word(first, b"capture") => Ok(stands_alone(Form::Capture, words)),
         [first, words @ ..] if is_word(first, b"unwrap") => Ok(stands_alone(Form::Unwrap, words)),
         [first, words @ ..] if is_word(first, b"seed") => asked_seed(alloc, words),
+        [first, words @ ..] if is_word(first, b"frames") => asked_flow(alloc, words),
+        [first, words @ ..] if is_word(first, b"json") => Ok(stands_alone(Form::Json, words)),
         _ => Ok(None),
     }
 }

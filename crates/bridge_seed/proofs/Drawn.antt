@@ -1,6 +1,6 @@
 -- What a seed draws can be said in a short line.
 use Rattle.std.proofs.Common.{◌≡◌, ℕ, zero, suc, ◌+◌, ◌-◌, ◌/◌, ◌%◌, ◌^◌, ◌≤◌, ◌<◌, ◌==◌, nat_le, Bool, true, false, if◌then◌else◌, List, [], ◌∷◌, length, arith}
-use Rattle.std.specs.Prelude.{All, codes, decimal, slice_index}
+use Rattle.std.specs.Prelude.{codes, decimal, slice_index}
 use Rattle.std.specs.Int.{byte_at, bytes_high_first}
 use Rattle.std.proofs.Math.Dec.{lit<}
 use Rattle.std.proofs.lemmas.Bool.Decides.{nat_tests}
@@ -17,7 +17,6 @@ use Rattle.feature_lists.specs.declared.features.Feature.{Feature}
 use Rattle.feature_lists.specs.declared.features.Feature.TheVariants.{Ccid, SequenceWindow, AckRatio, MinCsCov}
 use Rattle.feature_lists.specs.declared.features.Place.{Place}
 use Rattle.feature_lists.specs.declared.features.Place.TheVariants.{Here, There}
-use Rattle.hex.specs.Hex.{IsBytes}
 use Rattle.schedule_text.specs.Names.{place_name, side_name, timer_name}
 use Rattle.schedule_text.specs.Printing.{event_text, frame_name, values_text}
 use Rattle.schedule_text.specs.Range.{AreValues, IsPrintable}

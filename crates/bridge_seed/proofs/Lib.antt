@@ -1,4 +1,4 @@
-pub mod Telling
+pub mod Told
 pub mod Reading
 pub mod Drawn
 pub mod Played

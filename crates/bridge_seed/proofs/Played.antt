@@ -1,16 +1,15 @@
 -- A schedule of drawn lines is played as the run of its seed.
-use Rattle.std.proofs.Common.{◌≡◌, refl, sym, ap, ap₂, ◌∙◌, subst, ℕ, zero, suc, ◌+◌, ◌-◌, ◌*◌, ◌^◌, ◌≤◌, ◌<◌, Bool, true, false, if◌then◌else◌, List, [], ◌∷◌, ◌++◌, length, Option, Some, None, Result, Ok, Err, append_assoc, arith}
-use Rattle.std.specs.Prelude.{⊤, codes, decimal, flat_map, is_some, map, nat_lt, IsOk}
+use Rattle.std.proofs.Common.{◌≡◌, refl, sym, ap, ap₂, ◌∙◌, subst, ℕ, zero, suc, ◌+◌, ◌-◌, ◌*◌, ◌^◌, ◌≤◌, ◌<◌, true, false, if◌then◌else◌, List, [], ◌∷◌, ◌++◌, length, Option, Some, None, Result, Ok, Err, append_assoc, arith}
+use Rattle.std.specs.Prelude.{⊤, codes, decimal, flat_map, is_some, nat_lt, IsOk}
 use Rattle.std.proofs.lemmas.Bool.Decides.{nat_tests}
-use Rattle.std.proofs.lemmas.List.{append-nil, length-map}
+use Rattle.std.proofs.lemmas.List.{length-map}
 use Rattle.rand_pcg.specs.Lcg.{Lcg}
-use Rattle.ccid_two.specs.Kinds.{Both, at_first, kinds_control}
-use Rattle.dccp_endpoint.specs.declared.config.Config.{Config}
+use Rattle.ccid_two.specs.Kinds.{Both, kinds_control}
 use Rattle.dccp_io.specs.Lines.{lines_of, most_input_bytes}
 use Rattle.dccp_states.specs.declared.phase.Role.TheVariants as role
 use Rattle.fault_campaign.specs.Draws.{behind_two, behind_word, generator, initial_number, word}
 use Rattle.fault_campaign.specs.Reports.{nothing, settled_of, with_seen}
-use Rattle.fault_campaign.specs.Seeded.{Running, after_event, begun_run, frames_of, goes_on, goes_on_for, next_event, next_events, opened_run, played, run_report, seeded, seeded_events, seeded_report, usual_from}
+use Rattle.fault_campaign.specs.Seeded.{Running, after_event, begun_run, frames_of, goes_on, goes_on_for, next_event, next_events, opened_run, played, seeded, seeded_events, seeded_report, usual_from}
 use Rattle.fault_campaign.specs.declared.report.Report.{Report}
 use Rattle.fault_campaign.proofs.Schedules.{many, number-fits}
 use Rattle.fault_campaign.proofs.Short.{IsShort, after-so-many}
@@ -23,15 +22,14 @@ use Rattle.schedule_text.proofs.RowsAre.{number-length, side-length}
 use Rattle.tool_lines.specs.Jobs.{Gone, Verdict, Accepted, Refused, gone_by, gone_from, most_events}
 use Rattle.tool_run.proofs.Running.{every-run, run-last, run-text}
 use Rattle.tool_run.specs.Scenes.{Scene, scene_events, scene_text}
-use Rattle.tool_run.specs.Transcript.{by_line, by_scene, by_step, event_shown, first_play, is_refused, performed, run_job, says_event, starts, transcript, with_header, with_iss, world_at_first, world_of, world_or_start}
+use Rattle.tool_run.specs.Transcript.{by_line, by_scene, by_step, event_shown, first_play, is_refused, judged_line, performed, run_job, says_event, starts, transcript, with_header, with_iss, world_at_first, world_of, world_or_start}
 use Rattle.tool_run.specs.WorldLines.{end_lines}
-use Rattle.tool_run.specs.declared.play.Play.{Play}
 use Rattle.tool_words.specs.Refusals.{whole_line}
 use Rattle.tool_words.specs.Words.{joined}
 use Rattle.tool_words.specs.declared.faults.LineFault.{LineFault}
 use Rattle.tool_words.specs.declared.faults.LineWhy.TheVariants as why
 use Rattle.tool_words.proofs.Bytes.{if-true, joined-length}
-use Rattle.two_ends.specs.Controlled.{Controlled, ControlledStep, happens_to, plays}
+use Rattle.two_ends.specs.Controlled.{Controlled, ControlledStep, happens_to}
 use Rattle.two_ends.specs.World.{half_of}
 use Rattle.world_events.specs.declared.event.Event.{Event}
 use Rattle.world_events.specs.declared.event.Event.TheVariants.{Open}
@@ -39,11 +37,29 @@ use Rattle.world_events.specs.declared.event.Side.{Side}
 use Rattle.world_events.specs.declared.event.Side.TheVariants.{Client, Server}
 use Rattle.world_events.specs.declared.event.WorldFault.{WorldFault}
 use Rattle.bridge_seed.specs.Counted.{counted_report, seen_counted}
-use Rattle.bridge_seed.specs.Schedule.{event_line, event_lines, number_line, number_lines, seed_text}
+use Rattle.bridge_seed.specs.Schedule.{event_line, event_lines, number_line, seed_text}
 use Rattle.bridge_seed.proofs.Drawn.{IsBrief, brief-drawn, brief-open}
-use Rattle.bridge_seed.proofs.Reading.{line-gone}
+use Rattle.bridge_seed.proofs.Reading.{line-gone, read-clean}
+use Rattle.schedule_text.specs.Reading.{read_line}
+
+-- where a schedule stands while it is played, of which `world_of` tells
+abbrev domain : {A B : Type 0} → (A → B) → Type 0
+domain {A} {B} f = A
+
+abbrev pub Play : Type 0
+Play = domain world_of
 
 -- ---- one line
+
+-- what `run` makes of a line that says this, and of the lines behind it
+line-goes : (play : Play) (number given : ℕ) (text rest : List ℕ) (said : words.Line) → read_line text ≡ Ok said → given + (length text + 1) ≤ most_input_bytes
+    → gone_from run_job play number given (lines_of ((text ++ codes "\n") ++ rest))
+    ≡ gone_by play number given (by_line play number (Ok said)) (λ next. gone_from run_job next (number + 1) (given + (length text + 1)) (lines_of rest))
+unfolding judged_line
+line-goes play number given text rest said reads few =
+    line-gone run_job play number given text rest (read-clean text said reads) few
+    ∙ ap (λ (r : Result words.Line LineFault). gone_by play number given (by_line play number r)
+    (λ (next : Play). gone_from run_job next (number + 1) (given + (length text + 1)) (lines_of rest))) reads
 
 -- So many lines of a play were gone through as these events, from what was counted before to this run.
 pub record Follows (before : Report) (last : Running) (events : List Event) (play : Play) (whole : Gone Scene Play) : Type 0 where
@@ -97,7 +113,7 @@ event-goes play number given event rest run last more here few ok brief room beh
         let whole : gone_from run_job play number given (lines_of (event_line event ++ rest))
         ≡ gone_by play number given (Accepted (Some (scene_of play number event step)) next)
         (λ (p : Play). gone_from run_job p (number + 1) (given + (length (event_text event) + 1)) (lines_of rest)) =
-        line-gone play number given (event_text event) rest (line.Event event) (event-read event brief.printable) (omega (arith, room, short))
+        line-goes play number given (event_text event) rest (line.Event event) (event-read event brief.printable) (omega (arith, room, short))
         ∙ ap (λ (v : Verdict Scene Play). gone_by play number given v
         (λ (p : Play). gone_from run_job p (number + 1) (given + (length (event_text event) + 1)) (lines_of rest)))
         (event-accepted play number event step run.world here few is) in
@@ -176,7 +192,7 @@ number-goes : (play : Play) (number given : ℕ) (side : Side) (iss : ℕ) (rest
 number-goes play number given side iss rest small none room =
     let text = joined (line_words (line.Iss side iss)) in
     let short = number-short side iss small in
-    line-gone play number given text rest (line.Iss side iss) (spelled-line text (line.Iss side iss) (refl, small)) (omega (arith, room, short))
+    line-goes play number given text rest (line.Iss side iss) (spelled-line text (line.Iss side iss) (refl, small)) (omega (arith, room, short))
     ∙ ap (λ (w : Option (Controlled Both)). gone_by play number given
     (if is_some w then Refused (whole_line why.HeaderLate) else Accepted None (with_iss side iss (with_header play)))
     (λ (p : Play). gone_from run_job p (number + 1) (given + (length text + 1)) (lines_of rest))) none
@@ -275,7 +291,7 @@ module _ (opens : OpenHappens) (nexts : NextHappens) (seed events : ℕ) (some :
   told-many : length whole.deeds ≡ events
   told-many = sym (length-map (λ (scene : Scene). scene.event) whole.deeds) ∙ ap length tells ∙ many seed events some
 
-  pub counts : counted_report whole ≡ seeded_report seed events
+  pub counts : counted_report whole.deeds (world_of whole.last) ≡ seeded_report seed events
   unfolding seeded_report
   counts =
       ap₂ (λ (r : Report) (n : ℕ). reported r n (world_of whole.last))

@@ -1,6 +1,6 @@
--- The lines of a text, one behind the other, as `run` goes through them.
-use Rattle.std.proofs.Common.{◌≡◌, refl, sym, ap, ap₂, ◌∙◌, subst, ℕ, zero, suc, ◌+◌, ◌≤◌, ◌<◌, ◌==◌, min, nat_le, Bool, true, false, if◌then◌else◌, List, [], ◌∷◌, ◌++◌, length, take, drop, Result, Ok, Err, append_assoc, length-append, arith}
-use Rattle.std.specs.Prelude.{codes, ◌&&◌}
+-- The lines of a text, one behind the other, as a job goes through them.
+use Rattle.std.proofs.Common.{◌≡◌, refl, ap, ap₂, ◌∙◌, ℕ, suc, ◌+◌, ◌≤◌, ◌==◌, min, nat_le, true, false, List, [], ◌∷◌, ◌++◌, length, take, Ok, append_assoc, length-append, arith}
+use Rattle.std.specs.Prelude.{codes}
 use Rattle.std.specs.List.{list_all}
 use Rattle.std.proofs.Math.Nat.{min-le_left}
 use Rattle.std.proofs.lemmas.Bool.{le-leb, leb-true}
@@ -9,10 +9,7 @@ use Rattle.std.proofs.lemmas.List.{take_all}
 use Rattle.dccp_io.specs.Lines.{Next, Line, Long, Much, before_line, by_length, ends_within, first_line, lines_of, most_input_bytes, newline, next_in_lines, one_too_many, text_length, text_of}
 use Rattle.schedule_text.specs.Reading.{read_clean, read_line}
 use Rattle.schedule_text.specs.declared.line.Line as words
-use Rattle.tool_lines.specs.Jobs.{Gone, by_next, gone_by, gone_from}
-use Rattle.tool_run.specs.Scenes.{Scene}
-use Rattle.tool_run.specs.Transcript.{by_line, judged_line, run_job}
-use Rattle.tool_run.specs.declared.play.Play.{Play}
+use Rattle.tool_lines.specs.Jobs.{Job, by_next, gone_by, gone_from}
 use Rattle.tool_words.specs.Lines.{clean, is_text}
 use Rattle.tool_words.proofs.Bytes.{both-true, if-false, if-true}
 use Rattle.tool_words.proofs.LineLaws.{IsClean, clean-ok}
@@ -74,20 +71,17 @@ stands-next given text lines is few =
     (ap (nat_le one_too_many) size ∙ not-long text is.short)
     ∙ ap Line whole
 
--- What `run` makes of a line that says this, and of the lines behind it.
-pub line-gone : (play : Play) (number given : ℕ) (text rest : List ℕ) (said : words.Line) → read_line text ≡ Ok said → given + (length text + 1) ≤ most_input_bytes
-    → gone_from run_job play number given (lines_of ((text ++ codes "\n") ++ rest))
-    ≡ gone_by play number given (by_line play number (Ok said)) (λ next. gone_from run_job next (number + 1) (given + (length text + 1)) (lines_of rest))
-unfolding judged_line
-line-gone play number given text rest said reads few =
-    let clean = read-clean text said reads in
+-- what a job over lines makes of such a text, and of the lines behind it
+pub line-gone : {P V : Type 0} (job : Job P V) (state : V) (number given : ℕ) (text rest : List ℕ) → IsClean text → given + (length text + 1) ≤ most_input_bytes
+    → gone_from job state number given (lines_of ((text ++ codes "\n") ++ rest))
+    ≡ gone_by state number given (job.judged state number text) (λ next. gone_from job next (number + 1) (given + (length text + 1)) (lines_of rest))
+line-gone {P} {V} job state number given text rest clean few =
     let line = text ++ (newline ∷ []) in
     let size : text_length line ≡ length text = text-size text [] clean.all in
     let front : text_of line ≡ text = ap (λ (n : ℕ). take n line) size ∙ short-front text in
-    ap (λ (bytes : List ℕ). gone_from run_job play number given (lines_of bytes)) (append_assoc text (newline ∷ []) rest)
-    ∙ ap (gone_from run_job play number given) (text-first text rest clean.all)
-    ∙ ap (λ (n : Next). gone_by play number given (by_next run_job play number n) (λ (next : Play). gone_from run_job next (number + 1) (given + length line) (lines_of rest)))
+    ap (λ (bytes : List ℕ). gone_from job state number given (lines_of bytes)) (append_assoc text (newline ∷ []) rest)
+    ∙ ap (gone_from job state number given) (text-first text rest clean.all)
+    ∙ ap (λ (n : Next). gone_by state number given (by_next job state number n) (λ (next : V). gone_from job next (number + 1) (given + length line) (lines_of rest)))
     (stands-next given text (lines_of rest) clean few)
-    ∙ ap (λ (t : List ℕ). gone_by play number given (by_line play number (read_line t)) (λ (next : Play). gone_from run_job next (number + 1) (given + length line) (lines_of rest))) front
-    ∙ ap₂ (λ (r : Result words.Line _) (n : ℕ). gone_by play number given (by_line play number r) (λ (next : Play). gone_from run_job next (number + 1) (given + n) (lines_of rest)))
-    reads (line-size text)
+    ∙ ap₂ (λ (t : List ℕ) (n : ℕ). gone_by state number given (job.judged state number t) (λ (next : V). gone_from job next (number + 1) (given + n) (lines_of rest)))
+    front (line-size text)

@@ -25,7 +25,7 @@ pub fn a_schedule_is_the_run_of_its_seed()
     ensures text { (seed events : ℕ) → 1 ≤ events → events ≤ 4096
         → transcript (seed_text seed events) ≡ flat_map scene_text (performed (seed_text seed events)).deeds ++ end_lines (seeded seed events).world }
     ensures counts { (seed events : ℕ) → 1 ≤ events → events ≤ 4096
-        → counted_report (performed (seed_text seed events)) ≡ seeded_report seed events }
+        → counted_report (performed (seed_text seed events)).deeds (world_of (performed (seed_text seed events)).last) ≡ seeded_report seed events }
 {
     drawn_events_happen();
 }

@@ -1,6 +1,6 @@
 mod Fields
-mod Short
-mod Turns
-mod Drawing
-mod Schedules
+pub mod Short
+pub mod Turns
+pub mod Drawing
+pub mod Schedules
 mod Claiming

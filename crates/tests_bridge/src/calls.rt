@@ -5,7 +5,7 @@ use std::alloc::Global;
 use std::test::Fail;
 
 /// The line that answers words which are none of the forms, as docs/TOOL.md has it.
-pub(crate) const USAGE: &[u8] = b"usage: dccp_bridge capture | unwrap | seed --seed S --events E\n";
+pub(crate) const USAGE: &[u8] = b"usage: dccp_bridge capture | unwrap | seed --seed S --events E | frames --flow F --side server|client | json\n";
 
 // More than any output here has.
 const ROOM: usize = 4096;

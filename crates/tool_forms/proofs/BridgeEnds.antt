@@ -1,5 +1,5 @@
 -- What the commands of `seed` and `frames` come to behind the last word.
-use Rattle.std.proofs.Common.{◌≡◌, ◌∙◌, ◌&&◌, refl, sym, ap, ap₂, ℕ, Bool, true, false, List, [], ◌∷◌, Option, Some, None, option_and_then, codes}
+use Rattle.std.proofs.Common.{◌≡◌, ◌∙◌, ◌&&◌, refl, sym, ap, ap₂, ℕ, Bool, true, false, List, [], Option, Some, None, option_and_then, codes}
 use Rattle.std.specs.Prelude.{if◌then◌else◌}
 use Rattle.clap.specs.Walk.{Row, Text, finished, has_row}
 use Rattle.clap.specs.Takes.{is_given}
@@ -10,7 +10,6 @@ use Rattle.tool_forms.specs.declared.bridge_words.SeedRun.{SeedRun}
 use Rattle.tool_forms.specs.Tables as table
 use Rattle.tool_forms.specs.declared.settings.Setting.{Setting}
 use Rattle.tool_forms.specs.declared.settings.Setting.TheVariants.{First, Seeds, Events, Workers, Side, Plain, Buffer, Most, Seed, Flow}
-use Rattle.tool_forms.specs.Given.{Value}
 use Rattle.tool_forms.specs.Given as value
 use Rattle.tool_forms.specs.Given.{Assignment}
 use Rattle.tool_forms.specs.Settings.{number_among, number_for, once, preceded, side_in}

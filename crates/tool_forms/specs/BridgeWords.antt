@@ -1,5 +1,5 @@
 -- What the words behind the second program's `seed` and `frames` ask for (own): two settings, each given once.
-use Rattle.std.specs.Prelude.{ℕ, ◌^◌, ◌<◌, ◌≤◌, List, Option, Some, None, option_and_then, String}
+use Rattle.std.specs.Prelude.{ℕ, ◌^◌, ◌<◌, ◌≤◌, List, Option, Some, option_and_then, String}
 use Rattle.std.specs.declared.alloc.Global.{Global}
 use Rattle.world_events.specs.declared.event.Side.{Side as EndSide}
 use Rattle.tool_forms.specs.declared.bridge_words.FlowSide.{FlowSide}

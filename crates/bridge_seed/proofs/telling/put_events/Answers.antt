@@ -1,7 +1,7 @@
 -- The first event opens the connection, and the lines of all others stand behind its line.
 use Rattle.std.proofs.Common.{rules}
 use Rattle.std.proofs.lemmas.Result.{on_ok_weaker}
-use Rattle.bridge_seed.proofs.Telling.{all-told, begun-little, opened-little}
+use Rattle.bridge_seed.proofs.Told.{all-told, begun-little, opened-little}
 use Rattle.bridge_seed.proofs.telling.put_events.Goals as goal
 
 pub play-requires : goal.play-requires

@@ -1,5 +1,5 @@
 use Rattle.std.proofs.Common.{rules}
-use Rattle.bridge_seed.proofs.Telling.{told-all, told-first, told-more}
+use Rattle.bridge_seed.proofs.Told.{told-all, told-first, told-more}
 use Rattle.fault_campaign.proofs.Turns.{counts-little}
 use Rattle.bridge_seed.proofs.telling.put_next_events.Goals as goal
 

@@ -1,4 +1,4 @@
-use Rattle.bridge_seed.proofs.Telling.{IsTold}
+use Rattle.bridge_seed.proofs.Told.{IsTold}
 use Rattle.bridge_seed.proofs.telling.put_next_events.Given as goal
 
 abbrev pub invariant-loop : goal.invariant-loop
