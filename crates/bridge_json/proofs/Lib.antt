@@ -1,0 +1,5 @@
+pub mod Agreeing
+pub mod Lists
+pub mod Plain
+pub mod Records
+pub mod Together
