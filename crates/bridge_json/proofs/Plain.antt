@@ -16,8 +16,8 @@ use Rattle.packet_show.specs.Network.{DatagramParts}
 use Rattle.bridge_pieces.specs.declared.fault.PieceFault.{PieceFault}
 use Rattle.bridge_unwrap.specs.Links.{ip_bytes}
 use Rattle.bridge_json.specs.Judging.{HoldsMalformed, HoldsNone, HoldsPacket, Judged, judged_ip}
-use Rattle.bridge_json.specs.Members.{with_number, with_text, with_truth}
-use Rattle.bridge_json.specs.Objects.{option_values, record_members, with_code, with_ends, with_header, with_judged, with_kind, with_options, with_packet, with_stamp}
+use Rattle.bridge_json.specs.Members.{with_number_named, with_text_named, with_truth_named}
+use Rattle.bridge_json.specs.Objects.{option_values, record_members, with_code, with_ends, with_header_fields, with_judged, with_kind, with_options, with_packet_fields, with_stamp}
 use Rattle.bridge_json.specs.Telling.{fault_members}
 
 neither : (a b : Bool) → a ≡ false → b ≡ false → (a || b) ≡ false
@@ -46,13 +46,13 @@ plain_put k d (member l e ms) plain rest = by (slice_cmp nat_cmp k l) (plain_put
 abbrev IsPlain : Members → Type 0
 IsPlain ms = members_have_float ms ≡ false
 
-plain-number : (name : List ℕ) (n : ℕ) (ms : Members) → IsPlain ms → IsPlain (with_number name n ms)
+plain-number : (name : List ℕ) (n : ℕ) (ms : Members) → IsPlain ms → IsPlain (with_number_named name n ms)
 plain-number name n ms plain = plain_put name (number (unsigned n)) ms refl plain
 
-plain-text : (name text : List ℕ) (ms : Members) → IsPlain ms → IsPlain (with_text name text ms)
+plain-text : (name text : List ℕ) (ms : Members) → IsPlain ms → IsPlain (with_text_named name text ms)
 plain-text name text ms plain = plain_put name (string text) ms refl plain
 
-plain-truth : (name : List ℕ) (is : Bool) (ms : Members) → IsPlain ms → IsPlain (with_truth name is ms)
+plain-truth : (name : List ℕ) (is : Bool) (ms : Members) → IsPlain ms → IsPlain (with_truth_named name is ms)
 plain-truth name is ms plain = plain_put name (boolean is) ms refl plain
 
 plain-texts : (items : List (Result Entry OptFault)) → items_have_float (items_of (option_values items)) ≡ false
@@ -65,7 +65,7 @@ plain-stamp e ms plain = plain-number _ _ _ (plain-number _ _ _ (plain-number _ 
 plain-ends : (there : DatagramParts) (header : Header) (ms : Members) → IsPlain ms → IsPlain (with_ends there header ms)
 plain-ends there header ms plain = plain-number _ _ _ (plain-number _ _ _ (plain-text _ _ _ (plain-text _ _ _ plain)))
 
-plain-header : (header : Header) (ms : Members) → IsPlain ms → IsPlain (with_header header ms)
+plain-header : (header : Header) (ms : Members) → IsPlain ms → IsPlain (with_header_fields header ms)
 plain-header header ms plain =
     plain-number _ _ _ (plain-number _ _ _ (plain-number _ _ _ (plain-truth _ _ _ (plain-number _ _ _ (plain-text _ _ _ plain)))))
 
@@ -87,7 +87,7 @@ plain-kind (SyncAck ack) ms plain = plain-number _ _ _ plain
 plain-options : (packet : Parts) (ms : Members) → IsPlain ms → IsPlain (with_options packet ms)
 plain-options packet ms plain = plain_put _ _ ms (plain-texts _) plain
 
-plain-packet : (there : DatagramParts) (packet : Parts) (ms : Members) → IsPlain ms → IsPlain (with_packet there packet ms)
+plain-packet : (there : DatagramParts) (packet : Parts) (ms : Members) → IsPlain ms → IsPlain (with_packet_fields there packet ms)
 plain-packet there packet ms plain =
     plain-text _ _ _ (plain-number _ _ _ (plain-options packet _ (plain-kind packet.header.kind _ (plain-header packet.header _ (plain-ends there packet.header ms plain)))))
 

@@ -24,7 +24,7 @@ use Rattle.bridge_records.specs.Reading.{FileState, by_format, by_header, by_sec
 use Rattle.bridge_records.specs.declared.reading.Place.{Place}
 use Rattle.bridge_records.specs.declared.reading.Place.TheVariants as place
 use Rattle.bridge_unwrap.proofs.Opening.{IsTaken, header-taken}
-use Rattle.bridge_json.specs.Telling.{JsonState, by_judged, first_telling, json_pieces, json_work, numbered_entry, telling_at}
+use Rattle.bridge_json.specs.Telling.{JsonState, told_by_judged, first_telling, json_pieces, json_work, numbered_entry, telling_at}
 use Rattle.dccp_io.specs.Counts.{one_more}
 
 -- a number in the front of bytes
@@ -95,7 +95,7 @@ module _ (format : Format) where
   -- a header is a piece
   header-piece : (n given : ℕ) (bytes : List ℕ) → 16 ≤ length bytes → given + 16 ≤ 2 ^ 32
       → onward given (here n) bytes
-      ≡ taken_by (here n) given (by_judged (here n) (take 16 bytes) (by_header (file (place.Header format)) format (head_in format.order (take 16 bytes)))) (λ next. onward (given + 16) next (drop 16 bytes))
+      ≡ taken_by (here n) given (told_by_judged (here n) (take 16 bytes) (by_header (file (place.Header format)) format (head_in format.order (take 16 bytes)))) (λ next. onward (given + 16) next (drop 16 bytes))
   header-piece n given bytes long counts =
       let one : 1 ≤ 16 = omega arith in
       pieces-cut json_work (here n) given bytes (omega (arith, long)) one
@@ -104,12 +104,12 @@ module _ (format : Format) where
 
   -- a record without bytes is made by its header alone
   none-judged : (n : ℕ) (piece : List ℕ) (head : RecordHeader) → head.captured ≡ 0
-      → by_judged (here n) piece (by_header (file (place.Header format)) format head) ≡ Goes (Some (told n head [])) (here (one_more n))
+      → told_by_judged (here n) piece (by_header (file (place.Header format)) format head) ≡ Goes (Some (told n head [])) (here (one_more n))
   none-judged n piece head none = rw none refl
 
   -- and otherwise its bytes are the next piece
   some-judged : (n : ℕ) (piece : List ℕ) (head : RecordHeader) → 1 ≤ head.captured → head.captured ≤ 262144
-      → by_judged (here n) piece (by_header (file (place.Header format)) format head) ≡ Goes None (inside head n)
+      → told_by_judged (here n) piece (by_header (file (place.Header format)) format head) ≡ Goes None (inside head n)
   some-judged n piece head some fits =
       let short : nat_lt 262144 head.captured ≡ false = le-ltb 262144 head.captured fits in
       let other : (head.captured == 0) ≡ false = grind (arith, nat_tests) in
@@ -207,10 +207,10 @@ module _ (format : Format) where
 
   -- the file header begins the capture
   start-judged : (piece : List ℕ) → any_format piece ≡ Ok format → (ordered_number_at Big 0 4 piece == section_block) ≡ false
-      → by_judged first_telling piece (by_start first_file piece) ≡ Goes None (here 0)
+      → told_by_judged first_telling piece (by_start first_file piece) ≡ Goes None (here 0)
   start-judged piece taken other =
-      ap (λ (is : Bool). by_judged first_telling piece (if is then by_section first_file piece (section_order piece) else by_format first_file (any_format piece))) other
-      ∙ ap (λ (r : Result Format PieceFault). by_judged first_telling piece (by_format first_file r)) taken
+      ap (λ (is : Bool). told_by_judged first_telling piece (if is then by_section first_file piece (section_order piece) else by_format first_file (any_format piece))) other
+      ∙ ap (λ (r : Result Format PieceFault). told_by_judged first_telling piece (by_format first_file r)) taken
 
   input-begun : (input : List ℕ) → IsTaken input format → json_pieces input ≡ in_front [] (onward 24 (here 0) (drop 24 input))
   input-begun input is =

@@ -10,7 +10,7 @@ use Rattle.bridge_records.specs.declared.found.Found.{Found}
 use Rattle.bridge_records.specs.declared.found.Found.TheVariants as found
 use Rattle.bridge_unwrap.specs.Links.{ip_start}
 use Rattle.bridge_unwrap.specs.Unwrapping.{CapturePart, UnwrapState, by_judged as unwrap_by, unwrap_work, unwrapped, unwrapped_at, unwrapped_entry, unwrapped_pieces, unwrapping_at}
-use Rattle.bridge_json.specs.Telling.{JsonState, by_judged as json_by, json_pieces, json_work, numbered_entry, telling_at}
+use Rattle.bridge_json.specs.Telling.{JsonState, told_by_judged as json_by, json_pieces, json_work, numbered_entry, telling_at}
 use Rattle.bridge_json.specs.Together.{records_among}
 use Rattle.dccp_io.specs.Counts.{one_more}
 

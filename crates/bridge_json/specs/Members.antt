@@ -7,28 +7,28 @@ use Rattle.bridge_json.specs.declared.objects.Object.{Object}
 use Rattle.bridge_json.specs.declared.objects.Texts.{Texts}
 
 -- the members that an object has
-abbrev pub seen : Object → Members
-seen o = members_view o.members.entries
+abbrev pub members_seen : Object → Members
+members_seen o = members_view o.members.entries
 
 -- what a list of texts holds
 abbrev pub listed : Texts → List Data
 listed t = map view t.texts.items
 
 -- the members with a number of this name
-abbrev pub with_number : List ℕ → ℕ → Members → Members
-with_number name n members = put name (number (unsigned n)) members
+abbrev pub with_number_named : List ℕ → ℕ → Members → Members
+with_number_named name n members = put name (number (unsigned n)) members
 
 -- the same with a text
-abbrev pub with_text : List ℕ → List ℕ → Members → Members
-with_text name text members = put name (string text) members
+abbrev pub with_text_named : List ℕ → List ℕ → Members → Members
+with_text_named name text members = put name (string text) members
 
 -- the same with true or false
-abbrev pub with_truth : List ℕ → Bool → Members → Members
-with_truth name is members = put name (boolean is) members
+abbrev pub with_truth_named : List ℕ → Bool → Members → Members
+with_truth_named name is members = put name (boolean is) members
 
 -- the same with a list
-abbrev pub with_list : List ℕ → List Data → Members → Members
-with_list name items members = put name (array (items_of items)) members
+abbrev pub with_list_named : List ℕ → List Data → Members → Members
+with_list_named name items members = put name (array (items_of items)) members
 
 -- an object on a line of its own, without spaces
 abbrev pub object_line : Members → List ℕ

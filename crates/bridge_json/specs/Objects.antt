@@ -18,7 +18,7 @@ use Rattle.packet_show.specs.Text.{from_text, mark_text, option_text, to_text}
 use Rattle.tool_text.specs.Names.{malformed_name}
 use Rattle.bridge_unwrap.specs.Links.{ip_bytes}
 use Rattle.bridge_json.specs.Judging.{HoldsMalformed, HoldsNone, HoldsPacket, Judged, judged_ip}
-use Rattle.bridge_json.specs.Members.{object_line, with_list, with_number, with_text, with_truth}
+use Rattle.bridge_json.specs.Members.{object_line, with_list_named, with_number_named, with_text_named, with_truth_named}
 use Rattle.bridge_json.specs.Skips.{skip_name}
 
 -- the fraction of a time in nanoseconds
@@ -28,43 +28,43 @@ nanoseconds_of nanos fraction = if nanos then fraction else fraction * 1000
 -- a record's number, its time, its link type, and how many bytes it had there
 abbrev pub with_stamp : RecordParts → Members → Members
 with_stamp e members =
-    with_number (codes "length") e.original (with_number (codes "link") e.link
-    (with_number (codes "nanoseconds") (nanoseconds_of e.nanos e.fraction) (with_number (codes "seconds") e.seconds (with_number (codes "record") e.number members))))
+    with_number_named (codes "length") e.original (with_number_named (codes "link") e.link
+    (with_number_named (codes "nanoseconds") (nanoseconds_of e.nanos e.fraction) (with_number_named (codes "seconds") e.seconds (with_number_named (codes "record") e.number members))))
 
 -- the addresses that a packet goes from and to
 abbrev pub with_addresses : DatagramParts → Members → Members
-with_addresses there members = with_text (codes "destination") (to_text there.pseudo) (with_text (codes "source") (from_text there.pseudo) members)
+with_addresses there members = with_text_named (codes "destination") (to_text there.pseudo) (with_text_named (codes "source") (from_text there.pseudo) members)
 
 -- the same with the ports
 abbrev pub with_ends : DatagramParts → Header → Members → Members
 with_ends there header members =
-    with_number (codes "destination_port") header.to (with_number (codes "source_port") header.from (with_addresses there members))
+    with_number_named (codes "destination_port") header.to (with_number_named (codes "source_port") header.from (with_addresses there members))
 
 -- a sequence or acknowledgement number, in the form that it has
-abbrev pub number_of : Number → ℕ
-number_of (Long n) = n
-number_of (Short n) = n
+abbrev pub number_in_form : Number → ℕ
+number_in_form (Long n) = n
+number_in_form (Short n) = n
 
 -- the fields of the generic header (RFC 4340, section 5.1)
-abbrev pub with_header : Header → Members → Members
-with_header header members =
-    with_number (codes "checksum") header.checksum (with_number (codes "cscov") header.cscov (with_number (codes "ccval") header.ccval
-    (with_truth (codes "short") (not (is_long header.number)) (with_number (codes "sequence") (number_of header.number)
-    (with_text (codes "type") (type_name (packet_type header.kind)) members)))))
+abbrev pub with_header_fields : Header → Members → Members
+with_header_fields header members =
+    with_number_named (codes "checksum") header.checksum (with_number_named (codes "cscov") header.cscov (with_number_named (codes "ccval") header.ccval
+    (with_truth_named (codes "short") (not (is_long header.number)) (with_number_named (codes "sequence") (number_in_form header.number)
+    (with_text_named (codes "type") (type_name (packet_type header.kind)) members)))))
 
 -- the acknowledgement number
 abbrev pub with_ack : Number → Members → Members
-with_ack ack members = with_number (codes "acknowledgement") (number_of ack) members
+with_ack ack members = with_number_named (codes "acknowledgement") (number_in_form ack) members
 
 -- the Service Code
 abbrev pub with_service : ℕ → Members → Members
-with_service service members = with_number (codes "service_code") service members
+with_service service members = with_number_named (codes "service_code") service members
 
 -- the Reset Code, and Data 1 to 3
 abbrev pub with_code : ℕ → List ℕ → Members → Members
 with_code code detail members =
-    with_number (codes "data_3") (slice_index detail 2) (with_number (codes "data_2") (slice_index detail 1)
-    (with_number (codes "data_1") (slice_index detail 0) (with_number (codes "reset_code") code members)))
+    with_number_named (codes "data_3") (slice_index detail 2) (with_number_named (codes "data_2") (slice_index detail 1)
+    (with_number_named (codes "data_1") (slice_index detail 0) (with_number_named (codes "reset_code") code members)))
 
 -- what a type alone carries (RFC 4340, sections 5.2 to 5.7)
 abbrev pub with_kind : Kind → Members → Members
@@ -91,7 +91,7 @@ option_values items = map (λ item. string (option_words item)) items
 -- the options, of which some are ignored on Data packets
 abbrev pub with_options : Parts → Members → Members
 with_options packet members =
-    with_list (codes "options") (option_values (options_of packet.options (is_data (packet_type packet.header.kind)))) members
+    with_list_named (codes "options") (option_values (options_of packet.options (is_data (packet_type packet.header.kind)))) members
 
 -- the verdict on the checksum; it is unknown where bytes are missing
 abbrev pub verdict_name : DatagramParts → List ℕ
@@ -99,18 +99,18 @@ verdict_name there = if there.whole then sum_name (checked there.pseudo there.by
 
 -- how many bytes of data are there, and the verdict on the checksum
 abbrev pub with_rest : DatagramParts → Parts → Members → Members
-with_rest there packet members = with_text (codes "verdict") (verdict_name there) (with_number (codes "data") (length packet.payload) members)
+with_rest there packet members = with_text_named (codes "verdict") (verdict_name there) (with_number_named (codes "data") (length packet.payload) members)
 
 -- a packet: its ends, its header, what its type alone carries, its options, and the rest
-abbrev pub with_packet : DatagramParts → Parts → Members → Members
-with_packet there packet members =
-    with_rest there packet (with_options packet (with_kind packet.header.kind (with_header packet.header (with_ends there packet.header members))))
+abbrev pub with_packet_fields : DatagramParts → Parts → Members → Members
+with_packet_fields there packet members =
+    with_rest there packet (with_options packet (with_kind packet.header.kind (with_header_fields packet.header (with_ends there packet.header members))))
 
 -- what a record holds: a packet, why its bytes are none, or why it is skipped
 abbrev pub with_judged : Judged → Members → Members
-with_judged (HoldsPacket there packet) members = with_packet there packet members
-with_judged (HoldsMalformed why) members = with_text (codes "malformed") (malformed_name why) members
-with_judged (HoldsNone why) members = with_text (codes "skipped") (skip_name why) members
+with_judged (HoldsPacket there packet) members = with_packet_fields there packet members
+with_judged (HoldsMalformed why) members = with_text_named (codes "malformed") (malformed_name why) members
+with_judged (HoldsNone why) members = with_text_named (codes "skipped") (skip_name why) members
 
 -- The object of a record.
 unfoldable pub record_members : RecordParts → Members

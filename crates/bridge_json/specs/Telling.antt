@@ -8,7 +8,7 @@ use Rattle.bridge_records.specs.Reading.{FileState, bytes_held, file_judged, fir
 use Rattle.bridge_records.specs.declared.found.Found.{Found}
 use Rattle.bridge_records.specs.declared.found.Found.TheVariants as found
 use Rattle.bridge_unwrap.specs.Unwrapping.{piece_fault_name}
-use Rattle.bridge_json.specs.Members.{object_line, with_number, with_text}
+use Rattle.bridge_json.specs.Members.{object_line, with_number_named, with_text_named}
 use Rattle.bridge_json.specs.Objects.{record_line}
 use Rattle.dccp_io.specs.Counts.{one_more}
 use Rattle.serde_json.specs.Data.{Members, no_members}
@@ -33,20 +33,20 @@ numbered_entry number nanos link head bytes =
     record { number = number; seconds = head.seconds; fraction = head.fraction; nanos = nanos; link = link; original = head.original; bytes = bytes }
 
 -- what a piece holds: a record is one more, and is told
-abbrev pub by_found : JsonState → List ℕ → FileState → Option Found → Judgement RecordParts JsonState
-by_found state piece next None = Goes None (telling_at next state.nanos state.records)
-by_found state piece next (Some (found.Begins nanos)) = Goes None (telling_at next nanos state.records)
-by_found state piece next (Some (found.Holds link head start)) =
+abbrev pub told_by_found : JsonState → List ℕ → FileState → Option Found → Judgement RecordParts JsonState
+told_by_found state piece next None = Goes None (telling_at next state.nanos state.records)
+told_by_found state piece next (Some (found.Begins nanos)) = Goes None (telling_at next nanos state.records)
+told_by_found state piece next (Some (found.Holds link head start)) =
     Goes (Some (numbered_entry (one_more state.records) state.nanos link head (bytes_held head start piece))) (telling_at next state.nanos (one_more state.records))
 
 -- what a piece comes to, by what it is in the capture that is read
-abbrev pub by_judged : JsonState → List ℕ → Judgement Found FileState → Judgement RecordParts JsonState
-by_judged state piece (Stops fault) = Stops fault
-by_judged state piece (Goes deed next) = by_found state piece next deed
+abbrev pub told_by_judged : JsonState → List ℕ → Judgement Found FileState → Judgement RecordParts JsonState
+told_by_judged state piece (Stops fault) = Stops fault
+told_by_judged state piece (Goes deed next) = told_by_found state piece next deed
 
 -- the object of a fault, with how many records stand before it
 abbrev pub fault_members : ℕ → PieceFault → Members
-fault_members records fault = with_text (codes "fault") (piece_fault_name fault) (with_number (codes "records") records no_members)
+fault_members records fault = with_text_named (codes "fault") (piece_fault_name fault) (with_number_named (codes "records") records no_members)
 
 -- what stands behind the last record: nothing, or the line of the fault
 abbrev pub json_closing : ℕ → Option PieceFault → List ℕ
@@ -58,7 +58,7 @@ abbrev pub json_work : PieceWork RecordParts JsonState
 json_work = record {
   wanted = λ s. next_length s.file.place;
   may_end = λ s. is_between s.file.place;
-  judged = λ s piece. by_judged s piece (file_judged s.file piece);
+  judged = λ s piece. told_by_judged s piece (file_judged s.file piece);
   told = record_line;
   closing = λ s end. json_closing s.records end;
 }

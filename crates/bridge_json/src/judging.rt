@@ -3,7 +3,7 @@ ghost use Rattle.std.specs.Prelude.{◌≡◌, ◌++◌, IfOk, OnOk};
 ghost use Rattle.capture_reader.specs.Records.{entry_of};
 ghost use Rattle.bridge_unwrap.specs.Links.{ip_bytes};
 ghost use Rattle.bridge_json.specs.Judging.{HoldsNone, judged_fault, judged_ip};
-ghost use Rattle.bridge_json.specs.Members.{seen};
+ghost use Rattle.bridge_json.specs.Members.{members_seen};
 ghost use Rattle.bridge_json.specs.Objects.{nanoseconds_of, record_line, record_members, with_judged, with_stamp};
 
 use crate::objects::Object;
@@ -32,7 +32,7 @@ fn nanoseconds_of(nanos: bool, fraction: u32) -> u64
 
 // Puts a record's number, its time, its link type, and how many bytes it had there.
 fn put_stamp(object: &mut Object, item: &Record<'_>) -> Result<(), NoMemory>
-    ensures { OnOk result (seen object.new ≡ with_stamp (entry_of item.now) (seen object.old)) }
+    ensures { OnOk result (members_seen object.new ≡ with_stamp (entry_of item.now) (members_seen object.old)) }
 {
     object.number("record", item.number)?;
     object.number("seconds", u64::from(item.seconds))?;
@@ -52,14 +52,14 @@ fn ip_bytes<'a>(link: u32, bytes: &'a [u8]) -> &'a [u8]
 }
 
 fn put_skip(object: &mut Object, skip: Skip) -> Result<(), NoMemory>
-    ensures { OnOk result (seen object.new ≡ with_judged (HoldsNone skip) (seen object.old)) }
+    ensures { OnOk result (members_seen object.new ≡ with_judged (HoldsNone skip) (members_seen object.old)) }
 {
     object.text("skipped", skip_name(skip))
 }
 
 // Puts why bytes are no packet, or that bytes are missing.
 fn put_fault(object: &mut Object, whole: bool, fault: Malformed) -> Result<(), NoMemory>
-    ensures { OnOk result (seen object.new ≡ with_judged (judged_fault whole fault) (seen object.old)) }
+    ensures { OnOk result (members_seen object.new ≡ with_judged (judged_fault whole fault) (members_seen object.old)) }
 {
     if whole {
         return object.text("malformed", malformed_name(fault));
@@ -69,7 +69,7 @@ fn put_fault(object: &mut Object, whole: bool, fault: Malformed) -> Result<(), N
 
 // Puts what an IP packet holds.
 fn put_judged(object: &mut Object, ip: &[u8]) -> Result<(), NoMemory>
-    ensures { OnOk result (seen object.new ≡ with_judged (judged_ip ip.now) (seen object.old)) }
+    ensures { OnOk result (members_seen object.new ≡ with_judged (judged_ip ip.now) (members_seen object.old)) }
 {
     let Some(there) = carried(RAW_IP, ip) else {
         return put_skip(object, ip_skip(ip));
@@ -83,7 +83,7 @@ fn put_judged(object: &mut Object, ip: &[u8]) -> Result<(), NoMemory>
 // The object of a record.
 #[tactic(auto, unfolding(crate::specs::Objects::record_members))]
 fn object_of(alloc: Global, item: &Record<'_>) -> Result<Object, NoMemory>
-    ensures { IfOk result (λ o. seen o ≡ record_members (entry_of item.now)) }
+    ensures { IfOk result (λ o. members_seen o ≡ record_members (entry_of item.now)) }
 {
     let mut object = Object::new(alloc);
     put_stamp(&mut object, item)?;

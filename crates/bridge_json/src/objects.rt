@@ -3,7 +3,7 @@ ghost use Rattle.std.specs.Prelude.{◌≡◌, ◌++◌, [], ◌∷◌, false, I
 ghost use Rattle.serde_json.specs.Data.{no_members, string, put as with_member};
 ghost use Rattle.serde_json.specs.Written.{members_have_float};
 ghost use Rattle.serde_json.specs.View.{view};
-ghost use Rattle.bridge_json.specs.Members.{listed, object_line, seen, with_list, with_number, with_text, with_truth};
+ghost use Rattle.bridge_json.specs.Members.{listed, object_line, members_seen, with_list_named, with_number_named, with_text_named, with_truth_named};
 
 use seq_circle::NoMemory;
 use serde_json::{Map, Value, push, put};
@@ -59,7 +59,7 @@ impl Texts {
 impl Object {
     /// An object without members.
     pub(crate) fn new(alloc: Global) -> Object
-        ensures { seen result ≡ no_members }
+        ensures { members_seen result ≡ no_members }
     {
         Object {
             alloc,
@@ -69,7 +69,7 @@ impl Object {
 
     // Puts a value under this name.
     fn put(&mut self, name: &str, value: Value) -> Result<(), NoMemory>
-        ensures { OnOk result (seen self.new ≡ with_member name.now (view value) (seen self.old)) }
+        ensures { OnOk result (members_seen self.new ≡ with_member name.now (view value) (members_seen self.old)) }
     {
         put(&mut self.members, self.alloc, name, value)?;
         Ok(())
@@ -77,21 +77,21 @@ impl Object {
 
     /// Puts a number under this name.
     pub(crate) fn number(&mut self, name: &str, number: u64) -> Result<(), NoMemory>
-        ensures { OnOk result (seen self.new ≡ with_number name.now number (seen self.old)) }
+        ensures { OnOk result (members_seen self.new ≡ with_number_named name.now number (members_seen self.old)) }
     {
         self.put(name, Value::from(number))
     }
 
     /// Puts true or false under this name.
     pub(crate) fn truth(&mut self, name: &str, is: bool) -> Result<(), NoMemory>
-        ensures { OnOk result (seen self.new ≡ with_truth name.now is (seen self.old)) }
+        ensures { OnOk result (members_seen self.new ≡ with_truth_named name.now is (members_seen self.old)) }
     {
         self.put(name, Value::Bool(is))
     }
 
     /// Puts a text under this name.
     pub(crate) fn text(&mut self, name: &str, text: &[u8]) -> Result<(), NoMemory>
-        ensures { OnOk result (seen self.new ≡ with_text name.now text.now (seen self.old)) }
+        ensures { OnOk result (members_seen self.new ≡ with_text_named name.now text.now (members_seen self.old)) }
     {
         let value = text_value(self.alloc, text)?;
         self.put(name, value)
@@ -99,15 +99,15 @@ impl Object {
 
     /// Puts a list of texts under this name.
     pub(crate) fn texts(&mut self, name: &str, list: Texts) -> Result<(), NoMemory>
-        ensures { OnOk result (seen self.new ≡ with_list name.now (listed list) (seen self.old)) }
+        ensures { OnOk result (members_seen self.new ≡ with_list_named name.now (listed list) (members_seen self.old)) }
     {
         self.put(name, Value::Array(list.texts))
     }
 
     /// Puts the object, which has no number that is a float, on a line of its own at the text's end.
     pub(crate) fn put_line(self, text: &mut Vec<u8>) -> Result<(), NoMemory>
-        requires { members_have_float (seen self) ≡ false }
-        ensures { OnOk result (text.new.items ≡ text.old.items ++ object_line (seen self)) }
+        requires { members_have_float (members_seen self) ≡ false }
+        ensures { OnOk result (text.new.items ≡ text.old.items ++ object_line (members_seen self)) }
     {
         let line = Value::Object(self.members).to_vec(self.alloc)?;
         put_bytes(text, &line)?;

@@ -6,8 +6,8 @@ ghost use Rattle.dccp_packets.specs.declared.header.Number.TheVariants.{Long};
 ghost use Rattle.packet_show.specs.Lines.{parts_by};
 ghost use Rattle.packet_show.specs.Network.{carried_by};
 ghost use Rattle.serde_json.specs.Data.{string};
-ghost use Rattle.bridge_json.specs.Members.{listed, seen};
-ghost use Rattle.bridge_json.specs.Objects.{number_of, option_values, option_words, verdict_name, with_ack, with_addresses, with_code, with_ends, with_header, with_kind, with_options, with_packet, with_rest, with_service};
+ghost use Rattle.bridge_json.specs.Members.{listed, members_seen};
+ghost use Rattle.bridge_json.specs.Objects.{number_in_form, option_values, option_words, verdict_name, with_ack, with_addresses, with_code, with_ends, with_header_fields, with_kind, with_options, with_packet_fields, with_rest, with_service};
 
 use crate::objects::{Object, Texts};
 use dccp_options::{Opt, OptFault, options};
@@ -20,7 +20,7 @@ use tool_text::put;
 
 // Puts the addresses that a packet goes from and to.
 fn put_addresses(object: &mut Object, there: &Datagram<'_>) -> Result<(), NoMemory>
-    ensures { OnOk result (seen object.new ≡ with_addresses (carried_by there.now) (seen object.old)) }
+    ensures { OnOk result (members_seen object.new ≡ with_addresses (carried_by there.now) (members_seen object.old)) }
 {
     let mut source = Vec::new(object.alloc);
     put_from(&mut source, &there.pseudo)?;
@@ -36,15 +36,15 @@ fn put_ends(
     there: &Datagram<'_>,
     header: &Header,
 ) -> Result<(), NoMemory>
-    ensures { OnOk result (seen object.new ≡ with_ends (carried_by there.now) header.now (seen object.old)) }
+    ensures { OnOk result (members_seen object.new ≡ with_ends (carried_by there.now) header.now (members_seen object.old)) }
 {
     put_addresses(object, there)?;
     object.number("source_port", u64::from(header.from))?;
     object.number("destination_port", u64::from(header.to))
 }
 
-fn number_of(number: Number) -> u64
-    ensures { result ≡ number_of number }
+fn number_in_form(number: Number) -> u64
+    ensures { result ≡ number_in_form number }
 {
     match number {
         Number::Long(number) => number.get(),
@@ -54,10 +54,10 @@ fn number_of(number: Number) -> u64
 
 // Puts the fields of the generic header.
 fn put_header(object: &mut Object, header: &Header) -> Result<(), NoMemory>
-    ensures { OnOk result (seen object.new ≡ with_header header.now (seen object.old)) }
+    ensures { OnOk result (members_seen object.new ≡ with_header_fields header.now (members_seen object.old)) }
 {
     object.text("type", type_name(header.kind.packet_type()))?;
-    object.number("sequence", number_of(header.number))?;
+    object.number("sequence", number_in_form(header.number))?;
     object.truth("short", matches!(header.number, Number::Short(_)))?;
     object.number("ccval", u64::from(header.ccval))?;
     object.number("cscov", u64::from(header.cscov))?;
@@ -65,26 +65,26 @@ fn put_header(object: &mut Object, header: &Header) -> Result<(), NoMemory>
 }
 
 fn put_ack(object: &mut Object, ack: Number) -> Result<(), NoMemory>
-    ensures { OnOk result (seen object.new ≡ with_ack ack (seen object.old)) }
+    ensures { OnOk result (members_seen object.new ≡ with_ack ack (members_seen object.old)) }
 {
-    object.number("acknowledgement", number_of(ack))
+    object.number("acknowledgement", number_in_form(ack))
 }
 
 fn put_long_ack(object: &mut Object, ack: Seq48) -> Result<(), NoMemory>
-    ensures { OnOk result (seen object.new ≡ with_ack (Long ack) (seen object.old)) }
+    ensures { OnOk result (members_seen object.new ≡ with_ack (Long ack) (members_seen object.old)) }
 {
     put_ack(object, Number::Long(ack))
 }
 
 fn put_service(object: &mut Object, service: u32) -> Result<(), NoMemory>
-    ensures { OnOk result (seen object.new ≡ with_service service (seen object.old)) }
+    ensures { OnOk result (members_seen object.new ≡ with_service service (members_seen object.old)) }
 {
     object.number("service_code", u64::from(service))
 }
 
 // Puts the Reset Code, and Data 1 to 3.
 fn put_code(object: &mut Object, code: u8, detail: [u8; 3]) -> Result<(), NoMemory>
-    ensures { OnOk result (seen object.new ≡ with_code code detail (seen object.old)) }
+    ensures { OnOk result (members_seen object.new ≡ with_code code detail (members_seen object.old)) }
 {
     object.number("reset_code", u64::from(code))?;
     object.number("data_1", u64::from(detail[0]))?;
@@ -94,7 +94,7 @@ fn put_code(object: &mut Object, code: u8, detail: [u8; 3]) -> Result<(), NoMemo
 
 // Puts what a type alone carries.
 fn put_kind(object: &mut Object, kind: &Kind) -> Result<(), NoMemory>
-    ensures { OnOk result (seen object.new ≡ with_kind kind.now (seen object.old)) }
+    ensures { OnOk result (members_seen object.new ≡ with_kind kind.now (members_seen object.old)) }
 {
     match *kind {
         Kind::Request { service } => put_service(object, service),
@@ -156,7 +156,7 @@ fn options_in(alloc: Global, area: &[u8], on_data: bool) -> Result<Texts, NoMemo
 // Puts the options, of which some are ignored on Data packets.
 fn put_options(object: &mut Object, packet: &Packet<'_>) -> Result<(), NoMemory>
     requires { length packet.now.options.now ≤ 1008 }
-    ensures { OnOk result (seen object.new ≡ with_options (parts_by packet.now) (seen object.old)) }
+    ensures { OnOk result (members_seen object.new ≡ with_options (parts_by packet.now) (members_seen object.old)) }
 {
     let on_data = packet.header.kind.packet_type().is_data();
     let texts = options_in(object.alloc, packet.options, on_data)?;
@@ -183,7 +183,7 @@ fn put_rest(
 ) -> Result<(), NoMemory>
     requires low { 8 ≤ length there.now.bytes.now }
     requires high { length there.now.bytes.now ≤ 65535 }
-    ensures { OnOk result (seen object.new ≡ with_rest (carried_by there.now) (parts_by packet.now) (seen object.old)) }
+    ensures { OnOk result (members_seen object.new ≡ with_rest (carried_by there.now) (parts_by packet.now) (members_seen object.old)) }
 {
     object.number("data", packet.payload.len() as u64)?;
     object.text("verdict", verdict_name(there))
@@ -198,7 +198,7 @@ pub(crate) fn put_packet(
     requires low { 8 ≤ length there.now.bytes.now }
     requires high { length there.now.bytes.now ≤ 65535 }
     requires options { length packet.now.options.now ≤ 1008 }
-    ensures { OnOk result (seen object.new ≡ with_packet (carried_by there.now) (parts_by packet.now) (seen object.old)) }
+    ensures { OnOk result (members_seen object.new ≡ with_packet_fields (carried_by there.now) (parts_by packet.now) (members_seen object.old)) }
 {
     put_ends(object, there, &packet.header)?;
     put_header(object, &packet.header)?;
