@@ -40,21 +40,21 @@ abbrev pub with_ends : DatagramParts → Header → Members → Members
 with_ends there header members =
     with_number_named (codes "destination_port") header.to (with_number_named (codes "source_port") header.from (with_addresses there members))
 
--- a sequence or acknowledgement number, in the form that it has
-abbrev pub number_in_form : Number → ℕ
-number_in_form (Long n) = n
-number_in_form (Short n) = n
+-- a sequence or acknowledgement number, as many of its bits as are written
+abbrev pub number_written : Number → ℕ
+number_written (Long n) = n
+number_written (Short n) = n
 
 -- the fields of the generic header (RFC 4340, section 5.1)
 abbrev pub with_header_fields : Header → Members → Members
 with_header_fields header members =
     with_number_named (codes "checksum") header.checksum (with_number_named (codes "cscov") header.cscov (with_number_named (codes "ccval") header.ccval
-    (with_truth_named (codes "short") (not (is_long header.number)) (with_number_named (codes "sequence") (number_in_form header.number)
+    (with_truth_named (codes "short") (not (is_long header.number)) (with_number_named (codes "sequence") (number_written header.number)
     (with_text_named (codes "type") (type_name (packet_type header.kind)) members)))))
 
 -- the acknowledgement number
 abbrev pub with_ack : Number → Members → Members
-with_ack ack members = with_number_named (codes "acknowledgement") (number_in_form ack) members
+with_ack ack members = with_number_named (codes "acknowledgement") (number_written ack) members
 
 -- the Service Code
 abbrev pub with_service : ℕ → Members → Members

@@ -7,7 +7,7 @@ ghost use Rattle.packet_show.specs.Lines.{parts_by};
 ghost use Rattle.packet_show.specs.Network.{carried_by};
 ghost use Rattle.serde_json.specs.Data.{string};
 ghost use Rattle.bridge_json.specs.Members.{listed, members_seen};
-ghost use Rattle.bridge_json.specs.Objects.{number_in_form, option_values, option_words, verdict_name, with_ack, with_addresses, with_code, with_ends, with_header_fields, with_kind, with_options, with_packet_fields, with_rest, with_service};
+ghost use Rattle.bridge_json.specs.Objects.{number_written, option_values, option_words, verdict_name, with_ack, with_addresses, with_code, with_ends, with_header_fields, with_kind, with_options, with_packet_fields, with_rest, with_service};
 
 use crate::objects::{Object, Texts};
 use dccp_options::{Opt, OptFault, options};
@@ -43,8 +43,8 @@ fn put_ends(
     object.number("destination_port", u64::from(header.to))
 }
 
-fn number_in_form(number: Number) -> u64
-    ensures { result ≡ number_in_form number }
+fn number_written(number: Number) -> u64
+    ensures { result ≡ number_written number }
 {
     match number {
         Number::Long(number) => number.get(),
@@ -57,7 +57,7 @@ fn put_header(object: &mut Object, header: &Header) -> Result<(), NoMemory>
     ensures { OnOk result (members_seen object.new ≡ with_header_fields header.now (members_seen object.old)) }
 {
     object.text("type", type_name(header.kind.packet_type()))?;
-    object.number("sequence", number_in_form(header.number))?;
+    object.number("sequence", number_written(header.number))?;
     object.truth("short", matches!(header.number, Number::Short(_)))?;
     object.number("ccval", u64::from(header.ccval))?;
     object.number("cscov", u64::from(header.cscov))?;
@@ -67,7 +67,7 @@ fn put_header(object: &mut Object, header: &Header) -> Result<(), NoMemory>
 fn put_ack(object: &mut Object, ack: Number) -> Result<(), NoMemory>
     ensures { OnOk result (members_seen object.new ≡ with_ack ack (members_seen object.old)) }
 {
-    object.number("acknowledgement", number_in_form(ack))
+    object.number("acknowledgement", number_written(ack))
 }
 
 fn put_long_ack(object: &mut Object, ack: Seq48) -> Result<(), NoMemory>
