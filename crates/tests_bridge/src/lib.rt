@@ -9,4 +9,6 @@ mod calls;
 #[cfg(test)]
 mod captures;
 #[cfg(test)]
+mod objects;
+#[cfg(test)]
 mod unwraps;
