@@ -1,8 +1,8 @@
 /* One end of a DCCP connection (RFC 4340) with CCID 2 (RFC 4341) and feature negotiation, and a server of many peers.
  *
  * The library has no socket, no clock and no thread. Datagrams that arrived and the time go in, and each call leaves at most
- * one frame, which the caller sends to the peer. It takes memory in dccp_make, dccp_accept and dccp_listener_make, and where a
- * listener has a flow more.
+ * one frame, which the caller sends to the peer. It takes memory in dccp_make, dccp_accept and dccp_listener_make, and in
+ * dccp_listener_arrive from a peer that has no flow, which gives it back where none is opened.
  *
  * Order of calls: begin a handle with DCCP_NONE; a client makes an end in it and opens it, a server lets dccp_accept make it of
  * a peer's first datagram. From then on dccp_receive for each datagram, dccp_tick as soon as dccp_until_first has gone by,
@@ -290,7 +290,7 @@ void dccp_listener_free(dccp_listener *listener);
 
 /* A datagram has come from this peer. Its flow hears it, or it opens one, if it is a Request that a server's end takes up: that has
  * `first_number` as the number of its first packet, below 2^48, which nobody can guess; draw one for each datagram, or for each whose peer has
- * no flow. DCCP_OK, and what became of it in `told`; a flow ends here where its phase is DCCP_CLOSED. DCCP_BUSY: it would open one flow more than
+ * no flow. DCCP_OK, and what became of it in `told`; a flow that has ended by it is there no more. DCCP_BUSY: it would open one flow more than
  * may stand; nothing has changed, and the frame is a Reset with code 9, Too Busy. Then the owner may close or abort a flow to make room, or
  * let the peer ask again. DCCP_NO_MEMORY, DCCP_UNKNOWN for the number, DCCP_TOO_LONG over 2,044 bytes, DCCP_NOT_MADE: nothing has changed and
  * nothing is left. But for DCCP_OK `told` is as it was. Anybody may call forth the frame of DCCP_BUSY, and those of DCCP_SYNCED and

@@ -1,28 +1,44 @@
 -- What the words after the second tool's name ask for (own).
-use Rattle.std.specs.Prelude.{◌≡◌, ℕ, Bool, List, [], ◌∷◌, codes, Option, Some, None, if◌then◌else◌, String, string_bytes}
-use Rattle.std.specs.Str.{bytes_eq}
+use Rattle.std.specs.Prelude.{◌≡◌, ℕ, Bool, false, List, [], ◌∷◌, codes, Option, Some, None, option_and_then, if◌then◌else◌, String}
 use Rattle.std.specs.declared.alloc.Global.{Global}
 use Rattle.bridge_command.specs.declared.words.Form.{Form}
 use Rattle.bridge_command.specs.declared.words.Form.TheVariants as form
+use Rattle.tool_forms.specs.BridgeWords.{IsRunWithinBounds, seed_run_of}
+use Rattle.tool_forms.specs.Words.{is_word}
+use Rattle.tool_forms.specs.declared.bridge_words.SeedRun.{SeedRun}
 
--- A word is this text.
-abbrev pub is_word : String Global → List ℕ → Bool
-is_word word text = bytes_eq (string_bytes word) text
+-- No word may follow `capture` and `unwrap`.
+abbrev pub stands_alone : Form → List (String Global) → Option Form
+stands_alone form [] = Some form
+stands_alone form (word ∷ words) = None
 
--- The form that a word is.
-abbrev pub named_form : String Global → Option Form
-named_form word =
-    if is_word word (codes "unwrap") then Some form.Unwrap else if is_word word (codes "capture") then Some form.Capture else None
+-- The words behind `seed`.
+abbrev pub asked_seed : List (String Global) → Option Form
+asked_seed words = option_and_then (λ run. Some (form.Seed run)) (seed_run_of words)
 
--- The form that the words have: one of its names, alone.
-abbrev pub asked_form : List (String Global) → Option Form
+-- The form that the words have: `capture`, `unwrap` or `seed`.
+unfoldable pub asked_form : List (String Global) → Option Form
 asked_form [] = None
-asked_form (word ∷ []) = named_form word
-asked_form (word ∷ (next ∷ words)) = None
+asked_form (first ∷ words) =
+    if is_word first (codes "capture") then stands_alone form.Capture words
+    else if is_word first (codes "unwrap") then stands_alone form.Unwrap words
+    else if is_word first (codes "seed") then asked_seed words
+    else None
+
+-- the numbers of a form are within their bounds
+abbrev pub IsBridgeFormWithinBounds : Form → Type 0
+IsBridgeFormWithinBounds form.Capture = Unit {0}
+IsBridgeFormWithinBounds form.Unwrap = Unit {0}
+IsBridgeFormWithinBounds (form.Seed run) = IsRunWithinBounds run
+
+-- Only the words behind `seed` are settings.
+abbrev pub has_bridge_settings : List (String Global) → Bool
+has_bridge_settings [] = false
+has_bridge_settings (first ∷ words) = is_word first (codes "seed")
 
 -- The line that answers all other words.
 abbrev pub bridge_usage : List ℕ
-bridge_usage = codes "usage: dccp_bridge unwrap | capture\n"
+bridge_usage = codes "usage: dccp_bridge capture | unwrap | seed --seed S --events E\n"
 
 -- For `capture`, over a source that tells its bytes, something holds of them.
 abbrev pub OnCapture : List (String Global) → Option (List ℕ) → (List ℕ → Type 0) → Type 0
@@ -31,3 +47,7 @@ OnCapture words told Holds = asked_form words ≡ Some form.Capture → (bytes :
 -- the same for `unwrap`
 abbrev pub OnUnwrap : List (String Global) → Option (List ℕ) → (List ℕ → Type 0) → Type 0
 OnUnwrap words told Holds = asked_form words ≡ Some form.Unwrap → (bytes : List ℕ) → told ≡ Some bytes → Holds bytes
+
+-- for `seed`, which reads nothing, something holds of the run that is asked for
+abbrev pub OnSeed : List (String Global) → (SeedRun → Type 0) → Type 0
+OnSeed words Holds = (run : SeedRun) → asked_form words ≡ Some (form.Seed run) → Holds run

@@ -1,6 +1,11 @@
 //! What the words after the program's name ask for.
-ghost use Rattle.std.specs.Prelude.{◌≡◌};
-ghost use Rattle.bridge_command.specs.Words.{asked_form, is_word};
+ghost use Rattle.std.specs.Prelude.{◌≡◌, IfOk, IfSome, IsOk, false};
+ghost use Rattle.bridge_command.specs.Words.{IsBridgeFormWithinBounds, asked_form, asked_seed, has_bridge_settings, stands_alone};
+ghost use Rattle.tool_forms.specs.Words.{is_word};
+
+use seq_circle::NoMemory;
+use std::alloc::Global;
+use tool_forms::{SeedRun, seed_run_of};
 
 /// A job of the second tool (own).
 #[derive(Clone, Copy, Debug, PartialEq, Eq)]
@@ -9,10 +14,12 @@ pub enum Form {
     Capture,
     /// `unwrap` makes a capture of raw IP of one of another link type.
     Unwrap,
+    /// `seed` makes a schedule of a campaign's seed.
+    Seed(SeedRun),
 }
 
 /// The line that answers words which are none of the forms (own). It names all forms.
-pub const USAGE: &[u8] = b"usage: dccp_bridge unwrap | capture\n";
+pub const USAGE: &[u8] = b"usage: dccp_bridge capture | unwrap | seed --seed S --events E\n";
 
 fn is_word(word: &String, text: &[u8]) -> bool
     ensures { result ≡ is_word word.now text.now }
@@ -20,14 +27,39 @@ fn is_word(word: &String, text: &[u8]) -> bool
     word.as_bytes() == text
 }
 
-/// The job that these words ask for, those after the program's name, or None where they are none of the forms (own). It
-/// takes no memory.
-pub fn form_of(words: &[String]) -> Option<Form>
-    ensures { result ≡ asked_form words.now }
+// No word may follow.
+fn stands_alone(form: Form, words: &[String]) -> Option<Form>
+    requires { IsBridgeFormWithinBounds form }
+    ensures value { result ≡ stands_alone form words.now }
+    ensures within { IfSome result IsBridgeFormWithinBounds }
+{
+    if words.is_empty() { Some(form) } else { None }
+}
+
+// The job that the words behind `seed` ask for.
+fn asked_seed(alloc: Global, words: &[String]) -> Result<Option<Form>, NoMemory>
+    ensures value { IfOk result (λ form. form ≡ asked_seed words.now) }
+    ensures within { IfOk result (λ form. IfSome form IsBridgeFormWithinBounds) }
+{
+    match seed_run_of(alloc, words)? {
+        Some(run) => Ok(Some(Form::Seed(run))),
+        None => Ok(None),
+    }
+}
+
+/// The job that these words ask for, those after the program's name, or None where they are none of the forms (own).
+/// NoMemory comes only for words behind `seed`, whose settings are read by a command of `clap`, and then says nothing of
+/// them.
+#[tactic(auto, unfolding(crate::specs::Words::asked_form))]
+pub fn form_of(alloc: Global, words: &[String]) -> Result<Option<Form>, NoMemory>
+    ensures value { IfOk result (λ form. form ≡ asked_form words.now) }
+    ensures within { IfOk result (λ form. IfSome form IsBridgeFormWithinBounds) }
+    ensures memory { has_bridge_settings words.now ≡ false → IsOk result }
 {
     match words {
-        [word] if is_word(word, b"unwrap") => Some(Form::Unwrap),
-        [word] if is_word(word, b"capture") => Some(Form::Capture),
-        _ => None,
+        [first, words @ ..] if is_word(first, b"capture") => Ok(stands_alone(Form::Capture, words)),
+        [first, words @ ..] if is_word(first, b"unwrap") => Ok(stands_alone(Form::Unwrap, words)),
+        [first, words @ ..] if is_word(first, b"seed") => asked_seed(alloc, words),
+        _ => Ok(None),
     }
 }

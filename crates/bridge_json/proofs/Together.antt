@@ -32,7 +32,6 @@ record AreSame (made : Taken CapturePart UnwrapState) (told : Taken RecordParts 
 
 module _ (file : FileState) (nanos : Bool) (n given : ℕ) (made : UnwrapState → Taken CapturePart UnwrapState) (told : JsonState → Taken RecordParts JsonState)
     (later : (next : FileState) (nanos : Bool) (n : ℕ) → AreSame (made (unwrapping_at next n)) (told (telling_at next nanos n))) where
-
   -- what a piece holds
   abbrev both : Judgement CapturePart UnwrapState → Judgement RecordParts JsonState → Type 0
   both one other = AreSame (taken_by (unwrapping_at file n) given one made) (taken_by (telling_at file nanos n) given other told)

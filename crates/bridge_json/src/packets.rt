@@ -1,7 +1,8 @@
 //! A packet of DCCP as members of an object (RFC 4340, section 5; the names are own).
-ghost use Rattle.std.specs.Prelude.{◌≡◌, ◌≤◌, ◌++◌, [], ◌∷◌, length, OnOk, IfOk};
+ghost use Rattle.std.specs.Prelude.{◌≡◌, ◌≤◌, ◌++◌, [], ◌∷◌, length, not, OnOk};
 ghost use Rattle.dccp_options.specs.Grammar.{options_of};
 ghost use Rattle.dccp_options.specs.Left.{item_of};
+ghost use Rattle.dccp_packets.specs.Grammar.{is_long};
 ghost use Rattle.dccp_packets.specs.declared.header.Number.TheVariants.{Long};
 ghost use Rattle.packet_show.specs.Lines.{parts_by};
 ghost use Rattle.packet_show.specs.Network.{carried_by};
@@ -15,7 +16,6 @@ use dccp_packets::{Header, Kind, Number, Packet};
 use dccp_sum::check;
 use packet_show::{Datagram, put_from, put_mark, put_option, put_to, sum_name, type_name};
 use seq_circle::{NoMemory, Seq48};
-use std::alloc::Global;
 use tool_text::put;
 
 // Puts the addresses that a packet goes from and to.
@@ -31,11 +31,7 @@ fn put_addresses(object: &mut Object, there: &Datagram<'_>) -> Result<(), NoMemo
 }
 
 // Puts the addresses and ports of a packet.
-fn put_ends(
-    object: &mut Object,
-    there: &Datagram<'_>,
-    header: &Header,
-) -> Result<(), NoMemory>
+fn put_ends(object: &mut Object, there: &Datagram<'_>, header: &Header) -> Result<(), NoMemory>
     ensures { OnOk result (members_seen object.new ≡ with_ends (carried_by there.now) header.now (members_seen object.old)) }
 {
     put_addresses(object, there)?;
@@ -52,13 +48,19 @@ fn number_written(number: Number) -> u64
     }
 }
 
+fn is_short(number: Number) -> bool
+    ensures { result ≡ not (is_long number) }
+{
+    matches!(number, Number::Short(_))
+}
+
 // Puts the fields of the generic header.
 fn put_header(object: &mut Object, header: &Header) -> Result<(), NoMemory>
     ensures { OnOk result (members_seen object.new ≡ with_header_fields header.now (members_seen object.old)) }
 {
     object.text("type", type_name(header.kind.packet_type()))?;
     object.number("sequence", number_written(header.number))?;
-    object.truth("short", matches!(header.number, Number::Short(_)))?;
+    object.truth("short", is_short(header.number))?;
     object.number("ccval", u64::from(header.ccval))?;
     object.number("cscov", u64::from(header.cscov))?;
     object.number("checksum", u64::from(header.checksum))
@@ -117,10 +119,7 @@ fn put_kind(object: &mut Object, kind: &Kind) -> Result<(), NoMemory>
 }
 
 // Puts an option as `show` has it between brackets, or the fault of Mandatory that ends the options.
-fn put_option_words(
-    text: &mut Vec<u8>,
-    item: &Result<Opt<'_>, OptFault>,
-) -> Result<(), NoMemory>
+fn put_option_words(text: &mut Vec<u8>, item: &Result<Opt<'_>, OptFault>) -> Result<(), NoMemory>
     ensures { OnOk result (text.new.items ≡ text.old.items ++ option_words (item_of item.now)) }
 {
     match item {
@@ -141,16 +140,15 @@ fn push_option(texts: &mut Texts, item: &Result<Opt<'_>, OptFault>) -> Result<()
     texts.push(&words)
 }
 
-// The options of an area.
-fn options_in(alloc: Global, area: &[u8], on_data: bool) -> Result<Texts, NoMemory>
+// Puts the options of an area at a list's end.
+fn push_options(texts: &mut Texts, area: &[u8], on_data: bool) -> Result<(), NoMemory>
     requires { length area.now ≤ 1008 }
-    ensures { IfOk result (λ texts. listed texts ≡ option_values (options_of area.now on_data)) }
+    ensures { OnOk result (listed texts.new ≡ listed texts.old ++ option_values (options_of area.now on_data)) }
 {
-    let mut texts = Texts::new(alloc);
     for item in options(area, on_data) {
-        push_option(&mut texts, &item)?;
+        push_option(texts, &item)?;
     }
-    Ok(texts)
+    Ok(())
 }
 
 // Puts the options, of which some are ignored on Data packets.
@@ -158,8 +156,12 @@ fn put_options(object: &mut Object, packet: &Packet<'_>) -> Result<(), NoMemory>
     requires { length packet.now.options.now ≤ 1008 }
     ensures { OnOk result (members_seen object.new ≡ with_options (parts_by packet.now) (members_seen object.old)) }
 {
-    let on_data = packet.header.kind.packet_type().is_data();
-    let texts = options_in(object.alloc, packet.options, on_data)?;
+    let mut texts = Texts::new(object.alloc);
+    push_options(
+        &mut texts,
+        packet.options,
+        packet.header.kind.packet_type().is_data(),
+    )?;
     object.texts("options", texts)
 }
 
@@ -176,11 +178,7 @@ fn verdict_name(there: &Datagram<'_>) -> &'static [u8]
 }
 
 // Puts how many bytes of data are there, and the verdict on the checksum.
-fn put_rest(
-    object: &mut Object,
-    there: &Datagram<'_>,
-    packet: &Packet<'_>,
-) -> Result<(), NoMemory>
+fn put_rest(object: &mut Object, there: &Datagram<'_>, packet: &Packet<'_>) -> Result<(), NoMemory>
     requires low { 8 ≤ length there.now.bytes.now }
     requires high { length there.now.bytes.now ≤ 65535 }
     ensures { OnOk result (members_seen object.new ≡ with_rest (carried_by there.now) (parts_by packet.now) (members_seen object.old)) }

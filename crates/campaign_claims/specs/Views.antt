@@ -1,5 +1,5 @@
 -- What a claimer knows, and what each step makes of it (own).
-use Rattle.std.specs.Prelude.{ℕ, ◌+◌, ◌-◌, ◌/◌, ◌^◌, List, [], ◌∷◌, ◌++◌, nat_lt, if◌then◌else◌}
+use Rattle.std.specs.Prelude.{◌≡◌, ℕ, ◌+◌, ◌-◌, ◌/◌, ◌^◌, List, [], ◌∷◌, ◌++◌, nat_lt, if◌then◌else◌}
 use Rattle.atomic_table.specs.Seated.{TableId}
 use Rattle.campaign_claims.specs.declared.rule.View.{View}
 
@@ -11,6 +11,11 @@ pub record Held : Type 0 where
 -- a claimer of these claims that knows this
 abbrev pub held : TableId → View → Held
 held claims view = record { claims = claims; view = view }
+
+-- the number is the last of these
+pub record IsLastNumber (numbers : List ℕ) (index : ℕ) : Type 0 where
+  pub before : List ℕ
+  pub last : numbers ≡ before ++ index ∷ []
 
 -- a view of these numbers, claims made, share and limit
 abbrev pub knows : List ℕ → ℕ → ℕ → ℕ → View

@@ -4,6 +4,7 @@ ghost use Rattle.campaign_claims.specs.Numbers.{times, once_below, AreOnceBelow}
 ghost use Rattle.campaign_claims.specs.Rule.{IsClaim};
 ghost use Rattle.campaign_claims.specs.Views.{both, first, given, held, kept, with_claimed, with_none};
 
+use crate::Gate;
 use crate::rule::{Counts, Draw, Halves, View};
 use atomic_table::{Seat, Table};
 use seq_circle::NoMemory;
@@ -76,6 +77,21 @@ impl Claimer {
         } else {
             None
         }
+    }
+
+    /// Claims the next number as `claim` does, and calls the gate with it.
+    pub fn begin<G: Gate>(&mut self, claims: &Claims, gate: &G) -> Option<u64>
+        requires same { self.old.claims ≡ claims.now }
+        requires part { self.old.view.drawn < self.old.view.share }
+        ensures below { IfSome result (λ k. k < self.old.view.limit) }
+        ensures greater { IfSome result (λ k. All (λ x. x < k) self.old.view.numbers) }
+        ensures some { IfSome result (λ k. self.new ≡ held self.old.claims (with_claimed self.old.view k)) }
+        ensures none { IfNone result (self.new ≡ held self.old.claims (with_none self.old.view)) }
+        ensures word { IsClaim self.old.view result self.new.view }
+    {
+        let index = self.claim(claims)?;
+        gate.begin(self, index);
+        Some(index)
     }
 
     /// A claimer for another thread, with half of the claims that this one may still make and no number. It takes no

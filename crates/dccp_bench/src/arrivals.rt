@@ -12,7 +12,7 @@ use std::alloc::Global;
 use std::io;
 
 /// What comes, and where.
-#[derive(Clone, Copy, Debug, PartialEq, Eq)]
+#[derive(Clone, Copy)]
 pub(crate) enum Load {
     /// Requests at the listener.
     Requests,

@@ -31,7 +31,7 @@ use crate::arrivals::Load;
 use std::{env, io};
 
 // What is to be done.
-#[derive(Clone, Copy, Debug, PartialEq, Eq)]
+#[derive(Clone, Copy)]
 enum Form {
     Packets,
     Marks,

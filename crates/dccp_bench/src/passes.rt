@@ -9,7 +9,7 @@ use std::io;
 use std::time::Instant;
 
 /// One of the things that are measured.
-#[derive(Clone, Copy, Debug, PartialEq, Eq)]
+#[derive(Clone, Copy)]
 pub(crate) enum Pass {
     /// The bytes are summed in a plain loop: the yardstick.
     Plain,

@@ -1,11 +1,10 @@
 -- What the listener's own clauses say of a call, as it is computed.
-use Rattle.std.proofs.Common.{◌≡◌, refl, ap, ◌∙◌, ℕ, List, Option, Some, Result, Ok, Err}
+use Rattle.std.proofs.Common.{◌≡◌, ap, ◌∙◌, ℕ, List, Option, Result, Ok, Err}
 use Rattle.std.specs.Prelude.{IfOk}
-use Rattle.dccp_listener.specs.Chain.{Deed, Arrives, Calls, FlowCall}
-use Rattle.dccp_listener.specs.Calls.{seen_if}
-use Rattle.dccp_listener.specs.Listens.{Listened, listening_after, listens}
+use Rattle.dccp_listener.specs.Chain.{Arrives}
+use Rattle.dccp_listener.specs.Listens.{Listened, listens}
 use Rattle.dccp_listener.specs.Peers.{Flows, Listening}
-use Rattle.dccp_listener.specs.Runs.{CallTold, CallTurn, IsTurn, IsTurnSo, Stepped, WasBusy, HadNoMemory, arrival, call_turn, told_of}
+use Rattle.dccp_listener.specs.Runs.{CallTold, CallTurn, IsTurn, IsTurnSo, Stepped, WasBusy, HadNoMemory, arrival, told_of}
 use Rattle.dccp_listener.specs.declared.calls.Heard.{Heard}
 use Rattle.dccp_listener.specs.declared.config.ListenConfig.{ListenConfig}
 use Rattle.dccp_listener.specs.declared.peer.Peer.{Peer}
@@ -25,7 +24,7 @@ pub done_as : (before after : Listening) (turn : CallTurn) (frame : Option (List
     → record { flows = after.flows; frame = frame; told = told } ≡ listens before turn.peer turn.deed → IsDone before after turn.peer turn.deed frame told
 done_as before after turn frame told turned is = (
   ap (λ (config : ListenConfig). listening config after.flows) (same-config before after turn turn.told turned)
-  ∙ ap (λ (x : Listened). listening before.config x.flows) is,
+      ∙ ap (λ (x : Listened). listening before.config x.flows) is,
   ap (λ (x : Listened). x.frame) is,
   ap (λ (x : Listened). x.told) is,
 )

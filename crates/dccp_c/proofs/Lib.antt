@@ -1,5 +1,6 @@
 pub mod AsBox
 pub mod Doings
+pub mod Going
 pub mod ListenerAsBox
 pub mod Placing
 pub mod Ticking

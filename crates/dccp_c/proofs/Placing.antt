@@ -1,12 +1,16 @@
 -- A place that was made for a peer's timers changes nothing of what they are then.
-use Rattle.std.proofs.Common.{◌≡◌, refl, sym, ap, ◌∙◌, ℕ, Bool, true, false, cond, List, [], ◌∷◌, Option, Some, None, Ordering, Less, Equal, Greater, is_eq}
+use Rattle.std.proofs.Common.{◌≡◌, refl, sym, ap, ◌∙◌, subst, ℕ, Bool, true, false, cond, [], ◌∷◌, Option, Some, None, Result, Ok, Err, Ordering, Less, Equal, Greater, is_eq}
+use Rattle.std.proofs.lemmas.Bool.{false≢true}
 use Rattle.std.specs.BTreeMap.{insert_entry}
 use Rattle.std.specs.Map.{lookup, remove_entry}
 use Rattle.std.specs.Ordering.{match_ordering}
+use Rattle.std.specs.Prelude.{IsSome, OnOk, OnErr, if◌then◌else◌}
+use Rattle.ccid_two.specs.Kinds.{kinds_control}
 use Rattle.dccp_listener.proofs.OnePeer.{peers_alike}
 use Rattle.dccp_listener.specs.Peers.{FlowEnd, is_peer, peer_cmp}
 use Rattle.dccp_listener.specs.declared.peer.Peer.{Peer}
-use Rattle.dccp_uses.specs.Alarms.{no_alarms}
+use Rattle.dccp_uses.specs.Alarms.{arranged, no_alarms}
+use Rattle.dccp_uses.specs.Session.{condition_of}
 use Rattle.dccp_uses.specs.declared.alarms.Alarms.{Alarms}
 use Rattle.dccp_c.specs.Serving.{IsPlaced, Timers, timers_then}
 
@@ -86,3 +90,18 @@ pub then_placed : (now : ℕ) (had : Bool) (before after : Timers) (peer : Peer)
 then_placed now true before after peer end alarms is = ap (λ (t : Timers). timers_then now t peer end alarms) is.1
 then_placed now false before after peer end alarms is =
     ap (λ (t : Timers). timers_then now t peer end alarms) is.1 ∙ then-from now peer before end alarms is.0
+
+pub taken_back : (had : Bool) (before after : Timers) (peer : Peer) → IsPlaced had before after peer
+    → (if had then after else remove_entry (is_peer peer) after) ≡ before
+taken_back true before after peer is = is.1
+taken_back false before after peer is = undone peer before after is
+
+-- who has a place keeps it
+pub inserted : {X : Type 0} (now : ℕ) (before after : Timers) (peer : Peer) (found : Option FlowEnd) (e : FlowEnd) (alarms written : Alarms)
+    (result : Result (Option Alarms) X) → IsSome (lookup (is_peer peer) before) → OnOk result (after ≡ insert_entry peer_cmp before peer written)
+    → OnErr result (lookup (is_peer peer) before ≡ None) → found ≡ Some e → written ≡ arranged alarms (condition_of kinds_control e) now
+    → after ≡ timers_then now before peer found alarms
+inserted now before after peer found e alarms written (Ok old) there put none is-end is-written =
+    put ∙ ap (λ (a : Alarms). insert_entry peer_cmp before peer a) is-written ∙ sym (ap (λ (f : Option FlowEnd). timers_then now before peer f alarms) is-end)
+inserted now before after peer found e alarms written (Err fault) there put none is-end is-written =
+    absurd (false≢true (subst (λ (x : Option Alarms). IsSome x) none there))

@@ -7,7 +7,7 @@ use Rattle.dccp_endpoint.specs.Controlled.{in_flight_of}
 use Rattle.dccp_listener.specs.Chain.{Deed, Arrives, Calls, FlowCall, Fires, Sends, Closes, Aborts}
 use Rattle.dccp_listener.specs.Listens.{listening_after, listens}
 use Rattle.dccp_listener.specs.Peers.{FlowEnd, Listening, end_of_peer, is_peer, peer_cmp}
-use Rattle.dccp_listener.specs.Runs.{CallTold, Stepped, WasBusy, HadNoMemory}
+use Rattle.dccp_listener.specs.Runs.{CallTold, Stepped}
 use Rattle.dccp_listener.specs.declared.config.ListenConfig.{ListenConfig}
 use Rattle.dccp_listener.specs.declared.peer.Peer.{Peer}
 use Rattle.dccp_uses.specs.Alarms.{arranged, no_alarms, rung, until_first, with_delivery, with_progress}
@@ -77,8 +77,8 @@ timers_by now s peer (Arrives iss bytes) =
 timers_by now s peer (Calls call) = timers_called now (timers_of s.timers peer) call
 
 -- A deed of a peer, where memory is found: the listener does what is computed of it, and the peer's timers go on.
-abbrev pub serves : ℕ → Served → Peer → Deed → Served
-serves now s peer deed =
+abbrev pub deed_served : ℕ → Served → Peer → Deed → Served
+deed_served now s peer deed =
     served (listening_after s.listening peer deed)
     (timers_then now s.timers peer (end_of_peer (listening_after s.listening peer deed).flows peer) (timers_by now s peer deed))
 

@@ -15,7 +15,7 @@ use crate::codes::{
 use crate::held::{Held, first_due};
 use crate::making::{as_server, configured_by};
 use crate::readers::{seen, seen_feature};
-use crate::told::told_of;
+use crate::told::tell;
 use crate::{End, FeatureState, Frame, Settings, Told, View, Wish};
 use dccp_endpoint::MOST_FRAME_BYTES;
 use std::alloc::Global;
@@ -77,7 +77,7 @@ pub extern "C" fn dccp_accept(
     let Ok(mut held) = Held::new(alloc, config) else {
         return NO_MEMORY;
     };
-    *told = told_of(&held.receive(datagram, now));
+    tell(&held.receive(datagram, now), told);
     frame.fill(&held.out);
     if held.is_listening() {
         return NO_CONNECTION;
@@ -281,7 +281,7 @@ pub extern "C" fn dccp_receive(
         return NOT_MADE;
     };
     let outcome = held.receive(datagram, now);
-    *told = told_of(&outcome);
+    tell(&outcome, told);
     frame.fill(&held.out);
     end.put(held);
     DONE

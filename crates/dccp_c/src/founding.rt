@@ -13,10 +13,11 @@ use dccp_listener::ListenConfig;
 fn listening_at(settings: &Settings, most: u16, config: &Config) -> ListenConfig
     ensures { result ≡ listening_at settings.now most config.now }
 {
+    let own_address = first_four(&settings.own_address);
     let mut services = ArrayVec::new();
     services.push(settings.service);
     ListenConfig {
-        own_address: first_four(&settings.own_address),
+        own_address,
         own_port: settings.own_port,
         services,
         lists: config.lists,

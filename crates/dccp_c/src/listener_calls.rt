@@ -1,22 +1,20 @@
 //! The functions of a listener that C calls: each does one deed of a peer with the listener that its handle holds.
-ghost use Rattle.std.specs.Prelude.{◌≡◌, None, Ok};
+ghost use Rattle.std.specs.Prelude.{◌≡◌, None, Ok, unwrap_or};
 ghost use Rattle.dccp_listener.specs.Calls.{seen_if};
 ghost use Rattle.dccp_listener.specs.Chain.{Calls, Sends, Closes, Aborts, call_of};
 ghost use Rattle.dccp_listener.specs.Runs.{Stepped, told_of};
 ghost use Rattle.dccp_c.specs.Doing.{bytes_in};
 ghost use Rattle.dccp_c.specs.Founding.{FoundsCode, founded_of, listening_by};
-ghost use Rattle.dccp_c.specs.Listening.{ServedCode, TickCode, arrival_of, deed_done, due_in, flow_code, flow_in, flow_view, listen_code, listen_told, listener_waits, peer_in, peer_of, peer_read, refusal_code, seen_code, served_after, served_bytes, served_in, served_told, ticked_after, ticked_bytes, ticked_peer};
+ghost use Rattle.dccp_c.specs.Listening.{Serves, TellsC, Ticks, deed_of_datagram, due_in, flow_code, flow_in, listen_code, listen_told, listener_waits, peer_in, peer_named, refusal_code, seen_code, served_in};
 
 use crate::codes::{
-    BUSY, DONE, NO_FLOW, NO_MEMORY, NOT_LIVE, NOT_MADE, NOT_NEGOTIATED, NOT_OPEN, NOTHING_DUE,
-    TOO_LONG, UNKNOWN, WINDOW_FULL, timer_code,
+    BAD_LIST, BUSY, DONE, NO_FLOW, NO_MEMORY, NOT_FRESH, NOT_LIVE, NOT_MADE, NOT_NEGOTIATED,
+    NOT_OPEN, NOT_OURS, NOTHING_DUE, TOO_LONG, UNKNOWN, WINDOW_FULL, timer_code,
 };
-use crate::codes::{BAD_LIST, NOT_FRESH, NOT_OURS};
 use crate::founding::listening_by;
-use crate::peer::{address_of, peer_of};
-use crate::readers::seen;
+use crate::peer::{address_of, peer_named};
 use crate::serving::{Serving, first_due_flow, least_wait};
-use crate::told::told_of;
+use crate::told::tell;
 use crate::{Frame, ListenerHandle, PeerAddress, Settings, Told, View, Wish};
 use dccp_endpoint::{MOST_FRAME_BYTES, NoMemory, Seq48};
 use dccp_listener::{Act, Heard, NoFlow, Peer, Refusal, Seen};
@@ -58,13 +56,13 @@ fn call_code(answer: &Result<Seen, NoFlow>) -> u32
 }
 
 // Tells C of a datagram that was heard.
-fn tell(heard: &Heard, told: &mut Told) -> u32
+fn tell_heard(heard: &Heard, told: &mut Told) -> u32
     ensures told { told.new ≡ listen_told (told_of (Ok heard.now)) told.old }
     ensures code { result ≡ listen_code (told_of (Ok heard.now)) }
 {
     match heard {
         Heard::Flow(outcome) => {
-            *told = told_of(outcome);
+            tell(outcome, told);
             DONE
         }
         Heard::Busy => BUSY,
@@ -120,10 +118,8 @@ pub extern "C" fn dccp_listener_arrive(
     frame: &mut Frame,
     told: &mut Told,
 ) -> u32
-    ensures listener { served_in listener.new.kept.value ≡ served_after now (served_in listener.old.kept.value) (peer_of peer.now) (deed_done result (served_in listener.old.kept.value) (arrival_of first_number datagram.now)) }
-    ensures frame { bytes_in frame.new ≡ served_bytes (peer_of peer.now) (deed_done result (served_in listener.old.kept.value) (arrival_of first_number datagram.now)) }
-    ensures told { told.new ≡ served_told (peer_of peer.now) (deed_done result (served_in listener.old.kept.value) (arrival_of first_number datagram.now)) told.old }
-    ensures code { ServedCode (served_in listener.old.kept.value) (peer_of peer.now) (arrival_of first_number datagram.now) result }
+    ensures serves { Serves now (served_in listener.old.kept.value) (served_in listener.new.kept.value) (peer_named peer.now) (deed_of_datagram first_number datagram.now) (bytes_in frame.new) result }
+    ensures told { TellsC (served_in listener.old.kept.value) (peer_named peer.now) (deed_of_datagram first_number datagram.now) result told.old told.new }
 {
     frame.clear();
     let Some(iss) = Seq48::new(first_number) else {
@@ -135,11 +131,11 @@ pub extern "C" fn dccp_listener_arrive(
     let Some(mut serving) = listener.take(alloc) else {
         return NOT_MADE;
     };
-    match serving.arrive(peer_of(peer), iss, datagram, now) {
+    match serving.arrive(peer_named(peer), iss, datagram, now) {
         Ok(heard) => {
             frame.fill(&serving.out);
             listener.put(serving);
-            tell(&heard, told)
+            tell_heard(&heard, told)
         }
         Err(NoMemory) => {
             listener.put(serving);
@@ -157,9 +153,7 @@ fn call(
     now: u64,
     frame: &mut Frame,
 ) -> u32
-    ensures listener { served_in listener.new.kept.value ≡ served_after now (served_in listener.old.kept.value) peer (deed_done result (served_in listener.old.kept.value) (Ok (Calls (call_of act.entry)))) }
-    ensures frame { bytes_in frame.new ≡ served_bytes peer (deed_done result (served_in listener.old.kept.value) (Ok (Calls (call_of act.entry)))) }
-    ensures code { ServedCode (served_in listener.old.kept.value) peer (Ok (Calls (call_of act.entry))) result }
+    ensures { Serves now (served_in listener.old.kept.value) (served_in listener.new.kept.value) peer (Ok (Calls (call_of act.entry))) (bytes_in frame.new) result }
 {
     frame.clear();
     let Some(mut serving) = listener.take(alloc) else {
@@ -188,11 +182,16 @@ pub extern "C" fn dccp_listener_send(
     now: u64,
     frame: &mut Frame,
 ) -> u32
-    ensures listener { served_in listener.new.kept.value ≡ served_after now (served_in listener.old.kept.value) (peer_of peer.now) (deed_done result (served_in listener.old.kept.value) (Ok (Calls (Sends payload.now)))) }
-    ensures frame { bytes_in frame.new ≡ served_bytes (peer_of peer.now) (deed_done result (served_in listener.old.kept.value) (Ok (Calls (Sends payload.now)))) }
-    ensures code { ServedCode (served_in listener.old.kept.value) (peer_of peer.now) (Ok (Calls (Sends payload.now))) result }
+    ensures { Serves now (served_in listener.old.kept.value) (served_in listener.new.kept.value) (peer_named peer.now) (Ok (Calls (Sends payload.now))) (bytes_in frame.new) result }
 {
-    call(listener, alloc, peer_of(peer), Act::Send(payload), now, frame)
+    call(
+        listener,
+        alloc,
+        peer_named(peer),
+        Act::Send(payload),
+        now,
+        frame,
+    )
 }
 
 /// `Listener::act` with `Act::Close`. NO_FLOW where the peer has none.
@@ -204,11 +203,9 @@ pub extern "C" fn dccp_listener_close(
     now: u64,
     frame: &mut Frame,
 ) -> u32
-    ensures listener { served_in listener.new.kept.value ≡ served_after now (served_in listener.old.kept.value) (peer_of peer.now) (deed_done result (served_in listener.old.kept.value) (Ok (Calls Closes))) }
-    ensures frame { bytes_in frame.new ≡ served_bytes (peer_of peer.now) (deed_done result (served_in listener.old.kept.value) (Ok (Calls Closes))) }
-    ensures code { ServedCode (served_in listener.old.kept.value) (peer_of peer.now) (Ok (Calls Closes)) result }
+    ensures { Serves now (served_in listener.old.kept.value) (served_in listener.new.kept.value) (peer_named peer.now) (Ok (Calls Closes)) (bytes_in frame.new) result }
 {
-    call(listener, alloc, peer_of(peer), Act::Close, now, frame)
+    call(listener, alloc, peer_named(peer), Act::Close, now, frame)
 }
 
 /// `Listener::act` with `Act::Abort`. NO_FLOW where the peer has none.
@@ -220,11 +217,9 @@ pub extern "C" fn dccp_listener_abort(
     now: u64,
     frame: &mut Frame,
 ) -> u32
-    ensures listener { served_in listener.new.kept.value ≡ served_after now (served_in listener.old.kept.value) (peer_of peer.now) (deed_done result (served_in listener.old.kept.value) (Ok (Calls Aborts))) }
-    ensures frame { bytes_in frame.new ≡ served_bytes (peer_of peer.now) (deed_done result (served_in listener.old.kept.value) (Ok (Calls Aborts))) }
-    ensures code { ServedCode (served_in listener.old.kept.value) (peer_of peer.now) (Ok (Calls Aborts)) result }
+    ensures { Serves now (served_in listener.old.kept.value) (served_in listener.new.kept.value) (peer_named peer.now) (Ok (Calls Aborts)) (bytes_in frame.new) result }
 {
-    call(listener, alloc, peer_of(peer), Act::Abort, now, frame)
+    call(listener, alloc, peer_named(peer), Act::Abort, now, frame)
 }
 
 /// Tells a flow the first of its timers that has run out, and C whose it is. NOTHING_DUE where none has.
@@ -236,10 +231,7 @@ pub extern "C" fn dccp_listener_tick(
     peer: &mut PeerAddress,
     frame: &mut Frame,
 ) -> u32
-    ensures listener { served_in listener.new.kept.value ≡ ticked_after result now (served_in listener.old.kept.value) (due_in now (served_in listener.old.kept.value)) }
-    ensures frame { bytes_in frame.new ≡ ticked_bytes result (served_in listener.old.kept.value) (due_in now (served_in listener.old.kept.value)) }
-    ensures peer { peer.new ≡ ticked_peer result (due_in now (served_in listener.old.kept.value)) peer.old }
-    ensures code { TickCode (served_in listener.old.kept.value) (due_in now (served_in listener.old.kept.value)) result }
+    ensures { Ticks now (served_in listener.old.kept.value) (served_in listener.new.kept.value) (due_in now (served_in listener.old.kept.value)) (bytes_in frame.new) peer.old peer.new result }
 {
     frame.clear();
     let Some(mut serving) = listener.take(alloc) else {
@@ -290,21 +282,21 @@ pub extern "C" fn dccp_listener_look(
     view: &mut View,
 ) -> u32
     ensures listener { listener.new.kept.value ≡ listener.old.kept.value }
-    ensures view { view.new ≡ flow_view (flow_in (served_in listener.old.kept.value) (peer_of peer.now)) view.old }
-    ensures code { result ≡ flow_code (served_in listener.old.kept.value) (flow_in (served_in listener.old.kept.value) (peer_of peer.now)) }
+    ensures view { view.new ≡ unwrap_or (flow_in (served_in listener.old.kept.value) (peer_named peer.now)) view.old }
+    ensures code { result ≡ flow_code (served_in listener.old.kept.value) (flow_in (served_in listener.old.kept.value) (peer_named peer.now)) }
 {
     let Some(serving) = listener.take(alloc) else {
         return NOT_MADE;
     };
-    let code = match serving.listener.flow(peer_of(peer)) {
-        Some(end) => {
-            *view = seen(end);
+    let found = serving.look(peer_named(peer));
+    listener.put(serving);
+    match found {
+        Some(found) => {
+            *view = found;
             DONE
         }
         None => NO_FLOW,
-    };
-    listener.put(serving);
-    code
+    }
 }
 
 /// The peer at this place, from 0, among those that have a flow, in the order of their addresses and ports. NO_FLOW where there is none.
@@ -316,17 +308,17 @@ pub extern "C" fn dccp_listener_peer(
     peer: &mut PeerAddress,
 ) -> u32
     ensures listener { listener.new.kept.value ≡ listener.old.kept.value }
-    ensures peer { peer.new ≡ peer_read (peer_in (served_in listener.old.kept.value) place) peer.old }
+    ensures peer { peer.new ≡ unwrap_or (peer_in (served_in listener.old.kept.value) place) peer.old }
     ensures code { result ≡ flow_code (served_in listener.old.kept.value) (peer_in (served_in listener.old.kept.value) place) }
 {
     let Some(serving) = listener.take(alloc) else {
         return NOT_MADE;
     };
-    let found = serving.listener.peer(place);
+    let found = serving.peer(place);
     listener.put(serving);
     match found {
         Some(found) => {
-            *peer = address_of(found);
+            *peer = found;
             DONE
         }
         None => NO_FLOW,

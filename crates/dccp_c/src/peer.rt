@@ -1,6 +1,6 @@
 //! How C names a peer.
 ghost use Rattle.std.specs.Prelude.{◌≡◌};
-ghost use Rattle.dccp_c.specs.Listening.{address_of, peer_of};
+ghost use Rattle.dccp_c.specs.Listening.{address_of, peer_named};
 
 use dccp_listener::Peer;
 
@@ -14,11 +14,12 @@ pub struct PeerAddress {
     pub port: u16,
 }
 
-pub(crate) fn peer_of(peer: &PeerAddress) -> Peer
-    ensures { result ≡ peer_of peer.now }
+pub(crate) fn peer_named(peer: &PeerAddress) -> Peer
+    ensures { result ≡ peer_named peer.now }
 {
+    let address = peer.address;
     Peer {
-        address: peer.address,
+        address,
         port: peer.port,
     }
 }
@@ -26,8 +27,9 @@ pub(crate) fn peer_of(peer: &PeerAddress) -> Peer
 pub(crate) fn address_of(peer: Peer) -> PeerAddress
     ensures { result ≡ address_of peer }
 {
+    let address = peer.address;
     PeerAddress {
-        address: peer.address,
+        address,
         port: peer.port,
     }
 }

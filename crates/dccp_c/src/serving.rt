@@ -1,6 +1,7 @@
 //! What a listener of C's is: the listener, the timers of its flows, and the place where it leaves its frame.
-ghost use Rattle.std.specs.Prelude.{◌≡◌, ◌≤◌, nat_lt, Ok, IfOk, OnOk, OnErr, IsSome, length};
-ghost use Rattle.std.specs.Map.{lookup};
+ghost use Rattle.std.specs.Prelude.{◌≡◌, ◌≤◌, nat_lt, Ok, IfOk, OnOk, OnErr, IsSome, length, slice_get, if◌then◌else◌};
+ghost use Rattle.std.specs.Map.{keys_of, lookup, remove_entry};
+ghost use Rattle.std.specs.Option.{option_map};
 ghost use Rattle.dccp_uses.specs.Alarms.{with_delivery, with_progress};
 ghost use Rattle.dccp_listener.specs.Calls.{seen_if};
 ghost use Rattle.dccp_listener.specs.Chain.{Arrives, Calls, call_of};
@@ -9,9 +10,14 @@ ghost use Rattle.dccp_listener.specs.Peers.{end_of_peer, is_peer};
 ghost use Rattle.dccp_listener.specs.Runs.{Stepped, told_of};
 ghost use Rattle.dccp_listener.specs.Standing.{IsListening};
 ghost use Rattle.dccp_c.specs.Doing.{never};
-ghost use Rattle.dccp_c.specs.Serving.{IsDone, IsPlaced, first_due_flow, in_flight_if, least_wait, served, serves, serving_begins, tells_data, timers_called, timers_of, timers_then};
+ghost use Rattle.dccp_c.specs.Listening.{address_of};
+ghost use Rattle.dccp_c.specs.Seeing.{seen as seen_end};
+ghost use Rattle.dccp_c.specs.Serving.{IsDone, IsPlaced, first_due_flow, in_flight_if, least_wait, served, deed_served, serving_begins, tells_data, timers_called, timers_of, timers_then};
 
 use crate::held::{condition, first_due};
+use crate::peer::address_of;
+use crate::readers::seen;
+use crate::{PeerAddress, View};
 use dccp_endpoint::{NoMemory, Outbox, Seq48, Timer};
 use dccp_listener::{Act, Heard, ListenConfig, Listener, NoFlow, Peer, Seen};
 use dccp_uses::{Alarms, arranged, is_delivery, rung, with_delivery, with_progress};
@@ -60,6 +66,15 @@ fn place_for(timers: &mut BTreeMap<Peer, Alarms>, peer: Peer) -> Result<bool, No
     }
 }
 
+// The peer's place goes again, unless it had one before.
+fn take_back(timers: &mut BTreeMap<Peer, Alarms>, peer: Peer, had: bool)
+    ensures { timers.new.entries ≡ (if had then timers.old.entries else remove_entry (is_peer peer) timers.old.entries) }
+{
+    if !had {
+        let _ = timers.remove(&peer);
+    }
+}
+
 // The peer's timers go on from these as its end needs them, and go with it.
 fn arrange(
     listener: &Listener,
@@ -99,10 +114,10 @@ fn timers_heard(alarms: &Alarms, was: u32, is: u32, heard: &Heard) -> Alarms
     with_delivery(&alarms, tells_data(heard))
 }
 
-fn timers_called(alarms: &Alarms, act: &Act<'_>, now: u64) -> Alarms
-    ensures { result ≡ timers_called now alarms.now (call_of act.now) }
+fn timers_called(alarms: &Alarms, act: Act<'_>, now: u64) -> Alarms
+    ensures { result ≡ timers_called now alarms.now (call_of act.entry) }
 {
-    match *act {
+    match act {
         Act::Timer(timer) => rung(alarms, timer, now),
         Act::Send(_) | Act::Close | Act::Abort => *alarms,
     }
@@ -161,7 +176,14 @@ impl Serving {
         let listener = Listener::new(alloc, config);
         let timers = BTreeMap::new(alloc);
         let out = Outbox::new();
-        match Box::new(alloc, Serving { listener, timers, out }) {
+        match Box::new(
+            alloc,
+            Serving {
+                listener,
+                timers,
+                out,
+            },
+        ) {
             Ok(held) => Ok(held),
             Err(_) => Err(NoMemory),
         }
@@ -176,7 +198,7 @@ impl Serving {
         now: u64,
     ) -> Result<Heard, NoMemory>
         requires { length bytes.now ≤ 2044 }
-        ensures after { OnOk result (served self.new.listener self.new.timers.entries ≡ serves now (served self.old.listener self.old.timers.entries) peer (Arrives iss bytes.now)) }
+        ensures after { OnOk result (served self.new.listener self.new.timers.entries ≡ deed_served now (served self.old.listener self.old.timers.entries) peer (Arrives iss bytes.now)) }
         ensures sent { OnOk result (self.new.out ≡ (listens self.old.listener peer (Arrives iss bytes.now)).frame) }
         ensures told { IfOk result (λ heard. told_of (Ok heard) ≡ (listens self.old.listener peer (Arrives iss bytes.now)).told) }
         ensures unchanged { OnErr result (served self.new.listener self.new.timers.entries ≡ served self.old.listener self.old.timers.entries) }
@@ -192,9 +214,7 @@ impl Serving {
                 Ok(heard)
             }
             Err(fault) => {
-                if !had {
-                    let _ = self.timers.remove(&peer);
-                }
+                take_back(&mut self.timers, peer, had);
                 Err(fault)
             }
         }
@@ -207,15 +227,35 @@ impl Serving {
         act: Act<'_>,
         now: u64,
     ) -> Result<Result<Seen, NoFlow>, NoMemory>
-        ensures after { OnOk result (served self.new.listener self.new.timers.entries ≡ serves now (served self.old.listener self.old.timers.entries) peer (Calls (call_of act.entry))) }
+        ensures after { OnOk result (served self.new.listener self.new.timers.entries ≡ deed_served now (served self.old.listener self.old.timers.entries) peer (Calls (call_of act.entry))) }
         ensures sent { OnOk result (self.new.out ≡ (listens self.old.listener peer (Calls (call_of act.entry))).frame) }
         ensures told { IfOk result (λ answer. Stepped (seen_if answer) ≡ (listens self.old.listener peer (Calls (call_of act.entry))).told) }
         ensures unchanged { OnErr result (served self.new.listener self.new.timers.entries ≡ served self.old.listener self.old.timers.entries) }
     {
-        let alarms = timers_called(&timers_of(&self.timers, peer), &act, now);
+        let alarms = timers_called(&timers_of(&self.timers, peer), act, now);
         place_for(&mut self.timers, peer)?;
         let answer = ask(&mut self.listener, peer, act, &mut self.out);
         arrange(&self.listener, &mut self.timers, peer, &alarms, now);
         Ok(answer)
+    }
+
+    /// What is read of a peer's end, if it has one.
+    pub(crate) fn look(&self, peer: Peer) -> Option<View>
+        ensures { result ≡ option_map seen_end (end_of_peer self.now.listener.flows peer) }
+    {
+        match self.listener.flow(peer) {
+            Some(end) => Some(seen(end)),
+            None => None,
+        }
+    }
+
+    /// The peer at this place among those that have a flow.
+    pub(crate) fn peer(&self, place: u16) -> Option<PeerAddress>
+        ensures { result ≡ option_map address_of (slice_get (keys_of self.now.listener.flows) place) }
+    {
+        match self.listener.peer(place) {
+            Some(peer) => Some(address_of(peer)),
+            None => None,
+        }
     }
 }

@@ -59,7 +59,7 @@ fn quiet() -> Told
     }
 }
 
-pub(crate) fn told_of(outcome: &Outcome) -> Told
+fn told_of(outcome: &Outcome) -> Told
     ensures { result ≡ told_outcome outcome.now }
 {
     match *outcome {
@@ -94,4 +94,11 @@ pub(crate) fn told_of(outcome: &Outcome) -> Told
             ..quiet()
         },
     }
+}
+
+/// Tells C of an outcome.
+pub(crate) fn tell(outcome: &Outcome, told: &mut Told)
+    ensures { told.new ≡ told_outcome outcome.now }
+{
+    *told = told_of(outcome);
 }

@@ -195,14 +195,16 @@ fn talk(alloc: Global, server: &mut Server) -> Option<()> {
     exchange(&mut client, server, &mut wires)
 }
 
+// Prints what came over the connection. Tells whether it was printed.
+fn print(rt: &HostRuntime, got: &[u8]) -> bool {
+    println!(rt; "{} bytes: {:?}", got.len(), got).is_ok()
+}
+
 fn main(rt: HostRuntime) -> ExitCode {
     let mut server = Server::new(rt.alloc());
-    if talk(rt.alloc(), &mut server).is_none() {
-        return ExitCode::FAILURE;
-    }
-    let got = server.got.as_slice();
-    match println!(rt; "{} bytes: {:?}", got.len(), got) {
-        Ok(()) => ExitCode::SUCCESS,
-        Err(_) => ExitCode::FAILURE,
+    if talk(rt.alloc(), &mut server).is_some() && print(&rt, &server.got) {
+        ExitCode::SUCCESS
+    } else {
+        ExitCode::FAILURE
     }
 }

@@ -276,19 +276,21 @@ fn talk(alloc: Global, server: &mut Server) -> Option<u8> {
     exchange(server, &mut first, &mut second)
 }
 
-fn main(rt: HostRuntime) -> ExitCode {
-    let mut server = Server::new(rt.alloc());
-    let Some(code) = talk(rt.alloc(), &mut server) else {
-        return ExitCode::FAILURE;
-    };
-    let got = server.got.as_slice();
-    match println!(rt;
+// Prints what the server got and what the other was told. Tells whether it was printed.
+fn print(rt: &HostRuntime, got: &[u8], code: u8) -> bool {
+    println!(rt;
         "{} bytes: {:?}; the other was told {}",
         got.len(),
         got,
         code
-    ) {
-        Ok(()) => ExitCode::SUCCESS,
-        Err(_) => ExitCode::FAILURE,
+    )
+    .is_ok()
+}
+
+fn main(rt: HostRuntime) -> ExitCode {
+    let mut server = Server::new(rt.alloc());
+    match talk(rt.alloc(), &mut server) {
+        Some(code) if print(&rt, &server.got, code) => ExitCode::SUCCESS,
+        _ => ExitCode::FAILURE,
     }
 }

@@ -81,7 +81,7 @@ controls-happens w acting (Err why) (inr ok) = inr ok
 minus-below : (n m : ℕ) → 0 < n → n - 1 - m < n
 minus-below n m some = omega arith
 
-index-below : (b n : ℕ) → 0 < n → drawn_index b n < n
+pub index-below : (b n : ℕ) → 0 < n → drawn_index b n < n
 index-below b n some = by (b / 256 % 16 == 0) where
   by : (any : Bool) → (if any then b / 4096 % n else n - 1 - b % min n 8) < n
   by true = mod_below (b / 4096) n some

@@ -57,7 +57,7 @@ word-fits g =
 joined-fits : (high low : ℕ) → low < 2 ^ 32 → high % 65536 * 2 ^ 32 + low < 2 ^ 48
 joined-fits high low fits = omega arith
 
-number-fits : (g : Lcg) → initial_number g < 2 ^ 48
+pub number-fits : (g : Lcg) → initial_number g < 2 ^ 48
 number-fits g = joined-fits (word g) (word (behind_word g)) (word-fits (behind_word g))
 
 client-fits : (number : ℕ) → number < 2 ^ 48 → Fits (usual_from role.Client number)

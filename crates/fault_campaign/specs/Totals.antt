@@ -22,11 +22,6 @@ totals first seeds events = of_fields (λ field. sum_below (field_at first event
 abbrev pub claimed_report : ℕ → ℕ → List ℕ → Report
 claimed_report first events numbers = of_fields (λ field. sum_by (field_at first events field) numbers)
 
--- the number is the last of these
-pub record IsLastNumber (numbers : List ℕ) (index : ℕ) : Type 0 where
-  pub before : List ℕ
-  pub last : numbers ≡ before ++ index ∷ []
-
 -- the share that lets so many workers claim, each half of them with half of it
 abbrev pub room_for : ℕ → ℕ
 room_for workers =

@@ -1,7 +1,7 @@
 //! What two words of the generator make happen.
 ghost use Rattle.std.specs.Prelude.{◌≡◌, ◌<◌, ◌≤◌, length};
 ghost use Rattle.world_events.specs.declared.event.Event.{Event};
-ghost use Rattle.fault_campaign.specs.Draws.{behind_two, behind_word, drawn_index, drawn_timer, ending, generator, initial_number, preference, sending, word};
+ghost use Rattle.fault_campaign.specs.Draws.{behind_two, behind_word, drawn, drawn_delivery, drawn_index, drawn_timer, ending, generator, initial_number, preference, sending, word};
 
 use dccp_endpoint::Timer;
 use feature_lists::{Feature, Place};
@@ -50,6 +50,22 @@ pub(crate) fn drawn_index(b: u64, frames: u64) -> u64
         b / 4096 % frames
     } else {
         frames - 1 - b % frames.min(8)
+    }
+}
+
+// A frame of this side arrives; where there is none, the client's timer runs out.
+fn delivery(from: Side, frames: u64, b: u32) -> Event
+    ensures { result ≡ drawn_delivery from frames b }
+{
+    if frames == 0 {
+        return Event::Timer {
+            side: Side::Client,
+            timer: Timer::Request,
+        };
+    }
+    Event::Deliver {
+        from,
+        index: drawn_index(u64::from(b), frames),
     }
 }
 
@@ -129,4 +145,42 @@ pub(crate) fn ending(which: u32) -> Event
             timer: Timer::Negotiate,
         },
     }
+}
+
+/// The event of two words, where the client has sent so many frames, and the server so many.
+#[tactic(auto, unfolding(crate::specs::Draws::drawn))]
+pub(crate) fn drawn(a: u32, b: u32, clients: u64, servers: u64) -> Event
+    ensures { result ≡ drawn a b clients servers }
+{
+    match a % 32 {
+        0..=11 => delivery(Side::Client, clients, b),
+        12..=23 => delivery(Side::Server, servers, b),
+        24 => sending(Side::Client, b),
+        25 => sending(Side::Server, b),
+        26 => preference(Side::Client, b % 8, b / 8),
+        27 => preference(Side::Server, b % 8, b / 8),
+        28 => Event::Timer {
+            side: Side::Client,
+            timer: drawn_timer(b % 6),
+        },
+        29 => Event::Timer {
+            side: Side::Server,
+            timer: drawn_timer(b % 6),
+        },
+        30 => ending(b % 512),
+        _ => Event::Timer {
+            side: Side::Server,
+            timer: Timer::Negotiate,
+        },
+    }
+}
+
+/// The initial sequence numbers that a seed draws, the client's first (own).
+pub fn initial_numbers(seed: u64) -> (Seq48, Seq48)
+    ensures client { result.0 ≡ initial_number (generator seed) }
+    ensures server { result.1 ≡ initial_number (behind_two (generator seed)) }
+{
+    let mut words = generator(seed);
+    let client = initial_number(&mut words);
+    (client, initial_number(&mut words))
 }

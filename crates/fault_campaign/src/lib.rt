@@ -2,23 +2,23 @@
 //! of them.
 //!
 //! `run_seed` runs one seed: two usual ends whose initial sequence numbers and events are drawn from it, frames lost,
-//! repeated and reordered among them. `campaign` runs as many seeds as it is asked to, each once, and adds their
-//! reports: the answer is the same for every number of workers and whatever they wait for. Nothing is said of which
-//! worker runs which seed, nor of how long it takes.
+//! repeated and reordered among them; `Run` does the same event by event. `campaign` runs as many seeds as it is asked
+//! to, each once, and adds their reports: the answer is the same for every number of workers and whatever they wait for.
+//! Nothing is said of which worker runs which seed, nor of how long it takes.
 #![tactic(auto)]
 
 mod draws;
-mod gate;
 mod laws;
 mod report;
 mod run;
 mod workers;
 
-pub use crate::gate::{Gate, OpenGate};
+pub use crate::draws::initial_numbers;
 pub use crate::laws::{
     drawn_events_happen, draws_that_no_count_shows, parts_of_a_campaign_add_up,
     reports_count_little, seeded_runs_are_safe,
 };
 pub use crate::report::Report;
-pub use crate::run::run_seed;
+pub use crate::run::{Run, run_seed};
 pub use crate::workers::campaign;
+pub use campaign_claims::{Gate, OpenGate};

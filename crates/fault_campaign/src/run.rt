@@ -3,12 +3,13 @@ ghost use Rattle.std.specs.Prelude.{◌≡◌, ℕ, ◌+◌, ◌*◌, ◌^◌, �
 ghost use Rattle.dccp_endpoint.specs.ShortForm.{is_stable};
 ghost use Rattle.fault_campaign.specs.Reports.{is_settled, settled_at, settles, size};
 ghost use Rattle.fault_campaign.specs.Draws.{behind_two, behind_word, drawn, drawn_delivery, ending, generator, preference, sending, word};
-ghost use Rattle.fault_campaign.specs.Seeded.{begun_run, frames_of, goes_on, goes_on_for, played, run_report, seeded_report, usual_from};
+ghost use Rattle.fault_campaign.specs.Seeded.{begun_run, frames_of, goes_on, goes_on_for, next_event, played, run_report, seeded_report, usual_from};
 ghost use Rattle.two_ends.specs.Pairs.{place_at};
 
 use crate::Report;
 use crate::draws::{
-    drawn_index, drawn_timer, ending, generator, initial_number, next_word, preference, sending,
+    drawn, drawn_index, drawn_timer, ending, generator, initial_number, next_word, preference,
+    sending,
 };
 use ccid_two::Kinds;
 use dccp_endpoint::{Config, Feature, Place, Role, Stand, Timer};
@@ -18,9 +19,9 @@ use std::alloc::Global;
 use std::marker::Model;
 use two_ends::{Event, Side, World, WorldFault};
 
-// A run on its way.
+/// The run of a seed on its way, for those that tell its events one by one (own). `run_seed` runs one whole.
 #[derive(Drop)]
-struct Run {
+pub struct Run {
     words: Pcg32,
     world: World<Kinds>,
     report: Report,
@@ -52,9 +53,27 @@ impl Run {
         })
     }
 
-    // Lets an event happen, and counts it.
+    /// The run of a seed before its first event, which opens the connection (own). It takes the memory of two ends; NoMemory
+    /// says that there was none.
+    pub fn of_seed(alloc: Global, seed: u64) -> Result<Run, NoMemory>
+        ensures { IfOk result (λ run. run ≡ begun_run (generator seed)) }
+    {
+        Run::new(alloc, generator(seed))
+    }
+
+    /// Draws the next event, which depends on how many frames there are (own). It has not happened yet.
+    pub fn draw(&mut self) -> Event
+        ensures event { result ≡ next_event self.old }
+        ensures rest { self.new ≡ record self.old { words = behind_two self.old.words } }
+    {
+        let (a, b) = self.next_words();
+        drawn(a, b, self.frames(Side::Client), self.frames(Side::Server))
+    }
+
+    /// Lets an event happen, and counts it (own); one that cannot happen changes nothing. NoMemory comes where there was none
+    /// for a frame. The counts have room for 2^61 events.
     #[tactic(auto, unfolding(crate::specs::Seeded::played))]
-    fn play(&mut self, event: &Event) -> Result<(), NoMemory>
+    pub fn play(&mut self, event: &Event) -> Result<(), NoMemory>
         requires { size self.old.report < 2 ^ 62 }
         ensures { OnOk result (self.new ≡ played self.old event.now) }
     {
@@ -290,6 +309,6 @@ pub fn run_seed(alloc: Global, seed: u64, events: u32) -> Result<Report, NoMemor
     requires events { 1 ≤ events × events ≤ 4096 }
     ensures value { IfOk result (λ report. report ≡ seeded_report seed events) }
 {
-    let mut run = Run::new(alloc, generator(seed))?;
+    let mut run = Run::of_seed(alloc, seed)?;
     run.play_all(events)
 }

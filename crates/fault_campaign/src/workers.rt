@@ -7,9 +7,9 @@ ghost use Rattle.std.specs.Thread.{IsSync};
 ghost use Rattle.fault_campaign.specs.Reports.{size};
 ghost use Rattle.fault_campaign.specs.Totals.{CanWork, HaveWorked, MayBegin, both_reports, totals};
 
-use crate::{Gate, Report, run_seed};
+use crate::{Report, run_seed};
 use campaign_claims::{
-    Claimer, Claims, a_claim_in_vain_ends_the_numbers, make_claims, numbers_once_add_up,
+    Claimer, Claims, Gate, a_claim_in_vain_ends_the_numbers, make_claims, numbers_once_add_up,
 };
 use seq_circle::NoMemory;
 use std::alloc::Global;
@@ -36,8 +36,7 @@ fn work<G: Gate>(
 {
     let mut claimer = claimer;
     let mut report = Report::nothing();
-    while let Some(index) = claimer.claim(claims) {
-        gate.begin(&claimer, index);
+    while let Some(index) = claimer.begin(claims, gate) {
         match run_seed(alloc, job.first + index, job.events) {
             Ok(one) => report = report.plus(&one),
             Err(none) => return (claimer, Err(none)),

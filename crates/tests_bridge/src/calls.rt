@@ -4,6 +4,9 @@ use dccp_io::{MemorySink, MemorySource};
 use std::alloc::Global;
 use std::test::Fail;
 
+/// The line that answers words which are none of the forms, as docs/TOOL.md has it.
+pub(crate) const USAGE: &[u8] = b"usage: dccp_bridge capture | unwrap | seed --seed S --events E\n";
+
 // More than any output here has.
 const ROOM: usize = 4096;
 

@@ -1,5 +1,5 @@
 //! Transcripts as captures: worked bytes, streams in pieces and streams that fail, and what is refused.
-use crate::calls::{Streams, comes, is_cut_off, is_refused};
+use crate::calls::{Streams, USAGE, comes, is_cut_off, is_refused};
 use bridge_command::Status;
 use std::alloc::Global;
 use std::test::Fail;
@@ -77,8 +77,6 @@ fn refused_lines_of_transcripts(rt: HostRuntime) -> Result<(), Fail> {
     }
     Ok(())
 }
-
-const USAGE: &[u8] = b"usage: dccp_bridge unwrap | capture\n";
 
 #[test]
 fn other_words_of_the_bridge(rt: HostRuntime) -> Result<(), Fail> {

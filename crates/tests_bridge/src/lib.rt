@@ -11,4 +11,6 @@ mod captures;
 #[cfg(test)]
 mod objects;
 #[cfg(test)]
+mod seeds;
+#[cfg(test)]
 mod unwraps;

@@ -90,9 +90,9 @@ fn reports_by_vectors(rt: HostRuntime) -> Result<(), Fail> {
 
 const AREAS: &str = "\
     # Two options as they are written: where each begins, whether it is mandatory, its type and its data\n\
-    Ack 2603050120040601: 0 false 38 [5] 4 true 32 [6, 1]\n\
+    Ack 2603050120040601: 0 false 38,5 4 true 32,6,1\n\
     # No length, and one that is too long\n\
-    Ack 0226: 0 false 2 []\n\
+    Ack 0226: 0 false 2\n\
     Ack 260400: -\n\
     # The same behind Mandatory\n\
     Ack 01260400: MandatoryAtEnd\n\
@@ -104,9 +104,12 @@ const AREAS: &str = "\
     Data 2609250301: -\n";
 
 fn tell_option(option: &Opt<'_>, told: &mut String) -> Result<(), Fail> {
-    let (place, mandatory) = (option.place, option.mandatory);
-    let (kind, body) = (option.kind, option.body);
-    Ok(write!(told, " {place} {mandatory} {kind} {body:?}")?)
+    let (place, mandatory, kind) = (option.place, option.mandatory, option.kind);
+    write!(told, " {place} {mandatory} {kind}")?;
+    for byte in option.body {
+        write!(told, ",{byte}")?;
+    }
+    Ok(())
 }
 
 fn tell_options(area: &[u8], on_data: bool, told: &mut String) -> Result<(), Fail> {

@@ -1,6 +1,7 @@
 //! Packets, their headers and the frames that hold them. What a test tries stands in a helper that answers whether it
 //! holds: a proof follows each value that a function holds through each of its steps.
 use crate::tables::{Table, holds};
+use crate::windows::type_of;
 use dccp_packets::{
     Frame, Header, Kind, MOST_FRAME_BYTES, Malformed, Number, OptionsTooLong, Outbox, Packet,
     PacketType, ResetCode, decode, encode,
@@ -358,17 +359,17 @@ const FORMS: &str = "\
 
 fn kind_of(word: &str, ack: Seq48) -> Option<Kind> {
     let long = Number::Long(ack);
-    match word {
-        "Request" => Some(Kind::Request { service: 42 }),
-        "Data" => Some(Kind::Data),
-        "Ack" => Some(Kind::Ack { ack: long }),
-        "DataAck" => Some(Kind::DataAck { ack: long }),
-        "Reset" => Some(Kind::Reset {
+    match type_of(word)? {
+        PacketType::Request => Some(Kind::Request { service: 42 }),
+        PacketType::Data => Some(Kind::Data),
+        PacketType::Ack => Some(Kind::Ack { ack: long }),
+        PacketType::DataAck => Some(Kind::DataAck { ack: long }),
+        PacketType::Reset => Some(Kind::Reset {
             ack,
             code: 1,
             detail: [0; 3],
         }),
-        "Sync" => Some(Kind::Sync { ack }),
+        PacketType::Sync => Some(Kind::Sync { ack }),
         _ => None,
     }
 }

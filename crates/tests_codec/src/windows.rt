@@ -55,7 +55,7 @@ const STORIES: &str = "\
     uneven acks/1500: true\n\
     uneven acks/1501: false\n\
     # The first packet received: the eight numbers before it and behind it\n\
-    new marks begin/Response/2000/2 marks begin/Request/7/ marks: [0, 281474976710655, 0, 0, 0, 0, 100, 100] [0, 281474976710655, 2, 2000, 2000, 2000, 100, 100] [0, 281474976710655, 2, 7, 7, 7, 100, 100]\n";
+    new marks begin/Response/2000/2 marks begin/Request/7/ marks: 0 281474976710655 0 0 0 0 100 100 0 281474976710655 2 2000 2000 2000 100 100 0 281474976710655 2 7 7 7 100 100\n";
 
 // The numbers of marks: ISS, GSS, GAR, ISR, GSR, OSR, and the widths of this end's and of the peer's window.
 type Numbers = [u64; 8];
@@ -164,7 +164,7 @@ const TYPES: [(&str, PacketType); 10] = [
     ("SyncAck", PacketType::SyncAck),
 ];
 
-fn type_of(name: &str) -> Option<PacketType> {
+pub(crate) fn type_of(name: &str) -> Option<PacketType> {
     for (other, kind) in TYPES {
         if name == other {
             return Some(kind);
@@ -247,8 +247,10 @@ fn begins(marks: &mut Marks, word: &str) -> Result<(), Fail> {
 }
 
 fn tell_marks(marks: &Marks, told: &mut String) -> Result<(), Fail> {
-    let numbers = numbers_of(marks);
-    Ok(write!(told, " {numbers:?}")?)
+    for number in numbers_of(marks) {
+        write!(told, " {number}")?;
+    }
+    Ok(())
 }
 
 fn tell_word(marks: &mut Marks, word: &str, told: &mut String) -> Result<(), Fail> {

@@ -9,7 +9,7 @@ use Rattle.clap.specs.declared.parser.matches.ArgMatches.{ArgMatches}
 use Rattle.clap.proofs.WalkLemmas.{both}
 use Rattle.tool_forms.specs.Tables as table
 use Rattle.tool_forms.specs.declared.settings.Setting.{Setting}
-use Rattle.tool_forms.specs.declared.settings.Setting.TheVariants.{First, Seeds, Events, Workers, Side, Plain, Buffer, Most}
+use Rattle.tool_forms.specs.declared.settings.Setting.TheVariants.{First, Seeds, Events, Workers, Side, Plain, Buffer, Most, Seed, Flow}
 use Rattle.tool_forms.specs.Settings.{settings_of}
 use Rattle.tool_forms.specs.Commands.{IsReadBy, bare_command, command_of, has_dashes, rule_for, with_settings}
 
@@ -34,6 +34,16 @@ replay-is a b d e bare side buffer plain =
 pub listen-is : (a b : App) → a ≡ bare_command → b ≡ with_rule a (rule_for Most) → b ≡ command_of table.Listen
 unfolding command_of
 listen-is a b bare most = sym (ap (λ (x : App). with_settings x (settings_of table.Listen)) (sym bare) ∙ one-with a b Most [] most)
+
+pub seed-is : (a b d : App) → a ≡ bare_command → b ≡ with_rule a (rule_for Seed) → d ≡ with_rule b (rule_for Events) → d ≡ command_of table.Seed
+unfolding command_of
+seed-is a b d bare seed events =
+    sym (ap (λ (x : App). with_settings x (settings_of table.Seed)) (sym bare) ∙ one-with a b Seed (Events ∷ []) seed ∙ one-with b d Events [] events)
+
+pub frames-is : (a b d : App) → a ≡ bare_command → b ≡ with_rule a (rule_for Flow) → d ≡ with_rule b (rule_for Side) → d ≡ command_of table.Frames
+unfolding command_of
+frames-is a b d bare flow side =
+    sym (ap (λ (x : App). with_settings x (settings_of table.Frames)) (sym bare) ∙ one-with a b Flow (Side ∷ []) flow ∙ one-with b d Side [] side)
 
 -- what a call of a command tells of words
 

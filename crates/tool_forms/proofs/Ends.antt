@@ -12,7 +12,7 @@ use Rattle.tool_forms.specs.declared.words.Form.{Form}
 use Rattle.tool_forms.specs.Tables.{Table}
 use Rattle.tool_forms.specs.Tables as table
 use Rattle.tool_forms.specs.declared.settings.Setting.{Setting}
-use Rattle.tool_forms.specs.declared.settings.Setting.TheVariants.{First, Seeds, Events, Workers, Side, Plain, Buffer, Most}
+use Rattle.tool_forms.specs.declared.settings.Setting.TheVariants.{First, Seeds, Events, Workers, Side, Plain, Buffer, Most, Seed, Flow}
 use Rattle.tool_forms.specs.declared.settings.Way.{Way}
 use Rattle.tool_forms.specs.declared.settings.Way.TheVariants as way
 use Rattle.tool_forms.specs.Given.{Value}
@@ -64,6 +64,8 @@ one-none Side figure is none = cc is
 one-none Plain figure is none = cc is
 one-none Buffer figure is none = cc is
 one-none Most figure is none = cc is
+one-none Seed figure is none = cc is
+one-none Flow figure is none = cc is
 
 pub campaign-once : (setting : Setting) (text : Text) (all : Option (List Assignment)) (pairs : Pairs) → owns table.Campaign setting ≡ true → has setting pairs ≡ true
     → campaign_means (onto pairs (preceded (assigned setting text) all)) ≡ None
@@ -94,10 +96,10 @@ module _ {X : Type 0} (judge : List Row → Option X) where
   campaign-closes rs false false false true f g h i j k l m = rw (f, g, h, i, j) refl
   campaign-closes rs false false false false f g h i j k l m = rw (f, g, h, i, j) refl
 
-abbrev number_at : Pairs → Setting → Option ℕ
+abbrev pub number_at : Pairs → Setting → Option ℕ
 number_at pairs setting = option_and_then (number_for setting) (text_at setting pairs)
 
-lacks-text : (setting : Setting) (pairs : Pairs) → has setting pairs ≡ false → text_at setting pairs ≡ None
+pub lacks-text : (setting : Setting) (pairs : Pairs) → has setting pairs ≡ false → text_at setting pairs ≡ None
 lacks-text setting [] none = refl
 lacks-text setting (pair ∷ pairs) none = go (is_same pair.0 setting) refl none (lacks-text setting pairs)
   where
@@ -108,11 +110,11 @@ lacks-text setting (pair ∷ pairs) none = go (is_same pair.0 setting) refl none
 
 -- a pair whose text is no value
 pub record Bad (pairs : Pairs) : Type 0 where
-  setting : Setting
-  text : Text
-  at : text_at setting pairs ≡ Some text
-  bad : value_of setting text ≡ None
-  own : (t : Table) → Owned t pairs → owns t setting ≡ true
+  pub setting : Setting
+  pub text : Text
+  pub at : text_at setting pairs ≡ Some text
+  pub bad : value_of setting text ≡ None
+  pub own : (t : Table) → Owned t pairs → owns t setting ≡ true
 
 pub some-bad : (pairs : Pairs) → Distinct pairs → gave pairs ≡ None → Bad pairs
 some-bad [] distinct none = cc none
@@ -139,7 +141,7 @@ some-bad (pair ∷ pairs) distinct none = go (value_of pair.0 pair.1) refl (gave
     go (Some v) is (Some all) more rest = let never : Some ((record { setting = pair.0; value = v }) ∷ all) ≡ None = rw (is, more) at none in cc never
 
 -- a setting that has a number, and the number that its value is
-abbrev is_figure : Setting → Bool
+abbrev pub is_figure : Setting → Bool
 is_figure Side = false
 is_figure Plain = false
 is_figure _ = true
@@ -153,6 +155,8 @@ figure-value Side text is = cc is
 figure-value Plain text is = cc is
 figure-value Buffer text is = refl
 figure-value Most text is = refl
+figure-value Seed text is = refl
+figure-value Flow text is = refl
 
 number-of : (n : Option ℕ) → number_among (Some (option_and_then (λ n. Some (value.Number n)) n)) ≡ n
 number-of None = refl
@@ -163,7 +167,7 @@ number-found : (setting : Setting) (found : Option Text) → is_figure setting �
 number-found setting None is = refl
 number-found setting (Some text) is = ap (λ (v : Option Value). number_among (Some v)) (figure-value setting text is) ∙ number-of (number_for setting text)
 
-number-gave : (setting : Setting) (pairs : Pairs) (all : List Assignment) → Distinct pairs → gave pairs ≡ Some all → is_figure setting ≡ true
+pub number-gave : (setting : Setting) (pairs : Pairs) (all : List Assignment) → Distinct pairs → gave pairs ≡ Some all → is_figure setting ≡ true
     → number_once setting (gave pairs) ≡ number_at pairs setting
 number-gave setting pairs all distinct is figure =
     ap number_among (once-gave setting pairs distinct ∙ ap (λ (a : Option (List Assignment)). option_and_then (λ _. Some (found_at setting pairs)) a) is)
@@ -173,7 +177,7 @@ unnumbered : (n : Option ℕ) → option_and_then (λ n. Some (value.Number n)) 
 unnumbered None none = refl
 unnumbered (Some n) none = cc none
 
-unvalued : (setting : Setting) (text : Text) → is_figure setting ≡ true → value_of setting text ≡ None → number_for setting text ≡ None
+pub unvalued : (setting : Setting) (text : Text) → is_figure setting ≡ true → value_of setting text ≡ None → number_for setting text ≡ None
 unvalued setting text is bad = unnumbered (number_for setting text) (sym (figure-value setting text is) ∙ bad)
 
 figures : (setting : Setting) → owns table.Campaign setting ≡ true → is_figure setting ≡ true
@@ -185,6 +189,8 @@ figures Events is = refl
 figures Workers is = refl
 figures Buffer is = refl
 figures Most is = refl
+figures Seed is = refl
+figures Flow is = refl
 
 chain-at : (pairs : Pairs) → Option Campaign
 chain-at pairs = chain (number_at pairs First) (number_at pairs Seeds) (number_at pairs Events) (number_at pairs Workers)
@@ -308,6 +314,8 @@ replay-once Seeds text all pairs is twice = cc is
 replay-once Events text all pairs is twice = cc is
 replay-once Workers text all pairs is twice = cc is
 replay-once Most text all pairs is twice = cc is
+replay-once Seed text all pairs is twice = cc is
+replay-once Flow text all pairs is twice = cc is
 
 -- the row of the mark where it is not given, and the rows with it
 unmarked : Row
@@ -519,6 +527,8 @@ replay-bad pairs Seeds text own at bad = cc own
 replay-bad pairs Events text own at bad = cc own
 replay-bad pairs Workers text own at bad = cc own
 replay-bad pairs Most text own at bad = cc own
+replay-bad pairs Seed text own at bad = cc own
+replay-bad pairs Flow text own at bad = cc own
 
 replay-gave : (pairs : Pairs) → Distinct pairs → Owned table.Replay pairs → replay_at pairs ≡ replay_means (gave pairs)
 replay-gave pairs distinct owned = go (gave pairs) refl

@@ -5,5 +5,6 @@ pub mod Named
 pub mod Onto
 pub mod Reading
 pub mod Ends
+pub mod BridgeEnds
 pub mod Taken
 pub mod Asking

@@ -10,7 +10,7 @@ use Rattle.std.proofs.lemmas.Bool.Decides.{nat_tests}
 use Rattle.clap.specs.Lexer.{has_byte, long_of, short_of}
 use Rattle.tool_forms.specs.Tables.{Table}
 use Rattle.tool_forms.specs.declared.settings.Setting.{Setting}
-use Rattle.tool_forms.specs.declared.settings.Setting.TheVariants.{First, Seeds, Events, Workers, Side, Plain, Buffer, Most}
+use Rattle.tool_forms.specs.declared.settings.Setting.TheVariants.{First, Seeds, Events, Workers, Side, Plain, Buffer, Most, Seed, Flow}
 use Rattle.tool_forms.specs.Given as value
 use Rattle.tool_forms.specs.Given.{Assignment}
 use Rattle.tool_text.specs.Numbers.{number_below}
@@ -127,6 +127,8 @@ set-long Side rest none = cannot _ none
 set-long Plain rest none = cannot _ none
 set-long Buffer rest none = cannot _ none
 set-long Most rest none = cannot _ none
+set-long Seed rest none = cannot _ none
+set-long Flow rest none = cannot _ none
 
 -- a setting has the name by which it is found
 named-is : (settings : List Setting) (name : List ℕ) (setting : Setting) → named_among settings name ≡ Some setting → name ≡ dashed_name setting
@@ -182,6 +184,8 @@ hyphen-value Side (x ∷ xs) = refl
 hyphen-value Plain xs = refl
 hyphen-value Buffer xs = no-figure Buffer xs
 hyphen-value Most xs = no-figure Most xs
+hyphen-value Seed xs = no-figure Seed xs
+hyphen-value Flow xs = no-figure Flow xs
 
 pub flag-value : (setting : Setting) (text : List ℕ) → (long_of text ≡ None → short_of text ≡ None → ⊥) → setting_value setting text ≡ None
 flag-value setting [] flag = absurd (flag refl refl)

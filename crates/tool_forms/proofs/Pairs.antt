@@ -12,7 +12,7 @@ use Rattle.clap.specs.Takes.{is_given}
 use Rattle.clap.specs.declared.parser.matches.ValueSource.TheVariants.{CommandLine}
 use Rattle.clap.specs.declared.error.kind.ErrorKind.TheVariants.{ArgumentConflict}
 use Rattle.tool_forms.specs.declared.settings.Setting.{Setting}
-use Rattle.tool_forms.specs.declared.settings.Setting.TheVariants.{First, Seeds, Events, Workers, Side, Plain, Buffer, Most}
+use Rattle.tool_forms.specs.declared.settings.Setting.TheVariants.{First, Seeds, Events, Workers, Side, Plain, Buffer, Most, Seed, Flow}
 use Rattle.tool_forms.specs.declared.settings.Way.{Way}
 use Rattle.tool_forms.specs.declared.settings.Way.TheVariants as way
 use Rattle.tool_forms.specs.Settings.{bare_name, dashed_name, is_marking, is_same, named_among, way_of}
@@ -82,7 +82,7 @@ pub is-itself : (setting : Setting) → is_same setting setting ≡ true
 is-itself setting = (bytes_eq-Decides (bare_name setting) (bare_name setting)).1 refl
 
 every : List Setting
-every = First ∷ (Seeds ∷ (Events ∷ (Workers ∷ (Side ∷ (Plain ∷ (Buffer ∷ (Most ∷ [])))))))
+every = First ∷ (Seeds ∷ (Events ∷ (Workers ∷ (Side ∷ (Plain ∷ (Buffer ∷ (Most ∷ (Seed ∷ (Flow ∷ [])))))))))
 
 named : (setting : Setting) → named_among every (dashed_name setting) ≡ Some setting
 unfolding every
@@ -94,6 +94,8 @@ named Side = refl
 named Plain = refl
 named Buffer = refl
 named Most = refl
+named Seed = refl
+named Flow = refl
 
 pub some-is : {X : Type 0} (x y : X) → Some x ≡ Some y → x ≡ y
 some-is x y is = cc is

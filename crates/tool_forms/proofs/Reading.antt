@@ -12,7 +12,7 @@ use Rattle.clap.specs.Faults.{use_fault}
 use Rattle.tool_forms.specs.Tables.{Table}
 use Rattle.tool_forms.specs.Tables as table
 use Rattle.tool_forms.specs.declared.settings.Setting.{Setting}
-use Rattle.tool_forms.specs.declared.settings.Setting.TheVariants.{First, Seeds, Events, Workers, Side, Plain, Buffer, Most}
+use Rattle.tool_forms.specs.declared.settings.Setting.TheVariants.{First, Seeds, Events, Workers, Side, Plain, Buffer, Most, Seed, Flow}
 use Rattle.tool_forms.specs.declared.settings.Way.{Way}
 use Rattle.tool_forms.specs.declared.settings.Way.TheVariants as way
 use Rattle.tool_forms.specs.Given.{Value}
@@ -34,21 +34,29 @@ rules-are : (t : Table) → (shape t).rules ≡ map argument (settings_of t)
 rules-are table.Replay = refl
 rules-are table.Campaign = refl
 rules-are table.Listen = refl
+rules-are table.Seed = refl
+rules-are table.Frames = refl
 
 pub no-short : (t : Table) (x : ℕ) → arg_by_short (shape t).rules x ≡ None
 no-short table.Replay x = refl
 no-short table.Campaign x = refl
 no-short table.Listen x = refl
+no-short table.Seed x = refl
+no-short table.Frames x = refl
 
 pub no-index : (t : Table) → arg_by_index (shape t).rules 1 ≡ None
 no-index table.Replay = refl
 no-index table.Campaign = refl
 no-index table.Listen = refl
+no-index table.Seed = refl
+no-index table.Frames = refl
 
 no-again : (t : Table) → (shape t).args_override_self ≡ false
 no-again table.Replay = refl
 no-again table.Campaign = refl
 no-again table.Listen = refl
+no-again table.Seed = refl
+no-again table.Frames = refl
 
 -- ---- the arguments of settings, whichever
 
@@ -170,6 +178,8 @@ valueless Side text is = cc is
 valueless Plain text is = refl
 valueless Buffer text is = cc is
 valueless Most text is = cc is
+valueless Seed text is = cc is
+valueless Flow text is = cc is
 
 module _ {X : Type 0} (judge : List Row → Option X) (t : Table) (means : Option (List Assignment) → Option X) (means-none : means None ≡ None)
     (means-once : (setting : Setting) (text : Text) (all : Option (List Assignment)) (pairs : Pairs) → owns t setting ≡ true → has setting pairs ≡ true

@@ -16,14 +16,16 @@ use Rattle.tool_forms.specs.declared.settings.Setting.{Setting}
 use Rattle.tool_forms.specs.Given.{Assignment}
 use Rattle.tool_forms.specs.Settings.{all_given, preceded, settings_of}
 use Rattle.tool_forms.specs.CampaignWords.{campaign_of}
+use Rattle.tool_forms.specs.BridgeWords.{flow_side_of, seed_run_of}
 use Rattle.tool_forms.specs.Words.{listen_of, replay_of}
-use Rattle.tool_forms.specs.Commands.{IsReadBy, bare_command, campaign_in, command_of, has_dashes, is_dashes, listen_in, replay_in, with_settings}
+use Rattle.tool_forms.specs.Commands.{IsReadBy, bare_command, campaign_in, command_of, flow_side_in, has_dashes, is_dashes, listen_in, replay_in, seed_run_in, with_settings}
 use Rattle.tool_forms.proofs.Turns.{passed, rests, verdict}
 use Rattle.tool_forms.proofs.Walks.{Clear}
 use Rattle.tool_forms.proofs.Pairs.{Distinct, Pairs, has, rows}
 use Rattle.tool_forms.proofs.Named.{dashes-none}
 use Rattle.tool_forms.proofs.Onto.{assigned, onto}
 use Rattle.tool_forms.proofs.Reading.{Owned, all-agree, owns, shape}
+use Rattle.tool_forms.proofs.BridgeEnds.{flow-ends, flow-once, flow_means, seed-ends, seed-once, seed_means}
 use Rattle.tool_forms.proofs.Ends.{campaign-ends, campaign-once, campaign_means, listen-ends, listen-once, listen_means, replay-ends, replay-once, replay_means}
 
 abbrev command : Table → App
@@ -67,6 +69,8 @@ module _ {X : Type 0} (judge : List Row → Option X) where
   one-level table.Replay words = by-level (shape table.Replay) words
   one-level table.Campaign words = by-level (shape table.Campaign) words
   one-level table.Listen words = by-level (shape table.Listen) words
+  one-level table.Seed words = by-level (shape table.Seed) words
+  one-level table.Frames words = by-level (shape table.Frames) words
 
 -- ---- what the code makes of it
 
@@ -104,6 +108,8 @@ simple : (t : Table) → is_simple_and_free (command t) ≡ true
 simple table.Replay = refl
 simple table.Campaign = refl
 simple table.Listen = refl
+simple table.Seed = refl
+simple table.Frames = refl
 
 pub command-simple : (t : Table) (app : App) → app ≡ command_of t → is_simple_and_free app ≡ true
 command-simple t app is = ap is_simple_and_free (is ∙ command-is t) ∙ simple t
@@ -151,3 +157,17 @@ listen-judged = form-judged listen_in table.Listen listen_means refl listen-once
 
 pub listen-refused : (app : App) (words : List (String Global)) → app ≡ command_of table.Listen → IsReadBy app words None → None ≡ listen_of words
 listen-refused = form-refused listen_in table.Listen listen_means refl listen-once listen-ends
+
+pub seed-judged : (app : App) (words : List (String Global)) (m : ArgMatches) → app ≡ command_of table.Seed → IsReadBy app words (Some m)
+    → seed_run_in (rows_of (found_of m)) ≡ seed_run_of words
+seed-judged = form-judged seed_run_in table.Seed seed_means refl seed-once seed-ends
+
+pub seed-refused : (app : App) (words : List (String Global)) → app ≡ command_of table.Seed → IsReadBy app words None → None ≡ seed_run_of words
+seed-refused = form-refused seed_run_in table.Seed seed_means refl seed-once seed-ends
+
+pub flow-judged : (app : App) (words : List (String Global)) (m : ArgMatches) → app ≡ command_of table.Frames → IsReadBy app words (Some m)
+    → flow_side_in (rows_of (found_of m)) ≡ flow_side_of words
+flow-judged = form-judged flow_side_in table.Frames flow_means refl flow-once flow-ends
+
+pub flow-refused : (app : App) (words : List (String Global)) → app ≡ command_of table.Frames → IsReadBy app words None → None ≡ flow_side_of words
+flow-refused = form-refused flow_side_in table.Frames flow_means refl flow-once flow-ends

@@ -13,14 +13,17 @@ use Rattle.clap.specs.Simple.{App, matches_of, new_app, new_rule, on_top, with_r
 use Rattle.clap.specs.Faults.{fault_of}
 use Rattle.clap.specs.declared.builder.action.ArgAction.TheVariants as action
 use Rattle.tool_forms.specs.declared.campaign_words.Campaign.{Campaign}
+use Rattle.tool_forms.specs.declared.bridge_words.FlowSide.{FlowSide}
+use Rattle.tool_forms.specs.declared.bridge_words.SeedRun.{SeedRun}
 use Rattle.tool_forms.specs.declared.words.Form.{Form}
 use Rattle.tool_forms.specs.declared.settings.Setting.{Setting}
-use Rattle.tool_forms.specs.declared.settings.Setting.TheVariants.{First, Seeds, Events, Workers, Side, Plain, Buffer, Most}
+use Rattle.tool_forms.specs.declared.settings.Setting.TheVariants.{First, Seeds, Events, Workers, Side, Plain, Buffer, Most, Seed, Flow}
 use Rattle.tool_forms.specs.declared.settings.Way.{Way}
 use Rattle.tool_forms.specs.declared.settings.Way.TheVariants as way
 use Rattle.tool_forms.specs.Tables.{Table}
 use Rattle.tool_forms.specs.Settings.{bare_name, number_for, settings_of, side_in, way_of}
 use Rattle.tool_forms.specs.CampaignWords.{campaign_from}
+use Rattle.tool_forms.specs.BridgeWords.{flow_side_from, seed_run_from}
 use Rattle.tool_forms.specs.Words.{listener_for, replay_with}
 
 -- the argument of this name that is given so: with one value, which has to be given or may be left out, or as a flag
@@ -96,3 +99,11 @@ replay_in rows = replay_from (first_of (bare_name Side) rows) (is_yes (first_of 
 -- the listener that matches are
 abbrev pub listen_in : List Row → Option Form
 listen_in rows = listener_for (figure_in Most rows)
+
+-- the seed's run that matches are
+abbrev pub seed_run_in : List Row → Option SeedRun
+seed_run_in rows = seed_run_from (figure_in Seed rows) (figure_in Events rows)
+
+-- the side of a flow that matches are
+abbrev pub flow_side_in : List Row → Option FlowSide
+flow_side_in rows = flow_side_from (figure_in Flow rows) (option_and_then side_in (first_of (bare_name Side) rows))

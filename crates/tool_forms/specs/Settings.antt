@@ -14,7 +14,7 @@ use Rattle.world_events.specs.declared.event.Side.TheVariants.{Client, Server}
 use Rattle.tool_forms.specs.Tables.{Table}
 use Rattle.tool_forms.specs.Tables as table
 use Rattle.tool_forms.specs.declared.settings.Setting.{Setting}
-use Rattle.tool_forms.specs.declared.settings.Setting.TheVariants.{First, Seeds, Events, Workers, Side, Plain, Buffer, Most}
+use Rattle.tool_forms.specs.declared.settings.Setting.TheVariants.{First, Seeds, Events, Workers, Side, Plain, Buffer, Most, Seed, Flow}
 use Rattle.tool_forms.specs.declared.settings.Way.{Way}
 use Rattle.tool_forms.specs.declared.settings.Way.TheVariants as way
 use Rattle.tool_forms.specs.Given.{Value}
@@ -26,6 +26,8 @@ abbrev pub settings_of : Table → List Setting
 settings_of table.Replay = Side ∷ (Buffer ∷ (Plain ∷ []))
 settings_of table.Campaign = First ∷ (Seeds ∷ (Events ∷ (Workers ∷ [])))
 settings_of table.Listen = Most ∷ []
+settings_of table.Seed = Seed ∷ (Events ∷ [])
+settings_of table.Frames = Flow ∷ (Side ∷ [])
 
 -- a setting's name, without the two hyphens
 abbrev pub bare_name : Setting → List ℕ
@@ -37,6 +39,8 @@ bare_name Side = codes "side"
 bare_name Plain = codes "plain"
 bare_name Buffer = codes "buffer"
 bare_name Most = codes "most"
+bare_name Seed = codes "seed"
+bare_name Flow = codes "flow"
 
 -- how a setting is given
 abbrev pub way_of : Setting → Way
@@ -51,6 +55,7 @@ least Events = 1
 least Workers = 1
 least Buffer = 1
 least Most = 1
+least Flow = 1
 least _ = 0
 
 -- the greatest that a number may be, itself allowed; a setting that is none has 0
@@ -61,6 +66,8 @@ most Events = 4096
 most Workers = 16
 most Buffer = 1024
 most Most = 1024
+most Seed = 2 ^ 64 - 1
+most Flow = 2 ^ 64 - 1
 most _ = 0
 
 -- a setting's name as words have it

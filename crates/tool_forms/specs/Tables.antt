@@ -3,3 +3,5 @@ pub data Table : Type 0 where
   Replay : Table
   Campaign : Table
   Listen : Table
+  Seed : Table
+  Frames : Table

@@ -106,6 +106,22 @@ pub(crate) fn listen_command<'a>(alloc: Global) -> Result<Command<'a>, AllocErro
     with_setting(alloc, bare_command(alloc), Setting::Most)
 }
 
+/// The command that reads the words behind the second program's `seed`.
+pub(crate) fn seed_command<'a>(alloc: Global) -> Result<Command<'a>, AllocError>
+    ensures { IfOk result (λ c. app_of c ≡ command_of table.Seed) }
+{
+    let command = with_setting(alloc, bare_command(alloc), Setting::Seed)?;
+    with_setting(alloc, command, Setting::Events)
+}
+
+/// The command that reads the words behind the second program's `frames`.
+pub(crate) fn frames_command<'a>(alloc: Global) -> Result<Command<'a>, AllocError>
+    ensures { IfOk result (λ c. app_of c ≡ command_of table.Frames) }
+{
+    let command = with_setting(alloc, bare_command(alloc), Setting::Flow)?;
+    with_setting(alloc, command, Setting::Side)
+}
+
 // One of the words is `--`, which `clap` would take as the last word.
 fn has_dashes(words: &[String]) -> bool
     ensures { result ≡ has_dashes words.now }

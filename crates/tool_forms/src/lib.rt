@@ -1,10 +1,12 @@
-//! What the words after the tool's name ask for (own).
+//! What the words after the tool's name ask for, and the settings of the second program's words (own).
 #![tactic(auto)]
 
+mod bridge_words;
 mod campaign_words;
 mod commands;
 mod settings;
 mod words;
 
+pub use crate::bridge_words::{FlowSide, SeedRun, flow_side_of, seed_run_of};
 pub use crate::campaign_words::Campaign;
 pub use crate::words::{Form, USAGE, form_of};

@@ -1,8 +1,8 @@
 //! The settings that words give to a form.
 //!
-//! One table has the settings of `replay`, `campaign` and `listen`: of each its name, how it is given, and the least and
-//! the most of its number. A further setting is a line in each function of the table, and one where its form's command is
-//! put together.
+//! One table has the settings of `replay`, `campaign` and `listen`, and those of the second program's `seed` and `frames`:
+//! of each its name, how it is given, and the least and the most of its number. A further setting is a line in each function
+//! of the table, and one where its form's command is put together.
 ghost use Rattle.std.specs.Prelude.{◌≡◌, ◌≤◌, IfSome};
 ghost use Rattle.tool_forms.specs.Settings.{bare_name, least, most, number_for, side_in, way_of};
 
@@ -33,6 +33,8 @@ pub(crate) enum Setting {
     Plain,
     Buffer,
     Most,
+    Seed,
+    Flow,
 }
 
 /// How a setting is given.
@@ -51,9 +53,13 @@ impl Setting {
         ensures { result ≡ least self }
     {
         match self {
-            Setting::Seeds | Setting::Events | Setting::Workers | Setting::Buffer | Setting::Most =>
-                1,
-            Setting::First | Setting::Side | Setting::Plain => 0,
+            Setting::Seeds
+            | Setting::Events
+            | Setting::Workers
+            | Setting::Buffer
+            | Setting::Most
+            | Setting::Flow => 1,
+            Setting::First | Setting::Side | Setting::Plain | Setting::Seed => 0,
         }
     }
 
@@ -61,7 +67,7 @@ impl Setting {
         ensures { result ≡ most self }
     {
         match self {
-            Setting::First => u64::MAX,
+            Setting::First | Setting::Seed | Setting::Flow => u64::MAX,
             Setting::Seeds => 100_000,
             Setting::Events => 4_096,
             Setting::Workers => 16,
@@ -83,6 +89,8 @@ impl Setting {
             Setting::Plain => "plain",
             Setting::Buffer => "buffer",
             Setting::Most => "most",
+            Setting::Seed => "seed",
+            Setting::Flow => "flow",
         }
     }
 
@@ -98,7 +106,9 @@ impl Setting {
             | Setting::Events
             | Setting::Workers
             | Setting::Side
-            | Setting::Most => Way::Needed,
+            | Setting::Most
+            | Setting::Seed
+            | Setting::Flow => Way::Needed,
         }
     }
 

@@ -1,7 +1,7 @@
 //! One end of a DCCP connection (RFC 4340) with CCID 2 (RFC 4341) and feature negotiation, over the proved library for C.
 //!
 //! It has no socket, no clock and no thread. A [`Connection`] takes datagrams and the time, and gives frames and events; an [`Endpoint`]
-//! does so for a server of many peers, and so does a [`Listener`], which has their connections behind the border, where more is proved of them.
+//! does so for a server of many peers, and so does a [`Listener`], over IPv4 and by the listener of the library.
 //! `docs/LIBRARY.md` of the repository says what of it is proved: the library below, and nothing of this crate.
 //!
 //! ```

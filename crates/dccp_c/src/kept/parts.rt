@@ -6,8 +6,8 @@ use std::alloc::Allocator;
 use std::marker::Model;
 
 pub struct Parts<T, A: Allocator> {
-    pub(super) ptr: *mut T,
-    pub(super) alloc: A,
+    pub(crate) ptr: *mut T,
+    pub(crate) alloc: A,
     pub ghost value: { T },
 }
 

@@ -1,5 +1,4 @@
-use Rattle.std.proofs.Common.{rules, ◌∙◌, ap}
-use Rattle.fault_campaign.specs.Seeded.{begun_run}
+use Rattle.std.proofs.Common.{rules}
 use Rattle.fault_campaign.proofs.Turns.{starts-little}
 use Rattle.fault_campaign.proofs.run.run_seed.Goals as goal
 
@@ -7,8 +6,8 @@ pub play_all-requires : goal.play_all-requires
 play_all-requires c =
     record {
       some = search rules;
-      few = starts-little _ c.args.events _ (search rules) c.in_ok-run.ensures.value;
+      few = starts-little _ c.args.events _ (search rules) c.in_ok-run.ensures;
     }
 
 pub returns : goal.returns
-returns c = record { value = c.play_all.ensures c.args.seed (c.in_ok-run.ensures.value ∙ ap begun_run c.generator.ensures) }
+returns c = record { value = c.play_all.ensures c.args.seed c.in_ok-run.ensures }

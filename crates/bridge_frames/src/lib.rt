@@ -1,0 +1,15 @@
+//! `frames`: the packets of a captured flow that go to one of its sides, as lines of a replay (own; the fields by RFC 4340,
+//! section 5).
+//!
+//! It reads captures as `unwrap` does and shows packets as `show` does. It plays nothing: what the usual end of that side answers
+//! to the frames, `replay` tells.
+#![tactic(auto)]
+
+mod framing;
+mod laws;
+mod lines;
+mod mapping;
+
+pub use crate::framing::frame_flow;
+pub use crate::laws::{a_frame_is_its_packet, acknowledgements_keep_their_distance, lines_read_back};
+pub use crate::mapping::{NoFrame, UsualEnd};

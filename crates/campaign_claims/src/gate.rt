@@ -1,0 +1,19 @@
+//! What whoever claims a number waits for before it begins with it.
+ghost use Rattle.campaign_claims.specs.Views.{IsLastNumber};
+
+use crate::Claimer;
+
+/// It is called with each number that is begun (own). It may make its caller wait, and has no say in what that does.
+pub trait Gate {
+    /// This number is begun with: the last that its claimer drew.
+    fn begin(&self, claimer: &Claimer, index: u64)
+        requires { IsLastNumber claimer.now.view.numbers index };
+}
+
+/// The gate that lets everybody through.
+#[derive(Clone, Copy, Debug, Drop)]
+pub struct OpenGate;
+
+impl Gate for OpenGate {
+    fn begin(&self, _claimer: &Claimer, _index: u64) {}
+}

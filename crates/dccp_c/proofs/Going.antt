@@ -1,0 +1,36 @@
+-- The timers of a peer go on from its place as the definitions say.
+use Rattle.std.proofs.Common.{◌≡◌, ap, ◌∙◌, ℕ, Bool, List, Option}
+use Rattle.dccp_listener.specs.Chain.{Deed, Arrives, Calls, FlowCall}
+use Rattle.dccp_listener.specs.Listens.{listening_after}
+use Rattle.dccp_listener.specs.Peers.{FlowEnd, Listening, end_of_peer}
+use Rattle.dccp_listener.specs.Runs.{CallTold}
+use Rattle.dccp_listener.specs.declared.peer.Peer.{Peer}
+use Rattle.dccp_uses.specs.declared.alarms.Alarms.{Alarms}
+use Rattle.dccp_c.specs.Serving.{IsDone, IsPlaced, Timers, deed_served, served, timers_by, timers_called, timers_heard, timers_of, timers_then}
+use Rattle.dccp_c.proofs.Placing.{then_placed}
+
+served-as : (now : ℕ) (had : Bool) (before after : Listening) (timers placed then' : Timers) (peer : Peer) (deed : Deed) (alarms : Alarms)
+    → IsPlaced had timers placed peer → after ≡ listening_after before peer deed → then' ≡ timers_then now placed peer (end_of_peer after.flows peer) alarms
+    → alarms ≡ timers_by now (served before timers) peer deed → served after then' ≡ deed_served now (served before timers) peer deed
+served-as now had before after timers placed then' peer deed alarms is-placed is-after is-then is-alarms =
+    ap (λ (t : Timers). served after t) (is-then ∙ then_placed now had timers placed peer (end_of_peer after.flows peer) alarms is-placed)
+    ∙ ap (λ (l : Listening). served l (timers_then now timers peer (end_of_peer l.flows peer) alarms)) is-after
+    ∙ ap (λ (a : Alarms). served (listening_after before peer deed) (timers_then now timers peer (end_of_peer (listening_after before peer deed).flows peer) a)) is-alarms
+
+pub heard_served : (now : ℕ) (had : Bool) (before after : Listening) (timers placed then' : Timers) (peer : Peer) (iss : ℕ) (bytes : List ℕ)
+    (frame : Option (List ℕ)) (told : CallTold) (alarms : Alarms) → IsPlaced had timers placed peer → IsDone before after peer (Arrives iss bytes) frame told
+    → then' ≡ timers_then now placed peer (end_of_peer after.flows peer) alarms
+    → alarms ≡ timers_heard (timers_of timers peer) (end_of_peer before.flows peer) (end_of_peer after.flows peer) told
+    → served after then' ≡ deed_served now (served before timers) peer (Arrives iss bytes)
+heard_served now had before after timers placed then' peer iss bytes frame told alarms is-placed done is-then is-alarms =
+    let was : Option FlowEnd = end_of_peer before.flows peer in
+    served-as now had before after timers placed then' peer (Arrives iss bytes) alarms is-placed done.0 is-then
+    (is-alarms ∙ ap (λ (l : Listening). timers_heard (timers_of timers peer) was (end_of_peer l.flows peer) told) done.0
+    ∙ ap (timers_heard (timers_of timers peer) was (end_of_peer (listening_after before peer (Arrives iss bytes)).flows peer)) done.2)
+
+pub called_served : (now : ℕ) (had : Bool) (before after : Listening) (timers placed then' : Timers) (peer : Peer) (call : FlowCall)
+    (frame : Option (List ℕ)) (told : CallTold) (alarms : Alarms) → IsPlaced had timers placed peer → IsDone before after peer (Calls call) frame told
+    → then' ≡ timers_then now placed peer (end_of_peer after.flows peer) alarms → alarms ≡ timers_called now (timers_of timers peer) call
+    → served after then' ≡ deed_served now (served before timers) peer (Calls call)
+called_served now had before after timers placed then' peer call frame told alarms is-placed done is-then is-alarms =
+    served-as now had before after timers placed then' peer (Calls call) alarms is-placed done.0 is-then is-alarms

@@ -1,0 +1,80 @@
+//! What the words behind the second program's `seed` and `frames` ask for.
+ghost use Rattle.std.specs.Prelude.{◌≡◌, IfOk, IfSome};
+ghost use Rattle.clap.specs.Words.{found_of, rows_of};
+ghost use Rattle.tool_forms.specs.BridgeWords.{IsFlowWithinBounds, IsRunWithinBounds, flow_side_of, seed_run_of};
+ghost use Rattle.tool_forms.specs.Commands.{flow_side_in, seed_run_in};
+
+use crate::commands::{figure_in, frames_command, read, seed_command, text_in};
+use crate::settings::{Setting, side_in};
+use clap::ArgMatches;
+use seq_circle::NoMemory;
+use std::alloc::Global;
+use world_events::Side;
+
+/// The run of a campaign's seed (own).
+#[derive(Clone, Copy, Debug, PartialEq, Eq)]
+pub struct SeedRun {
+    /// The seed, below 2^64.
+    pub seed: u64,
+    /// How many events it has: 1 to 4,096.
+    pub events: u32,
+}
+
+/// A side of a capture's flow (own): of its packets, those that go there.
+#[derive(Clone, Copy, Debug, PartialEq, Eq)]
+pub struct FlowSide {
+    /// The flow's number, from 1 in the order first seen.
+    pub flow: u64,
+    /// The side.
+    pub side: Side,
+}
+
+// The run that the matches ask for.
+fn seed_run_in(matches: &ArgMatches) -> Option<SeedRun>
+    ensures value { result ≡ seed_run_in (rows_of (found_of matches.now)) }
+    ensures within { IfSome result IsRunWithinBounds }
+{
+    let seed = figure_in(matches, Setting::Seed)?;
+    let events = figure_in(matches, Setting::Events)?;
+    Some(SeedRun {
+        seed,
+        events: events as u32,
+    })
+}
+
+/// The run that the words behind `seed` ask for, both settings once, or None where they ask for none (own). NoMemory says
+/// nothing of them.
+pub fn seed_run_of(alloc: Global, words: &[String]) -> Result<Option<SeedRun>, NoMemory>
+    ensures value { IfOk result (λ run. run ≡ seed_run_of words.now) }
+    ensures within { IfOk result (λ run. IfSome run IsRunWithinBounds) }
+{
+    let command = seed_command(alloc)?;
+    match read(command, words)? {
+        Some(matches) => Ok(seed_run_in(&matches)),
+        None => Ok(None),
+    }
+}
+
+// The side of a flow that the matches ask for.
+fn flow_side_in(matches: &ArgMatches) -> Option<FlowSide>
+    ensures value { result ≡ flow_side_in (rows_of (found_of matches.now)) }
+    ensures within { IfSome result IsFlowWithinBounds }
+{
+    let flow = figure_in(matches, Setting::Flow)?;
+    let text = text_in(matches, Setting::Side)?;
+    let side = side_in(text.as_bytes())?;
+    Some(FlowSide { flow, side })
+}
+
+/// The side of a flow that the words behind `frames` ask for, both settings once, or None where they ask for none (own).
+/// NoMemory says nothing of them.
+pub fn flow_side_of(alloc: Global, words: &[String]) -> Result<Option<FlowSide>, NoMemory>
+    ensures value { IfOk result (λ asked. asked ≡ flow_side_of words.now) }
+    ensures within { IfOk result (λ asked. IfSome asked IsFlowWithinBounds) }
+{
+    let command = frames_command(alloc)?;
+    match read(command, words)? {
+        Some(matches) => Ok(flow_side_in(&matches)),
+        None => Ok(None),
+    }
+}
