@@ -39,7 +39,8 @@ module _ (file : FileState) (nanos : Bool) (n given : ℕ) (made : UnwrapState �
   judged-same : (piece : List ℕ) (judged : Judgement Found FileState) → both (unwrap_by n piece judged) (json_by (telling_at file nanos n) piece judged)
   judged-same piece (Stops fault) = record { records = refl; refusal = refl }
   judged-same piece (Goes None next) = later next nanos n
-  judged-same piece (Goes (Some (found.Begins other)) next) = later next other n
+  judged-same piece (Goes (Some (found.Begins other)) next) =
+      let more = later next other n in record { records = more.records; refusal = more.refusal }
   judged-same piece (Goes (Some (found.Holds link head start)) next) =
       let more = later next nanos (one_more n) in
       let bytes : List ℕ = bytes_held head start piece in
