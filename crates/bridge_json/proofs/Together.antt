@@ -4,7 +4,6 @@ use Rattle.capture_reader.specs.Records.{RecordParts}
 use Rattle.capture_writer.specs.Writing.{RawRecord}
 use Rattle.capture_writer.specs.declared.headers.RecordHeader.{RecordHeader}
 use Rattle.bridge_pieces.specs.Pieces.{Goes, Judgement, Piece, PieceEnd, PieceNext, PieceWrong, Stops, Taken, by_next_piece, next_piece, pieces_from, taken_by}
-use Rattle.bridge_pieces.specs.declared.fault.PieceFault.{PieceFault}
 use Rattle.bridge_records.specs.Reading.{FileState, bytes_held, file_judged, first_file, next_length}
 use Rattle.bridge_records.specs.declared.found.Found.{Found}
 use Rattle.bridge_records.specs.declared.found.Found.TheVariants as found
