@@ -1,5 +1,5 @@
-/* A Request byte by byte, each refusal of the library in turn, what a server accepts, a timer in counted time, a listener and its flows, and each
- * allocation refused: a line for each that is not answered as the header says. */
+/* A Request byte by byte, each refusal of the library in turn, what a server accepts, a timer in counted time, a listener and its flows,
+ * and each allocation refused: a line for each that is not answered as the header says. */
 #include <stdio.h>
 #include <stdlib.h>
 #include <string.h>
@@ -427,11 +427,11 @@ static void a_listener(void) {
 static void a_flow(void) {
     dccp_listener listener = begun();
     dccp_end end = DCCP_NONE;
-    dccp_wish none = {.count = 0};
+    dccp_wish vectors = {.values = {1}, .count = 1, .feature = DCCP_SEND_ACK_VECTOR, .is_offered = true};
     dccp_frame frame, answer;
     dccp_peer peer;
     dccp_told told;
-    same("a client", DCCP_OK, dccp_make(&end, &client, &none, 0));
+    same("a client", DCCP_OK, dccp_make(&end, &client, &vectors, 1));
     same("its open", DCCP_OK, dccp_open(&end, 0, &frame));
     while (frame.length) {
         same("a frame that arrives", DCCP_OK, arrives(&listener, 1, &frame, &answer, &told));
@@ -457,7 +457,8 @@ static void a_flow(void) {
     same("blocks behind free", 0, held);
 }
 
-/* Each allocation that a flow takes is refused in turn: then there is none, nothing is kept, and nothing is left. */
+/* Each allocation that a flow takes is refused in turn: then there is none, nothing is left, and nothing is kept but the first block of the
+ * timers' map, which is allocated first. */
 static void memory_of_a_flow(void) {
     dccp_frame datagram = request(client.service), frame;
     dccp_view view;
@@ -473,7 +474,7 @@ static void memory_of_a_flow(void) {
         if (is_reached) {
             same("its frame", 0, frame.length);
             same("the flow", DCCP_NO_FLOW, dccp_listener_look(&listener, &guest, &view));
-            same("blocks that are kept", before, held);
+            same("blocks that are kept", before + (at > 1), held);
         }
         dccp_listener_free(&listener);
         same("blocks behind free", 0, held);

@@ -134,7 +134,9 @@ static void say(struct talk *talk) {
     }
 }
 
-static const dccp_wish wide = {.values = {WIDTH}, .count = 1, .feature = DCCP_SEQUENCE_WINDOW, .is_offered = true};
+/* What both offer, and what a client alone does: to send Ack Vectors, for which the listener of echo.c does not ask, and which it needs. */
+static const dccp_wish wishes[] = {{.values = {WIDTH}, .count = 1, .feature = DCCP_SEQUENCE_WINDOW, .is_offered = true},
+                                   {.values = {1}, .count = 1, .feature = DCCP_SEND_ACK_VECTOR, .is_offered = true}};
 
 static dccp_settings settings_of(unsigned own_port, unsigned peer_port) {
     return (dccp_settings){
@@ -169,7 +171,7 @@ static void serve(struct talk *talk, unsigned port) {
         dccp_settings settings = settings_of(port, ntohs(peer.sin_port));
         dccp_frame frame;
         dccp_told told;
-        uint32_t status = dccp_accept(&talk->end, &settings, &wide, 1, datagram, (size_t)length, now(), &frame, &told);
+        uint32_t status = dccp_accept(&talk->end, &settings, wishes, 1, datagram, (size_t)length, now(), &frame, &told);
         if (status == DCCP_OK) {
             connect_to(talk->socket, &peer);
             take(talk, &told, &frame);
@@ -187,7 +189,7 @@ static void ask(struct talk *talk, unsigned port) {
     if (getsockname(talk->socket, (struct sockaddr *)&own, &size) != 0) fail("getsockname");
     dccp_settings settings = settings_of(ntohs(own.sin_port), port);
     dccp_frame frame;
-    if (dccp_make(&talk->end, &settings, &wide, 1) != DCCP_OK) fail("make");
+    if (dccp_make(&talk->end, &settings, wishes, 2) != DCCP_OK) fail("make");
     if (dccp_open(&talk->end, now(), &frame) != DCCP_OK) fail("open");
     hand_over(talk, &frame);
 }

@@ -13,11 +13,11 @@ small-sum sum some fits =
     let same : 1 + (sum - 1) % 65535 ≡ sum = omega (arith, some, fits) in
     rw test same
 
-words-sum : (from : Side) (total : ℕ) → total ≤ 2064 → word_sum (ip_header_with 0 from total) ≡ 55588 + total
+words-sum : (from : Side) (total : ℕ) → total ≤ 2068 → word_sum (ip_header_with 0 from total) ≡ 55588 + total
 words-sum Client total fits = omega (arith, fits)
 words-sum Server total fits = omega (arith, fits)
 
-pub header_sum : (from : Side) (total : ℕ) → total ≤ 2064 → ip_checksum from total ≡ 9947 - total
+pub header_sum : (from : Side) (total : ℕ) → total ≤ 2068 → ip_checksum from total ≡ 9947 - total
 header_sum from total fits =
     let sum = words-sum from total fits in
     let small : ones_complement (word_sum (ip_header_with 0 from total)) ≡ 55588 + total =

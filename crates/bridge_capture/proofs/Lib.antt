@@ -1,4 +1,5 @@
 pub mod Carrying
 pub mod Fitting
 pub mod HeaderSum
+pub mod Putting
 pub mod Refusing

@@ -57,7 +57,7 @@ impl LineJob for Clock {
                 Ok(Ok(()))
             }
             Ok(Some(Told::Sent { from, frame })) => {
-                put_record(text, self.seconds, from, frame.bytes())?;
+                put_record(text, self.seconds, from, &frame)?;
                 Ok(Ok(()))
             }
         }

@@ -1,17 +1,13 @@
 //! What a line of a transcript tells.
-ghost use Rattle.std.specs.Prelude.{◌≡◌, ◌≤◌, length, IfErr};
+ghost use Rattle.std.specs.Prelude.{◌≡◌, IfErr};
 ghost use Rattle.tool_words.specs.Left.{left_of};
 ghost use Rattle.bridge_capture.specs.Lines as spec;
 
-use dccp_packets::Frame;
 use tool_text::number_up_to;
 use tool_words::{
     Digits, Flaw, Hex, LineFault, LineWhy, Row, WordKind, Words, found_or, read_line, read_word,
 };
 use world_events::Side;
-
-// A line has at most 4,096 bytes, two for each byte that it tells.
-const MOST_BYTES: usize = 2048;
 
 // A packet that is too long for this has no frame.
 const MOST_OF_FRAME: usize = 2044;
@@ -22,15 +18,15 @@ const INDICES: u64 = 1 << 47;
 // The numbers of lines are below this.
 const LINE_NUMBERS: u64 = 1 << 32;
 
-/// What a line of a transcript tells.
-#[derive(Debug, Drop)]
-pub(crate) enum Told {
+/// What a line of a transcript tells. A frame's bytes are decoded where they are put.
+#[derive(Drop)]
+pub(crate) enum Told<'a> {
     /// No frame: it is the line of `open`, of an end, or of a refusal.
     Other,
     /// The input's line of this number was answered.
     Number(u32),
     /// This side sent this frame.
-    Sent { from: Side, frame: Frame },
+    Sent { from: Side, frame: Digits<'a> },
 }
 
 // The side and the index in a frame's name.
@@ -84,7 +80,7 @@ fn without_colon(word: &[u8]) -> &[u8]
 }
 
 // What the first word of a line tells that is no line of a frame.
-fn told_first(word: &[u8]) -> Result<Told, Flaw>
+fn told_first<'a>(word: &'a [u8]) -> Result<Told<'a>, Flaw>
     ensures value { result ≡ spec.told_first word.now }
     ensures within { IfErr result (λ flaw. flaw.place ≡ 0) }
 {
@@ -102,31 +98,17 @@ fn told_first(word: &[u8]) -> Result<Told, Flaw>
 struct AFirstWord;
 
 impl<'a> WordKind<'a> for AFirstWord {
-    type Read = Told;
+    type Read = Told<'a>;
 
     ghost reads = { spec.told_first };
 
-    fn read(word: &'a [u8]) -> Result<Told, Flaw> {
+    fn read(word: &'a [u8]) -> Result<Told<'a>, Flaw> {
         told_first(word)
     }
 }
 
-// The frame of these bytes, which are not too many.
-fn frame_of(digits: &Digits<'_>) -> Frame
-    requires { length digits.now ≤ 2044 }
-    ensures { result ≡ digits.now }
-{
-    let mut bytes = [0; MOST_BYTES];
-    let room = &mut bytes[..digits.len()];
-    digits.put(room);
-    match Frame::of(room) {
-        Some(frame) => frame,
-        None => unreachable!(),
-    }
-}
-
 // What stands behind `sent`: a frame's name and its bytes, and nothing behind them.
-fn sent(words: &mut Words<'_>) -> Result<Told, LineFault>
+fn sent<'a>(words: &mut Words<'a>) -> Result<Told<'a>, LineFault>
     ensures { result ≡ spec.sent_said (left_of words.old) }
 {
     let all = *words;
@@ -139,7 +121,7 @@ fn sent(words: &mut Words<'_>) -> Result<Told, LineFault>
     }
     Ok(Told::Sent {
         from: name.0,
-        frame: frame_of(&digits),
+        frame: digits,
     })
 }
 
@@ -147,11 +129,11 @@ fn sent(words: &mut Words<'_>) -> Result<Told, LineFault>
 struct ALine;
 
 impl<'a> Row<'a> for ALine {
-    type Said = Told;
+    type Said = Told<'a>;
 
     ghost said = { spec.line_said };
 
-    fn read(words: &mut Words<'a>) -> Result<Told, LineFault> {
+    fn read(words: &mut Words<'a>) -> Result<Told<'a>, LineFault> {
         let first = words.next_word();
         if first.text == b"sent".as_slice() {
             return sent(words);
@@ -163,7 +145,7 @@ impl<'a> Row<'a> for ALine {
 /// What a line of a transcript tells, without its newline, or None where it is empty or a comment; or the first of its
 /// faults: NotText, then Missing, UnknownWord, BadNumber and BadHex, word by word from the left, then Trailing, and then
 /// FrameTooLong at the bytes of a frame that has more than 2,044.
-pub(crate) fn told_of_line(line: &[u8]) -> Result<Option<Told>, LineFault>
+pub(crate) fn told_of_line(line: &[u8]) -> Result<Option<Told<'_>>, LineFault>
     ensures { result ≡ spec.told_of_line line.now }
 {
     read_line::<ALine>(line)

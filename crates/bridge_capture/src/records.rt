@@ -6,6 +6,7 @@ ghost use Rattle.bridge_capture.specs.Records as spec;
 use capture_writer::{RecordHeader, put_record_header, put_u16};
 use seq_circle::NoMemory;
 use tool_text::put;
+use tool_words::Digits;
 use world_events::Side;
 
 const IP_HEADER: u16 = 20;
@@ -36,7 +37,7 @@ fn address(side: Side) -> [u8; 4]
 // The checksum of the header of an IPv4 packet of so many bytes from this side.
 #[tactic(auto, using(crate::proofs::HeaderSum::header_sum))]
 fn ip_checksum(from: Side, total: u16) -> u16
-    requires { total ≤ 2064 }
+    requires { total ≤ 2068 }
     ensures { result ≡ spec.ip_checksum from total }
 {
     SUM_WITHOUT_LENGTH - total
@@ -62,7 +63,7 @@ fn put_addresses(text: &mut Vec<u8>, from: Side) -> Result<(), NoMemory>
 
 // Puts the header of an IPv4 packet of so many bytes that this side sends.
 fn put_ip_header(text: &mut Vec<u8>, from: Side, total: u16) -> Result<(), NoMemory>
-    requires { total ≤ 2064 }
+    requires { total ≤ 2068 }
     ensures { OnOk result (text.new.items ≡ text.old.items ++ spec.ip_header from total) }
 {
     put_ip_front(text, ip_checksum(from, total), total)?;
@@ -71,8 +72,7 @@ fn put_ip_header(text: &mut Vec<u8>, from: Side, total: u16) -> Result<(), NoMem
 
 // The header of the record of a frame.
 #[tactic(auto, using(crate::proofs::Carrying::packet_length))]
-fn frame_header(seconds: u32, from: Side, frame: &[u8]) -> RecordHeader
-    requires { length frame.now ≤ 2044 }
+fn frame_header(seconds: u32, from: Side, frame: &Digits<'_>) -> RecordHeader
     ensures { result ≡ header_for (spec.frame_record (record { seconds = seconds; from = from; frame = frame.now })) }
 {
     let size = u32::from(IP_HEADER) + frame.len() as u32;
@@ -84,14 +84,23 @@ fn frame_header(seconds: u32, from: Side, frame: &[u8]) -> RecordHeader
     }
 }
 
+// Puts the bytes of digits: they are decoded in the text.
+fn put_digits(text: &mut Vec<u8>, digits: &Digits<'_>) -> Result<(), NoMemory>
+    ensures { OnOk result (text.new.items ≡ text.old.items ++ digits.now) }
+{
+    let begin = text.len();
+    text.resize(begin + digits.len(), 0)?;
+    digits.put(&mut text[begin..]);
+    Ok(())
+}
+
 // Puts the packet of a frame that this side sends.
 #[tactic(auto, unfolding(crate::specs::Records::ip_packet))]
-fn put_packet(text: &mut Vec<u8>, from: Side, frame: &[u8]) -> Result<(), NoMemory>
-    requires { length frame.now ≤ 2044 }
+fn put_packet(text: &mut Vec<u8>, from: Side, frame: &Digits<'_>) -> Result<(), NoMemory>
     ensures { OnOk result (text.new.items ≡ text.old.items ++ spec.ip_packet from frame.now) }
 {
     put_ip_header(text, from, IP_HEADER + frame.len() as u16)?;
-    put(text, frame)
+    put_digits(text, frame)
 }
 
 /// Puts the record of a frame that this side sent, at this time: a packet of IPv4, captured whole.
@@ -99,9 +108,8 @@ pub(crate) fn put_record(
     text: &mut Vec<u8>,
     seconds: u32,
     from: Side,
-    frame: &[u8],
+    frame: &Digits<'_>,
 ) -> Result<(), NoMemory>
-    requires { length frame.now ≤ 2044 }
     ensures { OnOk result (text.new.items ≡ text.old.items ++ raw_record (spec.frame_record (record { seconds = seconds; from = from; frame = frame.now }))) }
 {
     let header = frame_header(seconds, from, frame);

@@ -1,3 +1,4 @@
+pub mod Commenting
 pub mod Moving
 pub mod Spelling
 pub mod ReadingBack

@@ -47,7 +47,7 @@ kind-fits end initial (Ack ack) small fits = number-fits end initial ack
 kind-fits end initial (DataAck ack) small fits = number-fits end initial ack
 kind-fits end initial (CloseReq ack) small fits = ack-fits end initial ack
 kind-fits end initial (Close ack) small fits = ack-fits end initial ack
-kind-fits end initial (Reset ack code detail) small fits = (ack-fits end initial ack, fits.1)
+kind-fits end initial (Reset ack code detail) small fits = (ack-fits end initial ack, fits.1, fits.2)
 kind-fits end initial (Sync ack) small fits = ack-fits end initial ack
 kind-fits end initial (SyncAck ack) small fits = ack-fits end initial ack
 

@@ -1,10 +1,16 @@
 -- The lines are read by `replay` as what they say, and a frame as its packet.
 use Rattle.std.proofs.Common.{◌≡◌, refl, sym, ap, ◌∙◌, subst, ℕ, zero, suc, ◌+◌, ◌/◌, ◌%◌, ◌≤◌, ◌<◌, ◌||◌, nat_lt, arith, Bool, true, false, if◌then◌else◌, List, [], ◌∷◌, ◌++◌, length, length-append, None, Some, Ok, Err}
 use Rattle.std.proofs.lemmas.Bool.{ltb-false}
-use Rattle.std.specs.Prelude.{IsTrue}
+use Rattle.std.proofs.lemmas.Bool.Decides.{nat_tests}
+use Rattle.std.proofs.lemmas.List.{length-take, take-append-drop, take-append-le, take_all}
+use Rattle.std.proofs.lemmas.List.Folds.{list_all-append}
+use Rattle.std.specs.List.{list_all}
+use Rattle.std.specs.Prelude.{IsTrue, codes, take, drop}
 use Rattle.hex.specs.Hex.{IsBytes, encode_lower, encode_with}
 use Rattle.hex.proofs.HexLemmas.{IsDigits-lower_digits}
 use Rattle.tool_words.specs.Digits.{AreDigitsOf}
+use Rattle.tool_words.specs.Lines.{is_text}
+use Rattle.tool_words.proofs.Bytes.{both-true}
 use Rattle.schedule_text.specs.Frames.{read_frame}
 use Rattle.schedule_text.proofs.FrameForms.{spelled-frame}
 use Rattle.dccp_packets.specs.Grammar.{HeaderFits, Parts, decoded, header_bytes, header_length, is_long, is_valid, packet_type, padded, spelling}
@@ -12,7 +18,7 @@ use Rattle.dccp_packets.specs.declared.header.Header.{Header}
 use Rattle.dccp_packets.proofs.Lengths.{detail_of_fits, length-header_bytes, shortest}
 use Rattle.dccp_packets.proofs.ReadBack.{reads_back}
 use Rattle.world_events.specs.declared.event.Side.{Side}
-use Rattle.bridge_frames.specs.Lines.{no_frame_words, sealed_words}
+use Rattle.bridge_frames.specs.Lines.{comment_line, cut_comment, no_frame_words, sealed_words}
 use Rattle.bridge_frames.specs.Mapping.{frame_with, moved_frame, moved_header, usual_end}
 use Rattle.bridge_frames.specs.declared.mapping.NoFrame.{NoFrame}
 use Rattle.bridge_frames.specs.declared.mapping.NoFrame.TheVariants as none
@@ -34,6 +40,36 @@ sealed-read bytes are some few =
 pub none-read : (why : NoFrame) → read_frame (no_frame_words why) ≡ Ok None
 none-read none.NumberUnknown = refl
 none-read none.FrameTooLong = refl
+
+-- text that is cut is text
+text-cut : (count : ℕ) (text : List ℕ) → list_all is_text text ≡ true → list_all is_text (take count text) ≡ true
+text-cut count text are =
+    (both-true (list_all is_text (take count text)) (list_all is_text (drop count text))
+    (sym (list_all-append is_text (take count text) (drop count text)) ∙ ap (list_all is_text) (take-append-drop count text) ∙ are)).0
+
+pub comment-read : (front : List ℕ) → list_all is_text front ≡ true → read_frame (take 4096 (codes "# " ++ front)) ≡ Ok None
+comment-read front are =
+    let size = length-take 4096 (codes "# " ++ front) in
+    spelled-frame (take 4096 (codes "# " ++ front)) None (refl, omega (arith, size), text-cut 4096 (codes "# " ++ front) are)
+
+over : (n : ℕ) → nat_lt 4097 (n + 1) ≡ true → 4096 ≤ n
+over n is = grind (arith, nat_tests)
+
+within : (n : ℕ) → nat_lt 4097 (n + 1) ≡ false → n ≤ 4096
+within n is = grind (arith, nat_tests)
+
+cut-by : (comment : List ℕ) (long : Bool) → nat_lt 4097 (length comment + 1) ≡ long → cut_comment (comment ++ codes "\n") ≡ take 4096 comment ++ codes "\n"
+cut-by comment true is =
+    ap (λ (n : ℕ). if nat_lt 4097 n then take 4096 (comment ++ codes "\n") ++ codes "\n" else comment ++ codes "\n") (length-append comment (codes "\n"))
+    ∙ ap (λ (long : Bool). if long then take 4096 (comment ++ codes "\n") ++ codes "\n" else comment ++ codes "\n") is
+    ∙ ap (λ (front : List ℕ). front ++ codes "\n") (take-append-le 4096 comment (codes "\n") (over (length comment) is))
+cut-by comment false is =
+    ap (λ (n : ℕ). if nat_lt 4097 n then take 4096 (comment ++ codes "\n") ++ codes "\n" else comment ++ codes "\n") (length-append comment (codes "\n"))
+    ∙ ap (λ (long : Bool). if long then take 4096 (comment ++ codes "\n") ++ codes "\n" else comment ++ codes "\n") is
+    ∙ ap (λ (front : List ℕ). front ++ codes "\n") (sym (take_all 4096 comment (within (length comment) is)))
+
+pub comment-ends : (front : List ℕ) → comment_line (front ++ codes "\n") ≡ take 4096 (codes "# " ++ front) ++ codes "\n"
+comment-ends front = cut-by (codes "# " ++ front) (nat_lt 4097 (length (codes "# " ++ front) + 1)) refl
 
 -- a packet that has a frame is not too long
 record IsFrame (h : Header) (o d bytes : List ℕ) : Type 0 where

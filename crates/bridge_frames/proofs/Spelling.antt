@@ -7,7 +7,7 @@ use Rattle.hex.specs.Hex.{encode_lower}
 use Rattle.tool_text.proofs.HexText.{encode-append}
 use Rattle.dccp_packets.specs.Grammar.{header_bytes, header_length, padded, spelling}
 use Rattle.dccp_packets.specs.declared.header.Header.{Header}
-use Rattle.bridge_frames.specs.Lines.{frame_line}
+use Rattle.bridge_frames.specs.Lines.{packet_frame_line}
 use Rattle.bridge_frames.specs.Mapping.{frame_with}
 use Rattle.bridge_frames.specs.declared.mapping.NoFrame.TheVariants as none
 
@@ -51,7 +51,7 @@ frame_in_parts h o d front header is few =
 
 -- the line of a frame, put in its parts
 pub sealed_put : (text front payload : List ℕ)
-    → (((text ++ codes "seal ") ++ encode_lower front) ++ encode_lower payload) ++ codes "\n" ≡ text ++ frame_line (Ok (front ++ payload))
+    → (((text ++ codes "seal ") ++ encode_lower front) ++ encode_lower payload) ++ codes "\n" ≡ text ++ packet_frame_line (Ok (front ++ payload))
 sealed_put text front payload =
     ap (λ (t : List ℕ). t ++ codes "\n")
     (ap (λ (t : List ℕ). t ++ encode_lower payload) (append_assoc text (codes "seal ") (encode_lower front))

@@ -19,7 +19,7 @@ use Rattle.dccp_io.specs.Counts.{one_more}
 use Rattle.world_events.specs.declared.event.Side.{Side}
 use Rattle.world_events.specs.declared.event.Side.TheVariants.{Client, Server}
 use Rattle.bridge_frames.specs.Mapping.{frame_for, usual_end}
-use Rattle.bridge_frames.specs.Lines.{comment_line, frame_line}
+use Rattle.bridge_frames.specs.Lines.{comment_line, packet_frame_line}
 use Rattle.bridge_frames.specs.declared.framing.Framing.{Framing}
 use Rattle.bridge_frames.specs.declared.framing.Met.{Met}
 use Rattle.bridge_frames.specs.declared.mapping.NoFrame.{NoFrame}
@@ -31,7 +31,7 @@ pub record FlowPacket : Type 0 where
 
 -- its two lines: a comment, and the frame
 abbrev pub flow_packet_text : FlowPacket → List ℕ
-flow_packet_text p = comment_line p.line ++ frame_line p.frame
+flow_packet_text p = comment_line p.line ++ packet_frame_line p.frame
 
 -- before the first piece, where this flow is asked for
 abbrev pub first_framing : ℕ → Side → Framing
@@ -80,76 +80,76 @@ flow_packet s met entry there packet =
     record { line = packet_line entry there packet s.flow; frame = frame_for s.end met.initial packet }
 
 -- What a record comes to: the packet that has lines, if it is one, and the state behind it.
-pub record Passed : Type 0 where
+pub record PassedRecord : Type 0 where
   pub deed : Option FlowPacket
   pub next : Framing
 
 -- nothing is written of it
-abbrev pub passed_over : Framing → Passed
+abbrev pub passed_over : Framing → PassedRecord
 passed_over s = record { deed = None; next = s }
 
 -- a packet that goes to the side has its lines, and of one that the captured end sent the number is noted
-abbrev pub by_direction : Framing → Met → RecordParts → DatagramParts → Parts → Bool → Passed
+abbrev pub by_direction : Framing → Met → RecordParts → DatagramParts → Parts → Bool → PassedRecord
 by_direction s met entry there packet goes =
     if goes then record { deed = Some (flow_packet s met entry there packet); next = with_met s met }
     else passed_over (with_met s (met_number met packet.header.number))
 
 -- the same by who sent it
-abbrev pub by_sender : Framing → RecordParts → DatagramParts → Parts → AddressAndPort → Passed
+abbrev pub by_sender : Framing → RecordParts → DatagramParts → Parts → AddressAndPort → PassedRecord
 by_sender s entry there packet from =
     by_direction s (met_by s.met from) entry there packet (goes_to s.side (same_end from (met_by s.met from).client))
 
 -- a packet of the flow that is asked for is looked at, and one of another flow isn't
-abbrev pub by_number : Framing → ℕ → RecordParts → DatagramParts → Parts → Passed
+abbrev pub by_number : Framing → ℕ → RecordParts → DatagramParts → Parts → PassedRecord
 by_number s number entry there packet =
     if number == s.flow then by_sender s entry there packet (from_end there.pseudo packet.header.from) else passed_over s
 
 -- a packet's flow is numbered as `show` numbers it
-abbrev pub by_flow : Framing → RecordParts → DatagramParts → Parts → Flow → Passed
+abbrev pub by_flow : Framing → RecordParts → DatagramParts → Parts → Flow → PassedRecord
 by_flow s entry there packet flow =
     by_number (record s { flows = with_flow flow s.flows }) (flow_number flow s.flows) entry there packet
 
 -- DCCP bytes that are no packet are passed over
-abbrev pub by_decoded : Framing → RecordParts → DatagramParts → Result Parts Malformed → Passed
+abbrev pub by_decoded : Framing → RecordParts → DatagramParts → Result Parts Malformed → PassedRecord
 by_decoded s entry there (Ok packet) = by_flow s entry there packet (flow_of there.pseudo packet.header.from packet.header.to)
 by_decoded s entry there (Err why) = passed_over s
 
 -- so is a record that carries no DCCP
-abbrev pub by_carried : Framing → RecordParts → Option DatagramParts → Passed
+abbrev pub by_carried : Framing → RecordParts → Option DatagramParts → PassedRecord
 by_carried s entry None = passed_over s
 by_carried s entry (Some there) = by_decoded s entry there (decoded there.bytes)
 
 -- what a record comes to
-unfoldable pub framed_record : Framing → RecordParts → Passed
+unfoldable pub framed_record : Framing → RecordParts → PassedRecord
 framed_record s entry = by_carried s entry (carried entry.link entry.bytes)
 
 -- the job goes on behind a record
-abbrev pub goes_on : Passed → Judgement FlowPacket Framing
-goes_on passed = Goes passed.deed passed.next
+abbrev pub goes_behind : PassedRecord → Judgement FlowPacket Framing
+goes_behind passed = Goes passed.deed passed.next
 
 -- a record whose bytes begin there in this piece, which is one more
-abbrev pub held_record : Framing → ℕ → RecordHeader → ℕ → List ℕ → Passed
+abbrev pub held_record : Framing → ℕ → RecordHeader → ℕ → List ℕ → PassedRecord
 held_record s link head start piece =
     framed_record (record s { records = one_more s.records }) (record_behind (one_more s.records) s.nanos link head (bytes_held head start piece))
 
 -- what a piece holds
-abbrev pub by_found : Framing → List ℕ → FileState → Option Found → Judgement FlowPacket Framing
-by_found s piece next None = Goes None (record s { file = next })
-by_found s piece next (Some (found.Begins nanos)) = Goes None (record s { file = next; nanos = nanos })
-by_found s piece next (Some (found.Holds link head start)) =
-    goes_on (held_record (record s { file = next }) link head start piece)
+abbrev pub framed_by_found : Framing → List ℕ → FileState → Option Found → Judgement FlowPacket Framing
+framed_by_found s piece next None = Goes None (record s { file = next })
+framed_by_found s piece next (Some (found.Begins nanos)) = Goes None (record s { file = next; nanos = nanos })
+framed_by_found s piece next (Some (found.Holds link head start)) =
+    goes_behind (held_record (record s { file = next }) link head start piece)
 
 -- what a piece comes to, by what it is in the capture that is read
-abbrev pub by_judged : Framing → List ℕ → Judgement Found FileState → Judgement FlowPacket Framing
-by_judged s piece (Stops fault) = Stops fault
-by_judged s piece (Goes deed next) = by_found s piece next deed
+abbrev pub framed_by_judged : Framing → List ℕ → Judgement Found FileState → Judgement FlowPacket Framing
+framed_by_judged s piece (Stops fault) = Stops fault
+framed_by_judged s piece (Goes deed next) = framed_by_found s piece next deed
 
 -- What `frames` makes of the pieces of a capture. Behind the last record stands nothing, or the line of the fault.
 abbrev pub frames_work : PieceWork FlowPacket Framing
 frames_work = record {
   wanted = λ s. next_length s.file.place;
   may_end = λ s. is_between s.file.place;
-  judged = λ s piece. by_judged s piece (file_judged s.file piece);
+  judged = λ s piece. framed_by_judged s piece (file_judged s.file piece);
   told = flow_packet_text;
   closing = λ s end. unwrap_closing false s.records end;
 }

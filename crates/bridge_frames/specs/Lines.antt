@@ -26,10 +26,10 @@ abbrev pub no_frame_words : NoFrame → List ℕ
 no_frame_words why = codes "# no frame: " ++ no_frame_name why
 
 -- the words of a packet's frame, or why it has none
-abbrev pub frame_words : Result (List ℕ) NoFrame → List ℕ
-frame_words (Ok bytes) = sealed_words bytes
-frame_words (Err why) = no_frame_words why
+abbrev pub packet_frame_words : Result (List ℕ) NoFrame → List ℕ
+packet_frame_words (Ok bytes) = sealed_words bytes
+packet_frame_words (Err why) = no_frame_words why
 
 -- the line of a packet's frame, or why it has none
-abbrev pub frame_line : Result (List ℕ) NoFrame → List ℕ
-frame_line frame = frame_words frame ++ codes "\n"
+abbrev pub packet_frame_line : Result (List ℕ) NoFrame → List ℕ
+packet_frame_line frame = packet_frame_words frame ++ codes "\n"

@@ -1,20 +1,24 @@
 //! What the definition of `frames` says.
-ghost use Rattle.std.specs.Prelude.{◌≡◌, ◌+◌, ◌%◌, ◌^◌, ◌<◌, ◌≤◌, ℕ, List, IsTrue, None, Ok, Some, length, true};
+ghost use Rattle.std.specs.List.{list_all};
+ghost use Rattle.std.specs.Prelude.{◌≡◌, ◌++◌, ◌%◌, ◌^◌, ◌<◌, ◌≤◌, ℕ, List, IsTrue, None, Ok, Some, codes, length, take, true};
 ghost use Rattle.hex.specs.Hex.{IsBytes};
 ghost use Rattle.dccp_packets.specs.Grammar.{HeaderFits, Parts, decoded, is_valid, padded};
 ghost use Rattle.schedule_text.specs.Frames.{read_frame};
 ghost use Rattle.seq_circle.specs.Circle.{distance};
 ghost use Rattle.world_events.specs.declared.event.Side.{Side};
-ghost use Rattle.bridge_frames.specs.Lines.{no_frame_words, sealed_words};
+ghost use Rattle.tool_words.specs.Lines.{is_text};
+ghost use Rattle.bridge_frames.specs.Lines.{comment_line, no_frame_words, sealed_words};
 ghost use Rattle.bridge_frames.specs.Mapping.{moved_ack, moved_frame, moved_header, usual_end};
 ghost use Rattle.bridge_frames.specs.declared.mapping.NoFrame.{NoFrame};
 
-/// A frame's words are read by `replay` as that frame, whose checksum is to be set, and the comment on a packet without one as a
-/// line that says nothing (own).
+/// A frame's words are read by `replay` as that frame, whose checksum is to be set. The comment on a packet without one, and that
+/// with a line of `show`, whose bytes are text, are read as lines that say nothing (own).
 pub fn lines_read_back()
     ensures frame { (bytes : List ℕ) → IsBytes bytes → 8 ≤ length bytes → length bytes ≤ 2044
         → read_frame (sealed_words bytes) ≡ Ok (Some (record { seal = true; bytes = bytes })) }
     ensures none { (why : NoFrame) → read_frame (no_frame_words why) ≡ Ok None }
+    ensures comment { (front : List ℕ) → comment_line (front ++ codes "\n") ≡ take 4096 (codes "# " ++ front) ++ codes "\n" }
+    ensures nothing { (front : List ℕ) → list_all is_text front ≡ true → read_frame (take 4096 (codes "# " ++ front)) ≡ Ok None }
 {}
 
 /// A frame is the captured packet with the usual end's ports and Service Code, and its acknowledgement number moved: it decodes to

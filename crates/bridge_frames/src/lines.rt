@@ -1,7 +1,7 @@
 //! The lines of a captured packet in a replay.
-ghost use Rattle.std.specs.Prelude.{◌≡◌, ◌≤◌, ◌++◌, Err, Ok, IsTrue, OnOk, length, nat_lt, take, codes};
+ghost use Rattle.std.specs.Prelude.{◌≡◌, ◌+◌, ◌≤◌, [], ◌++◌, Err, Ok, IsTrue, OnOk, drop, length, take};
 ghost use Rattle.capture_reader.specs.Records.{entry_of};
-ghost use Rattle.dccp_packets.specs.Grammar.{is_valid};
+ghost use Rattle.dccp_packets.specs.Grammar.{header_length, is_valid, padded, spelling};
 ghost use Rattle.packet_show.specs.Network.{carried_by};
 ghost use Rattle.packet_show.specs.Lines.{packet_line, parts_by};
 ghost use Rattle.bridge_frames.specs.Lines as spec;
@@ -12,12 +12,13 @@ use capture_reader::Record;
 use dccp_packets::{Frame, Header, MOST_FRAME_BYTES, Packet, encode};
 use packet_show::{Datagram, put_packet};
 use seq_circle::{NoMemory, Seq48};
-use tool_text::{put, put_hex};
+use tool_text::{put, put_hex, put_named};
 
 // The most bytes of a line of a replay.
 const LINE: usize = 4096;
 
 // Cuts a comment that begins there to what a line has room for, without its newline.
+#[tactic(auto, using(crate::proofs::Commenting::comment_kept, crate::proofs::Commenting::comment_cut))]
 fn cut_comment(text: &mut Vec<u8>, start: usize) -> Result<(), NoMemory>
     requires { start ≤ length text.old.items }
     ensures { OnOk result (text.new.items ≡ take start text.old.items ++ spec.cut_comment (drop start text.old.items)) }
@@ -30,6 +31,7 @@ fn cut_comment(text: &mut Vec<u8>, start: usize) -> Result<(), NoMemory>
 }
 
 /// Puts the line that `show` has for a packet of this flow, as a comment.
+#[tactic(auto, using(crate::proofs::Commenting::comment_put))]
 pub(crate) fn put_comment(
     text: &mut Vec<u8>,
     record: &Record<'_>,
@@ -60,17 +62,16 @@ fn no_frame_name(why: NoFrame) -> &'static [u8]
 
 // Puts the comment on a packet without a frame.
 fn put_no_frame(text: &mut Vec<u8>, why: NoFrame) -> Result<(), NoMemory>
-    ensures { OnOk result (text.new.items ≡ text.old.items ++ spec.frame_line (Err why)) }
+    ensures { OnOk result (text.new.items ≡ text.old.items ++ spec.packet_frame_line (Err why)) }
 {
-    put(text, b"# no frame: ")?;
-    put(text, no_frame_name(why))?;
+    put_named(text, b"# no frame: ", no_frame_name(why))?;
     put(text, b"\n")
 }
 
 // Puts the line of a frame: its first bytes, and the data behind them.
 #[tactic(auto, using(crate::proofs::Spelling::sealed_put))]
 fn put_sealed(text: &mut Vec<u8>, front: &[u8], payload: &[u8]) -> Result<(), NoMemory>
-    ensures { OnOk result (text.new.items ≡ text.old.items ++ spec.frame_line (Ok (front.now ++ payload.now))) }
+    ensures { OnOk result (text.new.items ≡ text.old.items ++ spec.packet_frame_line (Ok (front.now ++ payload.now))) }
 {
     put(text, b"seal ")?;
     put_hex(text, front)?;
@@ -78,8 +79,27 @@ fn put_sealed(text: &mut Vec<u8>, front: &[u8], payload: &[u8]) -> Result<(), No
     put(text, b"\n")
 }
 
+// Puts the line of a frame whose header and options are these first bytes, or the comment on one that is too long.
+#[tactic(auto, using(crate::proofs::Spelling::frame_too_long, crate::proofs::Spelling::frame_in_parts))]
+fn put_in_parts(
+    text: &mut Vec<u8>,
+    header: &Header,
+    options: &[u8],
+    payload: &[u8],
+    front: &[u8],
+) -> Result<(), NoMemory>
+    requires short { header_length header.now + length (padded options.now) ≤ 1020 }
+    requires front { front.now ≡ spelling header.now options.now [] }
+    ensures { OnOk result (text.new.items ≡ text.old.items ++ spec.packet_frame_line (frame_with header.now options.now payload.now)) }
+{
+    if MOST_FRAME_BYTES < front.len() + payload.len() {
+        return put_no_frame(text, NoFrame::FrameTooLong);
+    }
+    put_sealed(text, front, payload)
+}
+
 // Puts the line of a packet with this header, or the comment on one that is too long.
-#[tactic(auto, using(crate::proofs::Spelling::header_too_long, crate::proofs::Spelling::frame_too_long, crate::proofs::Spelling::frame_in_parts))]
+#[tactic(auto, using(crate::proofs::Spelling::header_too_long))]
 fn put_frame_with(
     text: &mut Vec<u8>,
     header: &Header,
@@ -87,16 +107,13 @@ fn put_frame_with(
     payload: &[u8],
 ) -> Result<(), NoMemory>
     requires { IsTrue (is_valid header.now) }
-    ensures { OnOk result (text.new.items ≡ text.old.items ++ spec.frame_line (frame_with header.now options.now payload.now)) }
+    ensures { OnOk result (text.new.items ≡ text.old.items ++ spec.packet_frame_line (frame_with header.now options.now payload.now)) }
 {
     let mut front = Frame::new();
     if encode(header, options, &[], &mut front).is_err() {
         return put_no_frame(text, NoFrame::FrameTooLong);
     }
-    if MOST_FRAME_BYTES < front.bytes().len() + payload.len() {
-        return put_no_frame(text, NoFrame::FrameTooLong);
-    }
-    put_sealed(text, front.bytes(), payload)
+    put_in_parts(text, header, options, payload, front.bytes())
 }
 
 // Puts the line of a packet, where the captured end's initial number is known.
@@ -107,7 +124,7 @@ fn put_moved(
     packet: &Packet<'_>,
 ) -> Result<(), NoMemory>
     requires { IsTrue (is_valid packet.now.header) }
-    ensures { OnOk result (text.new.items ≡ text.old.items ++ spec.frame_line (moved_frame end.now initial (parts_by packet.now))) }
+    ensures { OnOk result (text.new.items ≡ text.old.items ++ spec.packet_frame_line (moved_frame end.now initial (parts_by packet.now))) }
 {
     let header = moved_header(end, initial, &packet.header);
     put_frame_with(text, &header, packet.options, packet.payload)
@@ -121,7 +138,7 @@ pub(crate) fn put_frame(
     packet: &Packet<'_>,
 ) -> Result<(), NoMemory>
     requires { IsTrue (is_valid packet.now.header) }
-    ensures { OnOk result (text.new.items ≡ text.old.items ++ spec.frame_line (frame_for end.now initial (parts_by packet.now))) }
+    ensures { OnOk result (text.new.items ≡ text.old.items ++ spec.packet_frame_line (frame_for end.now initial (parts_by packet.now))) }
 {
     match initial {
         Some(initial) => put_moved(text, end, initial, packet),

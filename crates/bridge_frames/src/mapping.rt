@@ -1,6 +1,6 @@
 //! A packet's header as the usual end of a side would get it.
-ghost use Rattle.std.specs.Prelude.{◌≡◌, ◌↔◌, Bool, IsTrue, None, Some, true};
-ghost use Rattle.dccp_packets.specs.Grammar.{has_forms, is_long, is_valid};
+ghost use Rattle.std.specs.Prelude.{◌≡◌, IsTrue};
+ghost use Rattle.dccp_packets.specs.Grammar.{is_long, is_valid};
 ghost use Rattle.bridge_frames.specs.Mapping as spec;
 
 use dccp_endpoint::{Config, Role};

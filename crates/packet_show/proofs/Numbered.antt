@@ -1,5 +1,5 @@
--- A map that is ordered by flows has the number of each that was seen: one that is the same to the order is the same flow, and one more is
--- found under the next number, and all others as before.
+-- A map that is ordered by keys has the number of each flow that was seen: what is the same to the order is the key of the same flow, and
+-- one more is found under the next number, and all others as before.
 use Rattle.std.proofs.Common.{◌≡◌, refl, sym, ap, ◌∙◌, subst, arith, ℕ, suc, ◌+◌, ◌==◌, Bool, true, false, ◌&&◌, ◌||◌, cond, if◌then◌else◌, List, [], ◌∷◌, ◌++◌, length, Option, Some, None, eqb-true, eq-eqb}
 use Rattle.std.proofs.lemmas.Bool.{and_parts}
 use Rattle.std.proofs.lemmas.Iterator.Adapters.{position_from-zero}
@@ -9,25 +9,8 @@ use Rattle.std.specs.Cmp.{both_tied, unsigned_ties}
 use Rattle.std.specs.List.{list_any, position_from}
 use Rattle.std.specs.Map.{lookup}
 use Rattle.std.specs.Option.{option_map}
-use Rattle.std.specs.Ordering.{is_eq, nat_cmp, ordering_then}
-use Rattle.packet_show.specs.Flows.{AddressAndPort, Flow, HasNumbers, end_cmp, flow_cmp, flow_number, flow_number_at, number_if_seen, same_end, same_flow, with_flow}
-
--- what the order calls the same is the same flow
-
-and-assoc : (a b c : Bool) → ((a && b) && c) ≡ (a && (b && c))
-and-assoc true b c = refl
-and-assoc false b c = refl
-
-end-tied : (a b : AddressAndPort) → same_end a b ≡ is_eq (end_cmp a b)
-end-tied a b =
-    both_tied (a.0 == b.0) (a.1 == b.1) (nat_cmp a.0 b.0) (nat_cmp a.1 b.1) (unsigned_ties a.0 b.0) (unsigned_ties a.1 b.1)
-
-tied : (a b : Flow) → is_at (flow_cmp a) b ≡ same_flow a b
-tied a b =
-    sym (both_tied (a.0 == b.0 && same_end a.1 b.1) (same_end a.2 b.2) (ordering_then (nat_cmp a.0 b.0) (end_cmp a.1 b.1)) (end_cmp a.2 b.2)
-    (both_tied (a.0 == b.0) (same_end a.1 b.1) (nat_cmp a.0 b.0) (end_cmp a.1 b.1) (unsigned_ties a.0 b.0) (end-tied a.1 b.1))
-    (end-tied a.2 b.2))
-    ∙ and-assoc (a.0 == b.0) (same_end a.1 b.1) (same_end a.2 b.2)
+use Rattle.std.specs.Ordering.{nat_cmp, ordering_then}
+use Rattle.packet_show.specs.Flows.{AddressAndPort, Flow, HasNumbers, FlowKey, key_cmp, key_of, mixed, flow_number, flow_number_at, number_if_seen, same_end, same_flow, with_flow}
 
 one-end : (a b : AddressAndPort) → same_end a b ≡ true → a ≡ b
 one-end a b is =
@@ -56,6 +39,57 @@ itself : (a : Flow) → same_flow a a ≡ true
 itself a =
     and-true (a.0 == a.0) (same_end a.1 a.1 && same_end a.2 a.2) (eq-eqb a.0 a.0 refl)
     (and-true (same_end a.1 a.1) (same_end a.2 a.2) (end-itself a.1) (end-itself a.2))
+
+-- what the order calls the same is the key of the same flow
+
+abbrev same-rest : (a b : Flow) → Bool
+same-rest a b = (a.1.1 == b.1.1 && a.2.1 == b.2.1) && a.0 == b.0
+
+abbrev same-key : (a b : Flow) → Bool
+same-key a b = (mixed a == mixed b && same-rest a b) && (a.1.0 == b.1.0 && a.2.0 == b.2.0)
+
+key-tied : (a b : Flow) → same-key a b ≡ is_at (key_cmp (key_of a)) (key_of b)
+key-tied a b =
+    both_tied (mixed a == mixed b && same-rest a b) (a.1.0 == b.1.0 && a.2.0 == b.2.0)
+    (ordering_then (nat_cmp (mixed a) (mixed b)) (ordering_then (ordering_then (nat_cmp a.1.1 b.1.1) (nat_cmp a.2.1 b.2.1)) (nat_cmp a.0 b.0)))
+    (ordering_then (nat_cmp a.1.0 b.1.0) (nat_cmp a.2.0 b.2.0))
+    (both_tied (mixed a == mixed b) (same-rest a b) (nat_cmp (mixed a) (mixed b))
+    (ordering_then (ordering_then (nat_cmp a.1.1 b.1.1) (nat_cmp a.2.1 b.2.1)) (nat_cmp a.0 b.0)) (unsigned_ties (mixed a) (mixed b))
+    (both_tied (a.1.1 == b.1.1 && a.2.1 == b.2.1) (a.0 == b.0) (ordering_then (nat_cmp a.1.1 b.1.1) (nat_cmp a.2.1 b.2.1)) (nat_cmp a.0 b.0)
+    (both_tied (a.1.1 == b.1.1) (a.2.1 == b.2.1) (nat_cmp a.1.1 b.1.1) (nat_cmp a.2.1 b.2.1) (unsigned_ties a.1.1 b.1.1) (unsigned_ties a.2.1 b.2.1))
+    (unsigned_ties a.0 b.0)))
+    (both_tied (a.1.0 == b.1.0) (a.2.0 == b.2.0) (nat_cmp a.1.0 b.1.0) (nat_cmp a.2.0 b.2.0) (unsigned_ties a.1.0 b.1.0) (unsigned_ties a.2.0 b.2.0))
+
+key-itself : (a : Flow) → same-key a a ≡ true
+key-itself a =
+    and-true (mixed a == mixed a && same-rest a a) (a.1.0 == a.1.0 && a.2.0 == a.2.0)
+    (and-true (mixed a == mixed a) (same-rest a a) (eq-eqb (mixed a) (mixed a) refl)
+    (and-true (a.1.1 == a.1.1 && a.2.1 == a.2.1) (a.0 == a.0)
+    (and-true (a.1.1 == a.1.1) (a.2.1 == a.2.1) (eq-eqb a.1.1 a.1.1 refl) (eq-eqb a.2.1 a.2.1 refl)) (eq-eqb a.0 a.0 refl)))
+    (and-true (a.1.0 == a.1.0) (a.2.0 == a.2.0) (eq-eqb a.1.0 a.1.0 refl) (eq-eqb a.2.0 a.2.0 refl))
+
+key-flow : (a b : Flow) → same-key a b ≡ true → same_flow a b ≡ true
+key-flow a b is =
+    let all = and_parts (mixed a == mixed b && same-rest a b) (a.1.0 == b.1.0 && a.2.0 == b.2.0) is in
+    let front = and_parts (mixed a == mixed b) (same-rest a b) all.0 in
+    let rest = and_parts (a.1.1 == b.1.1 && a.2.1 == b.2.1) (a.0 == b.0) front.1 in
+    let ports = and_parts (a.1.1 == b.1.1) (a.2.1 == b.2.1) rest.0 in
+    let addresses = and_parts (a.1.0 == b.1.0) (a.2.0 == b.2.0) all.1 in
+    and-true (a.0 == b.0) (same_end a.1 b.1 && same_end a.2 b.2) rest.1
+    (and-true (same_end a.1 b.1) (same_end a.2 b.2) (and-true (a.1.0 == b.1.0) (a.1.1 == b.1.1) addresses.0 ports.0)
+    (and-true (a.2.0 == b.2.0) (a.2.1 == b.2.1) addresses.1 ports.1))
+
+flow-key : (a b : Flow) → same_flow a b ≡ true → same-key a b ≡ true
+flow-key a b is = subst (λ (x : Flow). same-key a x ≡ true) (one-flow a b is) (key-itself a)
+
+bools-same : (one other : Bool) → (one ≡ true → other ≡ true) → (other ≡ true → one ≡ true) → one ≡ other
+bools-same true true there back = refl
+bools-same true false there back = sym (there refl)
+bools-same false true there back = back refl
+bools-same false false there back = refl
+
+tied : (a b : Flow) → is_at (key_cmp (key_of a)) (key_of b) ≡ same_flow a b
+tied a b = sym (key-tied a b) ∙ bools-same (same-key a b) (same_flow a b) (key-flow a b) (flow-key a b)
 
 turned : (a b : Flow) → same_flow a b ≡ false → same_flow b a ≡ false
 turned a b is = by (same_flow b a) refl where
@@ -129,22 +163,22 @@ pub noted_now : (flow : Flow) (seen : List Flow) → number_if_seen flow seen �
 noted_now flow seen is =
     sym (ap (λ (b : Bool). if b then seen else seen ++ flow ∷ []) (sym (any-found (same_flow flow) 1 seen) ∙ ap is_some is))
 
-pub numbers_now : (flow : Flow) (before after : List (Flow × ℕ)) (seen : List Flow) → HasNumbers before seen → number_if_seen flow seen ≡ None
-    → ((q : Flow) → lookup (is_at (flow_cmp q)) after ≡ cond (is_at (flow_cmp flow) q) (Some (length seen + 1)) (lookup (is_at (flow_cmp q)) before))
+pub numbers_now : (flow : Flow) (before after : List (FlowKey × ℕ)) (seen : List Flow) → HasNumbers before seen → number_if_seen flow seen ≡ None
+    → ((q : FlowKey) → lookup (is_at (key_cmp q)) after ≡ cond (is_at (key_cmp (key_of flow)) q) (Some (length seen + 1)) (lookup (is_at (key_cmp q)) before))
     → HasNumbers after (seen ++ flow ∷ [])
-numbers_now flow before after seen has none updates q = by (is_at (flow_cmp flow) q) refl where
-  by : (same : Bool) → is_at (flow_cmp flow) q ≡ same → lookup (is_at (flow_cmp q)) after ≡ number_if_seen q (seen ++ flow ∷ [])
+numbers_now flow before after seen has none updates q = by (is_at (key_cmp (key_of flow)) (key_of q)) refl where
+  by : (same : Bool) → is_at (key_cmp (key_of flow)) (key_of q) ≡ same → lookup (is_at (key_cmp (key_of q))) after ≡ number_if_seen q (seen ++ flow ∷ [])
   by true is =
       let one : flow ≡ q = one-flow flow q (sym (tied flow q) ∙ is) in
       let next : length seen + 1 ≡ 1 + length seen = omega arith in
-      updates q
-      ∙ ap (λ (b : Bool). cond b (Some (length seen + 1)) (lookup (is_at (flow_cmp q)) before)) is
+      updates (key_of q)
+      ∙ ap (λ (b : Bool). cond b (Some (length seen + 1)) (lookup (is_at (key_cmp (key_of q))) before)) is
       ∙ ap Some next
       ∙ sym (subst (λ (x : Flow). number_if_seen x (seen ++ flow ∷ []) ≡ Some (1 + length seen)) one
       (pushed (same_flow flow) 1 seen flow (itself flow) none))
   by false is =
       let apart : same_flow q flow ≡ false = turned flow q (sym (tied flow q) ∙ is) in
-      updates q
-      ∙ ap (λ (b : Bool). cond b (Some (length seen + 1)) (lookup (is_at (flow_cmp q)) before)) is
+      updates (key_of q)
+      ∙ ap (λ (b : Bool). cond b (Some (length seen + 1)) (lookup (is_at (key_cmp (key_of q))) before)) is
       ∙ has q
       ∙ sym (passed (same_flow q) 1 seen flow apart)

@@ -1,5 +1,5 @@
 -- Flows: the two ends between which packets go, in either direction (own).
-use Rattle.std.specs.Prelude.{◌≡◌, ℕ, ◌+◌, Bool, ◌&&◌, ◌||◌, ◌==◌, nat_lt, if◌then◌else◌, List, [], ◌∷◌, ◌++◌, length, position, Option, Some, None}
+use Rattle.std.specs.Prelude.{◌≡◌, ℕ, ◌+◌, ◌*◌, ◌%◌, ◌^◌, Bool, ◌&&◌, ◌||◌, ◌==◌, nat_lt, if◌then◌else◌, List, [], ◌∷◌, ◌++◌, length, position, Option, Some, None}
 use Rattle.std.specs.BTreeMap.{is_at}
 use Rattle.std.specs.List.{list_any, position_from}
 use Rattle.std.specs.Map.{lookup}
@@ -65,18 +65,35 @@ flow_number flow seen = flow_number_at (position (same_flow flow) seen) seen
 abbrev pub with_flow : Flow → List Flow → List Flow
 with_flow flow seen = if list_any (same_flow flow) seen then seen else seen ++ flow ∷ []
 
--- the order of ends: by address, then by port
-abbrev pub end_cmp : AddressAndPort → AddressAndPort → Ordering
-end_cmp a b = ordering_then (nat_cmp a.0 b.0) (nat_cmp a.1 b.1)
+-- a number times a factor, and one more, by 64 bits
+abbrev pub blended : ℕ → ℕ → ℕ → ℕ
+blended number factor more = (number * factor % 2 ^ 64 + more) % 2 ^ 64
 
--- the order of flows, by which they are found: by version, then by the lesser end, then by the other
-abbrev pub flow_cmp : Flow → Flow → Ordering
-flow_cmp a b = ordering_then (ordering_then (nat_cmp a.0 b.0) (end_cmp a.1 b.1)) (end_cmp a.2 b.2)
+-- a number that is worked out from both ends by 64 bits, and seldom the same for two flows
+abbrev pub mixed : Flow → ℕ
+mixed flow =
+    blended (flow.1.0 % 2 ^ 64) 11400714819323198485
+    (blended (flow.2.0 % 2 ^ 64) 7640891576956012809 (blended flow.1.1 65536 flow.2.1))
+
+-- what a flow is found under: its mixed number, both ports and the version, and both addresses
+abbrev pub FlowKey : Type 0
+FlowKey = ℕ × (ℕ × ℕ × ℕ) × (ℕ × ℕ)
+
+-- the key of a flow
+abbrev pub key_of : Flow → FlowKey
+key_of flow = (mixed flow, (flow.1.1, flow.2.1, flow.0), (flow.1.0, flow.2.0))
+
+-- the order of keys: by the mixed number, then by the rest from the left
+abbrev pub key_cmp : FlowKey → FlowKey → Ordering
+key_cmp a b =
+    ordering_then
+    (ordering_then (nat_cmp a.0 b.0) (ordering_then (ordering_then (nat_cmp a.1.0 b.1.0) (nat_cmp a.1.1 b.1.1)) (nat_cmp a.1.2 b.1.2)))
+    (ordering_then (nat_cmp a.2.0 b.2.0) (nat_cmp a.2.1 b.2.1))
 
 -- the number of a flow that was seen, from 1 in the order in which they were
 abbrev pub number_if_seen : Flow → List Flow → Option ℕ
 number_if_seen flow seen = position_from (same_flow flow) 1 seen
 
--- A map in that order has each flow that was seen under its number, and no other flow.
-abbrev pub HasNumbers : List (Flow × ℕ) → List Flow → Type 0
-HasNumbers numbers seen = (flow : Flow) → lookup (is_at (flow_cmp flow)) numbers ≡ number_if_seen flow seen
+-- A map in the order of keys has under the key of each flow that was seen its number, and nothing under that of another flow.
+abbrev pub HasNumbers : List (FlowKey × ℕ) → List Flow → Type 0
+HasNumbers numbers seen = (flow : Flow) → lookup (is_at (key_cmp (key_of flow))) numbers ≡ number_if_seen flow seen

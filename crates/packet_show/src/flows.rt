@@ -1,9 +1,9 @@
 //! Flows, and the lines of their packets.
-ghost use Rattle.std.specs.Prelude.{◌≡◌, ◌≤◌, length, [], None, IfOk, OnOk, OnErr, true};
+ghost use Rattle.std.specs.Prelude.{◌≡◌, ◌≤◌, ◌%◌, ◌^◌, length, [], None, IfOk, OnOk, OnErr, true};
 ghost use Rattle.byteorder.specs.Endian.{big_number};
 ghost use Rattle.capture_reader.specs.Records.{entry_of};
 ghost use Rattle.packet_show.specs.Network.{carried_by};
-ghost use Rattle.packet_show.specs.Flows.{version_of, from_end, to_end, is_lesser_end, flow_between, flow_of, flow_number, number_if_seen, with_flow};
+ghost use Rattle.packet_show.specs.Flows.{blended, version_of, from_end, to_end, is_lesser_end, flow_between, flow_of, flow_number, key_of, mixed, number_if_seen, with_flow};
 ghost use Rattle.packet_show.specs.Lines.{shows, shows_packet, shows_malformed, parts_by, Shows};
 
 use crate::network::{Datagram, carried};
@@ -32,15 +32,26 @@ pub type FlowEnd = (u128, u16);
 // The version of IP, and both ends, the lesser first.
 type Flow = (u8, FlowEnd, FlowEnd);
 
+// Under which a flow is found: its mixed number, both ports and the version, and both addresses.
+type FlowKey = (u64, (u16, u16, u8), (u128, u128));
+
+// Odd numbers without a pattern: the fractions of the golden ratio and of the square root of two, times 2^64.
+const GOLDEN: u64 = 0x9e37_79b9_7f4a_7c15;
+
+const ROOT_OF_TWO: u64 = 0x6a09_e667_f3bc_c909;
+
+const PORTS: u64 = 65_536;
+
 /// The flows that were seen, in the order in which they were first seen (own). A flow is the pair of both ends, in
 /// either direction. Contracts see the list of flows.
 ///
 /// A flow is found by comparing with others, as many as the logarithm of how many there are. So whoever chose the ends
-/// cannot make that slow, as they could in a table that hashes them by a rule which they know.
+/// cannot make that slow, as they could in a table that hashes them by a rule which they know. What is compared begins with a
+/// number that is mixed from both ends, which mostly decides at once; where ends were chosen so that it does not, the rest does.
 #[derive(Drop)]
 pub struct Flows {
     seen: Vec<Flow>,
-    numbers: BTreeMap<Flow, u64>,
+    numbers: BTreeMap<FlowKey, u64>,
 }
 
 impl Model for Flows {
@@ -120,6 +131,38 @@ fn flow_of(pseudo: &Pseudo, from: u16, to: u16) -> Flow
     )
 }
 
+// The low 64 bits of a number.
+fn low(number: u128) -> u64
+    ensures { result ≡ number % 2 ^ 64 }
+{
+    (number % (1 << 64)) as u64
+}
+
+fn blended(number: u64, factor: u64, more: u64) -> u64
+    ensures { result ≡ blended number factor more }
+{
+    number.wrapping_mul(factor).wrapping_add(more)
+}
+
+// A number that seldom is the same for two flows.
+fn mixed(flow: &Flow) -> u64
+    ensures { result ≡ mixed flow.now }
+{
+    let ports = blended(u64::from(flow.1.1), PORTS, u64::from(flow.2.1));
+    let other = blended(low(flow.2.0), ROOT_OF_TWO, ports);
+    blended(low(flow.1.0), GOLDEN, other)
+}
+
+fn key_of(flow: &Flow) -> FlowKey
+    ensures { result ≡ key_of flow.now }
+{
+    (
+        mixed(flow),
+        (flow.1.1, flow.2.1, flow.0),
+        (flow.1.0, flow.2.0),
+    )
+}
+
 impl Flows {
     /// No flow yet. It takes no memory.
     pub fn new(alloc: Global) -> Flows
@@ -142,7 +185,7 @@ impl Flows {
     fn number_if_seen(&self, flow: &Flow) -> Option<u64>
         ensures { result ≡ number_if_seen flow.now self.now }
     {
-        match self.numbers.get(flow) {
+        match self.numbers.get(&key_of(flow)) {
             Some(number) => Some(*number),
             None => None,
         }
@@ -182,7 +225,7 @@ impl Flows {
     {
         let number = self.seen.len() as u64 + 1;
         self.seen.reserve(1)?;
-        match self.numbers.insert(flow, number) {
+        match self.numbers.insert(key_of(&flow), number) {
             Ok(_) => {}
             Err(_) => return Err(NoMemory),
         }

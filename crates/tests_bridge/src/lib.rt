@@ -9,6 +9,8 @@ mod calls;
 #[cfg(test)]
 mod captures;
 #[cfg(test)]
+mod frames;
+#[cfg(test)]
 mod objects;
 #[cfg(test)]
 mod seeds;

@@ -3,14 +3,14 @@ use dccp_endpoint::Outbox;
 use std::alloc::Global;
 use std::test::Fail;
 
-// The frame in the box, or `-`.
+// The frame in the box, or `-`, behind a space.
 pub(crate) fn tell_frame(alloc: Global, out: &Outbox, told: &mut String) -> Result<(), Fail> {
     match out.frame() {
         Some(frame) => {
             let text = hex::encode(alloc, frame.bytes())?;
-            write!(told, ", {text}")?;
+            write!(told, " {text}")?;
         }
-        None => told.push_str(", -")?,
+        None => told.push_str(" -")?,
     }
     Ok(())
 }

@@ -1,5 +1,5 @@
 -- Bytes in hexadecimal, byte by byte and block by block.
-use Rattle.std.proofs.Common.{◌≡◌, refl, sym, ap, ◌∙◌, ℕ, zero, suc, ◌+◌, ◌-◌, ◌*◌, ◌<◌, ◌≤◌, List, [], ◌∷◌, ◌++◌, ◌/◌, ◌%◌, length, take, get_or, append_assoc, arith}
+use Rattle.std.proofs.Common.{◌≡◌, refl, sym, ap, ◌∙◌, ℕ, zero, suc, ◌+◌, ◌*◌, ◌<◌, ◌≤◌, List, [], ◌∷◌, ◌++◌, if◌then◌else◌, nat_lt, ◌/◌, ◌%◌, length, take, get_or, append_assoc, arith}
 use Rattle.std.proofs.lemmas.Grind.{common_steps}
 use Rattle.std.proofs.lemmas.List.{append-nil, take_more, take_more_set}
 use Rattle.std.specs.Prelude.{slice_index, slice_set}
@@ -30,34 +30,24 @@ all-put before [] whole none same = sym (append-nil before) ∙ ap (λ (more : L
 all-put before (byte ∷ rest) whole none same = absurd (omega arith)
 
 -- the ten figures, and the six letters
-
-pub figure : (value : ℕ) → value < 10 → value + 48 ≡ slice_index lower_digits value
-figure zero small = refl
-figure (suc zero) small = refl
-figure (suc (suc zero)) small = refl
-figure (suc (suc (suc zero))) small = refl
-figure (suc (suc (suc (suc zero)))) small = refl
-figure (suc (suc (suc (suc (suc zero))))) small = refl
-figure (suc (suc (suc (suc (suc (suc zero)))))) small = refl
-figure (suc (suc (suc (suc (suc (suc (suc zero))))))) small = refl
-figure (suc (suc (suc (suc (suc (suc (suc (suc zero)))))))) small = refl
-figure (suc (suc (suc (suc (suc (suc (suc (suc (suc zero))))))))) small = refl
-figure (suc (suc (suc (suc (suc (suc (suc (suc (suc (suc value)))))))))) small = absurd (omega arith)
-
-letter-by : (over : ℕ) → over < 6 → over + 97 ≡ slice_index lower_digits (over + 10)
-letter-by zero small = refl
-letter-by (suc zero) small = refl
-letter-by (suc (suc zero)) small = refl
-letter-by (suc (suc (suc zero))) small = refl
-letter-by (suc (suc (suc (suc zero)))) small = refl
-letter-by (suc (suc (suc (suc (suc zero))))) small = refl
-letter-by (suc (suc (suc (suc (suc (suc over)))))) small = absurd (omega arith)
-
-pub letter : (value : ℕ) → value < 16 → 10 ≤ value → value + 87 ≡ slice_index lower_digits value
-letter value small large =
-    let over : value ≡ value - 10 + 10 = omega arith in
-    let same : value + 87 ≡ value - 10 + 97 = omega arith in
-    same ∙ letter-by (value - 10) (omega arith) ∙ ap (λ (n : ℕ). slice_index lower_digits n) (sym over)
+pub digit_of : (value gap : ℕ) → value < 16 → gap ≡ (if nat_lt value 10 then 0 else 39) → value + 48 + gap ≡ slice_index lower_digits value
+digit_of zero gap small is = ap (λ (n : ℕ). 48 + n) is
+digit_of (suc zero) gap small is = ap (λ (n : ℕ). 49 + n) is
+digit_of (suc (suc zero)) gap small is = ap (λ (n : ℕ). 50 + n) is
+digit_of (suc (suc (suc zero))) gap small is = ap (λ (n : ℕ). 51 + n) is
+digit_of (suc (suc (suc (suc zero)))) gap small is = ap (λ (n : ℕ). 52 + n) is
+digit_of (suc (suc (suc (suc (suc zero))))) gap small is = ap (λ (n : ℕ). 53 + n) is
+digit_of (suc (suc (suc (suc (suc (suc zero)))))) gap small is = ap (λ (n : ℕ). 54 + n) is
+digit_of (suc (suc (suc (suc (suc (suc (suc zero))))))) gap small is = ap (λ (n : ℕ). 55 + n) is
+digit_of (suc (suc (suc (suc (suc (suc (suc (suc zero)))))))) gap small is = ap (λ (n : ℕ). 56 + n) is
+digit_of (suc (suc (suc (suc (suc (suc (suc (suc (suc zero))))))))) gap small is = ap (λ (n : ℕ). 57 + n) is
+digit_of (suc (suc (suc (suc (suc (suc (suc (suc (suc (suc zero)))))))))) gap small is = ap (λ (n : ℕ). 58 + n) is
+digit_of (suc (suc (suc (suc (suc (suc (suc (suc (suc (suc (suc zero))))))))))) gap small is = ap (λ (n : ℕ). 59 + n) is
+digit_of (suc (suc (suc (suc (suc (suc (suc (suc (suc (suc (suc (suc zero)))))))))))) gap small is = ap (λ (n : ℕ). 60 + n) is
+digit_of (suc (suc (suc (suc (suc (suc (suc (suc (suc (suc (suc (suc (suc zero))))))))))))) gap small is = ap (λ (n : ℕ). 61 + n) is
+digit_of (suc (suc (suc (suc (suc (suc (suc (suc (suc (suc (suc (suc (suc (suc zero)))))))))))))) gap small is = ap (λ (n : ℕ). 62 + n) is
+digit_of (suc (suc (suc (suc (suc (suc (suc (suc (suc (suc (suc (suc (suc (suc (suc zero))))))))))))))) gap small is = ap (λ (n : ℕ). 63 + n) is
+digit_of (suc (suc (suc (suc (suc (suc (suc (suc (suc (suc (suc (suc (suc (suc (suc (suc value)))))))))))))))) gap small is = absurd (omega arith)
 
 -- one byte further
 encode-one : (byte : ℕ) → encode_lower (byte ∷ []) ≡ slice_index lower_digits (byte / 16) ∷ slice_index lower_digits (byte % 16) ∷ []

@@ -1,2 +1,3 @@
+pub mod Decimals
 pub mod HexText
 pub mod Keeping

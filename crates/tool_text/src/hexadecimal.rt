@@ -1,21 +1,24 @@
 //! Bytes as digits in hexadecimal.
 #![tactic(auto)]
 
-ghost use Rattle.std.specs.Prelude.{◌≡◌, ◌*◌, ◌<◌, length, slice_index};
+ghost use Rattle.std.specs.Prelude.{◌≡◌, ◌*◌, ◌<◌, nat_lt, if◌then◌else◌, length, slice_index};
 ghost use Rattle.hex.specs.Hex.{encode_lower, lower_digits};
+
+// How many bytes stand between the figures and the letters, where the digit of a value is a letter.
+fn gap(value: u8) -> u8
+    ensures { result ≡ (if nat_lt value 10 then 0 else 39) }
+{
+    if value < 10 { 0 } else { b'a' - b'9' - 1 }
+}
 
 // The digit of a value. It is worked out, and not looked up in a table as that of the toolchain's `hex`, so that the compiler can make the
 // digits of many bytes side by side.
-#[tactic(auto, using(crate::proofs::HexText::figure, crate::proofs::HexText::letter))]
+#[tactic(auto, using(crate::proofs::HexText::digit_of))]
 fn digit(value: u8) -> u8
     requires { value < 16 }
     ensures { result ≡ slice_index lower_digits value }
 {
-    if value < 10 {
-        value + b'0'
-    } else {
-        value + (b'a' - 10)
-    }
+    value + b'0' + gap(value)
 }
 
 /// Writes bytes as digits in lower case into the room for them (own).

@@ -1,7 +1,7 @@
 //! Text as it is put together, piece by piece.
 #![tactic(auto, using(crate::proofs::Keeping::keeps_itself, crate::proofs::Keeping::keeps_on, crate::proofs::Keeping::keeps_through))]
 
-ghost use Rattle.std.specs.Prelude.{◌≡◌, ◌++◌, decimal, OnOk, OnErr};
+ghost use Rattle.std.specs.Prelude.{◌≡◌, ◌<◌, ◌++◌, codes, decimal, OnOk, OnErr};
 ghost use Rattle.std.specs.Str.{bytes_eq};
 ghost use Rattle.hex.specs.Hex.{encode_lower};
 ghost use Rattle.tool_text.specs.Text.{Keeps, labelled_number, hex_or_dash, v4_text};
@@ -11,7 +11,7 @@ use itoa::Buffer;
 use seq_circle::NoMemory;
 
 // How many bytes are put as digits at a time.
-const BLOCK: usize = 64;
+const BLOCK: usize = 128;
 
 /// Whether bytes are just this text (own).
 pub fn is_text(bytes: &[u8], text: &[u8]) -> bool
@@ -86,14 +86,64 @@ pub fn put_hex_or_dash(text: &mut Vec<u8>, bytes: &[u8]) -> Result<(), NoMemory>
     }
 }
 
+// Puts a number of one digit.
+#[tactic(auto, using(std::proofs::lemmas::Fmt::decimal_digit, crate::proofs::Keeping::keeps_itself, crate::proofs::Keeping::keeps_more))]
+fn put_digit(text: &mut Vec<u8>, number: u8) -> Result<(), NoMemory>
+    requires { number < 10 }
+    ensures ok { OnOk result (text.new.items ≡ text.old.items ++ decimal number) }
+    ensures front { Keeps text.old.items text.new.items }
+{
+    text.push(b'0' + number)?;
+    Ok(())
+}
+
+// Puts a number of at most two digits.
+#[tactic(auto, using(crate::proofs::Keeping::keeps_itself, crate::proofs::Keeping::keeps_more, crate::proofs::Keeping::keeps_through))]
+fn put_pair(text: &mut Vec<u8>, number: u8) -> Result<(), NoMemory>
+    requires { number < 100 }
+    ensures ok { OnOk result (text.new.items ≡ text.old.items ++ decimal number) }
+    ensures front { Keeps text.old.items text.new.items }
+{
+    if number < 10 {
+        return put_digit(text, number);
+    }
+    put_digit(text, number / 10)?;
+    text.push(b'0' + number % 10)?;
+    Ok(())
+}
+
+// Puts a byte's number. It has at most three digits, which cost less one by one than by way of a buffer.
+#[tactic(auto, using(crate::proofs::Keeping::keeps_itself, crate::proofs::Keeping::keeps_more, crate::proofs::Keeping::keeps_through))]
+fn put_byte(text: &mut Vec<u8>, number: u8) -> Result<(), NoMemory>
+    ensures ok { OnOk result (text.new.items ≡ text.old.items ++ decimal number) }
+    ensures front { Keeps text.old.items text.new.items }
+{
+    if number < 100 {
+        return put_pair(text, number);
+    }
+    put_pair(text, number / 10)?;
+    text.push(b'0' + number % 10)?;
+    Ok(())
+}
+
+// Puts the number of a byte of an address behind its dot.
+fn put_dotted(text: &mut Vec<u8>, number: u8) -> Result<(), NoMemory>
+    ensures ok { OnOk result (text.new.items ≡ text.old.items ++ labelled_number (codes ".") number) }
+    ensures front { Keeps text.old.items text.new.items }
+{
+    put(text, b".")?;
+    put_byte(text, number)
+}
+
 /// Puts an address of IPv4: four numbers, parted by dots (own). NoMemory comes where the text could not grow; then the first
 /// numbers may stand there.
 pub fn put_v4(text: &mut Vec<u8>, address: [u8; 4]) -> Result<(), NoMemory>
     ensures ok { OnOk result (text.new.items ≡ text.old.items ++ v4_text address) }
     ensures front { Keeps text.old.items text.new.items }
 {
-    put_number(text, u64::from(address[0]))?;
-    put_counted(text, b".", u64::from(address[1]))?;
-    put_counted(text, b".", u64::from(address[2]))?;
-    put_counted(text, b".", u64::from(address[3]))
+    put_byte(text, address[0])?;
+    put_dotted(text, address[1])?;
+    put_dotted(text, address[2])?;
+    put_dotted(text, address[3])?;
+    Ok(())
 }

@@ -16,14 +16,16 @@ use std::time::{Duration, Instant};
 /// closed goes by itself. A peer that has fallen silent keeps its place until it is aborted, which is left to the owner.
 ///
 /// ```
-/// use dccp::{ArriveError, Config, Connection, Event, Listener};
+/// use dccp::{ArriveError, Config, Connection, Event, Feature, Listener, Place};
 /// use std::net::SocketAddrV4;
 /// use std::time::Instant;
 ///
 /// let (here, there): (SocketAddrV4, SocketAddrV4) = ("192.0.2.1:40000".parse()?, "192.0.2.2:5001".parse()?);
 /// let now = Instant::now();
 /// let mut server = Listener::new(&Config::listener(there, 42), 1)?;
-/// let mut client = Connection::new(&Config::client(here.into(), there.into(), 42, 1_000))?;
+/// // The server's end asks for nothing, and sends data only to a peer that sends Ack Vectors: the client offers them.
+/// let config = Config::client(here.into(), there.into(), 42, 1_000);
+/// let mut client = Connection::new(&config.offer(Feature::SendAckVector, Place::Here, &[1]))?;
 /// client.open(now)?;
 /// loop {
 ///     while let Some(frame) = client.poll_transmit() {
@@ -109,7 +111,8 @@ impl Listener {
         ArriveError::answer(status)
     }
 
-    /// Sends data to a peer, 0 to 1,024 bytes, in one packet. A refused call changes nothing.
+    /// Sends data to a peer, 0 to 1,024 bytes, in one packet. It has to send Ack Vectors, for which the end here does not ask: the peer
+    /// offers them (`SendAckVector`, [`Place::Here`](crate::Place::Here), 1). A refused call changes nothing.
     ///
     /// ```
     /// use dccp::{Config, FlowError, Listener};

@@ -63,6 +63,7 @@ fn tell_packet(
     let mut out = Outbox::new();
     let got = server.receive(frame.bytes(), &mut out);
     tell_got(&got, told)?;
+    told.push_str(",")?;
     tell_frame(alloc, &out, told)
 }
 

@@ -172,6 +172,7 @@ fn line_holds(
     let peer = peer(whose).ok_or("a peer")?;
     told.clear();
     tell(alloc, listener, peer, words, out, told)?;
+    told.push_str(",")?;
     tell_frame(alloc, out, told)?;
     are_same(given, told.as_str(), wanted)
 }

@@ -1,4 +1,4 @@
-use Rattle.bridge_frames.proofs.ReadingBack.{none-read, sealed-read}
+use Rattle.bridge_frames.proofs.ReadingBack.{comment-ends, comment-read, none-read, sealed-read}
 use Rattle.bridge_frames.proofs.laws.lines_read_back.Goals as goal
 
 pub returns-clause-frame : goal.returns-clause-frame
@@ -6,3 +6,9 @@ returns-clause-frame c = sealed-read
 
 pub returns-clause-none : goal.returns-clause-none
 returns-clause-none c = none-read
+
+pub returns-clause-comment : goal.returns-clause-comment
+returns-clause-comment c = comment-ends
+
+pub returns-clause-nothing : goal.returns-clause-nothing
+returns-clause-nothing c = comment-read

@@ -8,6 +8,6 @@ abbrev pub invariant-loop-block : goal.invariant-loop-block
 invariant-loop-block l =
     (goal.iterator-loop-block).can_next l.block-iterator
     × (goal.iterator-loop-block).is_finite l.block-iterator
-    × (chunks_size l.block-iterator ≡ 64)
+    × (chunks_size l.block-iterator ≡ 128)
     × Keeps l.initial.text.items l.text.items
     × (l.text.items ++ encode_lower (chunks_rest l.block-iterator) ≡ l.initial.text.items ++ encode_lower l.bytes)

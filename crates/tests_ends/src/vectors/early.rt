@@ -1,8 +1,8 @@
 //! A client that speaks first, and the server that hears it (RFC 4340, section 8.1.5). The words are those of `calls`:
 //! `early` calls `send_early`, and `soon` calls `send_soon`.
-use crate::calls::Calls;
-use crate::ends::plain;
-use crate::tables::holds;
+use crate::vectors::calls::Calls;
+use crate::vectors::ends::plain;
+use crate::vectors::tables::holds;
 use dccp_endpoint::{Config, Role};
 use std::test::Fail;
 

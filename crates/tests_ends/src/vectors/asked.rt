@@ -2,10 +2,9 @@
 //! wish, at both roles (RFC 4340, section 6, and the table of this profile); each packet type at a client before
 //! `open`, and what a server that has asked for a Close answers to types that its peer may not send (RFC 4340, section
 //! 8.5).
-use crate::ends::{
-    Endpoint, closes, fires, meets, new_end, plain, prefers, tell_frame, tell_packet,
-};
-use crate::tables::{Table, holds, pieces, tell_held, values};
+use crate::texts::tell_frame;
+use crate::vectors::ends::{Endpoint, closes, fires, meets, new_end, plain, prefers, tell_packet};
+use crate::vectors::tables::{Table, holds, pieces, tell_held, values};
 use dccp_endpoint::{Role, Timer};
 use dccp_packets::Outbox;
 use feature_lists::{Feature, Place};

@@ -4,11 +4,12 @@
 //! Each word makes one call. Behind the colon stand its answer and, where it may send one, the frame, or `-`. Data that
 //! are delivered are told by where they stand in their packet. `marks` shows GSS, GSR, OSR and GAR, and `windows` SWL,
 //! SWH, AWL and AWH; `floor` the floor and how many numbers were taken; `window` the window and what is in flight.
-use crate::ends::{
+use crate::texts::tell_frame;
+use crate::vectors::ends::{
     Endpoint, aborts, closes, fires, new_end, opens, plain, prefers, sends, sends_early,
-    sends_soon, tell_frame, tell_packet,
+    sends_soon, tell_packet,
 };
-use crate::tables::{Table, holds, named, pieces, tell_held, values};
+use crate::vectors::tables::{Table, holds, named, pieces, tell_held, values};
 use dccp_endpoint::{Config, Ports, Pseudo, Role, Timer};
 use dccp_packets::Outbox;
 use feature_lists::{Feature, Place};

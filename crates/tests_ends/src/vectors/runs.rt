@@ -2,7 +2,7 @@
 //!
 //! A word is `start`, `mark` or `raise` with a number. Behind the number may stand a step up or down and how many such
 //! calls there are: `mark=0+2*1024` marks every second number from 0 to 2,046.
-use crate::tables::{Table, holds};
+use crate::vectors::tables::{Table, holds};
 use run_list::{PlainRuns, RunCall, RunList, Runs, replay_runs};
 use seq_circle::Seq48;
 use std::alloc::Global;

@@ -134,15 +134,3 @@ pub(crate) fn tell_packet(
     let outcome = receives(end, &bytes, out).ok_or("no packet is longer")?;
     tell_outcome(&outcome, told)
 }
-
-// The frame in the box, or `-`.
-pub(crate) fn tell_frame(alloc: Global, out: &Outbox, told: &mut String) -> Result<(), Fail> {
-    match out.frame() {
-        Some(frame) => {
-            let text = hex::encode(alloc, frame.bytes())?;
-            write!(told, " {text}")?;
-        }
-        None => told.push_str(" -")?,
-    }
-    Ok(())
-}

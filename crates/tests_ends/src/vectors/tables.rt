@@ -2,6 +2,7 @@
 //!
 //! A row costs no proof. What is told goes behind a text that the caller owns, so that the proof of no function has a
 //! text to drop.
+use crate::texts::are_same;
 use feature_lists::{Feature, Place};
 use feature_machine::{Held, Stand};
 use std::alloc::Global;
@@ -16,12 +17,7 @@ fn row_holds<T: Table>(alloc: Global, table: &T, row: &str) -> Result<(), Fail> 
     let (words, wanted) = row.split_once(": ").ok_or("a row has a colon")?;
     let mut told = String::new(alloc);
     table.tell(alloc, words, &mut told)?;
-    let got = told.as_str().trim_start();
-    if got == wanted {
-        Ok(())
-    } else {
-        Err(Fail::new(format_args!("{words}: {got}")))
-    }
+    are_same(words, told.as_str().trim_start(), wanted)
 }
 
 // Fails at the first row of which something else comes, with that.

@@ -1,5 +1,5 @@
 //! The features, what may be wished for them, and what two lists settle on.
-use crate::tables::{Table, holds, pieces, values};
+use crate::vectors::tables::{Table, holds, pieces, values};
 use feature_lists::{Feature, Place, Wanted, initial, reconcile, usual, wish};
 use std::alloc::Global;
 use std::test::Fail;

@@ -2,9 +2,9 @@
 //!
 //! Each word is a frame. Behind the colon stand how many were taken; the phase; GSS, GSR, OSR and GAR; the floor, and how
 //! many numbers are marked.
-use crate::calls::{Shown, tell_shown};
-use crate::ends::{Endpoint, new_end, plain};
-use crate::tables::{Table, holds};
+use crate::vectors::calls::{Shown, tell_shown};
+use crate::vectors::ends::{Endpoint, new_end, plain};
+use crate::vectors::tables::{Table, holds};
 use dccp_endpoint::{Frame, Role, feed};
 use std::alloc::Global;
 use std::test::Fail;
