@@ -4,7 +4,6 @@ use Rattle.capture_reader.specs.Records.{RecordParts}
 use Rattle.capture_writer.specs.Writing.{RawRecord}
 use Rattle.capture_writer.specs.declared.headers.RecordHeader.{RecordHeader}
 use Rattle.bridge_pieces.specs.Pieces.{Goes, Judgement, Piece, PieceEnd, PieceNext, PieceWrong, Stops, Taken, by_next_piece, next_piece, pieces_from, taken_by}
-use Rattle.bridge_pieces.specs.declared.fault.PieceFault.{PieceFault}
 use Rattle.bridge_records.specs.Reading.{FileState, bytes_held, file_judged, first_file, next_length}
 use Rattle.bridge_records.specs.declared.found.Found.{Found}
 use Rattle.bridge_records.specs.declared.found.Found.TheVariants as found
@@ -39,7 +38,8 @@ module _ (file : FileState) (nanos : Bool) (n given : ℕ) (made : UnwrapState �
   judged-same : (piece : List ℕ) (judged : Judgement Found FileState) → both (unwrap_by n piece judged) (json_by (telling_at file nanos n) piece judged)
   judged-same piece (Stops fault) = record { records = refl; refusal = refl }
   judged-same piece (Goes None next) = later next nanos n
-  judged-same piece (Goes (Some (found.Begins other)) next) = later next other n
+  judged-same piece (Goes (Some (found.Begins other)) next) =
+      let more = later next other n in record { records = more.records; refusal = more.refusal }
   judged-same piece (Goes (Some (found.Holds link head start)) next) =
       let more = later next nanos (one_more n) in
       let bytes : List ℕ = bytes_held head start piece in

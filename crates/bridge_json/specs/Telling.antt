@@ -45,7 +45,7 @@ told_by_judged state piece (Stops fault) = Stops fault
 told_by_judged state piece (Goes deed next) = told_by_found state piece next deed
 
 -- the object of a fault, with how many records stand before it
-abbrev pub fault_members : ℕ → PieceFault → Members
+unfoldable pub fault_members : ℕ → PieceFault → Members
 fault_members records fault = with_text_named (codes "fault") (piece_fault_name fault) (with_number_named (codes "records") records no_members)
 
 -- what stands behind the last record: nothing, or the line of the fault

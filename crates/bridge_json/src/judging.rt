@@ -92,7 +92,6 @@ fn object_of(alloc: Global, item: &Record<'_>) -> Result<Object, NoMemory>
 }
 
 /// Puts the line of a record.
-#[tactic(auto, using(crate::proofs::Plain::plain_record))]
 pub(crate) fn put_record(
     alloc: Global,
     text: &mut Vec<u8>,

@@ -1,10 +1,12 @@
 //! `json`: a job over the pieces of a capture.
-ghost use Rattle.std.specs.Prelude.{◌≡◌, ◌≢◌, ◌+◌, ◌≤◌, ◌++◌, ℕ, List, false, length, OnOk, Some};
+ghost use Rattle.std.specs.Prelude.{◌≡◌, ◌≢◌, ◌+◌, ◌≤◌, ◌++◌, ℕ, List, false, length, IfOk, OnOk, Some};
 ghost use Rattle.bridge_records.specs.Reading.{bytes_held};
+ghost use Rattle.capture_reader.specs.Records.{entry_of};
 ghost use Rattle.dccp_io.specs.Counts.{Rose, one_more};
 ghost use Rattle.tool_output.specs.Ends.{Answers, EndsForCause, SinkFails, StopsWithin};
+ghost use Rattle.bridge_json.specs.Members.{members_seen};
 ghost use Rattle.bridge_json.specs.Objects.{record_line};
-ghost use Rattle.bridge_json.specs.Telling.{first_telling, is_json_faulty, json_closing, json_pieces, json_text, numbered_entry, telling_at};
+ghost use Rattle.bridge_json.specs.Telling.{fault_members, first_telling, is_json_faulty, json_closing, json_pieces, json_text, numbered_entry, telling_at};
 
 use crate::judging::put_record;
 use crate::objects::Object;
@@ -65,8 +67,18 @@ fn numbered<'a>(
     }
 }
 
-// Puts the object of a fault, behind so many records.
-#[tactic(auto, using(crate::proofs::Plain::plain_fault))]
+// The object of a fault, behind so many records.
+#[tactic(auto, unfolding(crate::specs::Telling::fault_members))]
+fn fault_object(alloc: Global, records: u64, fault: PieceFault) -> Result<Object, NoMemory>
+    ensures { IfOk result (λ o. members_seen o ≡ fault_members records fault) }
+{
+    let mut object = Object::new(alloc);
+    object.number("records", records)?;
+    object.text("fault", fault_name(fault))?;
+    Ok(object)
+}
+
+// Puts its line.
 fn put_fault(
     alloc: Global,
     text: &mut Vec<u8>,
@@ -75,10 +87,7 @@ fn put_fault(
 ) -> Result<(), NoMemory>
     ensures { OnOk result (text.new.items ≡ text.old.items ++ json_closing records (Some fault)) }
 {
-    let mut object = Object::new(alloc);
-    object.number("records", records)?;
-    object.text("fault", fault_name(fault))?;
-    object.put_line(text)
+    fault_object(alloc, records, fault)?.put_line(text)
 }
 
 impl Telling {

@@ -11,6 +11,8 @@ mod captures;
 #[cfg(test)]
 mod frames;
 #[cfg(test)]
+mod objects;
+#[cfg(test)]
 mod seeds;
 #[cfg(test)]
 mod unwraps;
