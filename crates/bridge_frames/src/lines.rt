@@ -31,7 +31,6 @@ fn cut_comment(text: &mut Vec<u8>, start: usize) -> Result<(), NoMemory>
 }
 
 /// Puts the line that `show` has for a packet of this flow, as a comment.
-#[tactic(auto, using(crate::proofs::Commenting::comment_put))]
 pub(crate) fn put_comment(
     text: &mut Vec<u8>,
     record: &Record<'_>,

@@ -38,7 +38,8 @@ const CAPTURE: &[u8] =
 \x1b\x58\x00\x21\x06\x00\x49\x37\x11\x00\x00\x00\x00\x00\x00\x0b\x00\x00\x00\x00\x00\x00\x00\x07";
 
 // The server's initial number is 2^48 - 2 in the capture, and 2000 here.
-const TO_SERVER: &[u8] = b"# 1 1.000000 flow 1 192.0.2.1 7000 > 192.0.2.2 33 Request seq 7 service 5 data 0 sum ok\n\
+const TO_SERVER: &[u8] =
+    b"# 1 1.000000 flow 1 192.0.2.1 7000 > 192.0.2.2 33 Request seq 7 service 5 data 0 sum ok\n\
 seal 9c4013890500000001000000000000070000002a\n\
 # 2 2.000000 flow 1 192.0.2.1 7000 > 192.0.2.2 33 Ack seq 8 ack 281474976710654 data 0 sum ok\n\
 # no frame: NumberUnknown\n\
@@ -50,7 +51,8 @@ seal 9c401389040000000800000a000007d3aa\n\
 seal 9c40138906000000110000000000000b00000000000007d9\n";
 
 // The client's is 7 in the capture, and 1000 here.
-const TO_CLIENT: &[u8] = b"# 3 3.000000 flow 1 192.0.2.2 33 > 192.0.2.1 7000 Response seq 281474976710654 ack 7 service 5 data 0 sum ok\n\
+const TO_CLIENT: &[u8] =
+    b"# 3 3.000000 flow 1 192.0.2.2 33 > 192.0.2.1 7000 Response seq 281474976710654 ack 7 service 5 data 0 sum ok\n\
 seal 13899c40070000000300fffffffffffe00000000000003e80000002a\n\
 # 7 7.000000 flow 1 192.0.2.2 33 > 192.0.2.1 7000 Data seq 2 data 1 sum ok\n\
 seal 13899c400300000004000002bb\n\
@@ -143,7 +145,8 @@ fn with_zeros(alloc: Global, bytes: &[u8], count: usize) -> Result<Vec<u8>, Fail
 #[test]
 fn a_packet_too_long_for_a_frame(rt: HostRuntime) -> Result<(), Fail> {
     let input = with_zeros(rt.alloc(), LONG, ZEROS)?;
-    let lines = b"# 1 1.000000 flow 1 192.0.2.1 7000 > 192.0.2.2 33 Data seq 7 data 2029 sum wrong\n# no frame: FrameTooLong\n";
+    let lines =
+        b"# 1 1.000000 flow 1 192.0.2.1 7000 > 192.0.2.2 33 Data seq 7 data 2029 sum wrong\n# no frame: FrameTooLong\n";
     let refused = (Status::Done, lines.as_slice());
     let none = comes(rt.alloc(), &Streams::of(4096), (SERVER, &input), refused)?;
     assert!(rt; none);
