@@ -1,5 +1,5 @@
 -- A comment is put, and cut where it is too long.
-use Rattle.std.proofs.Common.{◌≡◌, refl, sym, ap, ◌∙◌, ℕ, ◌+◌, ◌-◌, ◌≤◌, ◌<◌, nat_lt, arith, Bool, true, false, if◌then◌else◌, List, ◌++◌, length, take, drop, append_assoc}
+use Rattle.std.proofs.Common.{◌≡◌, sym, ap, ◌∙◌, ℕ, ◌+◌, ◌-◌, ◌≤◌, ◌<◌, nat_lt, arith, Bool, true, false, if◌then◌else◌, List, ◌++◌, length, take, drop, append_assoc}
 use Rattle.std.proofs.Math.Seq.{take-add}
 use Rattle.std.proofs.lemmas.Bool.{le-ltb, lt-ltb}
 use Rattle.std.proofs.lemmas.List.{drop_at, length-drop, take-append-drop, take_at}

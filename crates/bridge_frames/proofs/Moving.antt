@@ -1,5 +1,5 @@
 -- A moved header keeps its form and the widths of its fields.
-use Rattle.std.proofs.Common.{◌≡◌, refl, ap, ℕ, ◌+◌, ◌%◌, ◌^◌, ◌<◌, ◌&&◌, nat_lt, arith, Bool}
+use Rattle.std.proofs.Common.{◌≡◌, refl, ap, ℕ, ◌%◌, ◌^◌, ◌<◌, ◌&&◌, nat_lt, arith, Bool}
 use Rattle.seq_circle.specs.Circle.{distance}
 use Rattle.dccp_packets.specs.Grammar.{HeaderFits, KindFits, NumberFits, has_forms, is_long, is_valid}
 use Rattle.dccp_packets.specs.declared.header.Header.{Header}
