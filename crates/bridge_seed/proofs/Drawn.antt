@@ -1,5 +1,5 @@
 -- What a seed draws can be said in a short line.
-use Rattle.std.proofs.Common.{◌≡◌, ℕ, zero, suc, ◌+◌, ◌-◌, ◌/◌, ◌%◌, ◌^◌, ◌≤◌, ◌<◌, ◌==◌, nat_le, Bool, true, false, if◌then◌else◌, List, [], ◌∷◌, length, arith}
+use Rattle.std.proofs.Common.{◌≡◌, refl, ℕ, zero, suc, ◌+◌, ◌-◌, ◌/◌, ◌%◌, ◌^◌, ◌≤◌, ◌<◌, ◌==◌, nat_le, Bool, true, false, if◌then◌else◌, List, [], ◌∷◌, length, arith}
 use Rattle.std.specs.Prelude.{codes, decimal, slice_index}
 use Rattle.std.specs.Int.{byte_at, bytes_high_first}
 use Rattle.std.proofs.Math.Dec.{lit<}
@@ -17,6 +17,7 @@ use Rattle.feature_lists.specs.declared.features.Feature.{Feature}
 use Rattle.feature_lists.specs.declared.features.Feature.TheVariants.{Ccid, SequenceWindow, AckRatio, MinCsCov}
 use Rattle.feature_lists.specs.declared.features.Place.{Place}
 use Rattle.feature_lists.specs.declared.features.Place.TheVariants.{Here, There}
+use Rattle.hex.specs.Hex.{encode_with}
 use Rattle.schedule_text.specs.Names.{place_name, side_name, timer_name}
 use Rattle.schedule_text.specs.Printing.{event_text, frame_name, values_text}
 use Rattle.schedule_text.specs.Range.{AreValues, IsPrintable}
@@ -71,11 +72,15 @@ bytes-are zero x (suc i) = lit< tt
 bytes-are (suc n) x zero = byte-small n x
 bytes-are (suc n) x (suc i) = bytes-are n x i
 
+eight-digits : (b : ℕ) → length (hex_or_dash (big_bytes 4 b)) ≡ 8
+unfolding encode_with
+eight-digits b = refl
+
 brief-send : (side : Side) (b : ℕ) → IsBrief (sending side b)
 brief-send side b =
     let one = side-length side in
     let many = length-bytes_high_first 4 b in
-    let digits : length (hex_or_dash (big_bytes 4 b)) ≡ 8 = refl in
+    let digits = eight-digits b in
     let size = joined-length (codes "send") (side_name side ∷ (hex_or_dash (big_bytes 4 b) ∷ [])) in
     record { printable = record { few = omega (arith, many); bytes = bytes-are 4 b }; short = omega arith }
 

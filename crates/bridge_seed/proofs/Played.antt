@@ -243,14 +243,14 @@ schedule-follows opens nexts seed events some most =
     let also = number-fits (behind_two (generator seed)) in
     let first = number-short Client (client_number seed) fits in
     let second = number-short Server (server_number seed) also in
-    let a = length (joined (line_words (line.Iss Client (client_number seed)))) + 1 in
+    let a = 0 + (length (joined (line_words (line.Iss Client (client_number seed)))) + 1) in
     let b = length (joined (line_words (line.Iss Server (server_number seed)))) + 1 in
-    let whole : performed (seed_text seed events) ≡ gone_from run_job (configured seed) 3 (a + b) (lines_of lines) =
+    let whole : performed (seed_text seed events) ≡ gone_from run_job (configured seed) (1 + 1 + 1) (a + b) (lines_of lines) =
     ap (λ (bytes : List ℕ). gone_from run_job first_play 1 0 (lines_of bytes)) (append_assoc one two lines)
     ∙ number-goes first_play 1 0 Client (client_number seed) (two ++ lines) fits refl (omega arith)
-    ∙ number-goes (with_iss Client (client_number seed) (with_header first_play)) 2 a Server (server_number seed) lines also refl (omega (arith, first)) in
+    ∙ number-goes (with_iss Client (client_number seed) (with_header first_play)) (1 + 1) a Server (server_number seed) lines also refl (omega (arith, first)) in
     subst (Follows (begun_run (generator seed)).report (seeded seed events) (seeded_events seed events) (configured seed)) (sym whole)
-    (events-go opens nexts seed events 3 (a + b) some most (omega (arith, first, second)))
+    (events-go opens nexts seed events (1 + 1 + 1) (a + b) some most (omega (arith, first, second)))
 
 -- ---- what the law says
 
@@ -289,7 +289,7 @@ module _ (opens : OpenHappens) (nexts : NextHappens) (seed events : ℕ) (some :
       }
 
   told-many : length whole.deeds ≡ events
-  told-many = sym (length-map (λ (scene : Scene). scene.event) whole.deeds) ∙ ap length tells ∙ many seed events some
+  told-many = sym (length-map whole.deeds (λ (scene : Scene). scene.event)) ∙ ap length tells ∙ many seed events some
 
   pub counts : counted_report whole.deeds (world_of whole.last) ≡ seeded_report seed events
   unfolding seeded_report

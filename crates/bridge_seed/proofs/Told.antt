@@ -1,10 +1,10 @@
 -- Lines that are written while their events happen.
-use Rattle.std.proofs.Common.{◌≡◌, sym, ap, ap₂, ◌∙◌, ℕ, suc, ◌+◌, ◌-◌, ◌*◌, ◌^◌, ◌≤◌, ◌<◌, List, ◌++◌, append_assoc, arith}
+use Rattle.std.proofs.Common.{◌≡◌, sym, ap, ap₂, subst, ◌∙◌, ℕ, suc, ◌+◌, ◌-◌, ◌*◌, ◌^◌, ◌≤◌, ◌<◌, List, ◌++◌, append_assoc, arith}
 use Rattle.std.proofs.lemmas.List.{append-nil}
 use Rattle.fault_campaign.specs.Draws.{behind_two, generator}
 use Rattle.fault_campaign.specs.Reports.{size}
 use Rattle.fault_campaign.specs.Seeded.{Running, begun_run, goes_on, next_event, next_events, opened_run, played, seeded_events}
-use Rattle.fault_campaign.proofs.Turns.{IsUnderWay, at-start, one-turn, opened-few, starts-little}
+use Rattle.fault_campaign.proofs.Turns.{IsUnderWay, at-start, counts-little, one-turn, opened-few, starts-little}
 use Rattle.world_events.specs.declared.event.Event.{Event}
 use Rattle.world_events.specs.declared.event.Event.TheVariants.{Open}
 use Rattle.bridge_seed.specs.Schedule.{event_line, event_lines}
@@ -19,14 +19,14 @@ told-first all run text few =
     let none : all - 0 ≡ all = omega arith in
     record { way = at-start all run few; lines = ap (λ (n : ℕ). text ++ event_lines (next_events n run)) none }
 
-pub told-more : (all done : ℕ) (first run next : Running) (event : Event) (before now text : List ℕ) → done < all → event ≡ next_event run
-    → next ≡ played (record run { words = behind_two run.words }) event → text ≡ now ++ event_line event → IsTold all done first run before now
+pub told-more : (all done : ℕ) (first run drawn next : Running) (event : Event) (before now text : List ℕ) → done < all → event ≡ next_event run
+    → drawn ≡ record run { words = behind_two run.words } → next ≡ played drawn event → text ≡ now ++ event_line event → IsTold all done first run before now
     → IsTold all (done + 1) first next before text
-told-more all done first run next event before now text near drawn is put told =
-    let goes : next ≡ goes_on run = is ∙ ap (played (record run { words = behind_two run.words })) drawn in
+told-more all done first run drawn next event before now text near is_next is_drawn is put told =
+    let goes : next ≡ goes_on run = is ∙ ap₂ played is_drawn is_next in
     let less : all - done ≡ suc (all - (done + 1)) = omega arith in
     let rest = event_lines (next_events (all - (done + 1)) (goes_on run)) in
-    let line : text ≡ now ++ event_line (next_event run) = put ∙ ap (λ (e : Event). now ++ event_line e) drawn in
+    let line : text ≡ now ++ event_line (next_event run) = put ∙ ap (λ (e : Event). now ++ event_line e) is_next in
     record {
       way = one-turn all done first run next near goes told.way;
       lines =
@@ -36,6 +36,10 @@ told-more all done first run next event before now text near drawn is put told =
           ∙ sym (ap (λ (n : ℕ). now ++ event_lines (next_events n run)) less)
           ∙ told.lines;
     }
+
+pub drawn-little : (all done : ℕ) (first run next : Running) (before now : List ℕ) → next ≡ record run { words = behind_two run.words } → IsTold all done first run before now
+    → size next.report < 2 ^ 62
+drawn-little all done first run next before now is told = subst (λ (r : Running). size r.report < 2 ^ 62) (sym is) (counts-little all done first run told.way)
 
 pub told-all : (all done : ℕ) (first run : Running) (before now : List ℕ) → all ≤ done → IsTold all done first run before now
     → now ≡ before ++ event_lines (next_events all first)
