@@ -22,6 +22,10 @@ use tool_text::put;
 use tool_words::LineFault;
 use world_events::{Seen, Side};
 
+const CLIENT: [u8; 4] = [10, 0, 0, 1];
+
+const SERVER: [u8; 4] = [10, 0, 0, 2];
+
 /// Where a replay stands.
 #[derive(Drop)]
 pub(crate) struct Replay {
@@ -183,11 +187,21 @@ pub(crate) fn replay_config(side: Side, plain: bool) -> Config
     config
 }
 
-/// The addresses of the frames that arrive at the end of a side.
+/// The addresses of the frames that arrive at the end of a side: those of its usual end, which are not taken out of a whole
+/// configuration for each frame.
 pub(crate) fn addresses(side: Side) -> Pseudo
     ensures { result ≡ (usual (role_of side)).pseudo_in }
 {
-    Config::usual(role_of(side)).pseudo_in
+    match side {
+        Side::Client => Pseudo::V4 {
+            from: SERVER,
+            to: CLIENT,
+        },
+        Side::Server => Pseudo::V4 {
+            from: CLIENT,
+            to: SERVER,
+        },
+    }
 }
 
 /// The frame that arrives (own): its checksum is set for these addresses where the line says so.
