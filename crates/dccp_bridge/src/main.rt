@@ -10,17 +10,12 @@ use std::io::ErrorKind;
 use std::process::ExitCode;
 
 fn main(rt: HostRuntime) -> ExitCode {
-    let status = match words_of(&rt) {
-        Ok(words) => answer(&rt, &words),
-        Err(AllocError) => Status::Memory,
-    };
-    ExitCode::from(status.number())
-}
-
-fn answer(rt: &HostRuntime, words: &[String]) -> Status {
     let mut input = StdSource::new(rt.stdin());
     let mut output = StdSink::new(rt.stdout());
-    bridge(rt.alloc(), words, &mut input, &mut output)
+    match words_of(&rt) {
+        Ok(words) => code(bridge(rt.alloc(), &words, &mut input, &mut output)),
+        Err(AllocError) => code(Status::Memory),
+    }
 }
 
 // The words after the program's name. Where one is not UTF-8 they are none of the forms, and neither are no words.
@@ -35,4 +30,9 @@ fn words_of(rt: &HostRuntime) -> Result<Vec<String>, AllocError> {
         words.push(word)?;
     }
     Ok(words)
+}
+
+// The exit status of a call's status.
+fn code(status: Status) -> ExitCode {
+    ExitCode::from(status.number())
 }

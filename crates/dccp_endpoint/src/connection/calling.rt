@@ -157,7 +157,7 @@ impl Connection {
         Ok(())
     }
 
-    #[tactic(auto, using(crate::proofs::Asking::preferred_asks))]
+    #[tactic(auto, using(crate::proofs::Keeping::preferred_rows, crate::proofs::Asking::preferred_asks))]
     fn prefer_wish(&mut self, feature: Feature, place: Place, wish: Wanted, out: &mut Outbox)
         requires empty { out.old ≡ None }
         requires wish { is_wish feature place wish ≡ true }
