@@ -1,10 +1,10 @@
--- States of numbers that follow each other downwards, as bytes that have a state and a count each: how Ack Vectors and Data Dropped are
--- both written (RFC 4340, sections 11.4 and 11.7).
+-- States of numbers that follow each other downwards, as bytes that have a state and a count each: how Ack Vectors and
+-- Data Dropped are both written (RFC 4340, sections 11.4 and 11.7).
 use Rattle.std.specs.Prelude.{◌≡◌, ℕ, ◌+◌, ◌/◌, ◌%◌, ◌==◌, Bool, false, List, [], ◌∷◌, ◌++◌, zero, suc, replicate, if◌then◌else◌}
 use Rattle.seq_circle.specs.Circle.{down}
 
--- A coding of states: whether two are one, how many numbers a byte of a state covers at most, the byte of a state and a count, and the
--- state and the count that a byte gives.
+-- A coding of states: whether two are one, how many numbers a byte of a state covers at most, the byte of a state and a
+-- count, and the state and the count that a byte gives.
 pub record Coding (S : Type 0) : Type 0 where
   pub same : S → S → Bool
   pub most : S → ℕ

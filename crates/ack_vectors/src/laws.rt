@@ -18,10 +18,12 @@ pub fn a_vector_reads_back()
     ensures states { (vectors : Vectors) (has : ℕ → Bool) (floor ack n : ℕ) → ack < 2 ^ 48 → n < 2 ^ 48
         → state_at ack (vector_under has floor ack vectors) n
         ≡ (if nat_lt (distance n ack) (numbers_told_under has floor ack vectors) then Some (state_told (has n)) else None) }
-    ensures reach { (vectors : Vectors) (has : ℕ → Bool) (floor ack : ℕ) → numbers_told_under has floor ack vectors ≤ numbers_between floor ack }
+    ensures reach { (vectors : Vectors) (has : ℕ → Bool) (floor ack : ℕ)
+        → numbers_told_under has floor ack vectors ≤ numbers_between floor ack }
     ensures whole { (vectors : Vectors) (has : ℕ → Bool) (floor ack : ℕ)
         → IsTrue (is_whole_under has floor ack vectors) ↔ (numbers_told_under has floor ack vectors ≡ numbers_between floor ack) }
-    ensures any_states { (room : ℕ) (state : ℕ → ℕ) (floor ack n : ℕ) → ((m : ℕ) → (state m == 2) ≡ false) → ack < 2 ^ 48 → n < 2 ^ 48
+    ensures any_states { (room : ℕ) (state : ℕ → ℕ) (floor ack n : ℕ) → ((m : ℕ) → (state m == 2) ≡ false)
+        → ack < 2 ^ 48 → n < 2 ^ 48
         → state_at ack (vector_within room state floor ack) n ≡ (if nat_lt (distance n ack) (numbers_told_within room state floor ack) then Some (state n) else None) }
     ensures any_reach { (room : ℕ) (state : ℕ → ℕ) (floor ack : ℕ) → ((m : ℕ) → (state m == 2) ≡ false)
         → numbers_told_within room state floor ack ≤ numbers_between floor ack }
@@ -68,8 +70,10 @@ pub fn only_members_are_heard()
 
 /// A vector is bytes, and its options have room for them: 253 bytes each (RFC 4340, sections 5.8 and 11.4).
 pub fn a_vector_fits_its_options()
-    ensures fits { (vectors : Vectors) (has : ℕ → Bool) (floor ack : ℕ) → length (vector_under has floor ack vectors) ≤ 253 * most_options vectors }
-    ensures bytes { (vectors : Vectors) (has : ℕ → Bool) (floor ack : ℕ) → All (λ byte. byte < 256) (vector_under has floor ack vectors) }
+    ensures fits { (vectors : Vectors) (has : ℕ → Bool) (floor ack : ℕ)
+        → length (vector_under has floor ack vectors) ≤ 253 * most_options vectors }
+    ensures bytes { (vectors : Vectors) (has : ℕ → Bool) (floor ack : ℕ)
+        → All (λ byte. byte < 256) (vector_under has floor ack vectors) }
     ensures any_fits { (room : ℕ) (state : ℕ → ℕ) (floor ack : ℕ) → length (vector_within room state floor ack) ≤ room }
     ensures any_bytes { (room : ℕ) (state : ℕ → ℕ) (floor ack : ℕ) → ((n : ℕ) → state n < 4)
         → All (λ byte. byte < 256) (vector_within room state floor ack) }
@@ -80,10 +84,12 @@ pub fn a_vector_fits_its_options()
 /// one option, even where they are none; of two the first is full, and the second has a byte (own).
 pub fn the_options_of_a_vector_hold_it()
     ensures joined { (bytes : List ℕ) → concat (option_data bytes) ≡ bytes }
-    ensures read { (ack : ℕ) (bytes : List ℕ) → joined_report ack (option_data bytes) ≡ Some (record { ack = ack; bytes = bytes }) }
+    ensures read { (ack : ℕ) (bytes : List ℕ)
+        → joined_report ack (option_data bytes) ≡ Some (record { ack = ack; bytes = bytes }) }
     ensures each { (vectors : Vectors) (has : ℕ → Bool) (floor ack : ℕ)
         → All (λ part. length part ≤ 253) (option_data (vector_under has floor ack vectors)) }
-    ensures few { (vectors : Vectors) (has : ℕ → Bool) (floor ack : ℕ) → length (option_data (vector_under has floor ack vectors)) ≤ most_options vectors }
+    ensures few { (vectors : Vectors) (has : ℕ → Bool) (floor ack : ℕ)
+        → length (option_data (vector_under has floor ack vectors)) ≤ most_options vectors }
     ensures one { (bytes : List ℕ) → length bytes ≤ 253 → option_data bytes ≡ bytes ∷ [] }
     ensures full { (bytes : List ℕ) → 253 < length bytes
         → map length (option_data bytes) ≡ 253 ∷ (length bytes - 253) ∷ [] }
@@ -91,7 +97,8 @@ pub fn the_options_of_a_vector_hold_it()
 
 /// Two options begin as the one would, and tell more exactly where that is cut (own).
 pub fn two_options_tell_more()
-    ensures front { (has : ℕ → Bool) (floor ack : ℕ) → vector_under has floor ack One ≡ take 253 (vector_under has floor ack Two) }
+    ensures front { (has : ℕ → Bool) (floor ack : ℕ)
+        → vector_under has floor ack One ≡ take 253 (vector_under has floor ack Two) }
     ensures whole { (has : ℕ → Bool) (floor ack : ℕ) → IsTrue (is_whole_under has floor ack One)
         → IsTrue (is_whole_under has floor ack Two) × (vector_under has floor ack Two ≡ vector_under has floor ack One) }
     ensures more { (has : ℕ → Bool) (floor ack : ℕ) → IsFalse (is_whole_under has floor ack One)
@@ -103,7 +110,8 @@ pub fn two_options_tell_more()
 pub fn the_newest_whole_record_counts()
     ensures newest { (n : ℕ) (records : List Record) (last : Record)
         → newest_whole n (records ++ last ∷ []) ≡ (if is_whole_at n last then Some last else newest_whole n records) }
-    ensures any { (n : ℕ) (records : List Record) → is_some (newest_whole n records) ≡ list_any (is_whole_at n) records }
+    ensures any { (n : ℕ) (records : List Record)
+        → is_some (newest_whole n records) ≡ list_any (is_whole_at n) records }
     ensures kept { (n : ℕ) (records : List Record) (one : Record) → newest_whole n records ≡ Some one
         → Contains records one × (one.number ≡ n) × (one.whole ≡ true) }
 {}
@@ -130,6 +138,7 @@ pub fn acknowledging_raises_the_floor()
 pub fn received_stays_sound()
     ensures fresh { (floor : ℕ) → floor < 2 ^ 48 → IsSound (fresh floor).set }
     ensures marked { (kept : Kept) (n : ℕ) → IsSound kept.set → n < 2 ^ 48 → IsSound (marked_by kept n).set }
-    ensures recorded { (kept : Kept) (number ack : ℕ) (whole : Bool) → IsSound kept.set → IsSound (recorded kept number ack whole).set }
+    ensures recorded { (kept : Kept) (number ack : ℕ) (whole : Bool) → IsSound kept.set
+        → IsSound (recorded kept number ack whole).set }
     ensures acked { (kept : Kept) (n : ℕ) → IsSound kept.set → IsSound (acked kept n).set }
 {}

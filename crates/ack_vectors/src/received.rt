@@ -112,8 +112,8 @@ impl Received {
     }
 
     /// Puts the bytes of the vector from `ack` down to the floor in place of what `out` had: state 0 for what was
-    /// received and 3 for what was not, runs of at most 64, and of these bytes the first 253 for `One` and the first 506
-    /// for `Two`. True exactly where there are no more (RFC 4340, section 11.4). Where `ack` is below the floor the
+    /// received and 3 for what was not, runs of at most 64, and of these bytes the first 253 for `One` and the first
+    /// 506 for `Two`. True exactly where there are no more (RFC 4340, section 11.4). Where `ack` is below the floor the
     /// vector has no byte, and is whole.
     pub fn write(&self, out: &mut VectorBytes, ack: Seq48, vectors: Vectors) -> bool
         ensures bytes { out.new.items ≡ vector_under (has self.now.set.numbers) self.now.set.floor ack vectors }

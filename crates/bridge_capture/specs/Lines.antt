@@ -46,8 +46,8 @@ abbrev pub numbered : Result ℕ Flaw → Result Told Flaw
 numbered (Ok number) = Ok (told.Number number)
 numbered (Err flaw) = Err flaw
 
--- the first word of a line that tells no frame: the number of the line that was answered, with a colon in a replay, or one of a
--- few words
+-- the first word of a line that tells no frame: the number of the line that was answered, with a colon in a replay, or
+-- one of a few words
 abbrev pub told_first : List ℕ → Result Told Flaw
 told_first word =
     if is_other word then Ok told.Other else numbered (found_or why.UnknownWord (number_below (2 ^ 32) (without_colon word)))

@@ -18,8 +18,8 @@ abbrev pub address : Side → List ℕ
 address Client = 10 ∷ 0 ∷ 0 ∷ 1 ∷ []
 address Server = 10 ∷ 0 ∷ 0 ∷ 2 ∷ []
 
--- an IPv4 header in front of its addresses: version 4 and five words, the total length, no identification, Don't Fragment, 64 hops,
--- protocol 33, and this checksum
+-- an IPv4 header in front of its addresses: version 4 and five words, the total length, no identification, Don't
+-- Fragment, 64 hops, protocol 33, and this checksum
 abbrev pub ip_front : ℕ → ℕ → List ℕ
 ip_front sum total = (69 ∷ 0 ∷ []) ++ big_bytes 2 total ++ (0 ∷ 0 ∷ 64 ∷ 0 ∷ 64 ∷ 33 ∷ []) ++ big_bytes 2 sum
 

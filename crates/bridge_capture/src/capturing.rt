@@ -69,11 +69,12 @@ impl LineJob for Clock {
 }
 
 /// Makes a capture of a transcript's frames (own): it reads the lines of `input` one by one, and writes to `output` a
-/// classic capture of link type 101 with a record for each line `sent NAME HEX`, in their order: an IPv4 packet between the
-/// addresses of the usual ends. Its time is the number of the line that was answered with it, in seconds. Records go out in
-/// blocks, and before more of the input is asked for. Where a line is refused, the line that says so stands behind the
-/// records; it is no record, to any reader. With status 0 or 1 the output is that of the whole input, with another a front
-/// of it. Read comes where the source failed, Write where the sink did, and Memory where no memory was left.
+/// classic capture of link type 101 with a record for each line `sent NAME HEX`, in their order: an IPv4 packet between
+/// the addresses of the usual ends. Its time is the number of the line that was answered with it, in seconds. Records
+/// go out in blocks, and before more of the input is asked for. Where a line is refused, the line that says so stands
+/// behind the records; it is no record, to any reader. With status 0 or 1 the output is that of the whole input, with
+/// another a front of it. Read comes where the source failed, Write where the sink did, and Memory where no memory was
+/// left.
 pub fn capture_frames<S: Source, K: Sink>(alloc: Global, input: &mut S, output: &mut K) -> Status
     ensures words { result ≢ Status.Words }
     ensures captured { (bytes : List ℕ) → S.left input.old ≡ Some bytes

@@ -14,9 +14,9 @@ ghost use Rattle.bridge_capture.specs.Capturing.{frames_capture, transcript_gone
 ghost use Rattle.bridge_capture.specs.Reading.{FitsFrame, travels, whole_frame};
 ghost use Rattle.bridge_capture.specs.Records.{TimedFrame, frame_record, ip_packet};
 
-/// The capture that is made of a transcript without a refusal is that of the records of its frames, and a reader of captures
-/// finds these, in their order, whole and under their times, and nothing else, where they have no more bytes than count (the
-/// savefile format of libpcap).
+/// The capture that is made of a transcript without a refusal is that of the records of its frames, and a reader of
+/// captures finds these, in their order, whole and under their times, and nothing else, where they have no more bytes
+/// than count (the savefile format of libpcap).
 pub fn a_capture_has_each_frame()
     ensures made { (input : List ℕ) → (transcript_gone input).refusal ≡ None
         → frames_capture input ≡ capture_of false (map frame_record (transcript_gone input).deeds) }
@@ -35,7 +35,8 @@ pub fn a_frame_stands_in_its_record()
 /// length of one, it has a number that is greater than any.
 pub fn a_refusal_is_no_record()
     ensures long { (number : ℕ) (fault : LineFault) → number < 2 ^ 64 → 16 ≤ length (refusal_line number fault) }
-    ensures wrong { (order : Order) (number : ℕ) (fault : LineFault) → number < 2 ^ 64 → most_captured < ordered_number_at order 8 4 (refusal_line number fault) }
+    ensures wrong { (order : Order) (number : ℕ) (fault : LineFault) → number < 2 ^ 64
+        → most_captured < ordered_number_at order 8 4 (refusal_line number fault) }
 {}
 
 /// The addresses are those of the usual ends, between which the checksums of their frames are made.

@@ -143,8 +143,8 @@ impl<'a> Row<'a> for ALine {
 }
 
 /// What a line of a transcript tells, without its newline, or None where it is empty or a comment; or the first of its
-/// faults: NotText, then Missing, UnknownWord, BadNumber and BadHex, word by word from the left, then Trailing, and then
-/// FrameTooLong at the bytes of a frame that has more than 2,044.
+/// faults: NotText, then Missing, UnknownWord, BadNumber and BadHex, word by word from the left, then Trailing, and
+/// then FrameTooLong at the bytes of a frame that has more than 2,044.
 pub(crate) fn told_of_line(line: &[u8]) -> Result<Option<Told<'_>>, LineFault>
     ensures { result ≡ spec.told_of_line line.now }
 {

@@ -21,7 +21,8 @@ const IP_BEGIN: [u8; 2] = [0x45, 0];
 // No identification, Don't Fragment, 64 hops, and DCCP.
 const IP_MIDDLE: [u8; 6] = [0, 0, 0x40, 0, 64, 33];
 
-// The complement of the sum of all words of the header but the length and the checksum: both directions have the same addresses.
+// The complement of the sum of all words of the header but the length and the checksum: both directions have the same
+// addresses.
 const SUM_WITHOUT_LENGTH: u16 = 0x26db;
 
 // The address of a side.

@@ -61,7 +61,8 @@ OnUnwrap words told Holds = asked_form words ≡ Some form.Unwrap → (bytes : L
 abbrev pub OnSeed : List (String Global) → (SeedRun → Type 0) → Type 0
 OnSeed words Holds = (run : SeedRun) → asked_form words ≡ Some (form.Seed run) → Holds run
 
--- for `frames`, over a source that tells its bytes, something holds of the side of a flow that is asked for, and of them
+-- for `frames`, over a source that tells its bytes, something holds of the side of a flow that is asked for, and of
+-- them
 abbrev pub OnFrames : List (String Global) → Option (List ℕ) → (FlowSide → List ℕ → Type 0) → Type 0
 OnFrames words told Holds =
     (asked : FlowSide) → asked_form words ≡ Some (form.Frames asked) → (bytes : List ℕ) → told ≡ Some bytes → Holds asked bytes

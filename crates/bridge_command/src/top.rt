@@ -20,29 +20,32 @@ use std::alloc::Global;
 use tool_output::Status;
 
 /// Does what the words ask for (own), those after the program's name. `capture` reads what `run` or `replay` wrote, and
-/// writes a classic capture with a record for each frame that was sent. `unwrap` reads a capture, classic or pcapng, of any of
-/// nine link types, and writes a classic one of raw IP, record for record. `seed` reads nothing, and writes the schedule of
-/// a campaign's seed. `frames` reads a capture as `unwrap` does, and writes lines of `replay` for the packets of a flow
-/// that go to a side; and `json` writes an object for each record.
+/// writes a classic capture with a record for each frame that was sent. `unwrap` reads a capture, classic or pcapng, of
+/// any of nine link types, and writes a classic one of raw IP, record for record. `seed` reads nothing, and writes the
+/// schedule of a campaign's seed. `frames` reads a capture as `unwrap` does, and writes lines of `replay` for the
+/// packets of a flow that go to a side; and `json` writes an object for each record.
 ///
-/// Words are judged first; after that the first refusal met in the order of reading decides. With status 0 or 1 the output
-/// is that of the whole input, with status 3, 4 or 5 a front of it. The clauses on the output speak of a source that tells
-/// its bytes and a sink that tells what it took.
+/// Words are judged first; after that the first refusal met in the order of reading decides. With status 0 or 1 the
+/// output is that of the whole input, with status 3, 4 or 5 a front of it. The clauses on the output speak of a source
+/// that tells its bytes and a sink that tells what it took.
 pub fn bridge<S: Source, K: Sink>(
     alloc: Global,
     words: &[String],
     input: &mut S,
     output: &mut K,
 ) -> Status
-    // Words that are none of the forms come to the usage line, as far as the sink takes it. Where no memory was left to read settings, nothing
-    // is written.
+    // Words that are none of the forms come to the usage line, as far as the sink takes it. Where no memory was left to
+    // read settings, nothing is written.
     ensures words { result ≡ Status.Words → asked_form words.now ≡ None }
-    ensures others { asked_form words.now ≡ None → (result ≡ Status.Words) ⊎ ((result ≡ Status.Memory) × (has_bridge_settings words.now ≡ true)) }
+    ensures others { asked_form words.now ≡ None
+        → (result ≡ Status.Words) ⊎ ((result ≡ Status.Memory) × (has_bridge_settings words.now ≡ true)) }
     ensures unread { asked_form words.now ≡ None → input.new ≡ input.old }
-    ensures usage { result ≡ Status.Words → IsWritten bridge_usage (K.taken output.old) (K.taken output.new) (SinkFails K.faults K.empty_takes output.old output.new) }
+    ensures usage { result ≡ Status.Words
+        → IsWritten bridge_usage (K.taken output.old) (K.taken output.new) (SinkFails K.faults K.empty_takes output.old output.new) }
     ensures silent { asked_form words.now ≡ None → result ≡ Status.Memory → output.new ≡ output.old }
 
-    // What each form writes, how it ends, and how far a refused input was read. What reads nothing owes the same as of an empty input.
+    // What each form writes, how it ends, and how far a refused input was read. What reads nothing owes the same as of
+    // an empty input.
     ensures captured { OnCapture words.now (S.left input.old) (λ bytes.
         Answers (frames_capture bytes) (transcript_refused bytes) result (S.left input.new) (K.taken output.old) (K.taken output.new)) }
     ensures past { OnCapture words.now (S.left input.old) (λ bytes. StopsWithin 16384 (transcript_accepted bytes) bytes result (S.left input.new)) }

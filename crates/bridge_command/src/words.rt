@@ -64,8 +64,8 @@ fn asked_flow(alloc: Global, words: &[String]) -> Result<Option<Form>, NoMemory>
 }
 
 /// The job that these words ask for, those after the program's name, or None where they are none of the forms (own).
-/// NoMemory comes only for words behind `seed` and `frames`, whose settings are read by a command of `clap`, and then says
-/// nothing of them.
+/// NoMemory comes only for words behind `seed` and `frames`, whose settings are read by a command of `clap`, and then
+/// says nothing of them.
 #[tactic(auto, unfolding(crate::specs::Words::asked_form))]
 pub fn form_of(alloc: Global, words: &[String]) -> Result<Option<Form>, NoMemory>
     ensures value { IfOk result (λ form. form ≡ asked_form words.now) }

@@ -1,4 +1,5 @@
--- What `frames` makes of a capture, classic or pcapng: lines of a replay for the packets of one flow that go to one of its sides (own).
+-- What `frames` makes of a capture, classic or pcapng: lines of a replay for the packets of one flow that go to one of
+-- its sides (own).
 use Rattle.std.specs.Prelude.{ℕ, ◌==◌, ◌++◌, Bool, false, not, is_some, if◌then◌else◌, List, [], Option, Some, None, Result, Ok, Err}
 use Rattle.capture_reader.specs.Records.{RecordParts}
 use Rattle.capture_writer.specs.declared.headers.RecordHeader.{RecordHeader}

@@ -31,7 +31,8 @@ end_of_config config = record { own_port = config.own_port; peer_port = config.p
 abbrev pub usual_end : Side → UsualEnd
 usual_end side = end_of_config (usual (role_of side))
 
--- an acknowledgement number, as far above the end's initial number as it was above that of the captured end (RFC 4340, section 7.2)
+-- an acknowledgement number, as far above the end's initial number as it was above that of the captured end (RFC 4340,
+-- section 7.2)
 abbrev pub moved_ack : UsualEnd → ℕ → ℕ → ℕ
 moved_ack end initial ack = residue (end.iss + distance initial ack)
 
@@ -77,8 +78,8 @@ frame_with h options payload = if is_too_long h options payload then Err none.Fr
 abbrev pub moved_frame : UsualEnd → ℕ → Parts → Result (List ℕ) NoFrame
 moved_frame end initial packet = frame_with (moved_header end initial packet.header) packet.options packet.payload
 
--- The frame of a captured packet, or why it has none. Where the captured end's initial number isn't known, one without an
--- acknowledgement number still has one.
+-- The frame of a captured packet, or why it has none. Where the captured end's initial number isn't known, one without
+-- an acknowledgement number still has one.
 abbrev pub frame_for : UsualEnd → Option ℕ → Parts → Result (List ℕ) NoFrame
 frame_for end (Some initial) packet = moved_frame end initial packet
 frame_for end None packet =

@@ -314,18 +314,20 @@ impl PieceJob for Framing {
     }
 }
 
-/// Makes lines of a replay of a captured flow (own): for each packet of the flow of this number, as `show` numbers flows, that
-/// goes to this side, the line that `show` has for it as a comment, and then `seal` and a frame: the packet with the ports, the
-/// Service Code and, where it acknowledges, the number that `replay`'s end of that side would find in it. An acknowledgement
-/// number is as far above that end's initial number as it was above the captured end's, which is the first number of 48 bits that
-/// this sent (RFC 4340, section 7.2); Ack Vectors count from it and stay, as sequence numbers, options and data do. Whose packet
-/// comes first in the flow is its client. A packet without a frame has a comment in its place: NumberUnknown where the captured end
-/// sent no such number before it, FrameTooLong where it has more than 2,044 bytes. Where no packet of the flow goes to the
-/// side, nothing is written. The frames show what the end answers to these packets, and no other connection.
+/// Makes lines of a replay of a captured flow (own): for each packet of the flow of this number, as `show` numbers
+/// flows, that goes to this side, the line that `show` has for it as a comment, and then `seal` and a frame: the packet
+/// with the ports, the Service Code and, where it acknowledges, the number that `replay`'s end of that side would find
+/// in it. An acknowledgement number is as far above that end's initial number as it was above the captured end's, which
+/// is the first number of 48 bits that this sent (RFC 4340, section 7.2); Ack Vectors count from it and stay, as
+/// sequence numbers, options and data do. Whose packet comes first in the flow is its client. A packet without a frame
+/// has a comment in its place: NumberUnknown where the captured end sent no such number before it, FrameTooLong where
+/// it has more than 2,044 bytes. Where no packet of the flow goes to the side, nothing is written. The frames show what
+/// the end answers to these packets, and no other connection.
 ///
-/// The capture is one that `unwrap` takes, and its packets are found as by `show` behind `unwrap`. Input comes where it has a
-/// fault, and then its line stands behind the others. With status 0 or 1 the output is that of the whole input, with another a
-/// front of it. Read comes where the source failed, Write where the sink did, and Memory where no memory was left.
+/// The capture is one that `unwrap` takes, and its packets are found as by `show` behind `unwrap`. Input comes where it
+/// has a fault, and then its line stands behind the others. With status 0 or 1 the output is that of the whole input,
+/// with another a front of it. Read comes where the source failed, Write where the sink did, and Memory where no memory
+/// was left.
 pub fn frame_flow<S: Source, K: Sink>(
     alloc: Global,
     flow: u64,

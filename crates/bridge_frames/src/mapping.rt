@@ -24,8 +24,8 @@ pub struct UsualEnd {
 /// Why a packet has no frame in a replay (own).
 #[derive(Clone, Copy, Debug, PartialEq, Eq)]
 pub enum NoFrame {
-    /// It has an acknowledgement number, and the captured end sent no number of 48 bits before it, from which that could be
-    /// counted.
+    /// It has an acknowledgement number, and the captured end sent no number of 48 bits before it, from which that
+    /// could be counted.
     NumberUnknown,
     /// It has more than 2,044 bytes.
     FrameTooLong,
@@ -118,7 +118,8 @@ fn moved_kind(end: &UsualEnd, initial: Seq48, kind: &Kind) -> Kind
     }
 }
 
-/// A header with the end's ports and Service Code, and its acknowledgement number moved. The checksum is still to be set.
+/// A header with the end's ports and Service Code, and its acknowledgement number moved. The checksum is still to be
+/// set.
 #[tactic(auto, using(crate::proofs::Moving::moved_valid))]
 pub(crate) fn moved_header(end: &UsualEnd, initial: Seq48, header: &Header) -> Header
     requires { IsTrue (is_valid header.now) }

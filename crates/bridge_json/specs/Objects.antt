@@ -1,4 +1,5 @@
--- A record of a capture as an object (RFC 4340, section 5, for what the fields of a packet are; the names of members are own).
+-- A record of a capture as an object (RFC 4340, section 5, for what the fields of a packet are; the names of members
+-- are own).
 use Rattle.std.specs.Prelude.{ℕ, ◌*◌, ◌++◌, Bool, not, if◌then◌else◌, List, length, map, slice_index, codes, Result, Ok, Err}
 use Rattle.serde_json.specs.Data.{Data as Json, Members, no_members, string}
 use Rattle.dccp_options.specs.Grammar.{Entry, options_of}

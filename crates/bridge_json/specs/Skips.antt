@@ -1,11 +1,12 @@
--- Why an IP packet holds no DCCP packet that can be read (RFC 791, section 3.1; RFC 8200, section 3; the words are own).
+-- Why an IP packet holds no DCCP packet that can be read (RFC 791, section 3.1; RFC 8200, section 3; the words are
+-- own).
 use Rattle.std.specs.Prelude.{ℕ, ◌==◌, not, nat_lt, if◌then◌else◌, List, length, slice_index, codes}
 use Rattle.packet_show.specs.Network.{is_unfragmented, v4_header, version}
 use Rattle.bridge_json.specs.declared.skips.Skip.{Skip}
 use Rattle.bridge_json.specs.declared.skips.Skip.TheVariants as skip
 
--- the first of these that is wrong with IPv4 in which no DCCP is found: its length, its protocol, that it is a fragment, its options' length,
--- and at last that its lengths contradict each other
+-- the first of these that is wrong with IPv4 in which no DCCP is found: its length, its protocol, that it is a
+-- fragment, its options' length, and at last that its lengths contradict each other
 abbrev pub v4_skip : List ℕ → Skip
 v4_skip bytes =
     if nat_lt (length bytes) 20 then skip.ShortHeader

@@ -1,7 +1,8 @@
-//! `json`: the records of a capture, classic or pcapng, as objects of JSON, one a line (RFC 8259; the members' names are own).
+//! `json`: the records of a capture, classic or pcapng, as objects of JSON, one a line (RFC 8259; the members' names
+//! are own).
 //!
-//! It tells what is on the wire of each packet of DCCP, and why a record holds none. Objects are built and written by `serde_json`, whose
-//! members stand in the order of their names.
+//! It tells what is on the wire of each packet of DCCP, and why a record holds none. Objects are built and written by
+//! `serde_json`, whose members stand in the order of their names.
 #![tactic(auto)]
 
 mod judging;

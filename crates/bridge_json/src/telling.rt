@@ -174,18 +174,20 @@ impl PieceJob for Telling {
     }
 }
 
-/// Tells the records of a capture (RFC 8259; the names of members are own): for each an object on a line of its own, without spaces, its
-/// members in the order of their names. The capture is a classic one or a pcapng file, of any of the link types that `unwrap` knows.
+/// Tells the records of a capture (RFC 8259; the names of members are own): for each an object on a line of its own,
+/// without spaces, its members in the order of their names. The capture is a classic one or a pcapng file, of any of
+/// the link types that `unwrap` knows.
 ///
-/// Each object has `record` (its number, from 1), `seconds` and `nanoseconds` (its time), `link` (the link type) and `length` (its bytes on
-/// the link). Where the IP packet in it carries a packet of DCCP, as `show` finds one, it has `source`, `destination` and their
-/// ports, `type`, `sequence`, `short` (whether numbers have 24 bits), `ccval`, `cscov`, `checksum`, `options` as `show` names them, `data` (the
-/// bytes of data that are there) and `verdict` (that on the checksum), and as the type has them `acknowledgement`, `service_code`, `reset_code` and
-/// `data_1` to `data_3`. Else it has `malformed`, why whole bytes of DCCP are no packet, or `skipped`, why it holds none.
+/// Each object has `record` (its number, from 1), `seconds` and `nanoseconds` (its time), `link` (the link type) and
+/// `length` (its bytes on the link). Where the IP packet in it carries a packet of DCCP, as `show` finds one, it has
+/// `source`, `destination` and their ports, `type`, `sequence`, `short` (whether numbers have 24 bits), `ccval`,
+/// `cscov`, `checksum`, `options` as `show` names them, `data` (the bytes of data that are there) and `verdict` (that
+/// on the checksum), and as the type has them `acknowledgement`, `service_code`, `reset_code` and `data_1` to `data_3`.
+/// Else it has `malformed`, why whole bytes of DCCP are no packet, or `skipped`, why it holds none.
 ///
-/// Input comes where the capture has a fault, and then an object with `fault` and `records`, how many came before it, is the
-/// last. With status 0 or 1 the output is that of the whole input, with another a front of it. Read comes where the source failed, Write where
-/// the sink did, and Memory where no memory was left.
+/// Input comes where the capture has a fault, and then an object with `fault` and `records`, how many came before it,
+/// is the last. With status 0 or 1 the output is that of the whole input, with another a front of it. Read comes where
+/// the source failed, Write where the sink did, and Memory where no memory was left.
 pub fn json_records<S: Source, K: Sink>(alloc: Global, input: &mut S, output: &mut K) -> Status
     ensures words { result ≢ Status.Words }
     ensures told { (bytes : List ℕ) → S.left input.old ≡ Some bytes

@@ -5,13 +5,14 @@ use Rattle.tool_output.specs.declared.status.Status.{Status}
 use Rattle.bridge_pieces.specs.declared.fault.PieceFault.{PieceFault}
 use Rattle.bridge_pieces.specs.declared.fault.PieceFault.TheVariants.{CutShort, TooLarge}
 
--- What a piece comes to: the job goes on, with what the piece does, if it does anything, and the state behind it, or it stops.
+-- What a piece comes to: the job goes on, with what the piece does, if it does anything, and the state behind it, or it
+-- stops.
 pub data Judgement (P V : Type 0) : Type 0 where
   Goes : (deed : Option P) (next : V) → Judgement P V
   Stops : (why : PieceFault) → Judgement P V
 
--- A job over pieces: how long the next is and whether the input may end before it, by the state; what it comes to; the text of what it
--- does; and the text behind the last, at the input's end or for a fault.
+-- A job over pieces: how long the next is and whether the input may end before it, by the state; what it comes to; the
+-- text of what it does; and the text behind the last, at the input's end or for a fault.
 pub record PieceWork (P V : Type 0) : Type 0 where
   pub wanted : V → ℕ
   pub may_end : V → Bool
@@ -24,7 +25,8 @@ abbrev pub piece_text : {P V : Type 0} → PieceWork P V → Option P → List �
 piece_text job None = []
 piece_text job (Some deed) = job.told deed
 
--- A piece was judged so: an accepted one leaves its text at the text's end and leads on, a refused one leaves all as it was.
+-- A piece was judged so: an accepted one leaves its text at the text's end and leads on, a refused one leaves all as it
+-- was.
 abbrev pub JudgesPiece : {P V : Type 0} → PieceWork P V → V → Judgement P V → List ℕ → List ℕ → V → Result (Unit {0}) PieceFault → Type 0
 JudgesPiece job state (Goes deed next) old new after answer = (new ≡ old ++ piece_text job deed) × (after ≡ next) × (answer ≡ Ok tt)
 JudgesPiece job state (Stops why) old new after answer = (new ≡ old) × (after ≡ state) × (answer ≡ Err why)
@@ -61,8 +63,8 @@ by_next_piece job state PieceEnd = Goes None state
 by_next_piece job state (Piece piece) = job.judged state piece
 by_next_piece job state (PieceWrong why) = Stops why
 
--- What the pieces of an input come to: what they did, the state behind them, how many bytes they have, and why the input is refused
--- behind them, if it is.
+-- What the pieces of an input come to: what they did, the state behind them, how many bytes they have, and why the
+-- input is refused behind them, if it is.
 pub record Taken (P V : Type 0) : Type 0 where
   pub deeds : List P
   pub last : V
@@ -107,8 +109,8 @@ pieces_of job first input = pieces_from job 0 first 0 input
 abbrev pub text_of_pieces : {P V : Type 0} → PieceWork P V → Taken P V → List ℕ
 text_of_pieces job taken = flat_map job.told taken.deeds ++ job.closing taken.last taken.refusal
 
--- The pieces of an input were gone through: what was written and how it ended, and how far the input was read past the last accepted
--- piece where it was refused.
+-- The pieces of an input were gone through: what was written and how it ended, and how far the input was read past the
+-- last accepted piece where it was refused.
 pub record GoesThroughPieces {P V : Type 0} (job : PieceWork P V) (first : V) (input : List ℕ) (result : Status) (left before after : Option (List ℕ)) : Type 0 where
   pub answers : Answers (text_of_pieces job (pieces_of job first input)) (is_some (pieces_of job first input).refusal) result left before after
   pub past : StopsWithin 524288 (pieces_of job first input).accepted input result left

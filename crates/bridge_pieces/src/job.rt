@@ -5,8 +5,8 @@ ghost use Rattle.bridge_pieces.specs.Pieces.{JudgesPiece, PieceWork};
 use crate::fault::PieceFault;
 use seq_circle::NoMemory;
 
-/// A job over the pieces of an input (own). Contracts see what a piece does, and what the job makes of pieces: how long the
-/// next is and what it comes to, by the job's state, the text of what it does, and the text behind the last.
+/// A job over the pieces of an input (own). Contracts see what a piece does, and what the job makes of pieces: how long
+/// the next is and what it comes to, by the job's state, the text of what it does, and the text behind the last.
 pub trait PieceJob {
     // What a piece does.
     ghost Deed: { Type 0 };
@@ -23,8 +23,8 @@ pub trait PieceJob {
     fn may_end(&self) -> bool
         ensures { result ≡ job.may_end self.now };
 
-    /// Judges the next piece. An accepted one leaves the text of what it does at the text's end; a refused one leaves text and
-    /// state as they were. NoMemory comes where no memory was left.
+    /// Judges the next piece. An accepted one leaves the text of what it does at the text's end; a refused one leaves
+    /// text and state as they were. NoMemory comes where no memory was left.
     fn judge(
         &mut self,
         piece: &[u8],
@@ -33,8 +33,8 @@ pub trait PieceJob {
         requires { length piece.now ≡ job.wanted self.old }
         ensures { IfOk result (λ answer. JudgesPiece job self.old (job.judged self.old piece.now) text.old.items text.new.items self.new answer) };
 
-    /// Puts the text behind the last piece: at the input's end, or where it is refused. NoMemory comes where no memory was
-    /// left.
+    /// Puts the text behind the last piece: at the input's end, or where it is refused. NoMemory comes where no memory
+    /// was left.
     fn finish(&self, end: Option<PieceFault>, text: &mut Vec<u8>) -> Result<(), NoMemory>
         ensures { OnOk result (text.new.items ≡ text.old.items ++ job.closing self.now end) };
 }

@@ -1,8 +1,10 @@
-//! The one loop for jobs that read an input in pieces whose lengths they know beforehand (own): the headers, blocks and records of a
-//! capture. The pieces are judged one by one, what they do is written, and the first that is refused ends the job.
+//! The one loop for jobs that read an input in pieces whose lengths they know beforehand (own): the headers, blocks and
+//! records of a capture. The pieces are judged one by one, what they do is written, and the first that is refused ends
+//! the job.
 //!
-//! A job says how long the next piece is, what it does, and what is written at the end. The loop has the rest: the limit of
-//! inputs, reading, and text that goes out in blocks and before each read. It keeps one block of the input, 524,288 bytes.
+//! A job says how long the next piece is, what it does, and what is written at the end. The loop has the rest: the
+//! limit of inputs, reading, and text that goes out in blocks and before each read. It keeps one block of the input,
+//! 524,288 bytes.
 #![tactic(auto)]
 
 mod fault;

@@ -111,8 +111,8 @@ fn judge_piece<J: PieceJob, S: Source>(
     }
 }
 
-/// Reads on where the next piece is not held whole, and judges it where it is. Where that asks the source for more, nothing is
-/// unwritten.
+/// Reads on where the next piece is not held whole, and judges it where it is. Where that asks the source for more,
+/// nothing is unwritten.
 pub(crate) fn take_turn<J: PieceJob, S: Source>(
     job: &mut J,
     source: &mut S,

@@ -1,5 +1,5 @@
--- The blocks of a pcapng file (draft-ietf-opsawg-pcapng, 3 and 4.1): type, length, body, and the length once more. The first block of a
--- section tells the byte order of all its numbers.
+-- The blocks of a pcapng file (draft-ietf-opsawg-pcapng, 3 and 4.1): type, length, body, and the length once more. The
+-- first block of a section tells the byte order of all its numbers.
 use Rattle.std.specs.Prelude.{ℕ, ◌+◌, ◌-◌, ◌%◌, ◌&&◌, ◌||◌, ◌==◌, not, nat_lt, Bool, if◌then◌else◌, List, length, Option, Some, None}
 use Rattle.capture_reader.specs.Format.{ordered_number_at}
 use Rattle.capture_reader.specs.declared.format.Order.{Order}

@@ -8,8 +8,8 @@ use Rattle.capture_writer.specs.declared.headers.RecordHeader.{RecordHeader}
 use Rattle.bridge_pieces.specs.declared.fault.PieceFault.{PieceFault}
 use Rattle.bridge_pieces.specs.declared.fault.PieceFault.TheVariants as why
 
--- the link types: 0 and 108 begin with an address family, 1 is Ethernet, 12 and 101 are raw IP, 113 and 276 those of the "any" device of
--- Linux, 228 is IPv4 and 229 IPv6
+-- the link types: 0 and 108 begin with an address family, 1 is Ethernet, 12 and 101 are raw IP, 113 and 276 those of
+-- the "any" device of Linux, 228 is IPv4 and 229 IPv6
 abbrev pub is_known_link : ℕ → Bool
 is_known_link link =
     link == 0 || (link == 1 || (link == 12 || (link == 101 || (link == 108 || (link == 113 || (link == 228 || (link == 229 || link == 276)))))))

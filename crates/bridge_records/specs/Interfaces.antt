@@ -8,7 +8,8 @@ use Rattle.bridge_pieces.specs.declared.fault.PieceFault.TheVariants as why
 use Rattle.bridge_records.specs.Classic.{is_known_link}
 use Rattle.bridge_records.specs.declared.interfaces.Interface.{Interface}
 
--- the option that begins here is sought, or the list ends, at code 0 or where no option has room before the block's last four bytes
+-- the option that begins here is sought, or the list ends, at code 0 or where no option has room before the block's
+-- last four bytes
 abbrev pub by_option : Order → ℕ → ℕ → List ℕ → Option ℕ → Option ℕ
 by_option order code place bytes later =
     if nat_lt (length bytes) 8 then None
@@ -40,7 +41,8 @@ abbrev pub resolution_at : Order → Option ℕ → List ℕ → ℕ
 resolution_at order None options = 6
 resolution_at order (Some place) options = if has_value order 1 place options then slice_index options (place + 4) else 6
 
--- the seconds that stand before all times by the option at this place, a number of 64 bits with a sign: 0, if none says otherwise
+-- the seconds that stand before all times by the option at this place, a number of 64 bits with a sign: 0, if none says
+-- otherwise
 abbrev pub offset_at : Order → Option ℕ → List ℕ → ℕ
 offset_at order None options = 0
 offset_at order (Some place) options = if has_value order 8 place options then ordered_number_at order (place + 4) 8 options else 0

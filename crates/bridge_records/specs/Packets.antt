@@ -24,7 +24,8 @@ enhanced_by (Some units) offset nanos order bytes = Some (record {
 abbrev pub enhanced_head : Interface → Bool → Order → List ℕ → Option RecordHeader
 enhanced_head i nanos order bytes = enhanced_by (units_of i.resolution) i.offset nanos order bytes
 
--- how many bytes of a packet of this length are there, where so many are captured at most, or any number where that is 0
+-- how many bytes of a packet of this length are there, where so many are captured at most, or any number where that is
+-- 0
 abbrev pub captured_of : ℕ → ℕ → ℕ
 captured_of most original = if most == 0 then original else min original most
 

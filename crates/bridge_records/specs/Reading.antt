@@ -1,5 +1,5 @@
--- How the pieces of a capture, classic or pcapng, are read, and which records they hold (own; the savefile format of libpcap and
--- draft-ietf-opsawg-pcapng).
+-- How the pieces of a capture, classic or pcapng, are read, and which records they hold (own; the savefile format of
+-- libpcap and draft-ietf-opsawg-pcapng).
 use Rattle.std.specs.Prelude.{◌≡◌, ◌≤◌, ⊤, ℕ, ◌+◌, ◌-◌, ◌==◌, ◌||◌, not, nat_le, nat_lt, Bool, true, false, if◌then◌else◌, List, [], ◌∷◌, ◌++◌, length, drop, take, slice_get, Option, Some, None, IfSome, Result, Ok, Err}
 use Rattle.capture_reader.specs.Format.{ordered_number_at}
 use Rattle.capture_reader.specs.declared.format.Format.{Format}
@@ -20,8 +20,8 @@ use Rattle.bridge_records.specs.declared.interfaces.Interface.{Interface}
 use Rattle.bridge_records.specs.declared.reading.Place.{Place}
 use Rattle.bridge_records.specs.declared.reading.Place.TheVariants as place
 
--- Where reading stands: which piece is next, the interfaces of the section, and, once a pcapng file's first interface was read, whether
--- fractions are nanoseconds.
+-- Where reading stands: which piece is next, the interfaces of the section, and, once a pcapng file's first interface
+-- was read, whether fractions are nanoseconds.
 pub record FileState : Type 0 where
   pub place : Place
   pub interfaces : List Interface
@@ -100,7 +100,8 @@ by_start file piece =
     if ordered_number_at Big 0 4 piece == section_block then by_section file piece (section_order piece)
     else by_format file (any_format piece)
 
--- a record's header in a classic capture: too many captured bytes are refused, none are a record, and else they are the next piece
+-- a record's header in a classic capture: too many captured bytes are refused, none are a record, and else they are the
+-- next piece
 abbrev pub by_header : FileState → Format → RecordHeader → Judgement Found FileState
 by_header file format head =
     if nat_lt 262144 head.captured then Stops why.TooLong

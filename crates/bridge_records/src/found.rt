@@ -6,7 +6,7 @@ use capture_writer::RecordHeader;
 pub enum Found {
     /// The capture begins; the fractions of its records are nanoseconds, or microseconds.
     Begins(bool),
-    /// A record of this link type: what its header says, the captured bytes at most 262,144, and where in the piece these
-    /// begin.
+    /// A record of this link type: what its header says, the captured bytes at most 262,144, and where in the piece
+    /// these begin.
     Holds(u32, RecordHeader, usize),
 }

@@ -1,8 +1,8 @@
 //! The records of a capture, classic or pcapng, of any of nine link types (own; the savefile format of libpcap and
 //! draft-ietf-opsawg-pcapng), found in pieces whose lengths are known beforehand.
 //!
-//! It reads blocks of sections, interfaces and packets, and skips all others. It keeps the interfaces of one section, 256 at
-//! most, and looks into no record's bytes.
+//! It reads blocks of sections, interfaces and packets, and skips all others. It keeps the interfaces of one section,
+//! 256 at most, and looks into no record's bytes.
 #![tactic(auto)]
 
 mod blocks;

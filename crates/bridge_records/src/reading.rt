@@ -44,8 +44,8 @@ pub(crate) enum Place {
     Rest(Order, BlockHead),
 }
 
-/// A capture while it is read, piece by piece (own). Contracts see which piece stands next, the interfaces of the section, and
-/// what is known of fractions.
+/// A capture while it is read, piece by piece (own). Contracts see which piece stands next, the interfaces of the
+/// section, and what is known of fractions.
 #[derive(Drop)]
 pub struct CaptureFile {
     place: Place,

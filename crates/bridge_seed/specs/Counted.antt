@@ -18,8 +18,8 @@ seen_counted report (scene ∷ scenes) = seen_counted (with_seen report scene.st
 abbrev pub frames_sent : Controlled Both → Side → ℕ
 frames_sent w side = length (half_of w.world side).frames
 
--- The report of events that took place and of the world that they left: how many they are, the frames of both sides, what was seen of each
--- event, and the features that are settled.
+-- The report of events that took place and of the world that they left: how many they are, the frames of both sides,
+-- what was seen of each event, and the features that are settled.
 abbrev pub counted_report : List Scene → Controlled Both → Report
 counted_report scenes last =
     record (seen_counted nothing scenes) {

@@ -72,8 +72,8 @@ fn text_of_seed(alloc: Global, seed: u64, events: u32) -> Result<Vec<u8>, NoMemo
     Ok(text)
 }
 
-/// Writes the schedule of a campaign's seed with so many events (own): the initial sequence numbers of both ends, and the
-/// events, a line each. It reads nothing and refuses nothing, so it owes what a form owes of an empty input that is
+/// Writes the schedule of a campaign's seed with so many events (own): the initial sequence numbers of both ends, and
+/// the events, a line each. It reads nothing and refuses nothing, so it owes what a form owes of an empty input that is
 /// accepted. Write comes where the sink failed, and Memory where no memory was left; then nothing is written.
 pub fn tell_seed<K: Sink>(alloc: Global, seed: u64, events: u32, output: &mut K) -> Status
     requires events { 1 ≤ events × events ≤ 4096 }

@@ -1,10 +1,11 @@
--- Where the IP packet of a captured record begins, by its link type (the link-layer header types of libpcap; VLAN tags by IEEE 802.1Q).
+-- Where the IP packet of a captured record begins, by its link type (the link-layer header types of libpcap; VLAN tags
+-- by IEEE 802.1Q).
 use Rattle.std.specs.Prelude.{◌≡◌, ℕ, ◌+◌, ◌/◌, Bool, false, ◌&&◌, ◌||◌, ◌==◌, not, nat_lt, if◌then◌else◌, List, [], length, drop, slice_index, Option, Some, None}
 use Rattle.byteorder.specs.Endian.{big_number, little_number}
 use Rattle.dccp_packets.specs.Grammar.{number_at}
 
--- Link types 0 and 108 begin with an address family, 1 is Ethernet, 12 and 101 are raw IP, 113 and 276 those of the "any" device of Linux,
--- 228 is IPv4 and 229 IPv6.
+-- Link types 0 and 108 begin with an address family, 1 is Ethernet, 12 and 101 are raw IP, 113 and 276 those of the
+-- "any" device of Linux, 228 is IPv4 and 229 IPv6.
 
 -- IP of this version begins at a place: the first four bits there are the version
 abbrev pub ip_at : ℕ → ℕ → List ℕ → Option ℕ

@@ -22,7 +22,8 @@ abbrev pub capture_part_text : CapturePart → List ℕ
 capture_part_text (Begins nanos) = file_header nanos
 capture_part_text (Holds r) = raw_record r
 
--- the record of a packet that begins at this place of the captured bytes, at the same time; an empty one where there is none
+-- the record of a packet that begins at this place of the captured bytes, at the same time; an empty one where there is
+-- none
 abbrev pub unwrapped_at : RecordHeader → List ℕ → Option ℕ → RawRecord
 unwrapped_at head bytes None = record { seconds = head.seconds; fraction = head.fraction; original = 0; bytes = [] }
 unwrapped_at head bytes (Some start) = record { seconds = head.seconds; fraction = head.fraction; original = head.original - start; bytes = drop start bytes }
@@ -39,7 +40,8 @@ unwrapped_entry e = unwrapped e.link (record { seconds = e.seconds; fraction = e
 abbrev pub unwrapped_parts : Bool → List RecordParts → List CapturePart
 unwrapped_parts nanos entries = Begins nanos ∷ map (λ e. Holds (unwrapped_entry e)) entries
 
--- Where reading stands, and how many records were made. (No capture has so many that their count would stay at its end.)
+-- Where reading stands, and how many records were made. (No capture has so many that their count would stay at its
+-- end.)
 pub record UnwrapState : Type 0 where
   pub file : FileState
   pub records : ℕ
@@ -78,8 +80,8 @@ piece_fault_name why.TooLarge = codes "TooLarge"
 abbrev pub untold_header : Bool → List ℕ
 untold_header untold = if untold then file_header false else []
 
--- what stands behind the last record: nothing, but for a file header that was not written yet, or the line of the fault, with how many
--- records stand before it
+-- what stands behind the last record: nothing, but for a file header that was not written yet, or the line of the
+-- fault, with how many records stand before it
 abbrev pub unwrap_closing : Bool → ℕ → Option PieceFault → List ℕ
 unwrap_closing untold records None = untold_header untold
 unwrap_closing untold records (Some fault) = codes "capture " ++ piece_fault_name fault ++ codes " after " ++ codes "record " ++ decimal records ++ codes "\n"

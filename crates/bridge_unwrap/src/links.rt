@@ -142,8 +142,8 @@ fn ip_in_null(bytes: &[u8]) -> Option<usize>
     }
 }
 
-/// Where the IP packet begins in a record of this link type, or None where it has none (the link-layer header types of libpcap;
-/// IEEE 802.1Q). Link types that are not known are taken for raw IP.
+/// Where the IP packet begins in a record of this link type, or None where it has none (the link-layer header types of
+/// libpcap; IEEE 802.1Q). Link types that are not known are taken for raw IP.
 pub fn ip_start(link: u32, bytes: &[u8]) -> Option<usize>
     ensures value { result ≡ spec.ip_start link bytes.now }
     ensures within { IfSome result (λ n. n < length bytes.now) }

@@ -87,8 +87,8 @@ pub fn fault_name(fault: PieceFault) -> &'static [u8]
     }
 }
 
-/// Puts the line of a fault of a capture, behind so many records (own). NoMemory comes where the text could not grow; then a front
-/// of the line may stand there.
+/// Puts the line of a fault of a capture, behind so many records (own). NoMemory comes where the text could not grow;
+/// then a front of the line may stand there.
 pub fn put_fault(text: &mut Vec<u8>, records: u64, fault: PieceFault) -> Result<(), NoMemory>
     ensures { OnOk result (text.new.items ≡ text.old.items ++ unwrap_closing false records (Some fault)) }
 {
@@ -195,16 +195,16 @@ impl PieceJob for Unwrapping {
     }
 }
 
-/// Makes of a capture a classic one of raw IP (own): a record for each record, at the same time, with the IP packet that is found
-/// behind the header of its link and up to two VLAN tags, or empty where there is none. Of link types it knows 0 and 108,
-/// which begin with an address family, 1 (Ethernet), 12 and 101 (raw IP), 113 and 276 (the "any" device of Linux), 228 (IPv4)
-/// and 229 (IPv6). The capture is a classic one or a pcapng file, whose records are its Enhanced Packet Blocks, and its Simple
-/// Packet Blocks at time 0. Fractions of a second are nanoseconds where the first interface of a pcapng file counts time finer
-/// than in microseconds.
+/// Makes of a capture a classic one of raw IP (own): a record for each record, at the same time, with the IP packet
+/// that is found behind the header of its link and up to two VLAN tags, or empty where there is none. Of link types it
+/// knows 0 and 108, which begin with an address family, 1 (Ethernet), 12 and 101 (raw IP), 113 and 276 (the "any"
+/// device of Linux), 228 (IPv4) and 229 (IPv6). The capture is a classic one or a pcapng file, whose records are its
+/// Enhanced Packet Blocks, and its Simple Packet Blocks at time 0. Fractions of a second are nanoseconds where the
+/// first interface of a pcapng file counts time finer than in microseconds.
 ///
-/// Input comes where the capture has a fault, and then its line stands behind the records; it is no record, to any reader.
-/// With status 0 or 1 the output is that of the whole input, with another a front of it. Read comes where the source failed,
-/// Write where the sink did, and Memory where no memory was left.
+/// Input comes where the capture has a fault, and then its line stands behind the records; it is no record, to any
+/// reader. With status 0 or 1 the output is that of the whole input, with another a front of it. Read comes where the
+/// source failed, Write where the sink did, and Memory where no memory was left.
 pub fn unwrap_capture<S: Source, K: Sink>(alloc: Global, input: &mut S, output: &mut K) -> Status
     ensures words { result ≢ Status.Words }
     ensures unwrapped { (bytes : List ℕ) → S.left input.old ≡ Some bytes

@@ -17,7 +17,8 @@ pub record ViewFits (n : ℕ) (v : View) : Type 0 where
   pub few : length v.numbers ≤ v.drawn
   pub same : 0 < v.share → v.limit ≡ n
 
--- The word counts all claims, the shares are 2^62 together, and the numbers below n that were passed stand in the views, each once, and no others
+-- The word counts all claims, the shares are 2^62 together, and the numbers below n that were passed stand in the
+-- views, each once, and no others
 pub record Counted (n : ℕ) (s : State ℕ View) : Type 0 where
   pub word : s.words ≡ all_drawn s.views ∷ []
   pub shares : sum_by (λ v. v.share) s.views ≡ 2 ^ 62
@@ -28,7 +29,8 @@ pub record Counted (n : ℕ) (s : State ℕ View) : Type 0 where
 abbrev pub Draws : Me ℕ View → ℕ → Me ℕ View → Type 0
 Draws v found w = (w ≡ (claimed v.0 found, v.1)) × All (λ x. x < found) v.0.numbers
 
--- what a claim is to its caller: some word was read, all numbers of the claimer lie below it, and it is the answer just where it is below the limit
+-- what a claim is to its caller: some word was read, all numbers of the claimer lie below it, and it is the answer just
+-- where it is below the limit
 pub record IsClaim (v : View) (answer : Option ℕ) (w : View) : Type 0 where
   pub word : ℕ
   pub above : All (λ x. x < word) v.numbers

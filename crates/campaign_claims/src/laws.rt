@@ -11,5 +11,6 @@ pub fn numbers_once_add_up()
 
 /// Where some claim gave none, the numbers below the lesser of limit and claims are all below the limit (own).
 pub fn a_claim_in_vain_ends_the_numbers()
-    ensures { (limit drawn : ℕ) (numbers : List ℕ) → AreOnceBelow (min limit drawn) numbers → length numbers < drawn → AreOnceBelow limit numbers }
+    ensures { (limit drawn : ℕ) (numbers : List ℕ) → AreOnceBelow (min limit drawn) numbers → length numbers < drawn
+        → AreOnceBelow limit numbers }
 {}

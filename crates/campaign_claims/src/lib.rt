@@ -2,8 +2,8 @@
 //!
 //! `make_claims` makes the word and its first claimer. A claimer draws the next number, splits itself in two for
 //! another thread, and takes another back; whoever has all back closes the claims, and then knows that its numbers are
-//! those below the lesser of the limit and the word. Nothing here starts a thread or knows what the numbers are for, only a
-//! `Gate` may wait, and nothing is said of which claimer gets which number. Only `make_claims` takes memory.
+//! those below the lesser of the limit and the word. Nothing here starts a thread or knows what the numbers are for,
+//! only a `Gate` may wait, and nothing is said of which claimer gets which number. Only `make_claims` takes memory.
 //!
 //! A claimer's share of 2^62 is its right to claim. All shares are 2^62 together, at every moment: so the word does not
 //! wrap, and whoever has all has joined all others, and `close` needs no condition on who is left. Shares and numbers

@@ -6,7 +6,8 @@ use Rattle.dccp_io.specs.Ahead.{BytesAhead, ahead_of}
 abbrev pub IsGathered : ℕ → BytesAhead → Option (List ℕ) → Type 0
 IsGathered asked ahead left = (asked ≤ length ahead.pending) ⊎ IfSome left (λ more. more ≡ [])
 
--- Bytes are gathered: what is pending and left stays the same bytes, in a block of the same size, and the source is the same.
+-- Bytes are gathered: what is pending and left stays the same bytes, in a block of the same size, and the source is the
+-- same.
 pub record Gathers {S : Type 0} (left : S → Option (List ℕ)) (faults lender : S → ℕ) (asked : ℕ) (old new : BytesAhead) (before after : S) : Type 0 where
   pub same_ahead : ahead_of new (left after) ≡ ahead_of old (left before)
   pub same_size : new.size ≡ old.size

@@ -54,9 +54,9 @@ fn magic(nanos: bool) -> u32
     if nanos { NANOSECONDS } else { MICROSECONDS }
 }
 
-/// Puts the file header of a capture whose fractions are nanoseconds or microseconds: version 2.4, no zone and no accuracy,
-/// records of up to 262,144 bytes, and raw IP. NoMemory comes where the text could not grow; then its first bytes may
-/// stand there.
+/// Puts the file header of a capture whose fractions are nanoseconds or microseconds: version 2.4, no zone and no
+/// accuracy, records of up to 262,144 bytes, and raw IP. NoMemory comes where the text could not grow; then its first
+/// bytes may stand there.
 pub fn put_file_header(text: &mut Vec<u8>, nanos: bool) -> Result<(), NoMemory>
     ensures { OnOk result (text.new.items ≡ text.old.items ++ file_header nanos) }
 {

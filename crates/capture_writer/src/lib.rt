@@ -1,5 +1,5 @@
-//! The bytes of a classic capture of link type 101, raw IP (the savefile format of libpcap): its file header and the headers of its
-//! records, put behind a text. The most significant byte stands first.
+//! The bytes of a classic capture of link type 101, raw IP (the savefile format of libpcap): its file header and the
+//! headers of its records, put behind a text. The most significant byte stands first.
 //!
 //! Nothing here looks into a record's bytes. What is written is read again by capture_reader.
 #![tactic(auto)]

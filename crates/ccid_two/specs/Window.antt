@@ -4,8 +4,8 @@ use Rattle.congestion_trait.specs.declared.flight.Entry.{Entry}
 use Rattle.congestion_trait.specs.Flight.{States, sent, after_report, acked_count, is_congested}
 use Rattle.congestion_trait.specs.Control.{Control}
 
--- the flight list, the congestion window and the slow-start threshold in packets, how many acknowledged packets did not yet
--- open the window, the recovery mark, and the number sent last since the start
+-- the flight list, the congestion window and the slow-start threshold in packets, how many acknowledged packets did not
+-- yet open the window, the recovery mark, and the number sent last since the start
 pub record State : Type 0 where
   pub flight : List Entry
   pub window : ℕ

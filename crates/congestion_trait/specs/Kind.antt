@@ -12,8 +12,8 @@ pub record Flying (R : Type 0) : Type 0 where
   pub flight : List Entry
   pub rest : R
 
--- the window that the rest shows, the CCIDs that are known, the rest after a start, and what each other call makes of it; of a
--- report, by the list before it and by what it says
+-- the window that the rest shows, the CCIDs that are known, the rest after a start, and what each other call makes of
+-- it; of a report, by the list before it and by what it says
 pub record Rules (R : Type 0) : Type 0 where
   pub window : R → ℕ
   pub is_known : ℕ → Bool

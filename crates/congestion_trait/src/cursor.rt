@@ -96,7 +96,8 @@ impl<'a> Cursor<'a> {
         span: u64,
     ) -> bool
         requires top { IsTop report.now self.now.top }
-        ensures { IsTrue result → IsNone state × (span < 2 ^ 48) × ((report.now.bytes ≡ []) ⊎ (distance number report.now.ack + span < 2 ^ 48)) }
+        ensures { IsTrue result
+            → IsNone state × (span < 2 ^ 48) × ((report.now.bytes ≡ []) ⊎ (distance number report.now.ack + span < 2 ^ 48)) }
     {
         let near = match self.top {
             Some(top) => span < CIRCLE - number.distance(top),

@@ -180,7 +180,8 @@ fn is_among(entries: &[Entry], entry: &Entry) -> bool
 
 // How many steps up a number is from the newest entry's.
 fn step_from_newest(entries: &HeapCircularBuffer<Entry>, number: Seq48) -> u64
-    ensures near { (span : ℕ) → AreNear span (numbers entries.now.items) → AreNear (span + result) (numbers entries.now.items ++ number ∷ []) }
+    ensures near { (span : ℕ) → AreNear span (numbers entries.now.items)
+        → AreNear (span + result) (numbers entries.now.items ++ number ∷ []) }
 {
     // Gives the prover that the number is below 2^48.
     let _number = number.get();

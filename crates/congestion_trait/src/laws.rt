@@ -18,8 +18,10 @@ pub fn only_reports_report<C: Congestion>()
         → Has (C.control.flight state) number Reported ⊎ IsTrue (is_received (states number)) }
     ensures sending { (state : C) (next number : ℕ)
         → Has (C.control.flight (C.control.with_sent state next)) number Reported → Has (C.control.flight state) number Reported }
-    ensures starting { (state : C) (ccid number : ℕ) → Has (C.control.flight (C.control.started state ccid)) number Reported → ⊥ }
-    ensures timeouts { (state : C) (number : ℕ) → Has (C.control.flight (C.control.timed_out state)) number Reported → ⊥ }
+    ensures starting { (state : C) (ccid number : ℕ)
+        → Has (C.control.flight (C.control.started state ccid)) number Reported → ⊥ }
+    ensures timeouts { (state : C) (number : ℕ) → Has (C.control.flight (C.control.timed_out state)) number Reported
+        → ⊥ }
 {}
 
 /// A number that is not Out, since it was reported or taken for lost, is never Out again, unless it is sent anew.
@@ -28,7 +30,8 @@ pub fn only_sending_puts_out<C: Congestion>()
         → Has (C.control.flight (C.control.with_report state states ratio)) number Out → Has (C.control.flight state) number Out }
     ensures sending { (state : C) (next number : ℕ)
         → Has (C.control.flight (C.control.with_sent state next)) number Out → Has (C.control.flight state) number Out ⊎ (number ≡ next) }
-    ensures starting { (state : C) (ccid number : ℕ) → Has (C.control.flight (C.control.started state ccid)) number Out → ⊥ }
+    ensures starting { (state : C) (ccid number : ℕ) → Has (C.control.flight (C.control.started state ccid)) number Out
+        → ⊥ }
     ensures timeouts { (state : C) (number : ℕ) → Has (C.control.flight (C.control.timed_out state)) number Out → ⊥ }
 {}
 
@@ -64,5 +67,6 @@ pub fn every_entry_was_sent<C: Congestion>()
 
 /// The list of the numbers that are Reported holds just those.
 pub fn numbers_reported_are_reported()
-    ensures { (entries : List Entry) (number : ℕ) → Contains (numbers_reported entries) number ↔ Has entries number Reported }
+    ensures { (entries : List Entry) (number : ℕ)
+        → Contains (numbers_reported entries) number ↔ Has entries number Reported }
 {}

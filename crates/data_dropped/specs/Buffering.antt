@@ -1,4 +1,5 @@
--- An end with a bounded inbox, and what it does with bytes that arrive (own; the end's part is RFC 4340's, section 8.5).
+-- An end with a bounded inbox, and what it does with bytes that arrive (own; the end's part is RFC 4340's, section
+-- 8.5).
 use Rattle.std.specs.Prelude.{ℕ, ◌≤◌, Bool, true, false, List, length, Option, Some, None, Result, Ok, Err, slice_range}
 use Rattle.congestion_trait.specs.Control.{Control}
 use Rattle.dccp_endpoint.specs.Controlled.{End, EndStep, begins, with_control}
@@ -24,8 +25,8 @@ abbrev pub begins_buffered : {C : Type 0} → Control C → Config → C → ℕ
 begins_buffered control config congestion capacity =
     record { end = begins control config congestion; inbox = empty_inbox capacity }
 
--- The number of the packet that bytes are, in full: a short one is near GSR as it was before (section 7.6). Of bytes that are no packet none
--- is asked for.
+-- The number of the packet that bytes are, in full: a short one is near GSR as it was before (section 7.6). Of bytes
+-- that are no packet none is asked for.
 abbrev pub number_of_packet : ℕ → Result Parts Malformed → ℕ
 number_of_packet gsr (Ok p) = near gsr p.header.number
 number_of_packet gsr (Err fault) = gsr

@@ -29,7 +29,8 @@ abbrev pub up_to_last_code : List (Option ℕ) → List (Option ℕ)
 up_to_last_code [] = []
 up_to_last_code (code ∷ codes) = before_codes code (up_to_last_code codes)
 
--- What a report at an acknowledgement number is to tell: of the numbers from it downwards, to the lowest that has a code (own).
+-- What a report at an acknowledgement number is to tell: of the numbers from it downwards, to the lowest that has a
+-- code (own).
 abbrev pub codes_reported : List DropEntry → ℕ → List (Option ℕ)
 codes_reported drops ack = up_to_last_code (code_table drops ack)
 
@@ -45,8 +46,8 @@ abbrev pub most_numbers : Option ℕ → ℕ
 most_numbers None = 128
 most_numbers (Some code) = 16
 
--- The byte of so many numbers: a Normal Block has their number less one in seven bits; a Drop Block has its upper bit set, then the code
--- in three bits and that number in four (RFC 4340, section 11.7).
+-- The byte of so many numbers: a Normal Block has their number less one in seven bits; a Drop Block has its upper bit
+-- set, then the code in three bits and that number in four (RFC 4340, section 11.7).
 abbrev pub drop_byte : Option ℕ → ℕ → ℕ
 drop_byte None count = count - 1
 drop_byte (Some code) count = 128 + 16 * (code % 8) + (count - 1)
@@ -68,7 +69,8 @@ drop_coding =
 abbrev pub all_drop_bytes : List DropEntry → ℕ → List ℕ
 all_drop_bytes drops ack = coded_bytes drop_coding (codes_reported drops ack)
 
--- the report of these drops: the bytes that one option has room for (RFC 4340, section 5.8; that it is one option is own)
+-- the report of these drops: the bytes that one option has room for (RFC 4340, section 5.8; that it is one option is
+-- own)
 abbrev pub drop_bytes : List DropEntry → ℕ → List ℕ
 drop_bytes drops ack = take 253 (all_drop_bytes drops ack)
 

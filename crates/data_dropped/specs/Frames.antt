@@ -1,4 +1,5 @@
--- What an end with a bounded inbox says behind the options of its acknowledgements (own; RFC 4340, sections 11.6 and 11.7).
+-- What an end with a bounded inbox says behind the options of its acknowledgements (own; RFC 4340, sections 11.6 and
+-- 11.7).
 use Rattle.std.specs.Prelude.{ℕ, ◌+◌, ◌==◌, ◌&&◌, not, nat_le, Bool, true, false, List, [], ◌∷◌, ◌++◌, length, Option, Some, None, Result, Ok, Err, if◌then◌else◌}
 use Rattle.dccp_options.specs.Kinds.{data_dropped, slow_receiver}
 use Rattle.dccp_options.specs.Written.{spelled}
@@ -31,8 +32,8 @@ acknowledged_by gsr (kind.Ack ack) = Some (near gsr ack)
 acknowledged_by gsr (kind.DataAck ack) = Some (near gsr ack)
 acknowledged_by gsr _ = None
 
--- The packet has room for these options behind its own: a Data Offset counts 1,020 bytes at most (section 5.1), and a frame has room for
--- 1,024 bytes of data (own).
+-- The packet has room for these options behind its own: a Data Offset counts 1,020 bytes at most (section 5.1), and a
+-- frame has room for 1,024 bytes of data (own).
 abbrev pub has_room_for : Parts → List ℕ → Bool
 has_room_for p more = nat_le (header_length p.header + length (padded (p.options ++ more))) 1020 && nat_le (length p.payload) 1024
 

@@ -7,13 +7,15 @@ use Rattle.data_dropped.specs.declared.answers.Arrival.{Arrival}
 use Rattle.data_dropped.specs.declared.answers.Arrival.TheVariants.{Kept, Dropped}
 use Rattle.data_dropped.specs.declared.drops.DropEntry.{DropEntry}
 
--- a call of an inbox: data arrive that an item holds, or longer ones; the first item is taken; the application stops listening
+-- a call of an inbox: data arrive that an item holds, or longer ones; the first item is taken; the application stops
+-- listening
 pub data InboxCall : Type 0 where
   DataArrive : (n : ℕ) (payload : List ℕ) → InboxCall
   LongDataArrive : (n : ℕ) → InboxCall
   Takes Stops : InboxCall
 
--- an inbox, all data that were ever answered Kept and all that were ever taken, in order, and all drops ever, none of which leaves the list
+-- an inbox, all data that were ever answered Kept and all that were ever taken, in order, and all drops ever, none of
+-- which leaves the list
 pub record History : Type 0 where
   pub held : InboxState
   pub kept : List KeptData
@@ -58,8 +60,9 @@ is_stop (LongDataArrive n) = false
 is_stop Takes = false
 is_stop Stops = true
 
--- What holds after a list of calls: what was kept is what was taken, and then what is held, whole, once and in order; no more is held than
--- may be; whether it was stopped; and the drops that count are the last 2,048 of all, each with a code of three bits.
+-- What holds after a list of calls: what was kept is what was taken, and then what is held, whole, once and in order;
+-- no more is held than may be; whether it was stopped; and the drops that count are the last 2,048 of all, each with a
+-- code of three bits.
 pub record IsAccounted (capacity : ℕ) (stopped : Bool) (h : History) : Type 0 where
   pub whole : h.kept ≡ h.taken ++ h.held.items
   pub within : length h.held.items ≤ capacity

@@ -1,4 +1,5 @@
--- A bounded inbox: the data that it holds, what was dropped, and whether the application still listens (own; RFC 4340, sections 11.6 and 11.7).
+-- A bounded inbox: the data that it holds, what was dropped, and whether the application still listens (own; RFC 4340,
+-- sections 11.6 and 11.7).
 use Rattle.std.specs.Prelude.{◌≡◌, ℕ, ◌*◌, ◌≤◌, nat_le, nat_lt, not, ◌&&◌, Bool, true, false, List, [], ◌∷◌, ◌++◌, length, drop, Option, Some, None, if◌then◌else◌}
 use Rattle.circular_buffer.specs.Buffer.{Buffer, keep_last}
 use Rattle.data_dropped.specs.declared.answers.Arrival.{Arrival}
@@ -10,8 +11,8 @@ pub record KeptData : Type 0 where
   pub number : ℕ
   pub payload : List ℕ
 
--- The data that are held, the oldest first; the last 2,048 drops, the oldest first; whether the application has stopped listening; and how
--- many items may be held.
+-- The data that are held, the oldest first; the last 2,048 drops, the oldest first; whether the application has stopped
+-- listening; and how many items may be held.
 pub record InboxState : Type 0 where
   pub items : List KeptData
   pub drops : List DropEntry

@@ -26,14 +26,14 @@ abbrev pub told_if : Bool → List ℕ → List (List ℕ)
 told_if true bytes = one_option bytes
 told_if false bytes = []
 
--- What a packet of the end tells once it went out: an Ack or a DataAck tells the report at the number that it acknowledges, where that has a
--- byte and the packet has room for all that is to be said.
+-- What a packet of the end tells once it went out: an Ack or a DataAck tells the report at the number that it
+-- acknowledges, where that has a byte and the packet has room for all that is to be said.
 abbrev pub told_by_ack : InboxState → Parts → Option ℕ → List (List ℕ)
 told_by_ack held p None = []
 told_by_ack held p (Some ack) = told_if (says_more p (said held ack)) (drop_bytes held.drops ack)
 
--- A frame of the end went out as this one: it is a packet that acknowledges what that did, its checksum fits, and its Data Dropped options are
--- what is to be told.
+-- A frame of the end went out as this one: it is a packet that acknowledges what that did, its checksum fits, and its
+-- Data Dropped options are what is to be told.
 pub record TellsItsDrops (pseudo : Pseudo) (gsr : ℕ) (held : InboxState) (own frame : List ℕ) : Type 0 where
   pub before : Parts
   pub packet : Parts
@@ -53,8 +53,8 @@ pub record FrameTells (C : Type 0) (step : BufferedStep C) (own : List ℕ) : Ty
 abbrev pub report_in_packet : ℕ → Parts → Option Report
 report_in_packet ack p = joined_report ack (drops_in_packet p)
 
--- Of a frame that tells its drops a code is read only where it is the number's, and where nothing was cut off each of the 2,048 numbers from
--- the acknowledgement number down has its code.
+-- Of a frame that tells its drops a code is read only where it is the number's, and where nothing was cut off each of
+-- the 2,048 numbers from the acknowledgement number down has its code.
 pub record IsReadAsDrops (held : InboxState) (ack : ℕ) (r : Report) : Type 0 where
   pub only : (n code : ℕ) → n < 2 ^ 48 → code_at r.ack r.bytes n ≡ Some code → drop_code held.drops n ≡ Some code
   pub all : (n : ℕ) → n < 2 ^ 48 → IsTrue (tells_all held.drops ack) → distance n ack < 2048 → code_at r.ack r.bytes n ≡ drop_code held.drops n

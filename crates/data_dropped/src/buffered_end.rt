@@ -47,10 +47,10 @@ fn settle(inbox: &mut Inbox, number: Seq48, bytes: &[u8], outcome: &Outcome) -> 
 }
 
 /// An end whose application reads when it likes: data that the end delivers are held in an [`Inbox`], up to a number of
-/// packets, until they are taken. What is dropped for want of room, or after `stop`, the end's acknowledgements tell the
-/// peer by Data Dropped, and that three quarters of the room are taken by Slow Receiver, behind their own options and as
-/// far as they have room (RFC 4340, sections 11.6 and 11.7; that, and when, is own). Nothing else is changed of the end,
-/// and each packet is acknowledged whether its data were kept or dropped.
+/// packets, until they are taken. What is dropped for want of room, or after `stop`, the end's acknowledgements tell
+/// the peer by Data Dropped, and that three quarters of the room are taken by Slow Receiver, behind their own options
+/// and as far as they have room (RFC 4340, sections 11.6 and 11.7; that, and when, is own). Nothing else is changed of
+/// the end, and each packet is acknowledged whether its data were kept or dropped.
 ///
 /// It has the calls of an end that receives; `end` shows the rest. Only `new` takes memory. The `Outbox` is the end's.
 #[derive(Drop)]
@@ -108,10 +108,10 @@ impl<C: Congestion> BufferedEnd<C> {
         self.end.open(out)
     }
 
-    /// Takes bytes that arrived, at most 2,044, as `Endpoint::receive` does. Data that are delivered come into the inbox
-    /// under their packet's number, or are dropped; of these `arrival` tells, and it is None where none were delivered.
-    /// What goes out is the end's frame; an Ack or a DataAck tells behind its options of the drops, and that the inbox is
-    /// slow, as the inbox is then, where there is anything to tell and the packet has room for it.
+    /// Takes bytes that arrived, at most 2,044, as `Endpoint::receive` does. Data that are delivered come into the
+    /// inbox under their packet's number, or are dropped; of these `arrival` tells, and it is None where none were
+    /// delivered. What goes out is the end's frame; an Ack or a DataAck tells behind its options of the drops, and that
+    /// the inbox is slow, as the inbox is then, where there is anything to tell and the packet has room for it.
     pub fn receive(&mut self, bytes: &[u8], out: &mut Outbox) -> Got
         requires { length bytes.now ≤ 2044 }
         ensures step { record { after = self.new; frame = out.new; outcome = result.outcome; arrival = result.arrival } ≡ buffers C.control self.old bytes.now }

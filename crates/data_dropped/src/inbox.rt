@@ -152,9 +152,9 @@ impl Inbox {
     }
 
     /// Writes the Data Dropped bytes of the numbers from `ack` downwards, in place of what was there: of the 2,048
-    /// numbers down to the lowest that has a code, each with the code of its latest drop among the last 2,048 (RFC 4340,
-    /// section 11.7; the bounds are own). They are the first 253 bytes of these, and none where no number has a code.
-    /// True exactly where nothing was cut off.
+    /// numbers down to the lowest that has a code, each with the code of its latest drop among the last 2,048 (RFC
+    /// 4340, section 11.7; the bounds are own). They are the first 253 bytes of these, and none where no number has a
+    /// code. True exactly where nothing was cut off.
     pub fn write(&self, out: &mut DropBytes, ack: Seq48) -> bool
         ensures bytes { out.new.items ≡ drop_bytes self.now.drops ack }
         ensures whole { result ≡ tells_all self.now.drops ack }

@@ -25,30 +25,33 @@ pub fn the_latest_drop_counts()
 {}
 
 /// A report of drops is read back: each number that it reaches has the code that was told, if one was, and no number
-/// below has one (`codes`). So a code is read only where it is the number's (`only`), and where nothing was cut off every
-/// number of the 2,048 from the acknowledgement number down has its code (`all`; RFC 4340, section 11.7). It reaches no
-/// further (`within`), and fits one option (`fits`; section 5.8).
+/// below has one (`codes`). So a code is read only where it is the number's (`only`), and where nothing was cut off
+/// every number of the 2,048 from the acknowledgement number down has its code (`all`; RFC 4340, section 11.7). It
+/// reaches no further (`within`), and fits one option (`fits`; section 5.8).
 pub fn a_report_of_drops_reads_back()
     ensures codes { (drops : List DropEntry) (ack n : ℕ) → HaveCodes drops → ack < 2 ^ 48 → n < 2 ^ 48
         → code_at ack (drop_bytes drops ack) n ≡ (if nat_lt (distance n ack) (numbers_reached drops ack) then drop_code drops n else None) }
     ensures only { (drops : List DropEntry) (ack n code : ℕ) → HaveCodes drops → ack < 2 ^ 48 → n < 2 ^ 48
         → code_at ack (drop_bytes drops ack) n ≡ Some code → drop_code drops n ≡ Some code }
-    ensures all { (drops : List DropEntry) (ack n : ℕ) → HaveCodes drops → ack < 2 ^ 48 → n < 2 ^ 48 → IsTrue (tells_all drops ack)
+    ensures all { (drops : List DropEntry) (ack n : ℕ) → HaveCodes drops → ack < 2 ^ 48 → n < 2 ^ 48
+        → IsTrue (tells_all drops ack)
         → distance n ack < 2048 → code_at ack (drop_bytes drops ack) n ≡ drop_code drops n }
     ensures within { (drops : List DropEntry) (ack : ℕ) → HaveCodes drops → numbers_reached drops ack ≤ 2048 }
     ensures fits { (drops : List DropEntry) (ack : ℕ) → length (drop_bytes drops ack) ≤ 253 }
 {}
 
-/// Over every list of calls of an inbox, what was taken and then what is held is what was kept, whole, once and in order;
-/// no more is held than may be; it was stopped where a call stopped it; and the drops that count are the last 2,048 of
-/// all, each with a Drop Code of three bits (own).
+/// Over every list of calls of an inbox, what was taken and then what is held is what was kept, whole, once and in
+/// order; no more is held than may be; it was stopped where a call stopped it; and the drops that count are the last
+/// 2,048 of all, each with a Drop Code of three bits (own).
 pub fn what_is_kept_is_taken()
-    ensures accounted { (capacity : ℕ) (calls : List InboxCall) → IsAccounted capacity (list_any is_stop calls) (history_after_all (no_history capacity) calls) }
-    ensures codes { (capacity : ℕ) (calls : List InboxCall) → HaveCodes (history_after_all (no_history capacity) calls).held.drops }
+    ensures accounted { (capacity : ℕ) (calls : List InboxCall)
+        → IsAccounted capacity (list_any is_stop calls) (history_after_all (no_history capacity) calls) }
+    ensures codes { (capacity : ℕ) (calls : List InboxCall)
+        → HaveCodes (history_after_all (no_history capacity) calls).held.drops }
 {}
 
-/// The same over every list of calls of an end with an inbox, whose packets are calls of its inbox where they deliver data
-/// (`received`).
+/// The same over every list of calls of an end with an inbox, whose packets are calls of its inbox where they deliver
+/// data (`received`).
 pub fn what_an_end_keeps_is_taken<C: Congestion>()
     ensures received { (p : BufferedPast C) (bytes : List ℕ)
         → (buffers C.control (buffered_now p) bytes).after ≡ buffered_now (past_after C.control p (EndReceives bytes)) }
@@ -58,14 +61,16 @@ pub fn what_an_end_keeps_is_taken<C: Congestion>()
         → HaveCodes (past_all C.control (no_past C.control config congestion capacity) calls).past.held.drops }
 {}
 
-/// Each frame of a step of an end with an inbox tells its drops: it is a packet, its checksum fits, and beside the end's
-/// own options its Data Dropped options are just the report at the number that it acknowledges, as the inbox is after the
-/// step, where that has a byte and the packet has room for it; no other frame has one (own; RFC 4340, section 11.7). Where
-/// the end sends nothing, nothing goes out.
+/// Each frame of a step of an end with an inbox tells its drops: it is a packet, its checksum fits, and beside the
+/// end's own options its Data Dropped options are just the report at the number that it acknowledges, as the inbox is
+/// after the step, where that has a byte and the packet has room for it; no other frame has one (own; RFC 4340, section
+/// 11.7). Where the end sends nothing, nothing goes out.
 pub fn every_frame_tells_its_drops<C: Congestion>()
-    ensures tells { (b : Buffered C) (bytes own : List ℕ) → IsProper b.end.state → (receives b.end.state bytes).frame ≡ Some own
+    ensures tells { (b : Buffered C) (bytes own : List ℕ) → IsProper b.end.state
+        → (receives b.end.state bytes).frame ≡ Some own
         → FrameTells C (buffers C.control b bytes) own }
-    ensures silent { (b : Buffered C) (bytes : List ℕ) → (receives b.end.state bytes).frame ≡ None → (buffers C.control b bytes).frame ≡ None }
+    ensures silent { (b : Buffered C) (bytes : List ℕ) → (receives b.end.state bytes).frame ≡ None
+        → (buffers C.control b bytes).frame ≡ None }
 {}
 
 /// What is read of such a frame: a code only where it is the number's, and every code where nothing was cut off.

@@ -1,5 +1,5 @@
-//! The calls of an ECN-capable receiver and sender: marks in a full window, the writing of a vector and its check, at the sizes
-//! at which `ratios` times those of received numbers alone.
+//! The calls of an ECN-capable receiver and sender: marks in a full window, the writing of a vector and its check, at
+//! the sizes at which `ratios` times those of received numbers alone.
 
 use crate::figures::{ended, no_memory};
 use crate::ratios::{SIZES, WINDOW, newest, zero};

@@ -123,7 +123,8 @@ abbrev pub code_after : {Answer : Type 0} → (Answer → ℕ) → CDoing Answer
 code_after code doing None = 1
 code_after code doing (Some s) = code (doing s).answer
 
--- A call that names a feature or a timer: where there is none of that number, nothing happens, no bytes go out, and the code is 11.
+-- A call that names a feature or a timer: where there is none of that number, nothing happens, no bytes go out, and the
+-- code is 11.
 abbrev pub end_if_known : {Name Answer : Type 0} → (Name → CDoing Answer) → Option Name → Option CEnd → Option CEnd
 end_if_known doing None held = held
 end_if_known doing (Some name) held = kept_after (doing name) held

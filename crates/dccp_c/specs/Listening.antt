@@ -79,8 +79,8 @@ IsServed now s after peer deed bytes code =
     (after ≡ Some (deed_served now s peer deed)) × (bytes ≡ bytes_of (listens s.listening peer deed).frame)
     × (code ≡ listen_code (listens s.listening peer deed).told)
 
--- What a call comes to: it is done, or nothing happens and the code says why: that of the refusal, 1 where there is no listener, or 2 where memory
--- is wanting.
+-- What a call comes to: it is done, or nothing happens and the code says why: that of the refusal, 1 where there is no
+-- listener, or 2 where memory is wanting.
 abbrev pub Serves : ℕ → Option Served → Option Served → Peer → Result Deed ℕ → List ℕ → ℕ → Type 0
 Serves now before after peer (Err refused) bytes code = IsUnserved before after bytes × (code ≡ refused)
 Serves now None after peer (Ok deed) bytes code = IsUnserved None after bytes × (code ≡ 1)
@@ -97,8 +97,8 @@ abbrev pub due_in : ℕ → Option Served → Option (Peer × Timer)
 due_in now None = None
 due_in now (Some s) = first_due_flow now s.timers
 
--- What a tick comes to: the timer is told, and its peer named, or nothing happens: 1 where there is no listener, 12 where no timer has run out,
--- or 2 where memory is wanting.
+-- What a tick comes to: the timer is told, and its peer named, or nothing happens: 1 where there is no listener, 12
+-- where no timer has run out, or 2 where memory is wanting.
 abbrev pub Ticks : ℕ → Option Served → Option Served → Option (Peer × Timer) → List ℕ → PeerAddress → PeerAddress → ℕ → Type 0
 Ticks now None after due bytes old new code = IsUnserved None after bytes × (new ≡ old) × (code ≡ 1)
 Ticks now (Some s) after None bytes old new code = IsUnserved (Some s) after bytes × (new ≡ old) × (code ≡ 12)

@@ -117,7 +117,8 @@ served_through s (it ∷ later) = served_through (deed_served it.now s it.peer i
 abbrev pub untimed : List TimedDeed → List (Peer × Deed)
 untimed deeds = map (λ it. (it.peer, it.deed)) deeds
 
--- Whatever the times, a list of deeds leads a listener that has begun through a run, of which each peer sees the chain of its own deeds.
+-- Whatever the times, a list of deeds leads a listener that has begun through a run, of which each peer sees the chain
+-- of its own deeds.
 abbrev pub CallsAreARun : Type 0
 CallsAreARun =
     (config : ListenConfig) (deeds : List TimedDeed)

@@ -46,9 +46,9 @@ pub extern "C" fn dccp_make(
     }
 }
 
-/// Makes a server's end of the first datagram of a peer, in place of what the handle held, which is freed first. Refused
-/// as `dccp_make` is, and with TOO_LONG; NO_CONNECTION where the datagram opens none, and the frame answers it. Then it
-/// holds nothing.
+/// Makes a server's end of the first datagram of a peer, in place of what the handle held, which is freed first.
+/// Refused as `dccp_make` is, and with TOO_LONG; NO_CONNECTION where the datagram opens none, and the frame answers it.
+/// Then it holds nothing.
 #[unsafe(no_mangle)]
 pub extern "C" fn dccp_accept(
     end: &mut End,
@@ -196,8 +196,8 @@ pub extern "C" fn dccp_prefer(
     wish_code(&answer)
 }
 
-/// A timer of this number has run out, which the caller keeps. UNKNOWN where there is no such timer, and NOTHING_DUE where it has
-/// nothing to do.
+/// A timer of this number has run out, which the caller keeps. UNKNOWN where there is no such timer, and NOTHING_DUE
+/// where it has nothing to do.
 #[unsafe(no_mangle)]
 pub extern "C" fn dccp_timer(
     end: &mut End,
@@ -258,7 +258,8 @@ pub extern "C" fn dccp_until_first(end: &mut End, alloc: Global, now: u64) -> u6
     left.unwrap_or(u64::MAX)
 }
 
-/// `Session::arrived`, which tells the outcome. A datagram of more than 2,044 bytes is answered by TOO_LONG, and changes nothing.
+/// `Session::arrived`, which tells the outcome. A datagram of more than 2,044 bytes is answered by TOO_LONG, and
+/// changes nothing.
 #[unsafe(no_mangle)]
 pub extern "C" fn dccp_receive(
     end: &mut End,

@@ -25,7 +25,8 @@ fn listening_at(settings: &Settings, most: u16, config: &Config) -> ListenConfig
     }
 }
 
-/// What a listener of these settings and wishes is made from, for so many flows at most, or the code by which it is refused.
+/// What a listener of these settings and wishes is made from, for so many flows at most, or the code by which it is
+/// refused.
 pub(crate) fn listening_by(
     settings: &Settings,
     wishes: &[Wish],

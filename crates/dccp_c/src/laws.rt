@@ -8,8 +8,8 @@ pub fn ticks_are_a_tick()
     ensures { TicksAreATick }
 {}
 
-/// Calls of a listener, where memory is found, are a run of it, whatever the times: so each peer is answered by the chain of
-/// its own calls (`each_peer_has_its_own_chain` of dccp_listener; own).
+/// Calls of a listener, where memory is found, are a run of it, whatever the times: so each peer is answered by the
+/// chain of its own calls (`each_peer_has_its_own_chain` of dccp_listener; own).
 pub fn calls_are_a_run()
     ensures { CallsAreARun }
 {}

@@ -69,9 +69,9 @@ fn tell_heard(heard: &Heard, told: &mut Told) -> u32
     }
 }
 
-/// Makes a listener, in place of what the handle held, which is freed first. It serves the own address and port of the settings, by IPv4, and
-/// the Service Code; at most `most` flows stand at a time, 1 to 1,024. Refused as `dccp_make` is, and with UNKNOWN for IPv6 and for
-/// another `most`; then it holds nothing.
+/// Makes a listener, in place of what the handle held, which is freed first. It serves the own address and port of the
+/// settings, by IPv4, and the Service Code; at most `most` flows stand at a time, 1 to 1,024. Refused as `dccp_make`
+/// is, and with UNKNOWN for IPv6 and for another `most`; then it holds nothing.
 #[unsafe(no_mangle)]
 pub extern "C" fn dccp_listener_make(
     listener: &mut ListenerHandle,
@@ -105,8 +105,8 @@ pub extern "C" fn dccp_listener_free(listener: &mut ListenerHandle, alloc: Globa
     drop(listener.take(alloc));
 }
 
-/// `Listener::arrive`, and the timers of the peer's flow go on. BUSY where it answers Busy. UNKNOWN where the first number is none and TOO_LONG
-/// where the datagram is; then nothing changes, nor with NO_MEMORY.
+/// `Listener::arrive`, and the timers of the peer's flow go on. BUSY where it answers Busy. UNKNOWN where the first
+/// number is none and TOO_LONG where the datagram is; then nothing changes, nor with NO_MEMORY.
 #[unsafe(no_mangle)]
 pub extern "C" fn dccp_listener_arrive(
     listener: &mut ListenerHandle,
@@ -299,7 +299,8 @@ pub extern "C" fn dccp_listener_look(
     }
 }
 
-/// The peer at this place, from 0, among those that have a flow, in the order of their addresses and ports. NO_FLOW where there is none.
+/// The peer at this place, from 0, among those that have a flow, in the order of their addresses and ports. NO_FLOW
+/// where there is none.
 #[unsafe(no_mangle)]
 pub extern "C" fn dccp_listener_peer(
     listener: &mut ListenerHandle,

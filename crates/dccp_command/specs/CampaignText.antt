@@ -32,8 +32,8 @@ report_text r = run_text r ++ arrival_text r ++ count_line (codes "refused ") r.
 unfoldable pub campaign_text : Campaign → List ℕ
 campaign_text c = report_text (totals c.first c.seeds c.events)
 
--- What a campaign owes, which reads nothing and has nothing to refuse: Done is the whole text, and what was cut off is a front of it. It ends
--- with Write only where the sink failed, and where that did not, with Done, if memory is found.
+-- What a campaign owes, which reads nothing and has nothing to refuse: Done is the whole text, and what was cut off is
+-- a front of it. It ends with Write only where the sink failed, and where that did not, with Done, if memory is found.
 pub record AnswersUnread (text : List ℕ) (result : Status) (before after : Option (List ℕ)) (sink_failed : Type 0) : Type 0 where
   pub whole : result ≡ status.Done → HasTaken before after text
   pub front : IsCutOff result → HasBegun before after text

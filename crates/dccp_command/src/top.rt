@@ -27,16 +27,15 @@ use tool_show::show_capture;
 
 /// Does what the words ask for (own), those after the program's name. `run` plays a schedule: it reads `input`, and
 /// writes to `output` a line for each event and for each frame that it sent, and at last the state of both ends.
-/// `replay` hands the frames of `input` to one end, and writes the same of it; where words ask for it the end has a receive
-/// buffer, which is read as lines say. `show` reads a capture, and writes a
-/// line for each DCCP packet in it, and at last how many records it has or why it ends early. `listen` hands what many
-/// peers send to one listener, and writes a line for what each is answered and for each frame that goes to one, and at
-/// last the flows. `ecn` lets events take place between an ECN-capable sender and an ECN-capable receiver, and writes a
-/// line for each. Each form answers while it reads, a line or a record at a time: the answer goes out in blocks, and
-/// before more of the input is asked for.
-/// `campaign` reads nothing: it runs seeds on as many threads as it is told, each of which calls `gate` before each
-/// seed that it runs, and writes what was counted of all of them, the same for every number of threads and for every
-/// gate.
+/// `replay` hands the frames of `input` to one end, and writes the same of it; where words ask for it the end has a
+/// receive buffer, which is read as lines say. `show` reads a capture, and writes a line for each DCCP packet in it,
+/// and at last how many records it has or why it ends early. `listen` hands what many peers send to one listener, and
+/// writes a line for what each is answered and for each frame that goes to one, and at last the flows. `ecn` lets
+/// events take place between an ECN-capable sender and an ECN-capable receiver, and writes a line for each. Each form
+/// answers while it reads, a line or a record at a time: the answer goes out in blocks, and before more of the input is
+/// asked for. `campaign` reads nothing: it runs seeds on as many threads as it is told, each of which calls `gate`
+/// before each seed that it runs, and writes what was counted of all of them, the same for every number of threads and
+/// for every gate.
 ///
 /// Words are judged first; after that the first refusal met in the order of reading decides. With status 0 or 1 the
 /// output is the text of the whole input, and each event of a schedule took place in a safe world and left a safe one.
@@ -50,12 +49,14 @@ pub fn dccp<R: Threads + Sync, G: Gate + Sync, S: Source, K: Sink>(
     input: &mut S,
     output: &mut K,
 ) -> Status
-    // Words that are none of the forms come to the usage line, as far as the sink takes it. Where no memory was left to read settings, nothing
-    // is written.
+    // Words that are none of the forms come to the usage line, as far as the sink takes it. Where no memory was left to
+    // read settings, nothing is written.
     ensures words { result ≡ Status.Words → form_of words.now ≡ None }
-    ensures others { form_of words.now ≡ None → (result ≡ Status.Words) ⊎ ((result ≡ Status.Memory) × (has_settings words.now ≡ true)) }
+    ensures others { form_of words.now ≡ None
+        → (result ≡ Status.Words) ⊎ ((result ≡ Status.Memory) × (has_settings words.now ≡ true)) }
     ensures unread { form_of words.now ≡ None → input.new ≡ input.old }
-    ensures usage { result ≡ Status.Words → IsWritten usage (K.taken output.old) (K.taken output.new) (SinkFails K.faults K.empty_takes output.old output.new) }
+    ensures usage { result ≡ Status.Words
+        → IsWritten usage (K.taken output.old) (K.taken output.new) (SinkFails K.faults K.empty_takes output.old output.new) }
     ensures silent { form_of words.now ≡ None → result ≡ Status.Memory → output.new ≡ output.old }
 
     // What the other forms write, how they end, how far a refused input was read, and what held of both ends of `run`.
@@ -81,7 +82,8 @@ pub fn dccp<R: Threads + Sync, G: Gate + Sync, S: Source, K: Sink>(
     ensures nonces { OnEcn words.now (S.left input.old) (λ bytes.
         Answers (ecn_text bytes) (ecn_refused bytes) result (S.left input.new) (K.taken output.old) (K.taken output.new)) }
     ensures nonces_past { OnEcn words.now (S.left input.old) (λ bytes. StopsWithin 16384 (ecn_accepted bytes) bytes result (S.left input.new)) }
-    ensures campaign_unread { (campaign : Campaign) → form_of words.now ≡ Some (Form.Campaign campaign) → input.new ≡ input.old }
+    ensures campaign_unread { (campaign : Campaign) → form_of words.now ≡ Some (Form.Campaign campaign)
+        → input.new ≡ input.old }
     ensures totals { (campaign : Campaign) → form_of words.now ≡ Some (Form.Campaign campaign)
         → AnswersUnread (campaign_text campaign) result (K.taken output.old) (K.taken output.new) (SinkFails K.faults K.empty_takes output.old output.new) }
 

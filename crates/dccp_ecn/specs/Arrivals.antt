@@ -43,7 +43,8 @@ abbrev pub known_or_marked : Option Arrived → Arrived
 known_or_marked None = came.Marked
 known_or_marked (Some how) = how
 
--- A number that is new is marked, by which others may leave the set. It came as this arrival tells, and the others as before.
+-- A number that is new is marked, by which others may leave the set. It came as this arrival tells, and the others as
+-- before.
 abbrev pub with_arrival : Arrivals → ℕ → Arrived → Arrivals
 with_arrival e n how =
     arrivals (marked e.set n) (arrivals_by (λ m. known_or_marked (how_in (arrival_of n how ∷ e.first) m)) (marked e.set n).numbers)

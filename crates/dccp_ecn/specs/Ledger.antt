@@ -1,5 +1,5 @@
--- What a sender keeps of the nonces that it sent, and what it tells of a vector by them (RFC 4340, section 12.2; how many it keeps
--- is own).
+-- What a sender keeps of the nonces that it sent, and what it tells of a vector by them (RFC 4340, section 12.2; how
+-- many it keeps is own).
 use Rattle.std.specs.Prelude.{ℕ, ◌+◌, ◌%◌, ◌==◌, zero, suc, Bool, false, List, [], ◌∷◌, take, slice_get, slice_index_or, Option, Some, None, if◌then◌else◌}
 use Rattle.seq_circle.specs.Circle.{distance, down, residue}
 use Rattle.dccp_ecn.specs.declared.ledger.Check.{Check}

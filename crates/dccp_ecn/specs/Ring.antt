@@ -1,4 +1,5 @@
--- How numbers came, each at the place of its remainder by 2,048: numbers less than 2,048 above one floor have places of their own.
+-- How numbers came, each at the place of its remainder by 2,048: numbers less than 2,048 above one floor have places of
+-- their own.
 use Rattle.std.specs.Prelude.{◌≡◌, ℕ, ◌%◌, ◌^◌, ◌<◌, ◌==◌, nat_lt, List, Option, Some, None, is_some, slice_index_or, if◌then◌else◌}
 use Rattle.seq_circle.specs.Circle.{distance}
 use Rattle.run_list.specs.MarkedSet.{MarkedSet, has}

@@ -1,4 +1,5 @@
--- The run by itself: what was sent, what came, and what each report tells of, whatever the two ends keep (RFC 4340, section 12.2).
+-- The run by itself: what was sent, what came, and what each report tells of, whatever the two ends keep (RFC 4340,
+-- section 12.2).
 use Rattle.std.specs.Prelude.{◌≡◌, ℕ, ◌+◌, ◌++◌, nat_le, Bool, List, [], ◌∷◌, length, map, slice_get, Option, Some, None, if◌then◌else◌}
 use Rattle.std.specs.List.{list_any}
 use Rattle.dccp_ecn.specs.declared.ledger.Check.{Check}
@@ -10,7 +11,8 @@ use Rattle.dccp_ecn.specs.Ledger.{Ledger, ledger, with_nonce_sent}
 use Rattle.dccp_ecn.specs.Nonces.{zeros_in}
 use Rattle.dccp_ecn.specs.World.{EcnReport, EcnState, after_events, checks, checks_forged, ecn_begins, ecn_state, greatest_came, marked_at, most_sent, report_at, unmarked_at}
 
--- the nonces of the packets that were sent, the receipts, and for each report the receipts before it, all in their order
+-- the nonces of the packets that were sent, the receipts, and for each report the receipts before it, all in their
+-- order
 pub record EcnRun : Type 0 where
   pub sent : List Bool
   pub receipts : List Arrival
@@ -101,7 +103,8 @@ is_old sent n = nat_le (n + 4096) (length sent)
 abbrev pub unless_old : List Bool → EcnReport → Check → Check
 unless_old sent report check = if list_any (is_old sent) (zeros_in report.ack report.bytes) then Unknown else check
 
--- Each report fits, and does not with the other nonce, unless it tells of packets that are too old (RFC 4340, section 12.2).
+-- Each report fits, and does not with the other nonce, unless it tells of packets that are too old (RFC 4340, section
+-- 12.2).
 abbrev pub AreHonest : EcnState → Type 0
 AreHonest w = (index : ℕ) (report : EcnReport) → slice_get w.reports index ≡ Some report
     → (checks w.ledger report ≡ unless_old w.sent report Fits) × (checks_forged w.ledger report ≡ unless_old w.sent report Unfit)

@@ -21,8 +21,8 @@ pub record EcnReport : Type 0 where
   pub kind : ℕ
   pub bytes : List ℕ
 
--- The nonces of all packets that were sent, in their order; what the sender keeps of them; what the receiver keeps of the packets
--- that came; the greatest number that came, if any; and all reports, in their order.
+-- The nonces of all packets that were sent, in their order; what the sender keeps of them; what the receiver keeps of
+-- the packets that came; the greatest number that came, if any; and all reports, in their order.
 pub record EcnState : Type 0 where
   pub sent : List Bool
   pub ledger : Ledger

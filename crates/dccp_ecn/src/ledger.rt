@@ -22,8 +22,8 @@ pub enum Check {
     Unknown,
 }
 
-/// The nonces of the last 4,096 packets that an ECN-capable end sent (RFC 4340, section 12.2; the count is own). Contracts
-/// see the number of the next packet, and the nonces that are kept, the newest first.
+/// The nonces of the last 4,096 packets that an ECN-capable end sent (RFC 4340, section 12.2; the count is own).
+/// Contracts see the number of the next packet, and the nonces that are kept, the newest first.
 ///
 /// `sent` counts a packet, and `check` tells whether an Ack Vector of the peer can be honest. None takes memory.
 #[derive(Drop)]
@@ -89,10 +89,10 @@ impl NonceLedger {
         number
     }
 
-    /// Tells whether the type `kind` of an Ack Vector from `ack` down, 38 or 39, is that of the nonces of all numbers that
-    /// its bytes report with state 0: `Unknown` exactly where one of these nonces is not kept, and otherwise `Fits` exactly
-    /// where their exclusive or is `kind` less 38 (RFC 4340, section 12.2). A number that is reported twice, which takes
-    /// more bytes than any packet has, counts twice.
+    /// Tells whether the type `kind` of an Ack Vector from `ack` down, 38 or 39, is that of the nonces of all numbers
+    /// that its bytes report with state 0: `Unknown` exactly where one of these nonces is not kept, and otherwise
+    /// `Fits` exactly where their exclusive or is `kind` less 38 (RFC 4340, section 12.2). A number that is reported
+    /// twice, which takes more bytes than any packet has, counts twice.
     pub fn check(&self, ack: Seq48, kind: u8, body: &[u8]) -> Check
         ensures value { result ≡ vector_checked self.now ack kind body.now }
         ensures unknown { (result ≡ Check.Unknown) ↔ IsTrue (list_any (λ n. not (is_some (nonce_kept self.now n))) (zeros_in ack body.now)) }

@@ -1,5 +1,5 @@
-//! The exclusive or of the nonces that a vector reports (RFC 4340, section 12.2): one reading of a vector's bytes, for the
-//! end that writes them and for the one that checks them.
+//! The exclusive or of the nonces that a vector reports (RFC 4340, section 12.2): one reading of a vector's bytes, for
+//! the end that writes them and for the one that checks them.
 ghost use Rattle.std.specs.Prelude.{◌≡◌, ◌<◌, ◌≤◌, ◌^◌, ℕ, Bool, Option};
 ghost use Rattle.dccp_options.specs.Vectors.{run_length, state_of};
 ghost use Rattle.run_list.specs.Runs.{downwards};
@@ -62,8 +62,8 @@ fn sum_of_byte<N: Nonces>(nonces: &N, hi: Seq48, byte: u8) -> Option<bool>
     }
 }
 
-/// The exclusive or of the nonces of the numbers that the bytes of a vector report with state 0, or None where the nonce
-/// of one of them is not known.
+/// The exclusive or of the nonces of the numbers that the bytes of a vector report with state 0, or None where the
+/// nonce of one of them is not known.
 pub(crate) fn sum_of<N: Nonces>(nonces: &N, ack: Seq48, bytes: &[u8]) -> Option<bool>
     ensures { result ≡ sum_of (N.nonce_of nonces.now) (zeros_in ack bytes.now) }
 {

@@ -31,11 +31,11 @@ pub struct EcnVector {
 }
 
 /// The numbers that an ECN-capable end has received, down to a floor, with how each came first: marked on its way, or
-/// unmarked and with which nonce (RFC 4340, section 12.2; the floor is own, and is that of [`RunList`]). Contracts see the
-/// set with its floor, and how each of its numbers came, in the set's order.
+/// unmarked and with which nonce (RFC 4340, section 12.2; the floor is own, and is that of [`RunList`]). Contracts see
+/// the set with its floor, and how each of its numbers came, in the set's order.
 ///
-/// `start` begins a connection, `took` takes a packet in, and `write` writes the Ack Vector of an acknowledgement with its
-/// nonce. No call after `new` takes memory.
+/// `start` begins a connection, `took` takes a packet in, and `write` writes the Ack Vector of an acknowledgement with
+/// its nonce. No call after `new` takes memory.
 #[derive(Drop)]
 pub struct EcnReceived {
     set: RunList,
@@ -125,10 +125,10 @@ impl EcnReceived {
     }
 
     /// Puts the bytes of the vector from `ack` down to the floor in place of what `out` had: state 0 for what came
-    /// unmarked, 1 for what came marked and 3 for what did not come, runs of at most 64, and of these bytes the first 253,
-    /// which one option has room for (RFC 4340, section 11.4). It is whole exactly where there are no more. Its type tells the
-    /// exclusive or of the nonces of the numbers that these bytes report with state 0 (RFC 4340, section 12.2). Where `ack`
-    /// is below the floor the vector has no byte, is whole and has type 38.
+    /// unmarked, 1 for what came marked and 3 for what did not come, runs of at most 64, and of these bytes the first
+    /// 253, which one option has room for (RFC 4340, section 11.4). It is whole exactly where there are no more. Its
+    /// type tells the exclusive or of the nonces of the numbers that these bytes report with state 0 (RFC 4340, section
+    /// 12.2). Where `ack` is below the floor the vector has no byte, is whole and has type 38.
     pub fn write(&self, out: &mut VectorBytes, ack: Seq48) -> EcnVector
         ensures bytes { out.new.items ≡ ecn_bytes self.now ack }
         ensures fits { length out.new.items ≤ 253 }

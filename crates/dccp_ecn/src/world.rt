@@ -12,12 +12,12 @@ use std::alloc::Global;
 use std::marker::Model;
 
 /// An ECN-capable sender, an ECN-capable receiver, and every packet and every report that either ever sent (own).
-/// [`EcnWorld::step`] lets one thing happen: a packet is sent or comes, the receiver reports, or the sender checks a report.
-/// Packets come unmarked or marked, in any order, late, again or never. The first packet has the number 1.
+/// [`EcnWorld::step`] lets one thing happen: a packet is sent or comes, the receiver reports, or the sender checks a
+/// report. Packets come unmarked or marked, in any order, late, again or never. The first packet has the number 1.
 ///
-/// After each step every report is honest, whatever came: the sender's check of it answers Unknown exactly where it tells
-/// of a packet before the last 4,096 that it came unmarked, and otherwise Fits; with the other nonce, Unfit (RFC 4340,
-/// section 12.2).
+/// After each step every report is honest, whatever came: the sender's check of it answers Unknown exactly where it
+/// tells of a packet before the last 4,096 that it came unmarked, and otherwise Fits; with the other nonce, Unfit (RFC
+/// 4340, section 12.2).
 #[derive(Drop)]
 pub struct EcnWorld {
     halves: Halves,
@@ -43,10 +43,10 @@ impl EcnWorld {
         Ok(EcnWorld { halves })
     }
 
-    /// Lets one event happen: exactly what `happens_by` says of it. Refusals, in this order: `NoSuchFrame` exactly where an
-    /// index is not below the number of packets, or of reports for `Check` and `Forge`; `Full` exactly for a `Send` after
-    /// 2^46 packets, or a `Report` after 2^46 reports; `NoMemory`. Each changes nothing. A `Report` before any packet came
-    /// keeps no report.
+    /// Lets one event happen: exactly what `happens_by` says of it. Refusals, in this order: `NoSuchFrame` exactly
+    /// where an index is not below the number of packets, or of reports for `Check` and `Forge`; `Full` exactly for a
+    /// `Send` after 2^46 packets, or a `Report` after 2^46 reports; `NoMemory`. Each changes nothing. A `Report` before
+    /// any packet came keeps no report.
     ///
     /// After it, refused or not, every report is honest, as stands over [`EcnWorld`].
     pub fn step(&mut self, event: EcnEvent) -> Result<EcnSeen, EcnFault>
@@ -75,8 +75,8 @@ impl EcnWorld {
         self.halves.reports().len() as u64
     }
 
-    /// The report with this index, from 0: the number that it acknowledges, the type of its Ack Vector and that one's bytes.
-    /// None exactly where the index is not below the number of reports.
+    /// The report with this index, from 0: the number that it acknowledges, the type of its Ack Vector and that one's
+    /// bytes. None exactly where the index is not below the number of reports.
     pub fn report(&self, index: u64) -> Option<(Seq48, u8, &[u8])>
         ensures value { MatchOption result (slice_get self.now.reports index ≡ None) (λ report. slice_get self.now.reports index ≡ Some (record { ack = report.0; kind = report.1; bytes = report.2.now })) }
         ensures none { IsNone result ↔ (length self.now.reports ≤ index) }

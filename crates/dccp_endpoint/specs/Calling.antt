@@ -42,8 +42,8 @@ use Rattle.end_answers.specs.declared.calls.Timer.TheVariants as timers
 abbrev pub Called : Type 0 → Type 0
 Called Fault = Step (Result (Unit {0}) Fault)
 
--- A client asks for its service (section 8.1.1). The Request opens the offered rows, and carries the Changes of these and of all
--- others that ask. Once their Changes have gone out:
+-- A client asks for its service (section 8.1.1). The Request opens the offered rows, and carries the Changes of these
+-- and of all others that ask. Once their Changes have gone out:
 abbrev pub requests_asking : {Answer : Type 0} → EndState → List Key → Answer → Step Answer
 requests_asking e keys answer = sends e (saying (kind.Request e.config.service) [] e.rows keys) answer
 
@@ -170,17 +170,19 @@ abbrev pub sends_data : EndState → List ℕ → Bool → Called SendFault
 sends_data e payload true = sends_ack e (carrying (kind.DataAck (Long e.marks.gsr)) payload) (Ok tt)
 sends_data e payload false = sends e (carrying kind.Data payload) (Ok tt)
 
--- The congestion control hears of the number of data that go out. Data that are refused change nothing, and it hears of none of them.
+-- The congestion control hears of the number of data that go out. Data that are refused change nothing, and it hears of
+-- none of them.
 abbrev pub sends_unless : EndState → List ℕ → Bool → Option SendFault → Called SendFault
 sends_unless e payload acknowledges (Some fault) = idle e (Err fault)
 sends_unless e payload acknowledges None = with_calls (Sends (next_number e) ∷ []) (sends_data e payload acknowledges)
 
--- A DataAck goes out where an acknowledgement is owed. Whether the congestion control lets a further packet be sent, comes with the call.
+-- A DataAck goes out where an acknowledgement is owed. Whether the congestion control lets a further packet be sent,
+-- comes with the call.
 unfoldable pub sends_payload : EndState → List ℕ → Bool → Called SendFault
 sends_payload e payload may_send = sends_unless e payload e.owed (send_fault e payload may_send)
 
--- The phases in which a timer has something to do; the timer negotiate only if a row asks, and the timer rto only if something is in
--- flight.
+-- The phases in which a timer has something to do; the timer negotiate only if a row asks, and the timer rto only if
+-- something is in flight.
 abbrev pub applies_in : Timer → Phase → Bool
 applies_in timers.Request phases.Request = true
 applies_in timers.Ack phases.PartOpen = true
@@ -218,8 +220,8 @@ abbrev pub times_out : EndState → Bool → Step Bool
 times_out e true = with_calls (TimesOut ∷ []) (idle e true)
 times_out e false = idle e false
 
--- What a timer does: the Request, Close or CloseReq goes out again, an Ack goes out, alone or with the Changes, the congestion control
--- hears of it, and TIMEWAIT ends.
+-- What a timer does: the Request, Close or CloseReq goes out again, an Ack goes out, alone or with the Changes, the
+-- congestion control hears of it, and TIMEWAIT ends.
 abbrev pub fires_in : EndState → Timer → Bool → Phase → Step Bool
 fires_in e timers.Request in_flight phases.Request = requests e true
 fires_in e timers.Ack in_flight phases.PartOpen = sends_ack e (alone (kind.Ack (Long e.marks.gsr))) true

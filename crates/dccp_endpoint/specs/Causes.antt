@@ -113,8 +113,8 @@ is_waiting phases.CloseReq = false
 is_waiting phases.Closing = false
 is_waiting phases.TimeWait = false
 
--- Where the phase may go. An end waits for a first packet as long as it heard nothing, or from `open` on; and it leaves CLOSED by
--- `open` alone.
+-- Where the phase may go. An end waits for a first packet as long as it heard nothing, or from `open` on; and it leaves
+-- CLOSED by `open` alone.
 pub record IsMoving (e : EndState) (hearing : Hearing) (opens : Bool) (sending : Sending) (phase : Phase) : Type 0 where
   pub its_role : is_phase_of phase e.config.role ≡ true
   pub live : is_live phase ≡ true → (is_live e.phase ≡ true) ⊎ IsFirst hearing
@@ -211,8 +211,8 @@ pub data Occasion (e : EndState) (given : Input) (heard : List Turn) (confirms :
       → is_asking_now e k wish ≡ false → heard ≡ [] → confirms ≡ []
       → Occasion e given heard confirms [] (turn_of k (Prefers wish) ∷ []) []
 
--- The rows' turns, in order: what was heard, offers, a preference, and the Changes that go out. No row's Change goes out beside a
--- Confirm for it.
+-- The rows' turns, in order: what was heard, offers, a preference, and the Changes that go out. No row's Change goes
+-- out beside a Confirm for it.
 pub record AreTurns (e : EndState) (given : Input) (hearing : Hearing) (turns : List Turn) : Type 0 where
   pub heard : List Turn
   pub confirms : List Due
@@ -236,7 +236,8 @@ asks_for_request (input.SendsEarly payload may_send) = false
 asks_for_request (input.Fires timers.Request in_flight) = true
 asks_for_request (input.Fires _ in_flight) = false
 
--- With what offers come up: the Request, as the client opens and again, and the Response to a packet that was taken (own).
+-- With what offers come up: the Request, as the client opens and again, and the Response to a packet that was taken
+-- (own).
 pub data IsOffering (given : Input) (hearing : Hearing) : Sending → Type 0 where
   InRequest : (packet : Draft) → asks_for_request given ≡ true → packet_type packet.kind ≡ types.Request → IsOffering given hearing (Next packet)
   InResponse : (packet : Draft) (first : Bool) (number : ℕ) → hearing ≡ Heard first number Taken → packet_type packet.kind ≡ types.Response
@@ -252,8 +253,8 @@ abbrev pub vector_of : EndState → Effect → Kind → List Item
 vector_of e f k =
     vector_items (is_acking (packet_type k) && sends_vectors (rows_by e.rows f)) e.config.vectors (told_by e.received f).set (greatest_by e.marks.gsr f.hearing)
 
--- What goes out says all that is due: the Ack Vector, the Confirms, on a packet that acknowledges the one that they answer, then the
--- Changes of the rows as they are after the step.
+-- What goes out says all that is due: the Ack Vector, the Confirms, on a packet that acknowledges the one that they
+-- answer, then the Changes of the rows as they are after the step.
 pub data Says (e : EndState) (f : Effect) (confirms : List Due) (keys : List Key) : Sending → Type 0 where
   SaysNothing : confirms ≡ [] → keys ≡ [] → Says e f confirms keys Silent
   SaysAll : (packet : Draft) → packet.options ≡ vector_of e f packet.kind ++ (confirm_items confirms ++ change_items (rows_by e.rows f) keys)
@@ -266,8 +267,8 @@ HasData Silent = ⊥
 HasData (Next packet) = carries_data (packet_type packet.kind) ≡ true
 HasData (WithoutConnection number packet) = ⊥
 
--- Why the congestion control is called: for the report of a packet that was taken, and where the value of CCID changes; for data that
--- go out; and for its timer, while something is in flight.
+-- Why the congestion control is called: for the report of a packet that was taken, and where the value of CCID changes;
+-- for data that go out; and for its timer, while something is in flight.
 pub data IsCalling (e : EndState) (given : Input) (hearing : Hearing) (sending : Sending) : List Call → Type 0 where
   CallsNothing : IsCalling e given hearing sending []
   CallsFor : (a : Incoming) (h : Heeding) → WasTaken e given hearing a → AreOptionsRead e a h → IsCalling e given hearing sending (calls_for a e.rows h.rows)
@@ -277,7 +278,8 @@ pub data IsCalling (e : EndState) (given : Input) (hearing : Hearing) (sending :
       → IsCalling e given hearing sending (call.Sends (next_number e) ∷ [])
   CallsTimeout : given ≡ input.Fires timers.Rto true → e.phase ≡ phases.Open → IsCalling e given hearing sending (call.TimesOut ∷ [])
 
--- Why each part is what it is. What is owed and how many data packets are not acknowledged decide only which packet goes out.
+-- Why each part is what it is. What is owed and how many data packets are not acknowledged decide only which packet
+-- goes out.
 pub record IsCaused (e : EndState) (given : Input) (f : Effect) : Type 0 where
   pub hears : IsHearing e given f.phase f.hearing
   pub acks : IsAcknowledging e given f.acknowledged

@@ -31,8 +31,8 @@ report_calls (Some ack) options ratio = handing (report_of ack options) ratio
 abbrev pub start_calls : ℕ → ℕ → List Call
 start_calls old new = if old == new then [] else Starts new ∷ []
 
--- What is due for a packet whose options were read to their end: its report, with the value of Ack Ratio here after the packet
--- (section 11.3), and then a start; by the rows before and after it.
+-- What is due for a packet whose options were read to their end: its report, with the value of Ack Ratio here after the
+-- packet (section 11.3), and then a start; by the rows before and after it.
 abbrev pub calls_for : Incoming → List Row → List Row → List Call
 calls_for a old new =
     report_calls (reported_from a.kind a.ack) a.options (value_in new AckRatio Here) ++ start_calls (value_in old Ccid Here) (value_in new Ccid Here)

@@ -45,7 +45,8 @@ with_control control congestion step =
       answer = step.answer;
     }
 
--- An end that has sent and received nothing: its congestion control is started with the CCID that the feature has at first.
+-- An end that has sent and received nothing: its congestion control is started with the CCID that the feature has at
+-- first.
 abbrev pub begins : {C : Type 0} → Control C → Config → C → End C
 begins control config congestion = record { state = new_end config; congestion = control.started congestion (initial_of Ccid) }
 

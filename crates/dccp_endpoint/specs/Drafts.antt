@@ -31,7 +31,8 @@ alone kind = record { kind = kind; options = []; payload = [] }
 abbrev pub carrying : Kind → List ℕ → Draft
 carrying kind payload = record { kind = kind; options = []; payload = payload }
 
--- the header of an end's own packets, with short numbers or with long ones: all of the packet is covered, and the checksum follows
+-- the header of an end's own packets, with short numbers or with long ones: all of the packet is covered, and the
+-- checksum follows
 abbrev pub own_header : Config → Bool → ℕ → Kind → Header
 own_header config short number kind =
     record {
@@ -52,7 +53,8 @@ framed config short number kind area payload = sealed config.pseudo_out (spellin
 abbrev pub frame_of : Config → Bool → ℕ → Draft → List ℕ
 frame_of config short number draft = framed config short number draft.kind (written draft.options) draft.payload
 
--- the widths of the fields (RFC 4340, section 5) and the order of the lists, which every configuration of the program keeps
+-- the widths of the fields (RFC 4340, section 5) and the order of the lists, which every configuration of the program
+-- keeps
 pub record Fits (config : Config) : Type 0 where
   pub own_port : config.own_port < 2 ^ 16
   pub peer_port : config.peer_port < 2 ^ 16
@@ -61,7 +63,8 @@ pub record Fits (config : Config) : Type 0 where
   -- what is wished and offered is so for each feature at each place
   pub lists : IsLists config.lists
 
--- A draft that has a frame: numbers in the long form, and an option area and data that fit. A Data packet has no options.
+-- A draft that has a frame: numbers in the long form, and an option area and data that fit. A Data packet has no
+-- options.
 pub record IsSendable (draft : Draft) : Type 0 where
   pub is_long : has_forms true draft.kind ≡ true
   pub detail : HasDetail draft.kind
@@ -70,7 +73,8 @@ pub record IsSendable (draft : Draft) : Type 0 where
   pub area : fixed_length true (packet_type draft.kind) + length (padded (written draft.options)) ≤ 1020
   pub data_fits : length draft.payload ≤ 1024
 
--- The bytes are read as a packet with this header but for the checksum, and with the draft's options and data; the checksum fits.
+-- The bytes are read as a packet with this header but for the checksum, and with the draft's options and data; the
+-- checksum fits.
 pub record ReadsAs (header : Header) (pseudo : Pseudo) (draft : Draft) (bytes : List ℕ) : Type 0 where
   pub sum : ℕ
   pub is_packet : decoded bytes

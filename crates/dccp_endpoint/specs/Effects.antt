@@ -1,4 +1,5 @@
--- What one step of an end does, as plain data: a part for each part of the end (own). Why each part is what it is, stands in Causes.
+-- What one step of an end does, as plain data: a part for each part of the end (own). Why each part is what it is,
+-- stands in Causes.
 use Rattle.std.specs.Prelude.{◌&&◌, ℕ, Bool, true, false, List, [], Option, Some, None}
 use Rattle.ack_vectors.specs.Kept.{Kept, marked_by}
 use Rattle.ack_vectors.specs.Kept as kept
@@ -21,14 +22,14 @@ use Rattle.feature_machine.specs.Turns.{Turn, turned}
 use Rattle.feature_machine.specs.declared.row.Row.{Row}
 use Rattle.run_list.specs.MarkedSet.{answer_to}
 
--- What became of a valid packet, other than a Reset: step 7 refused it, it was answered with a Reset 5, 6 or 8 that closed the end,
--- or it was taken.
+-- What became of a valid packet, other than a Reset: step 7 refused it, it was answered with a Reset 5, 6 or 8 that
+-- closed the end, or it was taken.
 pub data Passing : Type 0 where
   Refused Shut Taken : Passing
 
--- What was heard: nothing new, or a valid packet's number, as the first of the connection or not. That is a Bool of one constructor, so
--- that each part of the end is computed while the case is still open. Whether OSR changes is a Bool too, since its new value can only be
--- the number heard.
+-- What was heard: nothing new, or a valid packet's number, as the first of the connection or not. That is a Bool of one
+-- constructor, so that each part of the end is computed while the case is still open. Whether OSR changes is a Bool
+-- too, since its new value can only be the number heard.
 pub data Hearing : Type 0 where
   Unheard : Hearing
   Heard : (first : Bool) (number : ℕ) (how : Passing) → Hearing
@@ -61,8 +62,8 @@ pub record Effect : Type 0 where
   pub owed : Bool
   pub unacked : ℕ
 
--- An acknowledgement is owed once a packet was taken. What is owed after a step is computed from what was heard and what goes out, so a
--- Close that is marked and answered with a Reset is no case of its own.
+-- An acknowledgement is owed once a packet was taken. What is owed after a step is computed from what was heard and
+-- what goes out, so a Close that is marked and answered with a Reset is no case of its own.
 abbrev pub owed_as : Passing → Bool → Bool
 owed_as Taken old = true
 owed_as Refused old = old
@@ -73,8 +74,8 @@ abbrev pub owed_by : Bool → Hearing → Bool
 owed_by old Unheard = old
 owed_by old (Heard first number how) = owed_as how old
 
--- The effect of a step in which no row has a turn, nothing is looked up, nothing is due to a congestion control, and neither data are
--- delivered nor an Ack or a DataAck goes out.
+-- The effect of a step in which no row has a turn, nothing is looked up, nothing is due to a congestion control, and
+-- neither data are delivered nor an Ack or a DataAck goes out.
 abbrev pub effect_of : EndState → Hearing → Option ℕ → Bool → Phase → Bool → Sending → Effect
 effect_of e hearing acknowledged opening phase opens sending =
     record {
@@ -95,7 +96,8 @@ effect_of e hearing acknowledged opening phase opens sending =
 abbrev pub effect_of_sending : EndState → Sending → Effect
 effect_of_sending e sending = effect_of e Unheard None false e.phase false sending
 
--- What each part makes of the old value. A first number takes the place of the old one; any other leaves ISR and raises GSR.
+-- What each part makes of the old value. A first number takes the place of the old one; any other leaves ISR and raises
+-- GSR.
 abbrev pub isr_or : Bool → ℕ → ℕ → ℕ
 isr_or true number old = number
 isr_or false number old = old
@@ -182,7 +184,8 @@ is_acking_sent Silent = false
 is_acking_sent (Next packet) = is_acking (packet_type packet.kind)
 is_acking_sent (WithoutConnection number packet) = false
 
--- What is kept of received numbers: the set begins, a number is marked, one is looked up, and the packet's own Ack Vector is recorded.
+-- What is kept of received numbers: the set begins, a number is marked, one is looked up, and the packet's own Ack
+-- Vector is recorded.
 abbrev pub received_by : EndState → Effect → Kept
 received_by e f =
     recorded_by (is_acking_sent f.sending && sends_vectors (rows_by e.rows f)) e.config.vectors (told_by e.received f) (next_number e)
@@ -213,7 +216,8 @@ end_after e f =
       unacked = f.unacked;
     }
 
--- The frame of a step, in the form in which the end as the step leaves it sends the packet; a Reset without a connection is long.
+-- The frame of a step, in the form in which the end as the step leaves it sends the packet; a Reset without a
+-- connection is long.
 abbrev pub frame_by : EndState → Effect → Sending → Option (List ℕ)
 frame_by e f Silent = None
 frame_by e f (Next packet) = Some (frame_of e.config (goes_short (end_after e f) packet) (next_number e) packet)

@@ -21,11 +21,11 @@ use Rattle.validity_windows.specs.declared.marks.Marks.{Marks}
 use Rattle.validity_windows.specs.Beginning.{new_marks}
 use Rattle.validity_windows.specs.Windows.{InRange}
 
--- A configuration, the phase, whether it was opened, the marks and the rows of the negotiation. The marks are the first and greatest
--- numbers sent and received and the widths of the windows (RFC 4340, section 7.1); until isr is set, isr, gsr and osr are 0. There is
--- a row for each feature at each place. Then the set of the numbers that were taken, with the records of the Ack Vectors that were
--- sent (section 11.4); how many numbers were taken; whether a packet was taken since the last Ack or DataAck went out; and how many
--- data packets were delivered since then (section 11.3).
+-- A configuration, the phase, whether it was opened, the marks and the rows of the negotiation. The marks are the first
+-- and greatest numbers sent and received and the widths of the windows (RFC 4340, section 7.1); until isr is set, isr,
+-- gsr and osr are 0. There is a row for each feature at each place. Then the set of the numbers that were taken, with
+-- the records of the Ack Vectors that were sent (section 11.4); how many numbers were taken; whether a packet was taken
+-- since the last Ack or DataAck went out; and how many data packets were delivered since then (section 11.3).
 pub record EndState : Type 0 where
   pub config : Config
   pub phase : Phase
@@ -46,8 +46,8 @@ end_of Server = end.Server
 abbrev pub value_in : List Row → Feature → Place → ℕ
 value_in rows feature place = (row_at rows feature place).value
 
--- The widths of both windows are the values of Sequence Window: the acknowledgement window's of the feature here, the sequence
--- window's of the feature at the peer (section 7.5.2).
+-- The widths of both windows are the values of Sequence Window: the acknowledgement window's of the feature here, the
+-- sequence window's of the feature at the peer (section 7.5.2).
 abbrev pub with_widths : Marks → List Row → Marks
 with_widths m rows = record m { own_w = value_in rows SequenceWindow Here; peer_w = value_in rows SequenceWindow There }
 
@@ -132,10 +132,10 @@ phase_entered phase.CloseReq = phase.CloseReq
 phase_entered phase.Closing = phase.Closing
 phase_entered phase.TimeWait = phase.TimeWait
 
--- What holds of every end: its phase is one of its role's, and so are its rows, which are sound; and its windows are as wide as
--- the rows say and as they may be. Without the first a Request that opens could be unexpected, and `Synced` would have to tell of
--- packets that also set the first number received. That the set of marked numbers is sound is no part of it: the type of `Received`
--- keeps that, and whoever stands above has it from `floor`.
+-- What holds of every end: its phase is one of its role's, and so are its rows, which are sound; and its windows are as
+-- wide as the rows say and as they may be. Without the first a Request that opens could be unexpected, and `Synced`
+-- would have to tell of packets that also set the first number received. That the set of marked numbers is sound is no
+-- part of it: the type of `Received` keeps that, and whoever stands above has it from `floor`.
 pub record IsProper (e : EndState) : Type 0 where
   pub phase_fits : is_phase_of e.phase e.config.role ≡ true
   pub rows : AreRowsOf (end_of e.config.role) e.rows
@@ -148,8 +148,8 @@ abbrev pub first_phase : Role → Phase
 first_phase Client = phase.Closed
 first_phase Server = phase.Listen
 
--- An end that has sent and received nothing. The windows are as wide as the feature Sequence Window says at first (section 7.5.2),
--- and nothing was negotiated.
+-- An end that has sent and received nothing. The windows are as wide as the feature Sequence Window says at first
+-- (section 7.5.2), and nothing was negotiated.
 abbrev pub new_end : Config → EndState
 new_end config =
     record {

@@ -13,7 +13,8 @@ use Rattle.end_answers.specs.declared.outcome.Fault.{Fault}
 abbrev pub mandatory_fault : Fault
 mandatory_fault = record { code = number_of_code codes.OptionError; first = options.mandatory; second = 0; third = 0 }
 
--- where options of the negotiation count (own): in RESPOND, PARTOPEN and OPEN on six types, and on the Response in REQUEST
+-- where options of the negotiation count (own): in RESPOND, PARTOPEN and OPEN on six types, and on the Response in
+-- REQUEST
 abbrev pub negotiates : Phase → Bool
 negotiates phases.Closed = false
 negotiates phases.Listen = false

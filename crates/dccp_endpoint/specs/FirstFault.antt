@@ -1,4 +1,5 @@
--- At which option of a packet the reading stops, and for which fault (RFC 4340, sections 5.8.2 and 8.5, step 8; which options count is own).
+-- At which option of a packet the reading stops, and for which fault (RFC 4340, sections 5.8.2 and 8.5, step 8; which
+-- options count is own).
 --
 -- It stands above the fold of Heeding: the fold is asked what the options before that one left in the rows, and whether
 -- they were read; what counts is said of the list of them. That feature numbers are below 256, as bytes are, is a
@@ -22,7 +23,8 @@ abbrev pub is_same_letter : Bool → Bool → Bool
 is_same_letter true left = left
 is_same_letter false left = not left
 
--- The item is a Change or a Confirm for the feature with this number, by this letter: Change L and Confirm L have the letter L.
+-- The item is a Change or a Confirm for the feature with this number, by this letter: Change L and Confirm L have the
+-- letter L.
 abbrev pub speaks_for : Bool → ℕ → Result Entry OptFault → Bool
 speaks_for left number (Ok entry) = negotiates_by entry && (begins_with_number number entry.body && is_same_letter left (is_left entry.kind))
 speaks_for left number (Err fault) = false
@@ -31,9 +33,10 @@ speaks_for left number (Err fault) = false
 abbrev pub IsFirstFor : Bool → ℕ → List (Result Entry OptFault) → Type 0
 IsFirstFor left number before = list_any (speaks_for left number) before ≡ false
 
--- What is wrong with an item, behind these before it, which left these rows: Mandatory stands where it may not; an option is not
--- understood behind Mandatory; a Change that counts is one that its row cannot accept; or a Confirm is. A Change counts, and a Confirm
--- does, as the first for its feature by its letter; and a Change only behind fewer than 64 others.
+-- What is wrong with an item, behind these before it, which left these rows: Mandatory stands where it may not; an
+-- option is not understood behind Mandatory; a Change that counts is one that its row cannot accept; or a Confirm is. A
+-- Change counts, and a Confirm does, as the first for its feature by its letter; and a Change only behind fewer than 64
+-- others.
 pub data GoesWrong (count : Bool) (ack : Option ℕ) (before : List (Result Entry OptFault)) (rows : List Row) : Result Entry OptFault → Fault → Type 0 where
   MandatoryMisplaced : (fault : OptFault) → GoesWrong count ack before rows (Err fault) mandatory_fault
   NotUnderstood : (entry : Entry) → is_understood entry.kind (length entry.body) ≡ false → entry.mandatory ≡ true

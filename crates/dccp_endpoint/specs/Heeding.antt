@@ -1,4 +1,5 @@
--- What the options of a packet say to the rows: step 8 of RFC 4340, section 8.5, by section 6 (which options count is own).
+-- What the options of a packet say to the rows: step 8 of RFC 4340, section 8.5, by section 6 (which options count is
+-- own).
 --
 -- That is a fold over their list (`heeds`). Beside it stands what each row hears (`heard_turns`), so that an effect
 -- tells of rows without the packet's other options.
@@ -34,8 +35,8 @@ pub record Due : Type 0 where
 abbrev pub due_of : ConfirmOut → Due
 due_of out = record { left = out.left; number = out.feature; body = out.body.items }
 
--- What reading has come to: the rows; which features were spoken of by L and by R; how many Changes were met, up to 64; and the
--- Confirms that are due, in order.
+-- What reading has come to: the rows; which features were spoken of by L and by R; how many Changes were met, up to 64;
+-- and the Confirms that are due, in order.
 pub record Heeding : Type 0 where
   pub rows : List Row
   pub used : List Bool
@@ -96,7 +97,8 @@ by_settling h place rows entry settling.Settled = Ok (met h place false rows h.c
 by_settling h place rows entry settling.Ignored = Ok (met h place false rows h.confirms)
 by_settling h place rows entry settling.Fatal = Err (fault_of codes.OptionError entry)
 
--- a Confirm that is heeded, for the packet's acknowledgement number: what its row cannot accept is the fault Option Error
+-- a Confirm that is heeded, for the packet's acknowledgement number: what its row cannot accept is the fault Option
+-- Error
 abbrev pub heeds_confirm : Option ℕ → Heeding → Entry → Bool → ℕ → List ℕ → Result Heeding Fault
 heeds_confirm ack h entry left number body =
     by_settling h (place_in_used left number) (confirmed h.rows left number body ack).rows entry
@@ -128,8 +130,8 @@ abbrev pub heeding_or : Heeding → Result (Unit {0}) Fault → Result Heeding F
 heeding_or h (Ok _) = Ok h
 heeding_or h (Err fault) = Err fault
 
--- One of the negotiation is heeded where such options count, and elsewhere passed over with its Mandatory. All others say nothing
--- to the rows.
+-- One of the negotiation is heeded where such options count, and elsewhere passed over with its Mandatory. All others
+-- say nothing to the rows.
 abbrev pub heeds_entry : Bool → Option ℕ → Heeding → Entry → Result Heeding Fault
 heeds_entry count ack h entry =
     if not (is_understood entry.kind (length entry.body)) then misunderstood h entry
@@ -146,8 +148,8 @@ abbrev pub heeds_then : Result Heeding Fault → (Heeding → Result Heeding Fau
 heeds_then (Ok h) rest = rest h
 heeds_then (Err fault) rest = Err fault
 
--- The options in order, up to the first fault; `count` tells whether those of the negotiation count, and `ack` is the packet's
--- acknowledgement number.
+-- The options in order, up to the first fault; `count` tells whether those of the negotiation count, and `ack` is the
+-- packet's acknowledgement number.
 abbrev pub heeds : Bool → Option ℕ → Heeding → List (Result Entry OptFault) → Result Heeding Fault
 heeds count ack h [] = Ok h
 heeds count ack h (item ∷ rest) = heeds_then (heeds_item count ack h item) (λ next. heeds count ack next rest)
@@ -166,7 +168,8 @@ turn_known (Some feature) left event = turn_of (feature, place_of left) event �
 abbrev pub is_too_many : Heeding → Bool → Bool
 is_too_many h change = change && not (nat_lt h.changes 64)
 
--- neither a repeated option nor a Change beyond the first 64 turns a row, and a feature number that is not known has none
+-- neither a repeated option nor a Change beyond the first 64 turns a row, and a feature number that is not known has
+-- none
 abbrev pub feature_turns : Option ℕ → Heeding → Entry → Bool → Bool → ℕ → List ℕ → List Turn
 feature_turns ack h entry change left number body =
     if slice_index_or h.used (place_in_used left number) false then []

@@ -13,7 +13,8 @@ use Rattle.dccp_endpoint.specs.Inputs.{Input}
 use Rattle.dccp_endpoint.specs.Receiving.{takes_short}
 use Rattle.dccp_endpoint.specs.declared.config.Config.{Config}
 
--- A number lies fewer than 2^23 from GSR, and the one acknowledged, if there is one, fewer than 2^23 from GSS, up or down the circle.
+-- A number lies fewer than 2^23 from GSR, and the one acknowledged, if there is one, fewer than 2^23 from GSS, up or
+-- down the circle.
 pub record HasNearNumbers (e : EndState) (number : ℕ) (ack : Option ℕ) : Type 0 where
   pub gsr_fits : e.marks.gsr < 2 ^ 48
   pub gss_fits : e.marks.gss < 2 ^ 48
@@ -26,7 +27,8 @@ pub record IsInFull (number : ℕ) (draft : Draft) (a : Incoming) : Type 0 where
   pub type_is : a.kind ≡ packet_type draft.kind
   pub ack_is : a.ack ≡ ack_of (kind_in_widths draft.kind)
 
--- The frame of a draft that comes, also of another end's, is read as it was numbered, where its numbers are near if they are short.
+-- The frame of a draft that comes, also of another end's, is read as it was numbered, where its numbers are near if
+-- they are short.
 abbrev pub FramesAreReadInFull : Type 0
 FramesAreReadInFull =
     (e : EndState) (given : Input) (a : Incoming) (came : Came e given a) (config : Config) (short : Bool) (number : ℕ) (draft : Draft)

@@ -14,8 +14,8 @@ use Rattle.dccp_endpoint.specs.End.{EndState, is_live}
 abbrev pub parts_of_packet : Packet → Parts
 parts_of_packet p = record { header = p.header; options = p.options.now; payload = p.payload.now }
 
--- A packet of the connection, with its numbers in full. Its data lie in the input from the first place up to the second. It is newest
--- where no number was received before it, or none as great (own).
+-- A packet of the connection, with its numbers in full. Its data lie in the input from the first place up to the
+-- second. It is newest where no number was received before it, or none as great (own).
 pub record Incoming : Type 0 where
   pub kind : PacketType
   pub number : ℕ
@@ -44,7 +44,7 @@ incoming_of p number ack size newest =
       newest = newest;
     }
 
--- The packet that was read from these bytes. Its acknowledgement number, where it is short, is the one near GSS, and the end tells by
--- its GSR whether it is newest.
+-- The packet that was read from these bytes. Its acknowledgement number, where it is short, is the one near GSS, and
+-- the end tells by its GSR whether it is newest.
 abbrev pub incoming : EndState → List ℕ → Parts → ℕ → Incoming
 incoming e bytes p number = incoming_of p number (ack_near e.marks.gss p.header.kind) (length bytes) (is_newest e number)

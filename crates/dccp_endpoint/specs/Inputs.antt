@@ -14,8 +14,8 @@ use Rattle.end_answers.specs.declared.calls.SendFault.{SendFault}
 use Rattle.end_answers.specs.declared.calls.Timer.{Timer}
 use Rattle.end_answers.specs.declared.outcome.Outcome.{Outcome}
 
--- Bytes arrive, the user calls, or a timer has run out. What the congestion control says comes with the input: with data, whether a
--- further packet may be sent; with a timer, whether something is in flight.
+-- Bytes arrive, the user calls, or a timer has run out. What the congestion control says comes with the input: with
+-- data, whether a further packet may be sent; with a timer, whether something is in flight.
 pub data Input : Type 0 where
   Arrives : (bytes : List ℕ) → Input
   Opens Closes Aborts : Input

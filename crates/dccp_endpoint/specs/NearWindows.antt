@@ -15,8 +15,8 @@ pub record AreNarrow (w : Marks) : Type 0 where
   pub own : w.own_w ≤ widest_short
   pub peer : w.peer_w ≤ widest_short
 
--- What is valid on a packet that may have short numbers lies near what its receiver has: the number near GSR, and the one that it
--- acknowledges near GSS. Numbers are whole, counted on from the first of each end.
+-- What is valid on a packet that may have short numbers lies near what its receiver has: the number near GSR, and the
+-- one that it acknowledges near GSS. Numbers are whole, counted on from the first of each end.
 abbrev pub ValidNumbersAreNear : Type 0
 ValidNumbersAreNear =
     (w : Marks) (kind : PacketType) (n : ℕ) (ack : Option ℕ) → IsWhole w → InRange w → AreNarrow w → may_be_short kind ≡ true

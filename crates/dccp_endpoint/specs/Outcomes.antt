@@ -95,8 +95,8 @@ pub record IsEnding (e : EndState) (bytes : List ℕ) (code : ℕ) : Type 0 wher
   pub is_valid : IsValidReset e packet
   pub has_code : code ≡ packet.code
 
--- Any other valid packet, and the end as steps 3, 4 and 6 leave it: a Request that opens, a Response to the Request, or a packet
--- in the windows.
+-- Any other valid packet, and the end as steps 3, 4 and 6 leave it: a Request that opens, a Response to the Request, or
+-- a packet in the windows.
 pub data IsValid (e : EndState) (a : Incoming) (entered : EndState) : Type 0 where
   OpensConnection : entrance_of e a ≡ entrance.Accept → is_own_service e a.service ≡ true → entered ≡ started e phases.Respond a → IsValid e a entered
   ResponseToRequest : entrance_of e a ≡ entrance.InRequest → a.kind ≢ types.Reset → acknowledges_in_window e a ≡ true → entered ≡ started e e.phase a
@@ -119,7 +119,8 @@ pub record IsAdmitted (e : EndState) (bytes : List ℕ) (a : Incoming) (entered 
   pub expected : is_unexpected entered a ≡ false
   pub for_us : is_for_another entered a ≡ false
 
--- why a Sync answers: the numbers of a packet in a phase with windows are not valid (step 6), or its phase does not expect it (step 7)
+-- why a Sync answers: the numbers of a packet in a phase with windows are not valid (step 6), or its phase does not
+-- expect it (step 7)
 pub data IsSynced (e : EndState) (bytes : List ℕ) (number : ℕ) : Type 0 where
   OutOfWindow : (a : Incoming) → Came e (Arrives bytes) a → entrance_of e a ≡ entrance.Check → verdict_of e a ≡ verdicts.SyncFor number
       → IsSynced e bytes number
@@ -156,8 +157,8 @@ pub record HasReset (e : EndState) (bytes : List ℕ) (code : ℕ) (detail : Lis
   pub has_code : code ≡ fault.code
   pub has_detail : detail ≡ detail_of fault
 
--- It was taken: the table of phases moves the end and answers with anything but a Reset. The place of its data is delivered exactly where
--- it is a Data or a DataAck, the end is OPEN then, and the number was not taken before.
+-- It was taken: the table of phases moves the end and answers with anything but a Reset. The place of its data is
+-- delivered exactly where it is a Data or a DataAck, the end is OPEN then, and the number was not taken before.
 pub record IsTaken (e : EndState) (bytes : List ℕ) (delivered : Option (ℕ × ℕ)) : Type 0 where
   pub packet : Incoming
   pub entered : EndState
@@ -195,8 +196,8 @@ hears_first e = not (is_live e.phase)
 abbrev pub greatest_with : EndState → Incoming → ℕ
 greatest_with e a = greatest_or (hears_first e) a.number e.marks.gsr
 
--- The effect of a valid packet that moves no row: its number and what it acknowledges are heard, the phase is this then, and this
--- goes out.
+-- The effect of a valid packet that moves no row: its number and what it acknowledges are heard, the phase is this
+-- then, and this goes out.
 abbrev pub effect_of_packet : EndState → Incoming → Passing → Phase → Sending → Effect
 effect_of_packet e a how phase sending = effect_of e (Heard (hears_first e) a.number how) (raising a.kind a.ack) false phase false sending
 
@@ -204,8 +205,8 @@ effect_of_packet e a how phase sending = effect_of e (Heard (hears_first e) a.nu
 abbrev pub effect_of_closing : EndState → Incoming → Passing → Fault → Effect
 effect_of_closing e a how fault = effect_of_packet e a how phases.Closed (Next (reset_of (greatest_with e a) fault))
 
--- The effect of a Sync, by its cause. Where the packet's numbers are not valid only GSS changes; where it is unexpected GSR and GAR
--- do, too.
+-- The effect of a Sync, by its cause. Where the packet's numbers are not valid only GSS changes; where it is unexpected
+-- GSR and GAR do, too.
 abbrev pub effect_of_sync : (e : EndState) (bytes : List ℕ) (number : ℕ) → IsSynced e bytes number → Effect
 effect_of_sync e bytes number (OutOfWindow a came check bad) = effect_of_sending e (Next (alone (kind.Sync number)))
 effect_of_sync e bytes number (Unexpected a entered valid out same) = effect_of_packet e a Refused e.phase (Next (alone (kind.Sync number)))
@@ -215,9 +216,9 @@ abbrev pub effect_of_refusing : EndState → Incoming → Fault → Effect
 effect_of_refusing e a fault =
     effect_of_sending e (WithoutConnection (number_without_connection a.ack) (kind.Reset a.number fault.code (detail_of fault)))
 
--- The effect of a Reset, by its cause: nothing changes without a connection (codes 3 and 8); for the code 4 only GSS does, and the
--- Reset acknowledges the packet; another service and a fault of the options close the end, and nothing is marked; and a Close was
--- taken, so that it is marked, and what it reports is due to the congestion control.
+-- The effect of a Reset, by its cause: nothing changes without a connection (codes 3 and 8); for the code 4 only GSS
+-- does, and the Reset acknowledges the packet; another service and a fault of the options close the end, and nothing is
+-- marked; and a Close was taken, so that it is marked, and what it reports is due to the congestion control.
 abbrev pub effect_of_reset : (e : EndState) (bytes : List ℕ) (fault : Fault) → IsReset e bytes fault → Effect
 effect_of_reset e bytes fault (NoConnection a came is) = effect_of_refusing e a fault
 effect_of_reset e bytes fault (OtherService a came is other) = effect_of_refusing e a fault
@@ -227,8 +228,8 @@ effect_of_reset e bytes fault (Faulted a entered first admitted is) = effect_of_
 effect_of_reset e bytes fault (AnswersClose a entered h to admitted is row) =
     record (effect_of_closing e a Taken fault) { calls = calls_for a e.rows h.rows }
 
--- The type with its fields of the packet that a row of the table answers with, if any. A SyncAck acknowledges the Sync, and all others
--- the greatest number received; where the row has none, an Ack goes out if it is needed.
+-- The type with its fields of the packet that a row of the table answers with, if any. A SyncAck acknowledges the Sync,
+-- and all others the greatest number received; where the row has none, an Ack goes out if it is needed.
 abbrev pub replying : EndState → Bool → ℕ → ℕ → Reply → Option Kind
 replying e needed greatest number reply.Nothing = if needed then Some (kind.Ack (Long greatest)) else None
 replying e needed greatest number reply.Response = Some (kind.Response greatest e.config.service)
@@ -259,9 +260,9 @@ abbrev pub offered_with : Reply → List Due → List Turn
 offered_with reply.Response confirms = offerings (is_confirmed confirms) every_place
 offered_with _ confirms = []
 
--- The effect of a packet that was taken. Its number and what it acknowledges are heard, and looked up; the row of the table moves the
--- phase and answers, without data; the rows hear its options, and the Confirms that come of them are due; it is to be acknowledged,
--- unless that was done; and the congestion control hears what it has for it.
+-- The effect of a packet that was taken. Its number and what it acknowledges are heard, and looked up; the row of the
+-- table moves the phase and answers, without data; the rows hear its options, and the Confirms that come of them are
+-- due; it is to be acknowledged, unless that was done; and the congestion control hears what it has for it.
 pub record IsTaking (e : EndState) (bytes : List ℕ) (delivered : Option (ℕ × ℕ)) (taken : IsTaken e bytes delivered) (f : Effect)
     (turns : AreTurns e (Arrives bytes) f.hearing f.turns) : Type 0 where
   pub heard : f.hearing ≡ Heard (hears_first e) taken.packet.number Taken

@@ -1,7 +1,7 @@
 -- What an end does with the bytes that arrive: the sixteen steps of RFC 4340, section 8.5.
 --
--- `the_steps` lists steps 2 to 9 but for step 8, and `receives` at the foot joins step 1 before and steps 8 and 10 to 16 behind
--- them. Each step has one definition, above these.
+-- `the_steps` lists steps 2 to 9 but for step 8, and `receives` at the foot joins step 1 before and steps 8 and 10 to
+-- 16 behind them. Each step has one definition, above these.
 --
 -- Any other body of a step is refused by the clause `step`, which is this equation. What is said wrongly here is
 -- refused by the causes, the effect and the worked packets (`proofs/Rows` and those whose names begin so); a must-fail
@@ -62,9 +62,11 @@ use Rattle.end_answers.specs.declared.outcome.Outcome.TheVariants.{Took, Dropped
 use Rattle.end_answers.specs.declared.outcome.Why.{Why}
 use Rattle.end_answers.specs.declared.outcome.Why.TheVariants as why
 
--- Step 1 drops what is no packet, has a wrong checksum, comes over other ports or has a short number that is not taken, in this order.
+-- Step 1 drops what is no packet, has a wrong checksum, comes over other ports or has a short number that is not taken,
+-- in this order.
 
--- Short numbers are taken where the peer may send them (section 7.6.1), in the phases in which a first number was received (own).
+-- Short numbers are taken where the peer may send them (section 7.6.1), in the phases in which a first number was
+-- received (own).
 abbrev pub takes_short : EndState → Bool
 takes_short e = is_live e.phase && (value_in e.rows ShortSeqnos There == 1)
 
@@ -126,8 +128,8 @@ finds_connection entrance.NoConnection x = Leaves x (exits.ResetWithoutConnectio
 finds_connection entrance.Stray x = Leaves x (exits.Drop why.StrayReset)
 finds_connection _ x = Goes x
 
--- The first packet of the peer sets the first and the greatest number received, and the set of the numbers that are taken begins with
--- it. OSR is that number until the end is OPEN (own).
+-- The first packet of the peer sets the first and the greatest number received, and the set of the numbers that are
+-- taken begins with it. OSR is that number until the end is OPEN (own).
 abbrev pub started : EndState → Phase → Incoming → EndState
 started e phase a =
     record e { phase = phase; marks = begun e.marks a.kind a.number a.ack; received = kept.fresh a.number }
@@ -189,8 +191,8 @@ abbrev pub ends_by_reset : Incoming → PacketType → EndState → Course
 ends_by_reset a types.Reset x = Leaves x (exits.TimeWait a.code)
 ends_by_reset a _ x = Goes x
 
--- Step 7: a packet that its phase does not expect is answered with a Sync; a Response for another service than was asked for ends
--- the connection. Whether its phase expects it:
+-- Step 7: a packet that its phase does not expect is answered with a Sync; a Response for another service than was
+-- asked for ends the connection. Whether its phase expects it:
 abbrev pub is_unexpected : EndState → Incoming → Bool
 is_unexpected x a = unexpected x.config.role x.phase a.kind (not (is_before a.number x.marks.osr))
 
@@ -236,7 +238,8 @@ through (Leaves x exit) steps = Leaves x exit
 through (Goes x) [] = Goes x
 through (Goes x) (step ∷ steps) = through (step x) steps
 
--- Steps 10 to 15: the phase moves by the table, and the number with which it becomes OPEN is OSR. OSR is set in that case alone:
+-- Steps 10 to 15: the phase moves by the table, and the number with which it becomes OPEN is OSR. OSR is set in that
+-- case alone:
 abbrev pub osr_after : ℕ → ℕ → Bool → ℕ
 osr_after osr number true = number
 osr_after osr number false = osr
@@ -254,8 +257,8 @@ moved_to e phase number =
 abbrev pub resets : EndState → ℕ → Fault → Step Outcome
 resets e ack fault = sends e (reset_of ack fault) (SentReset fault.code (detail_of fault))
 
--- A Response opens the offered rows that have no Confirm in it, and carries the Changes of these and of all others that ask. Once
--- their Changes have gone out:
+-- A Response opens the offered rows that have no Confirm in it, and carries the Changes of these and of all others that
+-- ask. Once their Changes have gone out:
 abbrev pub responds_asking : EndState → List Due → List Key → Outcome → Step Outcome
 responds_asking e confirms keys took = sends e (saying (kind.Response e.marks.gsr e.config.service) confirms e.rows keys) took
 
@@ -271,8 +274,8 @@ responds e confirms took = responds_offering (offers e confirms) confirms (askin
 abbrev pub acknowledges : EndState → List Due → Outcome → Step Outcome
 acknowledges e confirms took = sends_ack e (confirming (kind.Ack (Long e.marks.gsr)) confirms) took
 
--- Where the table has no reply, an Ack goes out in PARTOPEN and OPEN if Confirms are due (own), and in OPEN if enough data packets are
--- not acknowledged (section 11.3).
+-- Where the table has no reply, an Ack goes out in PARTOPEN and OPEN if Confirms are due (own), and in OPEN if enough
+-- data packets are not acknowledged (section 11.3).
 abbrev pub needs_ack : Phase → List Due → List Row → ℕ → Bool
 needs_ack phase confirms rows unacked = is_connected phase && (has_confirms confirms || (is_open phase && is_enough rows unacked))
 
@@ -302,8 +305,8 @@ accounted e a = looks_up (marks e a.number) (looked_up a.kind a.ack)
 abbrev pub processes : EndState → Incoming → List Due → Step Outcome
 processes e a confirms = moves (accounted e a) a confirms (answer_to e.received.set a.number) (after e.phase a.kind)
 
--- A Reset without a connection takes its numbers from the packet, and the end stays as it is (own). Its number is the next after the
--- acknowledgement:
+-- A Reset without a connection takes its numbers from the packet, and the end stays as it is (own). Its number is the
+-- next after the acknowledgement:
 abbrev pub number_without_connection : Option ℕ → ℕ
 number_without_connection None = 0
 number_without_connection (Some ack) = residue (ack + 1)
@@ -331,12 +334,13 @@ leaves e a exits.PacketError = resets e a.number (packet_fault a)
 leaves e a (exits.Shut fault) = resets (in_phase e phases.Closed) e.marks.gsr fault
 leaves e a (exits.TimeWait code) = idle (in_phase e phases.TimeWait) (WasReset code)
 
--- Step 8: what the options come to, or their first fault. Options of the negotiation are heeded on the newest packets alone.
+-- Step 8: what the options come to, or their first fault. Options of the negotiation are heeded on the newest packets
+-- alone.
 abbrev pub reads_options : EndState → Incoming → Result Heeding Fault
 reads_options x a = heeds (a.newest && counts x.phase a.kind) a.ack (unheeded x.rows) a.options
 
--- The same of a Request for its service that reaches a server's end in LISTEN: what it makes of the option area depends on its lists
--- alone. The end has left LISTEN by then (step 3).
+-- The same of a Request for its service that reaches a server's end in LISTEN: what it makes of the option area depends
+-- on its lists alone. The end has left LISTEN by then (step 3).
 abbrev pub reads_request : List Listed → List ℕ → Result Heeding Fault
 reads_request lists area = heeds true None (unheeded (first_rows end.Server lists)) (options_of area false)
 
@@ -345,8 +349,8 @@ abbrev pub fault_if : Result Heeding Fault → Result (Unit {0}) Fault
 fault_if (Ok h) = Ok tt
 fault_if (Err fault) = Err fault
 
--- The rows are stored once the options are read to their end, and the congestion control hears of them. A fault ends the connection,
--- leaves the rows as they were and the packet unmarked, and hands nothing over.
+-- The rows are stored once the options are read to their end, and the congestion control hears of them. A fault ends
+-- the connection, leaves the rows as they were and the packet unmarked, and hands nothing over.
 abbrev pub heeded : EndState → Incoming → Result Heeding Fault → Step Outcome
 heeded x a (Ok h) = with_calls (calls_for a x.rows h.rows) (processes (with_rows x h.rows) a h.confirms)
 heeded x a (Err fault) = leaves x a (exits.Shut fault)

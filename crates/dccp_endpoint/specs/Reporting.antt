@@ -1,4 +1,5 @@
--- What an end marks of the packets that it takes, and how it reports them by Ack Vectors (RFC 4340, sections 11.2 to 11.5).
+-- What an end marks of the packets that it takes, and how it reports them by Ack Vectors (RFC 4340, sections 11.2 to
+-- 11.5).
 use Rattle.std.specs.Prelude.{map, ◌==◌, ◌&&◌, not, nat_le, min, if◌then◌else◌, ℕ, ◌+◌, ◌-◌, ◌^◌, Bool, true, false, List, [], ◌++◌, Option, Some, None}
 use Rattle.ack_vectors.specs.Kept.{Kept, acked, marked_by, recorded}
 use Rattle.ack_vectors.specs.Vector.{is_whole_under, option_data, vector_under}

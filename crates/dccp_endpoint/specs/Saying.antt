@@ -1,4 +1,5 @@
--- What a packet says to a row of the end that it reaches, and what an end's own packets say of its rows (RFC 4340, section 6).
+-- What a packet says to a row of the end that it reaches, and what an end's own packets say of its rows (RFC 4340,
+-- section 6).
 use Rattle.std.specs.Prelude.{◌≡◌, ◌≢◌, ◌==◌, ◌&&◌, ◌≤◌, if◌then◌else◌, ℕ, ◌+◌, Bool, true, false, List, [], ◌∷◌, ◌++◌, drop, filter, length, map, Option, Some, None, Result, Ok, Err, AllPairs}
 use Rattle.std.specs.List.{list_any}
 use Rattle.dccp_options.specs.Grammar.{Entry}
@@ -22,7 +23,8 @@ abbrev pub begins_with_number : ℕ → List ℕ → Bool
 begins_with_number number [] = false
 begins_with_number number (first ∷ rest) = first == number
 
--- The option speaks to the row: it is a Change or a Confirm for the row's feature, by L for a feature at the peer and by R for one here.
+-- The option speaks to the row: it is a Change or a Confirm for the row's feature, by L for a feature at the peer and
+-- by R for one here.
 abbrev pub speaks_to : Key → Entry → Bool
 speaks_to k entry = is_of_negotiation entry.kind && (begins_with_number (feature_number k.0) entry.body && is_of_place (is_left entry.kind) (opposite k.1))
 
@@ -30,8 +32,8 @@ speaks_to k entry = is_of_negotiation entry.kind && (begins_with_number (feature
 abbrev pub event_in : Option ℕ → Entry → RowEvent
 event_in ack entry = event_of ack entry (is_change entry.kind) (drop 1 entry.body)
 
--- What a packet with these options and this acknowledgement number says to a row: what the first option for it says, and nothing
--- where there is none or where such options do not count.
+-- What a packet with these options and this acknowledgement number says to a row: what the first option for it says,
+-- and nothing where there is none or where such options do not count.
 abbrev pub said_to : Bool → Option ℕ → Key → List (Result Entry OptFault) → List RowEvent
 said_to count ack k [] = []
 said_to count ack k (Err _ ∷ rest) = said_to count ack k rest
@@ -65,8 +67,8 @@ is_change_item (Err fault) = false
 abbrev pub changes_among : List (Result Entry OptFault) → ℕ
 changes_among options = length (filter is_change_item options)
 
--- Of a packet that was read whole each row hears what the packet says to it, and nothing else, and the Confirm that is due for it is
--- the row's answer. The packet has at most 64 Changes, for all of which count.
+-- Of a packet that was read whole each row hears what the packet says to it, and nothing else, and the Confirm that is
+-- due for it is the row's answer. The packet has at most 64 Changes, for all of which count.
 abbrev pub RowsHearThePacket : Type 0
 RowsHearThePacket =
     (count : Bool) (ack : Option ℕ) (rows : List Row) (options : List (Result Entry OptFault)) (h : Heeding) (k : Key) → IsNegotiation rows
@@ -132,7 +134,8 @@ ConfirmsAreSingle =
     (count : Bool) (ack : Option ℕ) (rows : List Row) (options : List (Result Entry OptFault)) (h : Heeding) (k : Key) → IsNegotiation rows
     → changes_among options ≤ 64 → heeds count ack (unheeded rows) options ≡ Ok h → times_confirmed k h.confirms ≤ 1
 
--- So an end's own packet speaks to a row of the peer once at most: no row's Change goes out twice, nor beside a Confirm for it.
+-- So an end's own packet speaks to a row of the peer once at most: no row's Change goes out twice, nor beside a Confirm
+-- for it.
 abbrev pub OwnPacketsSpeakOnce : Type 0
 OwnPacketsSpeakOnce =
     (has_vector : Bool) (vectors : Vectors) (set : MarkedSet) (greatest : ℕ) (confirms : List Due) (rows : List Row) (keys : List Key) (k : Key) → times_confirmed k confirms ≤ 1

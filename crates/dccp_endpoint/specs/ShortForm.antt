@@ -37,6 +37,7 @@ allows_short e =
 abbrev pub is_negotiating : Item → Bool
 is_negotiating item = is_of_negotiation item.kind
 
--- A packet goes out with short numbers where its type may have them, the end may send them, and it says nothing of features (own).
+-- A packet goes out with short numbers where its type may have them, the end may send them, and it says nothing of
+-- features (own).
 abbrev pub goes_short : EndState → Draft → Bool
 goes_short e draft = may_be_short (packet_type draft.kind) && (allows_short e && not (list_any is_negotiating draft.options))

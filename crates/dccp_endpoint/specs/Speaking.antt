@@ -1,5 +1,5 @@
--- What an end says of features on its packets, and what saying it changes (RFC 4340, section 6; the order of options is own: the
--- Confirms, then the Changes).
+-- What an end says of features on its packets, and what saying it changes (RFC 4340, section 6; the order of options is
+-- own: the Confirms, then the Changes).
 use Rattle.std.specs.Prelude.{◌≡◌, ◌==◌, ◌≤◌, ◌&&◌, not, ℕ, Bool, true, false, List, [], ◌∷◌, ◌++◌, length, map, filter, Option, Some, None}
 use Rattle.std.specs.List.{list_any}
 use Rattle.byteorder.specs.Endian.{big_bytes}
@@ -68,8 +68,8 @@ confirm_item due = record { mandatory = false; kind = confirm_type due.left; bod
 abbrev pub confirm_items : List Due → List Item
 confirm_items confirms = map confirm_item confirms
 
--- Confirms that leave room for an Ack Vector or for all Changes: at most 64, of 3 bytes, and of 9 more where a row answers, of which
--- there are eighteen (own).
+-- Confirms that leave room for an Ack Vector or for all Changes: at most 64, of 3 bytes, and of 9 more where a row
+-- answers, of which there are eighteen (own).
 abbrev pub HaveRoom : List Due → Type 0
 HaveRoom confirms = length (written (confirm_items confirms)) ≤ 354
 
@@ -109,6 +109,7 @@ saying kind confirms rows keys = record { kind = kind; options = confirm_items c
 abbrev pub confirming : Kind → List Due → Draft
 confirming kind confirms = record { kind = kind; options = confirm_items confirms; payload = [] }
 
--- the rows that ask in a Request or a Response, behind the offers: those whose Change is due and that have no Confirm in it
+-- the rows that ask in a Request or a Response, behind the offers: those whose Change is due and that have no Confirm
+-- in it
 abbrev pub asking : List Row → List Due → List Key
 asking rows confirms = unconfirmed confirms (due_keys rows)

@@ -9,7 +9,8 @@ use Rattle.dccp_endpoint.specs.End.{EndState}
 use Rattle.dccp_endpoint.specs.ShortForm.{goes_short}
 use Rattle.end_answers.specs.declared.outcome.Fault.{Fault}
 
--- An end after a step, the frame that it sends, if any, the calls that are due to its congestion control, in order, and its answer.
+-- An end after a step, the frame that it sends, if any, the calls that are due to its congestion control, in order, and
+-- its answer.
 pub record Step (Answer : Type 0) : Type 0 where
   pub after : EndState
   pub frame : Option (List ℕ)

@@ -16,8 +16,8 @@ to_server = V4 (10 ∷ 0 ∷ 0 ∷ 1 ∷ []) (10 ∷ 0 ∷ 0 ∷ 2 ∷ [])
 abbrev pub to_client : Pseudo
 to_client = V4 (10 ∷ 0 ∷ 0 ∷ 2 ∷ []) (10 ∷ 0 ∷ 0 ∷ 1 ∷ [])
 
--- the client's port is 40000 and its first number 1000, the server's are 5001 and 2000; the service code is 42, the lists
--- are the usual ones, with their offers, and an Ack Vector has one option
+-- the client's port is 40000 and its first number 1000, the server's are 5001 and 2000; the service code is 42, the
+-- lists are the usual ones, with their offers, and an Ack Vector has one option
 abbrev pub usual : Role → Config
 usual Client =
     record { role = Client; pseudo_out = to_server; pseudo_in = to_client; own_port = 40000; peer_port = 5001; service = 42; iss = 1000; lists = usual_lists; vectors = One }

@@ -24,12 +24,14 @@ const FIRST_CCID: u8 = 2;
 /// An end serves one connection. A client's is made by `new` and opened once, by `open`; a server's is made by `new`
 /// for a peer from which a datagram came. From then on, in whatever order:
 ///
-/// - `receive` for each datagram of the peer, of at most [`MOST_FRAME_BYTES`](crate::MOST_FRAME_BYTES) bytes: the owner drops a longer one
+/// - `receive` for each datagram of the peer, of at most [`MOST_FRAME_BYTES`](crate::MOST_FRAME_BYTES) bytes: the owner
+///   drops a longer one
 /// - `timer` for each timer that has run out
 /// - `send` for data, in OPEN, `send_early` of a client that speaks first, in PARTOPEN, and `send_soon` in both
 /// - `prefer` for another value of a feature, in PARTOPEN and OPEN
 /// - `close` to end the connection in order, in PARTOPEN and OPEN, and `abort` to end it at once
-/// - the readers `phase`, `pseudo_out`, `marks`, `held`, `window`, `in_flight`, `is_reported`, `floor` and `marked`, at any time
+/// - the readers `phase`, `pseudo_out`, `marks`, `held`, `window`, `in_flight`, `is_reported`, `floor` and `marked`, at
+///   any time
 ///
 /// A feature's value, as `held` shows it, is settled for this end where its stand is Stable; that tells nothing of the
 /// other end, which may hold another one until it is Stable too. The connection has ended once the phase
@@ -52,16 +54,17 @@ const FIRST_CCID: u8 = 2;
 ///
 /// # What is left to the owner
 ///
-/// - The timers. Each runs in the phases that [`Endpoint::timer`] lists, and begins anew once the end was told of it. The waits of RFC
-///   4340: for Request a second at first (section 8.1.1), for Ack 200 milliseconds in PARTOPEN (section 8.1.5), for Negotiate a round trip
-///   (section 6.6.3), for Close two (section 8.3), each doubled from time to time, up to 64 seconds; for TimeWait two lifetimes of a segment,
-///   four minutes. Rto is TCP's, and begins anew where something came out of flight (RFC 4341, section 5). In OPEN an Ack is due within a
-///   short wait after data were delivered (own).
+/// - The timers. Each runs in the phases that [`Endpoint::timer`] lists, and begins anew once the end was told of it.
+///   The waits of RFC 4340: for Request a second at first (section 8.1.1), for Ack 200 milliseconds in PARTOPEN
+///   (section 8.1.5), for Negotiate a round trip (section 6.6.3), for Close two (section 8.3), each doubled from time
+///   to time, up to 64 seconds; for TimeWait two lifetimes of a segment, four minutes. Rto is TCP's, and begins anew
+///   where something came out of flight (RFC 4341, section 5). In OPEN an Ack is due within a short wait after data
+///   were delivered (own).
 /// - Initial sequence numbers that nobody can guess (section 7.2).
 /// - Limits: how many Syncs and Resets go out in a second, and for how many peers ends are made.
 /// - Giving up: `abort` after minutes without an answer to the Request, or in PARTOPEN (sections 8.1.1 and 8.1.5).
-/// - Whether short numbers are asked for ([`Feature::ShortSeqnos`]). A packet with short numbers that comes 2^23 packets late or more may be
-///   taken for another (section 7.6); what is proved of two ends supposes that none does.
+/// - Whether short numbers are asked for ([`Feature::ShortSeqnos`]). A packet with short numbers that comes 2^23
+///   packets late or more may be taken for another (section 7.6); what is proved of two ends supposes that none does.
 /// - Data that `send` refuses with `WindowFull`: to be offered again, or dropped.
 ///
 /// # Sizes
@@ -233,11 +236,11 @@ impl<C: Congestion> Endpoint<C> {
         Ok(())
     }
 
-    /// Sends data of a client that speaks first, at most 1,024 bytes, where it has heard no more than the Response (own;
-    /// RFC 4340, section 8.1.5, lets it): in PARTOPEN, in a DataAck, which acknowledges the greatest number received and
-    /// has an Ack Vector where Send Ack Vector is 1. The phase stays, and nothing is owed then. The congestion control
-    /// counts the packet as in flight. Refused with `NotOpen` exactly outside PARTOPEN; then as `send` is, with `TooLong`,
-    /// then `NotNegotiated`, then `WindowFull`.
+    /// Sends data of a client that speaks first, at most 1,024 bytes, where it has heard no more than the Response
+    /// (own; RFC 4340, section 8.1.5, lets it): in PARTOPEN, in a DataAck, which acknowledges the greatest number
+    /// received and has an Ack Vector where Send Ack Vector is 1. The phase stays, and nothing is owed then. The
+    /// congestion control counts the packet as in flight. Refused with `NotOpen` exactly outside PARTOPEN; then as
+    /// `send` is, with `TooLong`, then `NotNegotiated`, then `WindowFull`.
     #[tactic(auto, unfolding(crate::specs::Early::sends_early))]
     pub fn send_early(&mut self, payload: &[u8], out: &mut Outbox) -> Result<(), SendFault>
         ensures step { record { after = self.new; frame = out.new; answer = result } ≡ with_control C.control self.old.congestion (sends_early self.old.state payload.now (may_send C.control self.old.congestion)) }
@@ -362,11 +365,11 @@ impl<C: Congestion> Endpoint<C> {
     /// Takes bytes that arrived, as RFC 4340, section 8.5 says under this profile, at most 2,044 of them. Bytes that
     /// are no packet, whose checksum does not fit, whose ports are not those of the connection or whose numbers are
     /// short where no short ones are taken are dropped, in this order. Where they are taken, the peer's Allow Short
-    /// Sequence Numbers being 1, they are read near the greatest number received and the greatest sent. The phase decides
-    /// whether the packet may enter, the windows whether its numbers are valid, its type whether it is unexpected; then
-    /// its options are read, its number is marked, what it acknowledges is looked up among the Ack Vectors that were
-    /// sent, and it moves the phase and is answered. Options of the negotiation count on newest packets alone, in RESPOND,
-    /// PARTOPEN and OPEN and on the Response in REQUEST.
+    /// Sequence Numbers being 1, they are read near the greatest number received and the greatest sent. The phase
+    /// decides whether the packet may enter, the windows whether its numbers are valid, its type whether it is
+    /// unexpected; then its options are read, its number is marked, what it acknowledges is looked up among the Ack
+    /// Vectors that were sent, and it moves the phase and is answered. Options of the negotiation count on newest
+    /// packets alone, in RESPOND, PARTOPEN and OPEN and on the Response in REQUEST.
     ///
     /// Once the options are read without a fault, the congestion control hears of them: first of the Ack Vectors, on
     /// every packet with an acknowledgement number but a Sync, with the Ack Ratio here after the packet; and then it is

@@ -282,7 +282,8 @@ pub(crate) fn heed(
 
 // An option that has no fault and says nothing to the rows.
 fn is_silent(item: &Result<Opt<'_>, OptFault>, count: bool) -> bool
-    ensures { result ≡ true → (ack : Option ℕ) (heeding : Heeding) → heeds_item count ack heeding (item_of item.now) ≡ Ok heeding }
+    ensures { result ≡ true → (ack : Option ℕ) (heeding : Heeding)
+        → heeds_item count ack heeding (item_of item.now) ≡ Ok heeding }
 {
     match item {
         Ok(option) => option.is_understood() && !(count && is_of_negotiation(option.kind)),
@@ -294,7 +295,8 @@ fn is_silent(item: &Result<Opt<'_>, OptFault>, count: bool) -> bool
 /// read.
 pub(crate) fn are_silent(area: &[u8], on_data: bool, count: bool) -> bool
     requires { length area.now ≤ 1008 }
-    ensures { result ≡ true → (ack : Option ℕ) (heeding : Heeding) → heeds count ack heeding (options_of area.now on_data) ≡ Ok heeding }
+    ensures { result ≡ true → (ack : Option ℕ) (heeding : Heeding)
+        → heeds count ack heeding (options_of area.now on_data) ≡ Ok heeding }
 {
     for item in options(area, on_data) {
         if !is_silent(&item, count) {
@@ -305,8 +307,8 @@ pub(crate) fn are_silent(area: &[u8], on_data: bool, count: bool) -> bool
 }
 
 /// Reads the option area of a Request for its service that reaches a server's end in LISTEN, without such an end, whose
-/// configuration has these lists: Ok where the end would answer the Request, and else the fault for which it would close
-/// and that its Reset would tell (RFC 4340, sections 5.8 and 8.5, step 8). It takes no memory.
+/// configuration has these lists: Ok where the end would answer the Request, and else the fault for which it would
+/// close and that its Reset would tell (RFC 4340, sections 5.8 and 8.5, step 8). It takes no memory.
 pub fn heed_request(lists: &Lists, area: &[u8]) -> Result<(), Fault>
     requires { length area.now ≤ 1008 }
     ensures { result ≡ fault_if (reads_request lists.now area.now) }

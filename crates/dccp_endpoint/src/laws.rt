@@ -15,10 +15,11 @@ use validity_windows::verdicts_are_those_of_whole_numbers;
 
 /// What an end writes is read as it was meant: each frame of a draft is a packet with the draft's type, options and
 /// data under the end's ports and the number, with short numbers or with long ones, and its checksum fits (RFC 4340,
-/// sections 5 and 9). Where the fields of the configuration fit, it is read whole (`whole`). Where numbers are too large
-/// for their fields, the low bits are read, which needs nothing of the configuration (`in_widths`).
+/// sections 5 and 9). Where the fields of the configuration fit, it is read whole (`whole`). Where numbers are too
+/// large for their fields, the low bits are read, which needs nothing of the configuration (`in_widths`).
 pub fn own_frames_are_read()
-    ensures whole { (config : Config) (short : Bool) (number : ℕ) (draft : Draft) → Fits config → number < 2 ^ 48 → KindFits draft.kind → IsSendable draft
+    ensures whole { (config : Config) (short : Bool) (number : ℕ) (draft : Draft) → Fits config → number < 2 ^ 48
+        → KindFits draft.kind → IsSendable draft
         → (short ≡ true → may_be_short (packet_type draft.kind) ≡ true)
         → ReadsAs (own_header config short number draft.kind) config.pseudo_out draft (frame_of config short number draft) }
     ensures in_widths { (config : Config) (short : Bool) (number : ℕ) (draft : Draft) → IsSendable draft
@@ -51,10 +52,10 @@ pub fn every_step_has_one_effect()
 {}
 
 /// The options of a packet are read in order, and the first that goes wrong is the fault: Mandatory with no option
-/// behind it, or with another Mandatory; an option that is not understood behind Mandatory (RFC 4340, section 5.8.2); the first
-/// Change for a feature by its letter, of the first 64 Changes, that its row cannot accept; or the first Confirm for a
-/// feature by its letter that its row cannot accept (that only these count is own). All options before it were read
-/// without a fault. Where none goes wrong, they are read to their end.
+/// behind it, or with another Mandatory; an option that is not understood behind Mandatory (RFC 4340, section 5.8.2);
+/// the first Change for a feature by its letter, of the first 64 Changes, that its row cannot accept; or the first
+/// Confirm for a feature by its letter that its row cannot accept (that only these count is own). All options before it
+/// were read without a fault. Where none goes wrong, they are read to their end.
 pub fn reading_stops_at_the_first_fault()
     ensures stops { ReadingStopsAtTheFirstFault }
     ensures goes_through { ReadingGoesThrough }

@@ -37,12 +37,13 @@ first_line bytes = take (suc (text_length bytes)) bytes
 abbrev pub text_of : List ℕ → List ℕ
 text_of line = take (text_length line) line
 
--- Behind so many bytes, those of a line up to its newline, to the end of the input or to the byte at which it is too long lie within
--- those that an input may have.
+-- Behind so many bytes, those of a line up to its newline, to the end of the input or to the byte at which it is too
+-- long lie within those that an input may have.
 abbrev pub ends_within : ℕ → List ℕ → Bool
 ends_within given line = nat_le (given + min (length line) one_too_many) most_input_bytes
 
--- What stands next in an input: its end, a line with its newline, the front of a line that is too long, or a line that is too much.
+-- What stands next in an input: its end, a line with its newline, the front of a line that is too long, or a line that
+-- is too much.
 pub data Next : Type 0 where
   End : Next
   Line : (line : List ℕ) → Next
@@ -53,7 +54,8 @@ pub data Next : Type 0 where
 abbrev pub by_length : List ℕ → ℕ → Next
 by_length bytes n = if nat_le one_too_many n then Long (take one_too_many bytes) else Line (first_line bytes)
 
--- Of the bytes that are left of an input behind so many that were given: a line is judged for too much input before its length.
+-- Of the bytes that are left of an input behind so many that were given: a line is judged for too much input before its
+-- length.
 abbrev pub next_in_bytes : ℕ → List ℕ → Next
 next_in_bytes given [] = End
 next_in_bytes given (byte ∷ bytes) =
@@ -81,8 +83,8 @@ made_out bytes (stands.Line count) = Line (take count bytes)
 made_out bytes stands.TooLong = Long (take one_too_many bytes)
 made_out bytes stands.TooMuch = Much
 
--- A line that was made out has some of the pending bytes, is not too long, lies within the bytes that an input may have, and has no newline
--- but at its end.
+-- A line that was made out has some of the pending bytes, is not too long, lies within the bytes that an input may
+-- have, and has no newline but at its end.
 abbrev pub IsLineOf : ℕ → List ℕ → Stands → Type 0
 IsLineOf given bytes (stands.Line count) =
     (0 < count) × (count ≤ length bytes) × (count ≤ one_too_many) × (given + count ≤ most_input_bytes) × (count ≤ suc (text_length bytes))
@@ -92,7 +94,8 @@ IsLineOf given bytes _ = ⊤
 abbrev pub IsSought : ℕ → List ℕ → Option (List ℕ) → Type 0
 IsSought asked pending left = (asked ≤ text_length pending) ⊎ ((text_length pending < length pending) ⊎ IfSome left (λ more. more ≡ []))
 
--- How many bytes of a line settle what stands next, behind so many that were given: as many as make it too long, or too much.
+-- How many bytes of a line settle what stands next, behind so many that were given: as many as make it too long, or too
+-- much.
 abbrev pub enough : ℕ → ℕ
 enough given = min one_too_many (most_input_bytes - given + 1)
 
@@ -108,8 +111,8 @@ pub record Seeks {S : Type 0} (left : S → Option (List ℕ)) (faults lender : 
   pub never_falls : faults before ≤ faults after
   pub same_lender : lender after ≡ lender before
 
--- What a reader of lines shows of itself: the source, the bytes that were read and not given, the line that was given last, with its
--- newline, how many bytes of the input the lines have that were given, and why no further line comes.
+-- What a reader of lines shows of itself: the source, the bytes that were read and not given, the line that was given
+-- last, with its newline, how many bytes of the input the lines have that were given, and why no further line comes.
 pub record LinesState (S : Type 0) : Type 0 where
   pub source : S
   pub pending : List ℕ

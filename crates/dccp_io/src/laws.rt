@@ -4,7 +4,8 @@ ghost use Rattle.dccp_io.specs.Lines.{lines_of, first_line, next_in_bytes, next_
 
 /// The lines of an input are its first line, and then the lines of what is behind it.
 pub fn lines_follow_one_another()
-    ensures { (bytes : List ℕ) → 0 < length bytes → lines_of bytes ≡ first_line bytes ∷ lines_of (drop (length (first_line bytes)) bytes) }
+    ensures { (bytes : List ℕ) → 0 < length bytes
+        → lines_of bytes ≡ first_line bytes ∷ lines_of (drop (length (first_line bytes)) bytes) }
 {}
 
 /// What stands next goes by the first of the lines that are left: the end where there is none, too much where that line

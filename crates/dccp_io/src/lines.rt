@@ -118,7 +118,8 @@ fn text_length_behind(bytes: &[u8], clear: usize) -> usize
     text_length(bytes, clear)
 }
 
-// How many bytes a line has without its newline, which is at most its last byte: the line that so many pending bytes are.
+// How many bytes a line has without its newline, which is at most its last byte: the line that so many pending bytes
+// are.
 #[tactic(auto, using(crate::proofs::NextLine::all_but_one_clear))]
 fn text_of_line(pending: &[u8], count: usize) -> usize
     requires some { 0 < count }
@@ -211,8 +212,8 @@ fn enough(given: u64) -> usize
     (ONE_TOO_MANY as u64).min(room + 1) as usize
 }
 
-// The bytes that are pending settle what stands next: the first line's newline is among them, or so many bytes of it are.
-// At least `clear` of them stand before a newline.
+// The bytes that are pending settle what stands next: the first line's newline is among them, or so many bytes of it
+// are. At least `clear` of them stand before a newline.
 fn is_line_settled(asked: usize, pending: &[u8], clear: usize) -> bool
     requires { clear ≤ text_length pending.now }
     ensures { result ≡ is_line_settled asked pending.now }

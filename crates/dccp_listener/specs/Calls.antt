@@ -38,8 +38,8 @@ pub record OpensFlow (l : Listening) (peer : Peer) (deed : Deed) : Type 0 where
   pub has_room : length l.flows < l.config.most
   pub would_stay : IsSome (chain_step l.config peer None deed).after
 
--- The Reset with the code Too Busy (RFC 4340, section 5.6), sent without a connection: its number is 0, and it acknowledges the packet
--- with this number.
+-- The Reset with the code Too Busy (RFC 4340, section 5.6), sent without a connection: its number is 0, and it
+-- acknowledges the packet with this number.
 abbrev pub busy_reset : Config → ℕ → List ℕ
 busy_reset config number = frame_of config false 0 (reset_of number (without_detail (number_of_code codes.TooBusy)))
 

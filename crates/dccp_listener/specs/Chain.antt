@@ -1,4 +1,5 @@
--- What a server of its own would give one peer: the chain of that peer's calls (RFC 4340, section 8.1.2; the rest is own).
+-- What a server of its own would give one peer: the chain of that peer's calls (RFC 4340, section 8.1.2; the rest is
+-- own).
 use Rattle.std.specs.Prelude.{◌==◌, ℕ, Bool, true, false, List, Option, Some, None, Result, Ok, Err, if◌then◌else◌, slice_get, unwrap_or}
 use Rattle.std.specs.List.{list_any}
 use Rattle.congestion_trait.specs.Control.{may_send}
@@ -32,7 +33,8 @@ pub data FlowCall : Type 0 where
   Fires : (timer : Timer) → FlowCall
   Closes Aborts : FlowCall
 
--- What happens to a peer: a datagram of it arrives, with the first number that an end made for it would have; or the owner calls.
+-- What happens to a peer: a datagram of it arrives, with the first number that an end made for it would have; or the
+-- owner calls.
 pub data Deed : Type 0 where
   Arrives : (iss : ℕ) (bytes : List ℕ) → Deed
   Calls : (call : FlowCall) → Deed
@@ -104,7 +106,8 @@ kept_if_open e = if is_flow e.state.phase then Some e else None
 abbrev pub kept_until_over : FlowEnd → Option FlowEnd
 kept_until_over e = if is_given_up e.state.phase then None else Some e
 
--- a step of the chain: the end that the peer has then, the frame that goes to it, and what was seen; nothing was where there is no end to call
+-- a step of the chain: the end that the peer has then, the frame that goes to it, and what was seen; nothing was where
+-- there is no end to call
 pub record ChainStep : Type 0 where
   pub after : Option FlowEnd
   pub frame : Option (List ℕ)

@@ -1,4 +1,5 @@
--- What one deed makes of a peer's end where it stands among the others, in two halves: it moves, and goes where it is over (own).
+-- What one deed makes of a peer's end where it stands among the others, in two halves: it moves, and goes where it is
+-- over (own).
 use Rattle.std.specs.Prelude.{◌≡◌, ℕ, Bool, List, Option, Some, None}
 use Rattle.std.specs.BTreeMap.{insert_entry}
 use Rattle.std.specs.Map.{set_value}
@@ -10,7 +11,8 @@ use Rattle.dccp_listener.specs.Listens.{with_end}
 use Rattle.dccp_listener.specs.Peers.{FlowEnd, Flows, end_of_peer, is_peer, peer_cmp}
 use Rattle.dccp_listener.specs.declared.peer.Peer.{Peer}
 
--- the peer's own end after the first half, all flows, the frame, and what is shown of the answer beside whether the end is over
+-- the peer's own end after the first half, all flows, the frame, and what is shown of the answer beside whether the end
+-- is over
 abbrev pub FlowMoves : {A B : Type 0} → (FlowEnd → EndStep Both A) → (A → B) → Option FlowEnd → (own : Option FlowEnd) (before after : Flows) → Peer
     → Option (List ℕ) → Option (B × Bool) → Type 0
 FlowMoves step show (Some e) own before after peer frame told =

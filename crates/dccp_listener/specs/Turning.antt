@@ -9,7 +9,8 @@ use Rattle.end_answers.specs.declared.outcome.Outcome.{Outcome}
 use Rattle.end_answers.specs.declared.outcome.Outcome.TheVariants.{SentReset}
 use Rattle.dccp_listener.specs.Chain.{is_flow}
 
--- what is told of the step of a fresh end, with the frame that goes out: its answer where it does not stay, and else nothing
+-- what is told of the step of a fresh end, with the frame that goes out: its answer where it does not stay, and else
+-- nothing
 abbrev pub IsToldOf : Step Outcome → Option (List ℕ) → Option Outcome → Type 0
 IsToldOf step frame (Some outcome) = (step.frame ≡ frame) × (step.answer ≡ outcome) × (is_flow step.after.phase ≡ false)
 IsToldOf step frame None = (frame ≡ None) × (is_flow step.after.phase ≡ true)

@@ -19,8 +19,8 @@ pub enum Act<'a> {
 pub enum Heard {
     /// An end answered: the peer's own, or a fresh one, which stays where it has left LISTEN and is not CLOSED.
     Flow(Outcome),
-    /// The peer has no flow, the datagram would open one, and as many flows stand as may. A Reset with the code Too Busy goes to
-    /// the peer (RFC 4340, section 5.6).
+    /// The peer has no flow, the datagram would open one, and as many flows stand as may. A Reset with the code Too
+    /// Busy goes to the peer (RFC 4340, section 5.6).
     Busy,
 }
 

@@ -53,7 +53,8 @@ fn call_flow(
 ) -> Option<(Seen, bool)>
     requires { out.old ≡ None }
     ensures moves { FlowMoves (λ e. flow_step e (Calls (call_of act.entry))) seen_of (end_of_peer flows.old.entries peer) (end_of_peer flows.new.entries peer) flows.old.entries flows.new.entries peer out.new result }
-    ensures others { (other : Peer) → is_peer peer other ≡ false → end_of_peer flows.new.entries other ≡ end_of_peer flows.old.entries other }
+    ensures others { (other : Peer) → is_peer peer other ≡ false
+        → end_of_peer flows.new.entries other ≡ end_of_peer flows.old.entries other }
     ensures count { length flows.new.entries ≡ length flows.old.entries }
 {
     match flows.get_mut(&peer) {
@@ -76,7 +77,8 @@ fn receive_at(
     requires empty { out.old ≡ None }
     requires short { length bytes.now ≤ 2044 }
     ensures moves { FlowMoves (λ e. receiving kinds_control e bytes.now) (λ outcome. outcome) (end_of_peer flows.old.entries peer) (end_of_peer flows.new.entries peer) flows.old.entries flows.new.entries peer out.new result }
-    ensures others { (other : Peer) → is_peer peer other ≡ false → end_of_peer flows.new.entries other ≡ end_of_peer flows.old.entries other }
+    ensures others { (other : Peer) → is_peer peer other ≡ false
+        → end_of_peer flows.new.entries other ≡ end_of_peer flows.old.entries other }
     ensures count { length flows.new.entries ≡ length flows.old.entries }
 {
     match flows.get_mut(&peer) {
@@ -92,7 +94,8 @@ fn receive_at(
 // The peer's end goes where it is over.
 fn settle(flows: &mut BTreeMap<Peer, Held>, peer: Peer, over: bool)
     ensures own { end_of_peer flows.new.entries peer ≡ (if over then None else end_of_peer flows.old.entries peer) }
-    ensures others { (other : Peer) → is_peer peer other ≡ false → end_of_peer flows.new.entries other ≡ end_of_peer flows.old.entries other }
+    ensures others { (other : Peer) → is_peer peer other ≡ false
+        → end_of_peer flows.new.entries other ≡ end_of_peer flows.old.entries other }
     ensures entries { flows.new.entries ≡ (if over then remove_entry (is_peer peer) flows.old.entries else flows.old.entries) }
     ensures count { length flows.new.entries ≤ length flows.old.entries }
 {
@@ -111,7 +114,8 @@ pub(crate) fn act_at(
 ) -> Option<Seen>
     requires { out.old ≡ None }
     ensures steps { FlowSteps (λ e. flow_step e (Calls (call_of act.entry))) seen_of (end_of_peer flows.old.entries peer) (end_of_peer flows.new.entries peer) flows.old.entries flows.new.entries peer out.new result }
-    ensures others { (other : Peer) → is_peer peer other ≡ false → end_of_peer flows.new.entries other ≡ end_of_peer flows.old.entries other }
+    ensures others { (other : Peer) → is_peer peer other ≡ false
+        → end_of_peer flows.new.entries other ≡ end_of_peer flows.old.entries other }
     ensures count { length flows.new.entries ≤ length flows.old.entries }
 {
     let Some((seen, over)) = call_flow(flows, peer, act, out) else {
@@ -132,7 +136,8 @@ pub(crate) fn hear_at(
     requires empty { out.old ≡ None }
     requires short { length bytes.now ≤ 2044 }
     ensures steps { FlowSteps (λ e. receiving kinds_control e bytes.now) (λ outcome. outcome) (end_of_peer flows.old.entries peer) (end_of_peer flows.new.entries peer) flows.old.entries flows.new.entries peer out.new result }
-    ensures others { (other : Peer) → is_peer peer other ≡ false → end_of_peer flows.new.entries other ≡ end_of_peer flows.old.entries other }
+    ensures others { (other : Peer) → is_peer peer other ≡ false
+        → end_of_peer flows.new.entries other ≡ end_of_peer flows.old.entries other }
     ensures count { length flows.new.entries ≤ length flows.old.entries }
 {
     let Some((outcome, over)) = receive_at(flows, peer, bytes, out) else {
@@ -150,7 +155,8 @@ pub(crate) fn put_flow(
     end: Endpoint<Kinds>,
 ) -> Result<(), NoMemory>
     ensures own { OnOk result (end_of_peer flows.new.entries peer ≡ Some end) }
-    ensures others { (other : Peer) → is_peer peer other ≡ false → end_of_peer flows.new.entries other ≡ end_of_peer flows.old.entries other }
+    ensures others { (other : Peer) → is_peer peer other ≡ false
+        → end_of_peer flows.new.entries other ≡ end_of_peer flows.old.entries other }
     ensures entries { OnOk result (flows.new.entries ≡ insert_entry peer_cmp flows.old.entries peer end) }
     ensures unchanged { OnErr result (flows.new.entries ≡ flows.old.entries) }
     ensures count { length flows.new.entries ≤ length flows.old.entries + 1 }

@@ -17,9 +17,9 @@ use world_events::Seen;
 /// # The order of calls
 ///
 /// `new` makes it. From then on, in whatever order, `arrive` for each datagram, with the peer that it came from and an
-/// initial sequence number that nobody can guess (RFC 4340, section 7.2), which a fresh end would have; and `act` for each call of a peer's end
-/// and each of its timers that has run out. Each call that takes an Outbox empties it first and leaves at most one
-/// frame there, which goes to the peer of the call.
+/// initial sequence number that nobody can guess (RFC 4340, section 7.2), which a fresh end would have; and `act` for
+/// each call of a peer's end and each of its timers that has run out. Each call that takes an Outbox empties it first
+/// and leaves at most one frame there, which goes to the peer of the call.
 ///
 /// # Flows
 ///
@@ -28,9 +28,10 @@ use world_events::Seen;
 ///
 /// # Sizes
 ///
-/// A flow takes the blocks of its end and of its congestion control, about 87 KB, beside an entry of the map: 1,024 take 89 MB.
-/// An end is made only where it stays: any other datagram of a peer that has no flow is answered without one, takes no
-/// memory, and costs a look into the map, whose steps grow with the logarithm of the flows whichever peers are chosen.
+/// A flow takes the blocks of its end and of its congestion control, about 87 KB, beside an entry of the map: 1,024
+/// take 89 MB. An end is made only where it stays: any other datagram of a peer that has no flow is answered without
+/// one, takes no memory, and costs a look into the map, whose steps grow with the logarithm of the flows whichever
+/// peers are chosen.
 #[derive(Drop)]
 pub struct Listener {
     alloc: Global,
@@ -76,9 +77,10 @@ impl Listener {
     /// A datagram of a peer has arrived, at most 2,044 bytes. `iss` is the first sequence number of an end that is made
     /// for it.
     ///
-    /// A peer's own end hears it, or else a fresh one. Busy comes exactly where the peer has no flow, `most` stand and the fresh end would stay:
-    /// nothing changes, and a Reset with the code Too Busy goes to the peer (RFC 4340, section 5.6). NoMemory comes
-    /// only where the datagram would open a flow and one more may stand, and then nothing changes and nothing goes out.
+    /// A peer's own end hears it, or else a fresh one. Busy comes exactly where the peer has no flow, `most` stand and
+    /// the fresh end would stay: nothing changes, and a Reset with the code Too Busy goes to the peer (RFC 4340,
+    /// section 5.6). NoMemory comes only where the datagram would open a flow and one more may stand, and then nothing
+    /// changes and nothing goes out.
     pub fn arrive(
         &mut self,
         peer: Peer,

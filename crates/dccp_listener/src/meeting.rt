@@ -33,7 +33,8 @@ fn admit(
     requires empty { out.old ≡ None }
     requires short { length bytes.now ≤ 2044 }
     ensures admitted { IfOk result (λ outcome. IsTakenIn (receiving kinds_control (begins kinds_control config.now at_first) bytes.now) flows.old.entries flows.new.entries peer out.new outcome) }
-    ensures others { (other : Peer) → is_peer peer other ≡ false → end_of_peer flows.new.entries other ≡ end_of_peer flows.old.entries other }
+    ensures others { (other : Peer) → is_peer peer other ≡ false
+        → end_of_peer flows.new.entries other ≡ end_of_peer flows.old.entries other }
     ensures count { length flows.new.entries ≤ length flows.old.entries + 1 }
     ensures unchanged { OnErr result ((flows.new.entries ≡ flows.old.entries) × (out.new ≡ None)) }
 {

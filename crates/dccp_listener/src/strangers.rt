@@ -88,7 +88,8 @@ fn turn_away_packet(
     requires server { config.now.role ≡ Role.Server }
     requires empty { out.old ≡ None }
     requires short { length packet.now.options.now ≤ 1008 }
-    ensures { (bytes : List ℕ) → IsToldOf (takes (new_end config.now) (incoming (new_end config.now) bytes (parts_of_packet packet.now) number)) out.new result }
+    ensures { (bytes : List ℕ)
+        → IsToldOf (takes (new_end config.now) (incoming (new_end config.now) bytes (parts_of_packet packet.now) number)) out.new result }
 {
     match packet.header.kind {
         Kind::Request { service } => {
@@ -109,8 +110,8 @@ fn turn_away_packet(
     }
 }
 
-/// Answers a datagram as a fresh end would that does not stay: what it answers, with its frame in the Outbox. None where
-/// it would stay, and then nothing is sent: an end has to hear the datagram.
+/// Answers a datagram as a fresh end would that does not stay: what it answers, with its frame in the Outbox. None
+/// where it would stay, and then nothing is sent: an end has to hear the datagram.
 #[tactic(auto, unfolding(dccp_endpoint::specs::Receiving::receives))]
 pub(crate) fn turn_away(config: &Config, bytes: &[u8], out: &mut Outbox) -> Option<Outcome>
     requires server { config.now.role ≡ Role.Server }

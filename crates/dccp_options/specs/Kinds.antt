@@ -100,7 +100,8 @@ abbrev pub is_understood : ℕ → ℕ → Bool
 is_understood kind size =
     has_permitted_length kind (length_of kind size) && (not (kind == init_cookie) && not (is_ccid_specific kind))
 
--- the types that Data packets ignore: Mandatory, Change and Confirm, Init Cookie, Ack Vector, Data Dropped and Elapsed Time
+-- the types that Data packets ignore: Mandatory, Change and Confirm, Init Cookie, Ack Vector, Data Dropped and Elapsed
+-- Time
 abbrev pub is_ignored_on_data : ℕ → Bool
 is_ignored_on_data kind =
     kind == mandatory

@@ -27,7 +27,8 @@ impl<'a> OptList<'a> {
     ghost use Rattle.std.specs.Prelude.{false};
     ghost use Rattle.dccp_options.specs.Left.{entries_left};
 
-    /// The options that are still to come, once more: for whoever goes over them many times, since a list is not `Copy`.
+    /// The options that are still to come, once more: for whoever goes over them many times, since a list is not
+    /// `Copy`.
     pub fn again(&self) -> OptList<'a>
         ensures { result ≡ self.now }
     {

@@ -1,4 +1,5 @@
--- The two forms of numbers: how a number is cut to its short form, and how one is read in full (RFC 4340, sections 5.1 and 7.6).
+-- The two forms of numbers: how a number is cut to its short form, and how one is read in full (RFC 4340, sections 5.1
+-- and 7.6).
 use Rattle.std.specs.Prelude.{ℕ, ◌%◌, ◌^◌, Bool, true, false, Option, Some}
 use Rattle.seq_circle.specs.Circle.{extended}
 use Rattle.dccp_packets.specs.declared.header.PacketType.{PacketType}
@@ -13,7 +14,8 @@ use Rattle.dccp_packets.specs.Kinds.{ack_of}
 abbrev pub may_be_short : PacketType → Bool
 may_be_short t = has_form false t
 
--- a number in full: a long one as it stands, a short one as the number near the reference that it stands for (section 7.6)
+-- a number in full: a long one as it stands, a short one as the number near the reference that it stands for (section
+-- 7.6)
 abbrev pub near : ℕ → Number → ℕ
 near reference (Long n) = n
 near reference (Short n) = extended n reference

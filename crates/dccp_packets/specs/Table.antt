@@ -1,5 +1,6 @@
--- The packets of DCCP as a relation between a header, options, data and bytes, apart from reading and writing (RFC 4340,
--- section 5). Each field is the number that its bits spell, most significant first. Reserved bits may be anything.
+-- The packets of DCCP as a relation between a header, options, data and bytes, apart from reading and writing (RFC
+-- 4340, section 5). Each field is the number that its bits spell, most significant first. Reserved bits may be
+-- anything.
 use Rattle.std.specs.Prelude.{◌≡◌, ℕ, ◌+◌, ◌*◌, ◌<◌, List, ◌++◌, length, slice_index, slice_range}
 use Rattle.dccp_packets.specs.declared.header.Number.{Number}
 use Rattle.dccp_packets.specs.declared.header.Number.TheVariants.{Long, Short}
@@ -56,8 +57,8 @@ pub record IsPacket (h : Header) (options payload bytes : List ℕ) : Type 0 whe
 abbrev pub AreBytes : List ℕ → Type 0
 AreBytes bytes = (k : ℕ) → slice_index bytes k < 256
 
--- The reserved bits are zero: three in byte 8, one byte before a long sequence number, two before a long acknowledgement
--- and one before a short one.
+-- The reserved bits are zero: three in byte 8, one byte before a long sequence number, two before a long
+-- acknowledgement and one before a short one.
 abbrev pub NumberHasZeros : Number → List ℕ → Type 0
 NumberHasZeros (Long n) b = slice_index b 9 ≡ 0
 NumberHasZeros (Short n) b = Unit {0}

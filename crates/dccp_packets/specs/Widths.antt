@@ -1,5 +1,5 @@
--- Headers cut to the widths of their fields: what a spelling keeps of a header whose numbers may be too large (own). The
--- widths are those of RFC 4340, section 5.
+-- Headers cut to the widths of their fields: what a spelling keeps of a header whose numbers may be too large (own).
+-- The widths are those of RFC 4340, section 5.
 use Rattle.std.specs.Prelude.{◌≡◌, ◌%◌, ◌^◌, length}
 use Rattle.dccp_packets.specs.declared.header.Number.{Number}
 use Rattle.dccp_packets.specs.declared.header.Number.TheVariants.{Long, Short}

@@ -4,7 +4,8 @@ use Rattle.congestion_trait.specs.declared.flight.Entry.{Entry}
 use Rattle.congestion_trait.specs.Flight.{States, acked_count, is_congested}
 use Rattle.congestion_trait.specs.Kind.{Rules}
 
--- A report of any loss or mark halves the window, down to a packet at least; one of something received lets it grow by a packet, up to 1,024.
+-- A report of any loss or mark halves the window, down to a packet at least; one of something received lets it grow by
+-- a packet, up to 1,024.
 abbrev pub window_reported : ℕ → List Entry → States → ℕ → ℕ
 window_reported window entries states ratio =
     if is_congested states None entries then max (window / 2) 1

@@ -35,9 +35,9 @@ with_alarm alarms timers.Rto alarm = record alarms { rto = alarm }
 with_alarm alarms timers.Close alarm = record alarms { close = alarm }
 with_alarm alarms timers.TimeWait alarm = record alarms { time_wait = alarm }
 
--- A timer's first wait: a second for an answer to the Request (section 8.1.1), for a Confirm (own) and for a report (RFC 4341, section 5);
--- 200 for an Ack (section 8.1.5); two round trips of 200 for the answer to a Close (sections 3.4 and 8.3); two lifetimes of a segment, of
--- two minutes each, in TIMEWAIT (sections 3.4 and 8.3).
+-- A timer's first wait: a second for an answer to the Request (section 8.1.1), for a Confirm (own) and for a report
+-- (RFC 4341, section 5); 200 for an Ack (section 8.1.5); two round trips of 200 for the answer to a Close (sections 3.4
+-- and 8.3); two lifetimes of a segment, of two minutes each, in TIMEWAIT (sections 3.4 and 8.3).
 abbrev pub first_wait : Timer → ℕ
 first_wait timers.Request = 1000
 first_wait timers.Ack = 200
@@ -55,8 +55,8 @@ no_alarms =
 abbrev pub next_wait : ℕ → ℕ
 next_wait wait = max 1 (2 * min wait 32000)
 
--- The wait with which a timer begins: its first, but that of the timer rto stays as long as its timeouts have made it, and is never below
--- its first (RFC 2988, sections 2.4 and 5.5).
+-- The wait with which a timer begins: its first, but that of the timer rto stays as long as its timeouts have made it,
+-- and is never below its first (RFC 2988, sections 2.4 and 5.5).
 abbrev pub starting_wait : Alarms → Timer → ℕ
 starting_wait alarms timers.Rto = max (first_wait timers.Rto) alarms.rto_wait
 starting_wait alarms timer = first_wait timer
@@ -94,8 +94,8 @@ abbrev pub set_back : Option Alarm → ℕ → Option Alarm
 set_back None now = None
 set_back (Some alarm) now = Some (record { since = now; wait = next_wait alarm.wait })
 
--- The alarms once a timer has run out: it is set back, and the timer rto then also begins with twice its wait, even where nothing is in
--- flight any more (RFC 4341, section 5; RFC 2988, section 5.5).
+-- The alarms once a timer has run out: it is set back, and the timer rto then also begins with twice its wait, even
+-- where nothing is in flight any more (RFC 4341, section 5; RFC 2988, section 5.5).
 abbrev pub rung : Alarms → Timer → ℕ → Alarms
 rung alarms timers.Rto now = record alarms { rto = set_back alarms.rto now; rto_wait = next_wait alarms.rto_wait }
 rung alarms timer now = with_alarm alarms timer (set_back (alarm_of alarms timer) now)
@@ -105,8 +105,8 @@ abbrev pub first_again : Option Alarm → ℕ → Option Alarm
 first_again None wait = None
 first_again (Some alarm) wait = if alarm.wait == wait then Some alarm else None
 
--- Where a packet that arrived took something out of flight, the timer rto begins anew, with its first wait (RFC 4341, section 5; RFC 2988,
--- section 5.3).
+-- Where a packet that arrived took something out of flight, the timer rto begins anew, with its first wait (RFC 4341,
+-- section 5; RFC 2988, section 5.3).
 abbrev pub with_progress : Alarms → Bool → Alarms
 with_progress alarms true = record alarms { rto = None; rto_wait = first_wait timers.Rto }
 with_progress alarms false = alarms

@@ -1,7 +1,8 @@
 -- Frames that are handed to a network (own).
 use Rattle.std.specs.Prelude.{◌≡◌, ℕ, List, [], ◌∷◌, Option, Some, None}
 
--- A step's frame, if it made one, was handed to the network, and nothing else was. `sends` is what a network makes of a frame.
+-- A step's frame, if it made one, was handed to the network, and nothing else was. `sends` is what a network makes of a
+-- frame.
 abbrev pub Hands : {N : Type 0} → (N → List ℕ → N → Type 0) → N → Option (List ℕ) → N → Type 0
 Hands sends before None after = after ≡ before
 Hands sends before (Some frame) after = sends before frame after

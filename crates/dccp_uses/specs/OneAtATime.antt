@@ -2,7 +2,8 @@
 use Rattle.std.specs.Prelude.{◌==◌}
 use Rattle.congestion_trait.specs.Kind.{Rules}
 
--- It stands in for CCID 2, whose window is one packet at least: so it never sends faster. Beside the flight list it keeps nothing.
+-- It stands in for CCID 2, whose window is one packet at least: so it never sends faster. Beside the flight list it
+-- keeps nothing.
 abbrev pub one_at_a_time : Rules (Unit {0})
 one_at_a_time = record {
   window = λ _. 1;

@@ -102,8 +102,9 @@ tells_news s step =
       answer = news_of step.answer s.end.state.phase step.session.end.state.phase;
     }
 
--- The end has received a packet. Its timers go by what came out of flight with it, by a report or since a new CCID begins with nothing there,
--- and by data that were delivered. A timeout, which empties the flight too, is told by `tells_end` and is no progress.
+-- The end has received a packet. Its timers go by what came out of flight with it, by a report or since a new CCID
+-- begins with nothing there, and by data that were delivered. A timeout, which empties the flight too, is told by
+-- `tells_end` and is no progress.
 abbrev pub after_hearing : {C : Type 0} → Control C → ℕ → SessionState C → EndStep C Outcome → SessionStep C Outcome
 after_hearing control now s step =
     goes_on_with control now

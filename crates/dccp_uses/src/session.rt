@@ -112,9 +112,9 @@ impl<C: Congestion> Session<C> {
         Ok(())
     }
 
-    /// Sends data, at most 1,024 bytes, if the end takes them, in PARTOPEN too, so that a client may speak first. Refused
-    /// as `Endpoint::send_soon` is, with `WindowFull` where there is no room; then nothing has changed and nothing is
-    /// sent, and the data may be offered again.
+    /// Sends data, at most 1,024 bytes, if the end takes them, in PARTOPEN too, so that a client may speak first.
+    /// Refused as `Endpoint::send_soon` is, with `WindowFull` where there is no room; then nothing has changed and
+    /// nothing is sent, and the data may be offered again.
     pub fn send<N: Network>(
         &mut self,
         payload: &[u8],
@@ -190,7 +190,8 @@ impl<C: Congestion> Session<C> {
         ensures does { Does N.sends (hears C.control now self.old datagram.now) self.new network.old network.new result }
         ensures too_long { (result ≡ News.TooLong) ↔ (2044 < length datagram.now) }
         ensures unchanged { 2044 < length datagram.now → (self.new ≡ self.old) × (network.new ≡ network.old) }
-        ensures inside { (first past : ℕ) → result ≡ News.Data first past → (first ≤ past) × (past ≤ length datagram.now) }
+        ensures inside { (first past : ℕ) → result ≡ News.Data first past
+            → (first ≤ past) × (past ≤ length datagram.now) }
     {
         if MOST_FRAME_BYTES < datagram.len() {
             return News::TooLong;

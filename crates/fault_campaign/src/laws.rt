@@ -23,8 +23,8 @@ pub fn reports_count_little()
     ensures { (seed events : ℕ) → 1 ≤ events → size (seeded_report seed events) ≤ 5 * events + 19 }
 {}
 
-/// Each event that a seed draws can happen (own): a frame that is delivered was sent, no side has sent all frames that it
-/// may, and as long as there were fewer than 2^23 events no frame is far where it arrives. So the run of a seed is
+/// Each event that a seed draws can happen (own): a frame that is delivered was sent, no side has sent all frames that
+/// it may, and as long as there were fewer than 2^23 events no frame is far where it arrives. So the run of a seed is
 /// refused nothing but memory.
 pub fn drawn_events_happen()
     ensures first { (seed : ℕ) → IsOk (happens_to kinds_control (begun_run (generator seed)).world Open) }
@@ -51,14 +51,15 @@ pub fn seeded_runs_are_safe()
 /// The totals of seeds, and those of the seeds behind them, are the totals of all of them, count by count (own). So a
 /// campaign may be run in parts, on as many machines as there are.
 pub fn parts_of_a_campaign_add_up()
-    ensures { (first some more events : ℕ) → plus (totals first some events) (totals (first + some) more events) ≡ totals first (some + more) events }
+    ensures { (first some more events : ℕ)
+        → plus (totals first some events) (totals (first + some) more events) ≡ totals first (some + more) events }
 {}
 
-/// The draws on which no count of a report depends (own), by values that were worked out apart. The first words of seed 1
-/// are 33a70be6, 7dbcf3ee, cadf4751 and 11ac71c0. Of the first the last 16 bits stand before the 32 of the second, and that
-/// is the initial number of the client; the third and the fourth give the server's. 0000ffff and ffffffff give the
-/// greatest number. Data are the four bytes of a word, the highest first, and lists of feature 8 are wished for in this
-/// order.
+/// The draws on which no count of a report depends (own), by values that were worked out apart. The first words of seed
+/// 1 are 33a70be6, 7dbcf3ee, cadf4751 and 11ac71c0. Of the first the last 16 bits stand before the 32 of the second,
+/// and that is the initial number of the client; the third and the fourth give the server's. 0000ffff and ffffffff give
+/// the greatest number. Data are the four bytes of a word, the highest first, and lists of feature 8 are wished for in
+/// this order.
 #[tactic(auto, unfolding(crate::specs::Draws::drawn, crate::specs::Seeded::begun_run))]
 pub fn draws_that_no_count_shows()
     ensures client { (g : Lcg) → word g ≡ 866585574 → word (behind_word g) ≡ 2109535214

@@ -3,8 +3,8 @@
 //!
 //! `run_seed` runs one seed: two usual ends whose initial sequence numbers and events are drawn from it, frames lost,
 //! repeated and reordered among them; `Run` does the same event by event. `campaign` runs as many seeds as it is asked
-//! to, each once, and adds their reports: the answer is the same for every number of workers and whatever they wait for.
-//! Nothing is said of which worker runs which seed, nor of how long it takes.
+//! to, each once, and adds their reports: the answer is the same for every number of workers and whatever they wait
+//! for. Nothing is said of which worker runs which seed, nor of how long it takes.
 #![tactic(auto)]
 
 mod draws;

@@ -53,8 +53,8 @@ impl Run {
         })
     }
 
-    /// The run of a seed before its first event, which opens the connection (own). It takes the memory of two ends; NoMemory
-    /// says that there was none.
+    /// The run of a seed before its first event, which opens the connection (own). It takes the memory of two ends;
+    /// NoMemory says that there was none.
     pub fn of_seed(alloc: Global, seed: u64) -> Result<Run, NoMemory>
         ensures { IfOk result (λ run. run ≡ begun_run (generator seed)) }
     {
@@ -70,8 +70,8 @@ impl Run {
         drawn(a, b, self.frames(Side::Client), self.frames(Side::Server))
     }
 
-    /// Lets an event happen, and counts it (own); one that cannot happen changes nothing. NoMemory comes where there was none
-    /// for a frame. The counts have room for 2^61 events.
+    /// Lets an event happen, and counts it (own); one that cannot happen changes nothing. NoMemory comes where there
+    /// was none for a frame. The counts have room for 2^61 events.
     #[tactic(auto, unfolding(crate::specs::Seeded::played))]
     pub fn play(&mut self, event: &Event) -> Result<(), NoMemory>
         requires { size self.old.report < 2 ^ 62 }
@@ -137,8 +137,8 @@ impl Run {
         self.play(&Event::Open)
     }
 
-    // Plays the event of two words. Each kind of event is made where it is played, since it would move with its room for
-    // data.
+    // Plays the event of two words. Each kind of event is made where it is played, since it would move with its room
+    // for data.
     #[tactic(auto, unfolding(crate::specs::Draws::drawn))]
     fn play_drawn(&mut self, again: &mut Again, a: u32, b: u32) -> Result<(), NoMemory>
         requires { size self.old.report < 2 ^ 62 }
@@ -205,7 +205,8 @@ impl Run {
     fn play_all(&mut self, events: u32) -> Result<Report, NoMemory>
         requires some { 1 ≤ events }
         requires few { size self.old.report + 2 * events < 2 ^ 62 }
-        ensures { (seed : ℕ) → self.old ≡ begun_run (generator seed) → IfOk result (λ report. report ≡ seeded_report seed events) }
+        ensures { (seed : ℕ) → self.old ≡ begun_run (generator seed)
+            → IfOk result (λ report. report ≡ seeded_report seed events) }
     {
         self.open()?;
         self.go_on_for(events - 1)?;

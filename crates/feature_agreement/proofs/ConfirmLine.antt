@@ -8,7 +8,7 @@ use Rattle.feature_machine.specs.declared.stands.Stand.TheVariants.{Stable, Chan
 use Rattle.feature_machine.specs.declared.judging.Confirmation.{Confirmation}
 use Rattle.feature_machine.specs.declared.judging.Confirmation.TheVariants as c
 use Rattle.feature_machine.specs.declared.row.Row.{Row}
-use Rattle.feature_machine.specs.Rows.{row_line, Confirmed, is_server_priority, width, entries, reconciled_by, confirmation, timely_confirmation, list_confirmation, listed_confirmation, number_confirmation, answers_opening, is_number}
+use Rattle.feature_machine.specs.Rows.{row_line, Confirmed, is_server_priority, width, entries, reconciled_by, confirmation, timely_confirmation, list_confirmation, agreed_confirmation, number_confirmation, answers_opening, is_number}
 use Rattle.feature_machine.specs.Sound.{IsSoundRow}
 use Rattle.seq_circle.specs.Circle.{is_before}
 use Rattle.feature_agreement.specs.View.{Carried, carried_at}
@@ -105,7 +105,7 @@ module _ (iss greatest count : ℕ) (row : Row) (there frames : List Carried) (n
       by_held is false same = tt
 
       by_found : (found : Option ℕ) → reconciled_by row.role (entries row.active) (first ∷ rest) ≡ found
-          → Confirms acknowledged (first ∷ rest) (listed_confirmation row value found)
+          → Confirms acknowledged (first ∷ rest) (agreed_confirmation row value found)
       by_found (Some shared) is = by_shared shared is (shared == value) refl
       by_found None is = by_held is (value == row.value) refl
 

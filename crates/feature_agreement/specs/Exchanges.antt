@@ -1,4 +1,5 @@
--- Two runs of a pair of rows, to show that moves lead somewhere: both rows end in STABLE, with what the rule says (own).
+-- Two runs of a pair of rows, to show that moves lead somewhere: both rows end in STABLE, with what the rule says
+-- (own).
 use Rattle.std.specs.Prelude.{ℕ, List, [], ◌∷◌, unwrap_or}
 use Rattle.feature_agreement.specs.View.{FeatureSide}
 use Rattle.feature_machine.specs.declared.stands.Stand.TheVariants.{Stable}

@@ -1,5 +1,5 @@
--- What one step of one side may do to its row and its frames, and which pairs of sides such steps reach (own). The moves
--- allow more than a row does where that costs nothing: a row opens from any stand, and answers a Change in any.
+-- What one step of one side may do to its row and its frames, and which pairs of sides such steps reach (own). The
+-- moves allow more than a row does where that costs nothing: a row opens from any stand, and answers a Change in any.
 --
 -- An empty Confirm is no move: it could settle a row that nobody answered. Nor is a Confirm without a list where a
 -- feature is negotiated by lists. Between our ends they do not occur (`what_rows_say_is_whole`).
@@ -47,7 +47,8 @@ opening side wish =
 abbrev pub sending_side : FeatureSide → Carried → FeatureSide
 sending_side side frame = record side { frames = with_frame side.frames frame }
 
--- What a step of a side makes of it. Of its peer it sees the frames alone. `opens` tells the wishes that its row may open with.
+-- What a step of a side makes of it. Of its peer it sees the frames alone. `opens` tells the wishes that its row may
+-- open with.
 pub data Move (rule : Rule) (opens : List ℕ → Bool) (there : List Carried) (side : FeatureSide) : FeatureSide → Type 0 where
   Passes : (count : ℕ) → side.greatest < count → count ≤ length there → Move rule opens there side (passing_side side count)
   Settles : (count acknowledged value : ℕ) (wish : List ℕ) → side.greatest < count
@@ -67,8 +68,8 @@ pub data Moves (rule : Rule) (opens : List ℕ → Bool) (there : List Carried) 
   Next : (before middle after : FeatureSide) → Move rule opens there before middle → Moves rule opens there middle after
       → Moves rule opens there before after
 
--- what is fixed for a feature at one end: the value before any negotiation, the rule with the server's wish first, and the
--- wishes that either end's row may open with
+-- what is fixed for a feature at one end: the value before any negotiation, the rule with the server's wish first, and
+-- the wishes that either end's row may open with
 pub record Pair : Type 0 where
   pub initial : ℕ
   pub rule : Rule
@@ -116,7 +117,8 @@ abbrev pub negotiable : ℕ → Rule → Pair
 negotiable initial rule =
     record { initial = initial; rule = rule; server_opens = any_wish; client_opens = any_wish }
 
--- a feature that is not negotiable, located at the server: its row opens with one value, and the client's row never opens
+-- a feature that is not negotiable, located at the server: its row opens with one value, and the client's row never
+-- opens
 abbrev pub at_server : ℕ → Pair
 at_server initial =
     record { initial = initial; rule = own_value; server_opens = one_value; client_opens = no_wish }

@@ -12,8 +12,8 @@ use Rattle.seq_circle.specs.Counts.{count_of, IsNumber}
 use Rattle.feature_agreement.specs.Rows.{IsBegun, RowMoves, change_in, confirm_in, is_valid_change, is_whole_confirm, side_of}
 use Rattle.feature_machine.specs.Negotiating.{opposite}
 
--- What the row hears of the peer's frame with this count: nothing, whatever the frame carries; or the frame's Change, which is valid;
--- or its Confirm, which is whole and acknowledges a frame of this end.
+-- What the row hears of the peer's frame with this count: nothing, whatever the frame carries; or the frame's Change,
+-- which is valid; or its Confirm, which is whole and acknowledges a frame of this end.
 abbrev pub IsHeardOf : ℕ → Row → List Carried → ℕ → List RowEvent → Type 0
 IsHeardOf iss row there count [] = count ≤ length there
 IsHeardOf iss row there count (machine.Change body mandatory ∷ []) =
@@ -36,8 +36,8 @@ abbrev pub with_reply : Feature → ℕ → Option (List ℕ) → List Carried �
 with_reply feature count None frames = frames
 with_reply feature count (Some body) frames = with_frame frames (confirm_in feature count body)
 
--- a newest packet with all that a row's move in its step is made of: the end's first number, the greatest count that it took before and the
--- packet's own, the row and its end's frames, the peer's frames, and what the row hears
+-- a newest packet with all that a row's move in its step is made of: the end's first number, the greatest count that it
+-- took before and the packet's own, the row and its end's frames, the peer's frames, and what the row hears
 pub record RowPacket : Type 0 where
   pub iss : ℕ
   pub greatest : ℕ

@@ -101,8 +101,9 @@ abbrev pub change_data : Feature → Wanted → List ℕ
 change_data feature (wanted.List list) = list
 change_data feature (wanted.Number number) = big_bytes (described feature).width number
 
--- The data of a Change are valid for the row of the peer, by the place at which the sender sees the feature: for a server-priority
--- feature there is a value at least; for any other it is located at the sender, and the data are a permitted value in just its bytes.
+-- The data of a Change are valid for the row of the peer, by the place at which the sender sees the feature: for a
+-- server-priority feature there is a value at least; for any other it is located at the sender, and the data are a
+-- permitted value in just its bytes.
 abbrev pub is_valid_by : Bool → Feature → Place → List ℕ → Bool
 is_valid_by true feature at body = nat_le 1 (length body)
 is_valid_by false feature place.Here body =
@@ -135,8 +136,8 @@ with_answer feature acknowledged Opens frames = frames
 with_answer feature acknowledged Waits frames = frames
 with_answer feature acknowledged Quiet frames = frames
 
--- The side once a Change with these data was taken, from the peer's frame with this count: where a Confirm is due, it is on
--- a frame of the same step.
+-- The side once a Change with these data was taken, from the peer's frame with this count: where a Confirm is due, it
+-- is on a frame of the same step.
 abbrev pub after_change : ℕ → Row → ℕ → List Carried → List ℕ → Bool → FeatureSide
 after_change iss row count frames body mandatory =
     let step = row_step row (machine.Change body mandatory) in

@@ -1,13 +1,14 @@
--- One feature at one of the two ends, seen as a pair of sides: what the frames of each carry for it, and what each row holds
--- (own; the options and the names are RFC 4340's, section 6). A frame goes by its count: a side's first numbered frame has
--- count 1, and 0 is none.
+-- One feature at one of the two ends, seen as a pair of sides: what the frames of each carry for it, and what each row
+-- holds (own; the options and the names are RFC 4340's, section 6). A frame goes by its count: a side's first numbered
+-- frame has count 1, and 0 is none.
 use Rattle.std.specs.Prelude.{ℕ, Bool, true, false, Option, None, Some, List, [], ◌∷◌, ◌++◌, slice_index_or}
 use Rattle.std.specs.Option.{option_or}
 use Rattle.std.specs.List.{list_any, list_all}
 use Rattle.feature_machine.specs.declared.stands.Stand.{Stand}
 
--- What one frame carries for the feature. A wish is a preference list; the value of a feature that is not negotiable is a wish
--- of one entry, and its Confirm has an empty one. A Confirm has the count of the peer's frame that it acknowledges.
+-- What one frame carries for the feature. A wish is a preference list; the value of a feature that is not negotiable is
+-- a wish of one entry, and its Confirm has an empty one. A Confirm has the count of the peer's frame that it
+-- acknowledges.
 pub data Carried : Type 0 where
   Nothing : Carried
   Change : (wish : List ℕ) → Carried
@@ -61,8 +62,9 @@ abbrev pub last_change : List Carried → Option (List ℕ)
 last_change [] = None
 last_change (frame ∷ frames) = option_or (last_change frames) (change_of frame)
 
--- The wish in the last frame with a Change or a Confirm. A Confirm without a list counts as an empty wish, so one invariant serves both
--- kinds of features. Where every Confirm has its list, it is the last list that was sent (`whole_confirms_have_lists`).
+-- The wish in the last frame with a Change or a Confirm. A Confirm without a list counts as an empty wish, so one
+-- invariant serves both kinds of features. Where every Confirm has its list, it is the last list that was sent
+-- (`whole_confirms_have_lists`).
 abbrev pub last_wish : List Carried → Option (List ℕ)
 last_wish [] = None
 last_wish (frame ∷ frames) = option_or (last_wish frames) (wish_carried frame)

@@ -26,9 +26,11 @@ pub fn every_feature_agrees()
 /// What the moves of a row lead to is reachable, at the server and at the client. A row's role, feature and place alone
 /// tell its pair, and the two ends' rows of a feature are of one.
 pub fn row_steps_stay_reachable()
-    ensures server_step { (row : Row) (server client after : FeatureSide) → row.role ≡ Server → RowMoves row client.frames server after
+    ensures server_step { (row : Row) (server client after : FeatureSide) → row.role ≡ Server
+        → RowMoves row client.frames server after
         → IsReachable (row_pair row) server client → IsReachable (row_pair row) after client }
-    ensures client_step { (row : Row) (server client after : FeatureSide) → row.role ≡ Client → RowMoves row server.frames client after
+    ensures client_step { (row : Row) (server client after : FeatureSide) → row.role ≡ Client
+        → RowMoves row server.frames client after
         → IsReachable (row_pair row) server client → IsReachable (row_pair row) server after }
     ensures same_pair { (old new : Row) → IsSameRow old new → row_pair new ≡ row_pair old }
     ensures same_moves { (old new : Row) (there : List Carried) (before after : FeatureSide) → IsSameRow old new
@@ -51,8 +53,10 @@ pub fn values_were_given()
 pub fn row_steps_reach()
     ensures start { (feature : Feature) (location : Role2) (servers clients : List ℕ)
         → Reached (pair_of feature location) (new_side (initial_of feature) servers) (new_side (initial_of feature) clients) }
-    ensures server_step { (row : Row) (server client after : FeatureSide) → row.role ≡ Server → RowMoves row client.frames server after
+    ensures server_step { (row : Row) (server client after : FeatureSide) → row.role ≡ Server
+        → RowMoves row client.frames server after
         → Reached (row_pair row) server client → Reached (row_pair row) after client }
-    ensures client_step { (row : Row) (server client after : FeatureSide) → row.role ≡ Client → RowMoves row server.frames client after
+    ensures client_step { (row : Row) (server client after : FeatureSide) → row.role ≡ Client
+        → RowMoves row server.frames client after
         → Reached (row_pair row) server client → Reached (row_pair row) server after }
 {}

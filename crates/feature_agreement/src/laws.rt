@@ -37,7 +37,8 @@ pub fn reachable_sides_agree()
 /// Where nothing is shared the value is the one held before (own): if the rule gives no value for a side's active wish
 /// and any wish of the peer's that it has not yet taken, no move changes the side's value.
 pub fn where_nothing_is_shared_the_value_stays()
-    ensures { (rule : Rule) (opens : List ℕ → Bool) (there : List Carried) (side after : FeatureSide) → Move rule opens there side after
+    ensures { (rule : Rule) (opens : List ℕ → Bool) (there : List Carried) (side after : FeatureSide)
+        → Move rule opens there side after
         → ((count : ℕ) (wish : List ℕ) → side.greatest < count → wish_carried (carried_at there count) ≡ Some wish → rule side.active wish ≡ None)
         → after.value ≡ side.value }
 {}
@@ -45,8 +46,10 @@ pub fn where_nothing_is_shared_the_value_stays()
 /// Why they agree: what a side's frames say is true of what it holds, towards its peer, at the server and at the
 /// client.
 pub fn reachable_sides_are_truthful()
-    ensures servers { (pair : Pair) (server client : FeatureSide) → IsReachable pair server client → SpeaksForItsRow pair.rule server client }
-    ensures clients { (pair : Pair) (server client : FeatureSide) → IsReachable pair server client → SpeaksForItsRow (swapped pair.rule) client server }
+    ensures servers { (pair : Pair) (server client : FeatureSide) → IsReachable pair server client
+        → SpeaksForItsRow pair.rule server client }
+    ensures clients { (pair : Pair) (server client : FeatureSide) → IsReachable pair server client
+        → SpeaksForItsRow (swapped pair.rule) client server }
 {}
 
 /// The agreement of a feature that is not negotiable (RFC 4340, section 6.3.2): its value is the one that the end where
@@ -65,8 +68,10 @@ pub fn location_decides()
 /// And why: what the remote row confirms is what the location told, and its present value once it answers the last
 /// opening.
 pub fn remote_rows_confirm_what_was_told()
-    ensures at_server { (initial : ℕ) (server client : FeatureSide) → IsReachable (at_server initial) server client → IsConfirmed server client }
-    ensures at_client { (initial : ℕ) (server client : FeatureSide) → IsReachable (at_client initial) server client → IsConfirmed client server }
+    ensures at_server { (initial : ℕ) (server client : FeatureSide) → IsReachable (at_server initial) server client
+        → IsConfirmed server client }
+    ensures at_client { (initial : ℕ) (server client : FeatureSide) → IsReachable (at_client initial) server client
+        → IsConfirmed client server }
 {}
 
 /// Rows do settle: by a Change and its Confirm, and by two Changes that cross, each confirmed. Both rows then are

@@ -1,5 +1,5 @@
--- The features' table (RFC 4340, section 6.4, and section 6.3 for the rules). What a value may be, and the lists that an
--- end has unless told otherwise, are own.
+-- The features' table (RFC 4340, section 6.4, and section 6.3 for the rules). What a value may be, and the lists that
+-- an end has unless told otherwise, are own.
 use Rattle.std.specs.Prelude.{ℕ, ◌-◌, ◌^◌, ◌==◌, ◌&&◌, nat_le, Bool, true, false, List, [], ◌∷◌, Option, Some, None, if◌then◌else◌}
 use Rattle.std.specs.List.{list_any}
 use Rattle.feature_lists.specs.declared.features.Feature.{Feature}

@@ -11,14 +11,16 @@ ghost use Rattle.feature_lists.specs.declared.wishes.Wanted.{Wanted};
 /// Two lists settle on a value exactly where it stands in both and none before it in the server's list stands in the
 /// client's, and on nothing exactly where no value stands in both (RFC 4340, section 6.3.1).
 pub fn reconciliation_is_the_first_shared()
-    ensures found { (server client : List ℕ) (value : ℕ) → (reconciled server client ≡ Some value) ↔ IsFirstShared server client value }
+    ensures found { (server client : List ℕ) (value : ℕ)
+        → (reconciled server client ≡ Some value) ↔ IsFirstShared server client value }
     ensures none { (server client : List ℕ) → (reconciled server client ≡ None) ↔ SharesNothing server client }
 {}
 
 /// A list of values is allowed exactly where it has one to eight entries, each permitted and none twice, and for a
 /// non-negotiable feature just one (own).
 pub fn allowed_lists()
-    ensures { (feature : Feature) (place : Place) (values : List ℕ) → (is_allowed feature place values ≡ true) ↔ IsAllowed feature place values }
+    ensures { (feature : Feature) (place : Place) (values : List ℕ)
+        → (is_allowed feature place values ≡ true) ↔ IsAllowed feature place values }
 {}
 
 /// The wishes of a feature at a place are exactly those that `wish` gives there for some values.
@@ -31,7 +33,8 @@ pub fn wishes_are_given()
 /// order of their numbers.
 pub fn numbers_name_features()
     ensures found { (feature : Feature) → feature_numbered (feature_number feature) ≡ Some feature }
-    ensures number { (number : ℕ) (feature : Feature) → feature_numbered number ≡ Some feature → feature_number feature ≡ number }
+    ensures number { (number : ℕ) (feature : Feature) → feature_numbered number ≡ Some feature
+        → feature_number feature ≡ number }
     ensures size { length ALL ≡ 9 }
     ensures order { (feature : Feature) → slice_get ALL (feature_number feature - 1) ≡ Some feature }
 {}

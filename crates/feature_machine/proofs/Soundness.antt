@@ -23,7 +23,7 @@ use Rattle.feature_machine.specs.declared.offers.Offer.TheVariants as offer
 use Rattle.feature_machine.specs.declared.row.Row.{Row}
 use Rattle.feature_machine.specs.declared.judging.Proposal.TheVariants as p
 use Rattle.feature_machine.specs.declared.judging.Confirmation.TheVariants as c
-use Rattle.feature_machine.specs.Rows.{is_there, says, Fatal, TableEvent, Proposed, Confirmed, Preferred, Offered, Sending, tells_value, width, is_server_priority, is_number, answers_opening, confirmation, timely_confirmation, list_confirmation, listed_confirmation, is_acceptable, number_confirmation, holding, settled, opened_with, without_offer, RowEvent, Change, Confirm, Prefers, Offers, Sends, entries, reconciled_by, proposal, list_proposal, shared_or_not, row_step, row_line, heard}
+use Rattle.feature_machine.specs.Rows.{is_there, says, Fatal, TableEvent, Proposed, Confirmed, Preferred, Offered, Sending, tells_value, width, is_server_priority, is_number, answers_opening, confirmation, timely_confirmation, list_confirmation, agreed_confirmation, is_acceptable, number_confirmation, holding, settled, opened_with, without_offer, RowEvent, Change, Confirm, Prefers, Offers, Sends, entries, reconciled_by, proposal, list_proposal, shared_or_not, row_step, row_line, heard}
 use Rattle.feature_machine.specs.Sound.{is_lawful, is_active, is_pending, IsLawfulProposal, IsSoundRow, IsEventFor}
 
 -- a lawful value of a server-priority feature is a byte
@@ -255,7 +255,7 @@ acceptable_lawful row value sound h =
     ] refl
 
 listed_lawful : (row : Row) (value : ℕ) (agreed : Option ℕ) → IsSoundRow row → ((v : ℕ) → agreed ≡ Some v → is_lawful row.feature row.place v ≡ true)
-    → IsLawfulHeard row (Confirmed (listed_confirmation row value agreed))
+    → IsLawfulHeard row (Confirmed (agreed_confirmation row value agreed))
 listed_lawful row value (Some agreed) sound h =
     if_both (λ k. IsLawfulHeard row (Confirmed k)) (agreed == value) (c.Shared value) c.Wrong
     (λ same. subst (λ v. is_lawful row.feature row.place v ≡ true) (eqb-true agreed value same) (h agreed refl)) (λ other. tt)

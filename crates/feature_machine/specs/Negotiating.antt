@@ -70,7 +70,8 @@ stepped rows feature place event =
     let step = row_step (row_at rows feature place) event in
     record { rows = put rows feature place step.row; answer = step.answer }
 
--- Change L and Confirm L speak of a feature at the peer, Change R and Confirm R of one at this end (RFC 4340, section 6)
+-- Change L and Confirm L speak of a feature at the peer, Change R and Confirm R of one at this end (RFC 4340, section
+-- 6)
 abbrev pub place_of : Bool → Place
 place_of true = located.There
 place_of false = located.Here

@@ -106,16 +106,16 @@ proposal row body =
     else if tells_value row body then p.Told (big_number (width row) body)
     else p.Invalid
 
--- The acknowledgement number reaches the row's last opening: there is one, and it is not before the opening's. (So one at just
--- half the circle from it does; an end that uses fewer than 2^47 numbers meets none.)
+-- The acknowledgement number reaches the row's last opening: there is one, and it is not before the opening's. (So one
+-- at just half the circle from it does; an end that uses fewer than 2^47 numbers meets none.)
 abbrev pub answers_opening : Option ℕ → Option ℕ → Bool
 answers_opening (Some opened) (Some ack) = not (is_before ack opened)
 answers_opening _ _ = false
 
 -- a value that comes with a list, by the reconciliation
-abbrev pub listed_confirmation : Row → ℕ → Option ℕ → Confirmation
-listed_confirmation row value (Some agreed) = if agreed == value then c.Shared value else c.Wrong
-listed_confirmation row value None = if value == row.value then c.Held else c.Wrong
+abbrev pub agreed_confirmation : Row → ℕ → Option ℕ → Confirmation
+agreed_confirmation row value (Some agreed) = if agreed == value then c.Shared value else c.Wrong
+agreed_confirmation row value None = if value == row.value then c.Held else c.Wrong
 
 -- a value in the row's active list, or the one that it holds
 abbrev pub is_acceptable : Row → ℕ → Bool
@@ -125,7 +125,7 @@ is_acceptable row value = has_entry (entries row.active) value || value == row.v
 abbrev pub list_confirmation : Row → ℕ → List ℕ → Confirmation
 list_confirmation row value [] = if is_acceptable row value then c.Alone value else c.Wrong
 list_confirmation row value (first ∷ rest) =
-    listed_confirmation row value (reconciled_by row.role (entries row.active) (first ∷ rest))
+    agreed_confirmation row value (reconciled_by row.role (entries row.active) (first ∷ rest))
 
 -- a Confirm of a non-negotiable feature has to repeat the number that was told
 abbrev pub number_confirmation : Row → List ℕ → Confirmation

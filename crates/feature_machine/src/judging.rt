@@ -3,7 +3,7 @@ ghost use Rattle.std.specs.Prelude.{◌≡◌, false, ◌||◌, ◌==◌, ◌≤
 ghost use Rattle.byteorder.specs.Endian.{big_number};
 ghost use Rattle.feature_lists.specs.Features.{described};
 ghost use Rattle.feature_lists.specs.Lists.{has_entry};
-ghost use Rattle.feature_machine.specs.Rows.{entries, is_number, reconciled_by, tells_value, proposal, list_proposal, confirmation, timely_confirmation, is_acceptable, list_confirmation, listed_confirmation, number_confirmation, answers_opening};
+ghost use Rattle.feature_machine.specs.Rows.{entries, is_number, reconciled_by, tells_value, proposal, list_proposal, confirmation, timely_confirmation, is_acceptable, list_confirmation, agreed_confirmation, number_confirmation, answers_opening};
 ghost use Rattle.feature_machine.specs.Sound.{IsSoundRow, IsLawfulProposal};
 
 use crate::Role2;
@@ -121,8 +121,8 @@ impl Row {
     }
 
     // A Confirm with a list behind its value, by what that list and the row's settle on.
-    fn listed_confirmation(&self, value: u8, agreed: Option<u8>) -> Confirmation
-        ensures { result ≡ listed_confirmation self.now value agreed }
+    fn agreed_confirmation(&self, value: u8, agreed: Option<u8>) -> Confirmation
+        ensures { result ≡ agreed_confirmation self.now value agreed }
     {
         match agreed {
             Some(agreed) if agreed == value => Confirmation::Shared(value),
@@ -150,7 +150,7 @@ impl Row {
                     Confirmation::Wrong
                 }
             }
-            [_, ..] => self.listed_confirmation(value, self.reconciled(list)),
+            [_, ..] => self.agreed_confirmation(value, self.reconciled(list)),
         }
     }
 

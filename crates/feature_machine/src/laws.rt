@@ -17,7 +17,8 @@ ghost use Rattle.feature_machine.specs.declared.stands.Stand.TheVariants.{Stable
 /// A row's value is always the initial one or a permitted one, whatever the peer sends, and so it fits the bytes of its
 /// feature.
 pub fn values_are_lawful()
-    ensures steps { (row : Row) (event : RowEvent) → IsSoundRow row → IsEventFor row event → IsSoundRow (row_step row event).row }
+    ensures steps { (row : Row) (event : RowEvent) → IsSoundRow row → IsEventFor row event
+        → IsSoundRow (row_step row event).row }
     ensures fits { (row : Row) → IsSoundRow row → row.value < 256 ^ (described row.feature).width }
 {}
 
@@ -31,7 +32,8 @@ pub fn rows_stay_sound()
 /// before its last opening, and any that comes before the Change of that opening was sent. A number is before the
 /// opening's where its distance to it is less than half the circle; at just half the circle it is not.
 pub fn late_confirms_are_ignored()
-    ensures without { (row : Row) (body : List ℕ) → row.stand ≡ Changing → row_step row (Confirm body None) ≡ says row Ignored }
+    ensures without { (row : Row) (body : List ℕ) → row.stand ≡ Changing
+        → row_step row (Confirm body None) ≡ says row Ignored }
     ensures before { (row : Row) (body : List ℕ) (opened ack : ℕ) → row.stand ≡ Changing → row.opened ≡ Some opened
         → IsBefore ack opened → row_step row (Confirm body (Some ack)) ≡ says row Ignored }
     ensures unsent { (row : Row) (body : List ℕ) (ack : Option ℕ) → row.stand ≡ Changing → row.opened ≡ None
@@ -40,7 +42,8 @@ pub fn late_confirms_are_ignored()
 
 /// What a row ignores, and what is answered by a Reset, changes nothing of it; and no event changes which row it is.
 pub fn refusals_change_nothing()
-    ensures refused { (row : Row) (event : RowEvent) → IsRefusal (row_step row event).answer → (row_step row event).row ≡ row }
+    ensures refused { (row : Row) (event : RowEvent) → IsRefusal (row_step row event).answer
+        → (row_step row event).row ≡ row }
     ensures same { (row : Row) (event : RowEvent) → IsSameRow row (row_step row event).row }
 {}
 
@@ -48,9 +51,11 @@ pub fn refusals_change_nothing()
 /// not UNSTABLE; a Confirm leads to Reset 5 exactly where it answers a row's opening and is wrong, or is empty and the
 /// feature required.
 pub fn causes_of_resets()
-    ensures change { (row : Row) (body : List ℕ) (mandatory : Bool) → ((row_step row (Change body mandatory)).answer ≡ Fatal 6)
+    ensures change { (row : Row) (body : List ℕ) (mandatory : Bool)
+        → ((row_step row (Change body mandatory)).answer ≡ Fatal 6)
         ↔ ((mandatory ≡ true) × ((proposal row body ≡ Invalid) ⊎ ((row.stand ≢ Unstable) × (proposal row body ≡ Unshared)))) }
-    ensures confirm { (row : Row) (body : List ℕ) (ack : Option ℕ) → ((row_step row (Confirm body ack)).answer ≡ Fatal 5)
+    ensures confirm { (row : Row) (body : List ℕ) (ack : Option ℕ)
+        → ((row_step row (Confirm body ack)).answer ≡ Fatal 5)
         ↔ ((row.stand ≡ Changing) × ((confirmation row body ack ≡ Wrong)
         ⊎ ((confirmation row body ack ≡ Empty) × ((described row.feature).is_required ≡ true)))) }
 {}
@@ -59,15 +64,18 @@ pub fn causes_of_resets()
 /// the next opening, by a preference or an offer in STABLE, or by the new list of an UNSTABLE row: a Change sent again,
 /// a Change of the peer, a Confirm, a wish that waits and whatever is refused all leave it.
 pub fn openings_keep_their_number()
-    ensures opens { (row : Row) (event : RowEvent) → (row_step row event).answer ≡ Opens → (row_step row event).row.opened ≡ None }
-    ensures settles { (row : Row) (event : RowEvent) → (row_step row event).answer ≡ Settled → (row_step row event).row.opened ≡ row.opened }
+    ensures opens { (row : Row) (event : RowEvent) → (row_step row event).answer ≡ Opens
+        → (row_step row event).row.opened ≡ None }
+    ensures settles { (row : Row) (event : RowEvent) → (row_step row event).answer ≡ Settled
+        → (row_step row event).row.opened ≡ row.opened }
     ensures keeps { (row : Row) (event : RowEvent) → (row_step row event).answer ≢ Opens → ¬ IsSendsEvent event
         → (row_step row event).row.opened ≡ row.opened }
     ensures first { (row : Row) (number : ℕ) → row.stand ≡ Changing → row.opened ≡ None
         → (row_step row (Sends number)).row.opened ≡ Some number }
     ensures again { (row : Row) (number opened : ℕ) → row.stand ≢ Unstable → row.opened ≡ Some opened
         → (row_step row (Sends number)).row.opened ≡ Some opened }
-    ensures anew { (row : Row) (number : ℕ) → row.stand ≡ Unstable → (row_step row (Sends number)).row.opened ≡ Some number }
+    ensures anew { (row : Row) (number : ℕ) → row.stand ≡ Unstable
+        → (row_step row (Sends number)).row.opened ≡ Some number }
 {}
 
 /// A Change of the peer moves no stand, whatever the row answers: it leaves all of the row but the value.
@@ -92,7 +100,8 @@ pub fn both_ends_reconcile_alike()
 
 /// Each feature has one row at each place: what is put there is read there, and nowhere else.
 pub fn rows_stand_apart()
-    ensures apart { (one other : Feature) (here there : Place) → index_of one here ≡ index_of other there → (one ≡ other) × (here ≡ there) }
+    ensures apart { (one other : Feature) (here there : Place) → index_of one here ≡ index_of other there
+        → (one ≡ other) × (here ≡ there) }
     ensures there { (rows : List Row) (feature : Feature) (place : Place) (row : Row) → length rows ≡ 18
         → row_at (put rows feature place row) feature place ≡ row }
     ensures others { (rows : List Row) (feature : Feature) (place : Place) (row : Row)

@@ -213,7 +213,8 @@ impl Row {
         }
     }
 
-    // Drops the row's offer, and opens it where the packet carries no Confirm of the row. Answers whether it opened one.
+    // Drops the row's offer, and opens it where the packet carries no Confirm of the row. Answers whether it opened
+    // one.
     pub(crate) fn open_offer(&mut self, confirmed: bool) -> bool
         requires { self.old.stand ≡ Stable }
         ensures row { self.new ≡ (row_step self.old (Offers confirmed)).row }

@@ -21,7 +21,8 @@ pub fn rows_begin_fresh()
 /// The rows of an end are sound and of its role: at first, and whatever happens to one of them.
 pub fn rows_keep_their_role()
     ensures first { (role : Role2) (lists : List Listed) → IsLists lists → AreRowsOf role (first_rows role lists) }
-    ensures stepped { (role : Role2) (rows : List Row) (feature : Feature) (place : Place) (event : RowEvent) → AreRowsOf role rows
+    ensures stepped { (role : Role2) (rows : List Row) (feature : Feature) (place : Place) (event : RowEvent)
+        → AreRowsOf role rows
         → IsEventFor (row_at rows feature place) event → AreRowsOf role (stepped rows feature place event).rows }
 {}
 
@@ -31,10 +32,12 @@ pub fn rows_keep_their_role()
 pub fn turns_are_of_their_rows()
     ensures one_row { (feature : Feature) (place : Place) (turns : List Turn) (rows : List Row) → length rows ≡ 18
         → row_at (turned rows turns) feature place ≡ row_turned (row_at rows feature place) (events_of feature place turns) }
-    ensures sound { (rows : List Row) (turns : List Turn) → IsNegotiation rows → AreLawful turns → IsNegotiation (turned rows turns) }
+    ensures sound { (rows : List Row) (turns : List Turn) → IsNegotiation rows → AreLawful turns
+        → IsNegotiation (turned rows turns) }
     ensures roles { (role : Role2) (rows : List Row) (turns : List Turn) → AreRowsOf role rows → AreLawful turns
         → AreRowsOf role (turned rows turns) }
-    ensures joined { (rows : List Row) (earlier later : List Turn) → turned rows (earlier ++ later) ≡ turned (turned rows earlier) later }
+    ensures joined { (rows : List Row) (earlier later : List Turn)
+        → turned rows (earlier ++ later) ≡ turned (turned rows earlier) later }
 {}
 
 /// The due rows are those that ask: each row in CHANGING or UNSTABLE once, by features, Here before There.

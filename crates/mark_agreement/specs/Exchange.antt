@@ -1,4 +1,5 @@
--- A run of a pair of sides, to show that moves lead somewhere: a whole vector is heard, and a floor rises above what it told (own).
+-- A run of a pair of sides, to show that moves lead somewhere: a whole vector is heard, and a floor rises above what it
+-- told (own).
 use Rattle.std.specs.Prelude.{◌==◌, true}
 use Rattle.mark_agreement.specs.View.{MarkSide}
 use Rattle.mark_agreement.specs.Moves.{with_first_frame, with_processed, with_floor, told, ack_frame, other_frame, with_sent_frame, unmoved_side}

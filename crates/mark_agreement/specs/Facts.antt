@@ -1,4 +1,5 @@
--- Why the laws hold: what each side knows of its peer's frames, after every move (own). Of the peer it needs the frames alone.
+-- Why the laws hold: what each side knows of its peer's frames, after every move (own). Of the peer it needs the frames
+-- alone.
 --
 -- That each frame is processed once, vectors are true, floors are told and reports are heard holds after every step,
 -- but does not by itself survive one. What is needed besides: the marks are just the processed frames from the floor

@@ -6,7 +6,8 @@ use Rattle.mark_agreement.specs.View.{Frame, MarkSide, frame_at, processed_at}
 abbrev pub IsAmong : (ℕ → ℕ) → ℕ → ℕ → Type 0
 IsAmong place many count = (0 < place count) × (place count ≤ many)
 
--- The places are those of the list: the frame at each is the one that was processed there, and each that was processed has one.
+-- The places are those of the list: the frame at each is the one that was processed there, and each that was processed
+-- has one.
 pub record ArePlaces (side : MarkSide) : Type 0 where
   pub places : (count : ℕ) → 0 < side.place count
       → (side.place count ≤ length side.processed) × (processed_at side.processed (side.place count) ≡ count)
@@ -19,8 +20,8 @@ pub record ProcessesOnce (side : MarkSide) (there : List Frame) : Type 0 where
   pub sent : (i : ℕ) → i < length side.processed
       → (0 < slice_index side.processed i) × (slice_index side.processed i ≤ length there)
 
--- Each vector of a side says, from the count that its frame acknowledges down to its floor, just what the side had processed when it
--- sent it, and the side had processed nothing after that count.
+-- Each vector of a side says, from the count that its frame acknowledges down to its floor, just what the side had
+-- processed when it sent it, and the side had processed nothing after that count.
 pub record IsTruthful (side : MarkSide) : Type 0 where
   pub says : (k n : ℕ) → (frame_at side.frames k).has_vector ≡ true → (frame_at side.frames k).floor ≤ n
       → n ≤ (frame_at side.frames k).acknowledged
@@ -34,8 +35,8 @@ pub record IsFarBelow (place : ℕ → ℕ) (n : ℕ) : Type 0 where
   pub is_processed : 0 < place processed
   pub far : n + 2047 < processed
 
--- Why a side need not speak of a count any more: it lies far below one that the side processed, or a whole vector of the side told
--- of it and the peer processed its frame.
+-- Why a side need not speak of a count any more: it lies far below one that the side processed, or a whole vector of
+-- the side told of it and the peer processed its frame.
 pub data IsAccountedFor (frames : List Frame) (place heard : ℕ → ℕ) (n : ℕ) : Type 0 where
   Far : IsFarBelow place n → IsAccountedFor frames place heard n
   WasTold : (k : ℕ) → (frame_at frames k).has_vector ≡ true → (frame_at frames k).is_whole ≡ true

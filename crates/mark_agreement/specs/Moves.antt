@@ -1,5 +1,5 @@
--- What one step of one side may do to its marks and its frames, and which pairs of sides such steps reach (own). The moves
--- allow more than an end does where that costs nothing: a side raises its floor, and hears a report, at any time.
+-- What one step of one side may do to its marks and its frames, and which pairs of sides such steps reach (own). The
+-- moves allow more than an end does where that costs nothing: a side raises its floor, and hears a report, at any time.
 --
 -- While the phase is not CLOSED, the greatest frame taken is processed, or is no Ack and no DataAck. That is false
 -- inside the taking of a packet, so the greatest frame rises and is marked in one move; and it is false of an end that
@@ -56,7 +56,8 @@ with_floor side to =
 abbrev pub told : MarkSide → (ℕ → Bool) → MarkSide
 told side reported = record side { reported = reported }
 
--- an Ack or a DataAck, with a vector or without: it acknowledges the greatest frame taken, and a vector says what is marked
+-- an Ack or a DataAck, with a vector or without: it acknowledges the greatest frame taken, and a vector says what is
+-- marked
 abbrev pub ack_frame : MarkSide → Bool → Bool → Frame
 ack_frame side has_vector is_whole =
     record {

@@ -4,7 +4,8 @@ use Rattle.seq_circle.specs.Counts.{number_of}
 use Rattle.run_list.specs.MarkedSet.{MarkedSet, IsSound, has}
 use Rattle.mark_agreement.specs.View.{MarkSide}
 
--- Its floor has the number of the marks' floor, and of the peer's first 2^47 packets it has the numbers of those that are marked.
+-- Its floor has the number of the marks' floor, and of the peer's first 2^47 packets it has the numbers of those that
+-- are marked.
 pub record AreMarks (iss : ℕ) (set : MarkedSet) (floor : ℕ) (marked : ℕ → Bool) : Type 0 where
   pub iss_fits : iss < 2 ^ 48
   pub is_sound : IsSound set

@@ -1,5 +1,5 @@
--- The two ends of a connection as a pair of sides, by what they mark, acknowledge and tell (own; Ack Vectors are RFC 4340's,
--- section 11.4). A frame goes by its count: a side's first numbered frame has count 1, and 0 is none.
+-- The two ends of a connection as a pair of sides, by what they mark, acknowledge and tell (own; Ack Vectors are RFC
+-- 4340's, section 11.4). A frame goes by its count: a side's first numbered frame has count 1, and 0 is none.
 --
 -- The records of vectors sent are left out: a side may raise its floor for any whole vector among its frames that the
 -- peer acknowledged, and the ring of records only forgets some. So are the number of bytes of a vector and its runs: it

@@ -94,6 +94,7 @@ key_cmp a b =
 abbrev pub number_if_seen : Flow → List Flow → Option ℕ
 number_if_seen flow seen = position_from (same_flow flow) 1 seen
 
--- A map in the order of keys has under the key of each flow that was seen its number, and nothing under that of another flow.
+-- A map in the order of keys has under the key of each flow that was seen its number, and nothing under that of another
+-- flow.
 abbrev pub HasNumbers : List (FlowKey × ℕ) → List Flow → Type 0
 HasNumbers numbers seen = (flow : Flow) → lookup (is_at (key_cmp (key_of flow))) numbers ≡ number_if_seen flow seen

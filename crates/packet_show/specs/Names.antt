@@ -47,8 +47,8 @@ option_name kind =
     else if kinds.is_ccid_specific kind then codes "ccid"
     else codes "option"
 
--- what stands behind the name: nothing for Slow Receiver, a feature's number for Change and Confirm, the type for options
--- that have no name of their own, and the data
+-- what stands behind the name: nothing for Slow Receiver, a feature's number for Change and Confirm, the type for
+-- options that have no name of their own, and the data
 abbrev pub option_form : ℕ → OptionForm
 option_form kind =
     if kind == kinds.slow_receiver then forms.Bare

@@ -46,8 +46,9 @@ const PORTS: u64 = 65_536;
 /// either direction. Contracts see the list of flows.
 ///
 /// A flow is found by comparing with others, as many as the logarithm of how many there are. So whoever chose the ends
-/// cannot make that slow, as they could in a table that hashes them by a rule which they know. What is compared begins with a
-/// number that is mixed from both ends, which mostly decides at once; where ends were chosen so that it does not, the rest does.
+/// cannot make that slow, as they could in a table that hashes them by a rule which they know. What is compared begins
+/// with a number that is mixed from both ends, which mostly decides at once; where ends were chosen so that it does
+/// not, the rest does.
 #[derive(Drop)]
 pub struct Flows {
     seen: Vec<Flow>,
@@ -235,8 +236,9 @@ impl Flows {
         }
     }
 
-    /// The number of the flow between these addresses and ports, in either direction, from 1 in the order in which flows were
-    /// seen; a flow that was not seen before has the next one, and is noted. After NoMemory the flows are as before.
+    /// The number of the flow between these addresses and ports, in either direction, from 1 in the order in which
+    /// flows were seen; a flow that was not seen before has the next one, and is noted. After NoMemory the flows are as
+    /// before.
     pub fn number(&mut self, pseudo: &Pseudo, from: u16, to: u16) -> Result<u64, NoMemory>
         ensures number { IfOk result (λ number. number ≡ flow_number (flow_of pseudo.now from to) self.old) }
         ensures noted { OnOk result (self.new ≡ with_flow (flow_of pseudo.now from to) self.old) }

@@ -27,7 +27,8 @@ pub fn type_name(packet_type: PacketType) -> &'static [u8]
     }
 }
 
-/// The verdict on a checksum as a word (RFC 4340, section 9): `ok`, `wrong`, or `coverage` where CsCov passes the packet's end.
+/// The verdict on a checksum as a word (RFC 4340, section 9): `ok`, `wrong`, or `coverage` where CsCov passes the
+/// packet's end.
 pub fn sum_name(checked: Result<(), SumFault>) -> &'static [u8]
     ensures { result.now ≡ sum_name checked }
 {

@@ -90,7 +90,8 @@ fn put_v6(text: &mut Vec<u8>, address: [u8; 16]) -> Result<(), NoMemory>
 }
 
 /// Puts the address that a packet goes from (own): four decimal numbers parted by dots, or eight groups in lower-case
-/// hexadecimal parted by colons. NoMemory comes where the text could not grow; then a front of the address may stand there.
+/// hexadecimal parted by colons. NoMemory comes where the text could not grow; then a front of the address may stand
+/// there.
 pub fn put_from(text: &mut Vec<u8>, pseudo: &Pseudo) -> Result<(), NoMemory>
     ensures ok { OnOk result (text.new.items ≡ text.old.items ++ from_text pseudo.now) }
     ensures front { Keeps text.old.items text.new.items }

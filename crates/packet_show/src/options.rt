@@ -37,8 +37,8 @@ fn put_feature(text: &mut Vec<u8>, kind: u8, body: &[u8]) -> Result<(), NoMemory
     }
 }
 
-/// Puts an option (own): its name by its type (RFC 4340, section 5.8), and what it carries, bytes in hexadecimal. NoMemory comes
-/// where the text could not grow; then a front of the option may stand there.
+/// Puts an option (own): its name by its type (RFC 4340, section 5.8), and what it carries, bytes in hexadecimal.
+/// NoMemory comes where the text could not grow; then a front of the option may stand there.
 pub fn put_option(text: &mut Vec<u8>, kind: u8, body: &[u8]) -> Result<(), NoMemory>
     ensures ok { OnOk result (text.new.items ≡ text.old.items ++ option_text kind body.now) }
     ensures front { Keeps text.old.items text.new.items }
@@ -55,8 +55,8 @@ pub fn put_option(text: &mut Vec<u8>, kind: u8, body: &[u8]) -> Result<(), NoMem
     }
 }
 
-/// Puts the word in front of an option that is marked with Mandatory (RFC 4340, section 5.8.2), and nothing for another. NoMemory
-/// comes where the text could not grow.
+/// Puts the word in front of an option that is marked with Mandatory (RFC 4340, section 5.8.2), and nothing for
+/// another. NoMemory comes where the text could not grow.
 pub fn put_mark(text: &mut Vec<u8>, mandatory: bool) -> Result<(), NoMemory>
     ensures ok { OnOk result (text.new.items ≡ text.old.items ++ mark_text mandatory) }
     ensures front { Keeps text.old.items text.new.items }

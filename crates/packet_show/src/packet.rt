@@ -156,8 +156,8 @@ fn put_rest(text: &mut Vec<u8>, there: &Datagram<'_>, packet: &Packet<'_>) -> Re
     put(text, b"\n")
 }
 
-/// Puts the line of a packet of the flow of this number, and a newline (own). NoMemory comes where the text could not grow; then a
-/// front of the line may stand there.
+/// Puts the line of a packet of the flow of this number, and a newline (own). NoMemory comes where the text could not
+/// grow; then a front of the line may stand there.
 pub fn put_packet(
     text: &mut Vec<u8>,
     item: &Record<'_>,

@@ -1,4 +1,5 @@
--- Runs as they are linked: one chain of nodes from the greatest run down, and one of free nodes. Index 1,024 stands for no node.
+-- Runs as they are linked: one chain of nodes from the greatest run down, and one of free nodes. Index 1,024 stands for
+-- no node.
 --
 -- That each index is once in one of the chains is said by a count (`times_listed`) and not by a permutation: what an
 -- edit moves from one chain to another is then a sum. From an index one path alone leads along the links to no node, so

@@ -22,13 +22,16 @@ pub fn raising_keeps_the_rest()
 /// What a new number makes of the floor (own): the floor stays where it lies at most 2,047 below the number, and
 /// otherwise rises to just that. So the number is in the set, and what the floor passes lies before that place.
 pub fn marking_moves_the_floor()
-    ensures floor { (set : MarkedSet) (n : ℕ) → answer_to set n ≡ New → (marked set n).floor ≡ later_of set.floor (floor_under n) }
+    ensures floor { (set : MarkedSet) (n : ℕ) → answer_to set n ≡ New
+        → (marked set n).floor ≡ later_of set.floor (floor_under n) }
     ensures stays { (set : MarkedSet) (n : ℕ) → IsSound set → n < 2 ^ 48 → answer_to set n ≡ New
         → distance set.floor n ≤ 2047 → (marked set n).floor ≡ set.floor }
     ensures rises { (set : MarkedSet) (n : ℕ) → IsSound set → n < 2 ^ 48 → answer_to set n ≡ New
         → 2047 < distance set.floor n → distance (marked set n).floor n ≡ 2047 }
-    ensures joined { (set : MarkedSet) (n : ℕ) → IsSound set → n < 2 ^ 48 → answer_to set n ≡ New → IsTrue (has (marked set n).numbers n) }
-    ensures above { (set : MarkedSet) (n : ℕ) → IsSound set → n < 2 ^ 48 → answer_to set n ≡ New → distance (marked set n).floor n ≤ 2047 }
+    ensures joined { (set : MarkedSet) (n : ℕ) → IsSound set → n < 2 ^ 48 → answer_to set n ≡ New
+        → IsTrue (has (marked set n).numbers n) }
+    ensures above { (set : MarkedSet) (n : ℕ) → IsSound set → n < 2 ^ 48 → answer_to set n ≡ New
+        → distance (marked set n).floor n ≤ 2047 }
     ensures passed { (set : MarkedSet) (n m : ℕ) → IsSound set → n < 2 ^ 48 → m < 2 ^ 48 → answer_to set n ≡ New
         → IsFrom set.floor m → ¬ IsFrom (marked set n).floor m → IsBefore m (floor_under n) }
     ensures under { (n : ℕ) → n < 2 ^ 48 → distance (floor_under n) n ≡ 2047 }
@@ -50,10 +53,12 @@ pub fn floors_never_fall()
 /// Among a sender's first 2^47 packets, whose numbers go up from ISS, the floor moves as counts do: a new packet raises
 /// it to 2,047 counts below itself where it is under that, and a raise to the greater count (own).
 pub fn floors_go_by_counts()
-    ensures marked { (set : MarkedSet) (iss floor n : ℕ) → iss < 2 ^ 48 → 1 ≤ floor → floor ≤ 2 ^ 47 → 1 ≤ n → n ≤ 2 ^ 47
+    ensures marked { (set : MarkedSet) (iss floor n : ℕ) → iss < 2 ^ 48 → 1 ≤ floor → floor ≤ 2 ^ 47 → 1 ≤ n
+        → n ≤ 2 ^ 47
         → set.floor ≡ number_of iss floor → answer_to set (number_of iss n) ≡ New
         → (marked set (number_of iss n)).floor ≡ number_of iss (max floor (n - 2047)) }
-    ensures raised { (set : MarkedSet) (iss floor to : ℕ) → iss < 2 ^ 48 → 1 ≤ floor → floor ≤ 2 ^ 47 → 1 ≤ to → to ≤ 2 ^ 47
+    ensures raised { (set : MarkedSet) (iss floor to : ℕ) → iss < 2 ^ 48 → 1 ≤ floor → floor ≤ 2 ^ 47 → 1 ≤ to
+        → to ≤ 2 ^ 47
         → set.floor ≡ number_of iss floor → (raised set (number_of iss to)).floor ≡ number_of iss (max floor to) }
     ensures later { (iss floor n : ℕ) → iss < 2 ^ 48 → 1 ≤ floor → floor ≤ n → n ≤ 2 ^ 47
         → later_of (number_of iss floor) (floor_under (number_of iss n)) ≡ number_of iss (max floor (n - 2047)) }

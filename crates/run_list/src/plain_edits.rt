@@ -42,7 +42,8 @@ fn extend_up(runs: &mut Vec<Stretch>, floor: Seq48, at: usize, n: Seq48)
     requires within { at < length runs.old.items }
     requires laid { AreLaid floor 2048 runs.old.items }
     requires above { distance floor n < bound_after floor 2048 (take at runs.old.items) }
-    requires right_below { (s : Stretch) → distance floor (slice_index_or runs.old.items at s).hi + 1 ≡ distance floor n }
+    requires right_below { (s : Stretch)
+        → distance floor (slice_index_or runs.old.items at s).hi + 1 ≡ distance floor n }
     ensures adds { Adds floor 2048 n runs.old.items runs.new.items }
     ensures room { vec_capacity runs.new ≡ vec_capacity runs.old }
 {
@@ -56,7 +57,8 @@ fn extend_down(runs: &mut Vec<Stretch>, floor: Seq48, at: usize, n: Seq48)
     requires within { at < length runs.old.items }
     requires laid { AreLaid floor 2048 runs.old.items }
     requires above { distance floor n < bound_after floor 2048 (take at runs.old.items) }
-    requires right_above { (s : Stretch) → distance floor n + (slice_index_or runs.old.items at s).count ≡ distance floor (slice_index_or runs.old.items at s).hi }
+    requires right_above { (s : Stretch)
+        → distance floor n + (slice_index_or runs.old.items at s).count ≡ distance floor (slice_index_or runs.old.items at s).hi }
     ensures adds { Adds floor 2048 n runs.old.items runs.new.items }
     ensures room { vec_capacity runs.new ≡ vec_capacity runs.old }
 {

@@ -1,4 +1,5 @@
--- The first fault of a line, as a table: what the words of each form are judged for, in the order in which they are (own).
+-- The first fault of a line, as a table: what the words of each form are judged for, in the order in which they are
+-- (own).
 use Rattle.std.specs.Prelude.{ℕ, ◌+◌, ◌^◌, Bool, false, ◌&&◌, ◌==◌, ◌||◌, nat_lt, if◌then◌else◌, List, [], ◌∷◌, length, codes, Option, Some, None, is_some, Result, Ok, Err}
 use Rattle.std.specs.Str.{bytes_eq}
 use Rattle.feature_lists.specs.Wishes.{is_ours, wish_of}

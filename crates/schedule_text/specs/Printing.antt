@@ -26,7 +26,8 @@ side_letter Server = codes "s"
 abbrev pub frame_name : Side → ℕ → List ℕ
 frame_name from index = side_letter from ++ decimal index
 
--- The words that a schedule has for an event, its form first. It has none for early data; these are for people, and read by nobody.
+-- The words that a schedule has for an event, its form first. It has none for early data; these are for people, and
+-- read by nobody.
 abbrev pub event_words : Event → List (List ℕ)
 event_words event.Open = form_name form.Open ∷ []
 event_words (event.Deliver from index) = form_name form.Deliver ∷ frame_name from index ∷ []

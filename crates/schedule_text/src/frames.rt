@@ -43,8 +43,8 @@ fn frame(seal: bool, words: &mut Words<'_>) -> Result<FrameLine, LineFault>
     })
 }
 
-/// The words of a frame (own): `seal` where the checksum is to be set, then the digits of its bytes, one to 2,044 of them; behind
-/// `seal` at least eight.
+/// The words of a frame (own): `seal` where the checksum is to be set, then the digits of its bytes, one to 2,044 of
+/// them; behind `seal` at least eight.
 pub struct AFrame;
 
 impl<'a> Row<'a> for AFrame {

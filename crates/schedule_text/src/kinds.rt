@@ -49,7 +49,8 @@ impl<'a> WordKind<'a> for APlace {
     }
 }
 
-/// The word for a timer (own): `request`, `ack`, `negotiate`, `rto`, `close` or `timewait`; every other word is UnknownWord.
+/// The word for a timer (own): `request`, `ack`, `negotiate`, `rto`, `close` or `timewait`; every other word is
+/// UnknownWord.
 pub struct ATimer;
 
 impl<'a> WordKind<'a> for ATimer {

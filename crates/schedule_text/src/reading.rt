@@ -218,8 +218,8 @@ fn send(words: &mut Words<'_>, said: &mut Line) -> Result<(), LineFault>
     Ok(())
 }
 
-// Makes an event a wish. It clears the event's room, so an event that is a wish does not come here; and it puts the values there
-// last, so that they are moved alone.
+// Makes an event a wish. It clears the event's room, so an event that is a wish does not come here; and it puts the
+// values there last, so that they are moved alone.
 fn begin_wish(event: &mut Event, whose: Side, about: Feature, located: Place, wished: Values)
     ensures { event.new ≡ Event.Prefer whose about located wished }
 {

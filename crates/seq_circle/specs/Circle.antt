@@ -63,8 +63,8 @@ extended short reference =
     else if is_short_before short low && nat_lt low short then (high + (2 ^ 24 - 1)) % 2 ^ 24 * 2 ^ 24 + short
     else high * 2 ^ 24 + short
 
--- A number that its short form need not tell: it lies 2^23 or more from the reference, up and down the circle (own; the bound is that
--- of RFC 4340, section 7.6).
+-- A number that its short form need not tell: it lies 2^23 or more from the reference, up and down the circle (own; the
+-- bound is that of RFC 4340, section 7.6).
 abbrev pub is_far : ℕ → ℕ → Bool
 is_far number reference = nat_le (2 ^ 23) (distance number reference) && nat_le (2 ^ 23) (distance reference number)
 

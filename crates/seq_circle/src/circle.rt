@@ -122,8 +122,8 @@ impl Seq48 {
         self.add(HALF - 1)
     }
 
-    /// Tells whether this number lies in the interval that begins at `lo` and goes up to `hi`, both included, as a packet's
-    /// numbers lie in a window (RFC 4340, section 7.5.1).
+    /// Tells whether this number lies in the interval that begins at `lo` and goes up to `hi`, both included, as a
+    /// packet's numbers lie in a window (RFC 4340, section 7.5.1).
     pub fn within(self, lo: Seq48, hi: Seq48) -> bool
         ensures value { result ≡ is_within self lo hi }
         ensures meaning { IsTrue result ↔ IsWithin self lo hi }

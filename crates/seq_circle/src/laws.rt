@@ -31,7 +31,8 @@ pub fn down_is_the_way_back()
 /// Among the first 2^47 packets of an end, numbers and counts determine each other (`count`, `number`), and a number is
 /// before another, or from it, exactly where its count is less, or is not (`before`, `from`; RFC 4340, section 3.1).
 pub fn numbers_count_packets()
-    ensures count { (iss count : ℕ) → iss < 2 ^ 48 → 1 ≤ count → count ≤ 2 ^ 47 → count_of iss (number_of iss count) ≡ count }
+    ensures count { (iss count : ℕ) → iss < 2 ^ 48 → 1 ≤ count → count ≤ 2 ^ 47
+        → count_of iss (number_of iss count) ≡ count }
     ensures number { (iss number : ℕ) → IsNumber iss number → number_of iss (count_of iss number) ≡ number }
     ensures before { (iss number other : ℕ) → IsNumber iss number → IsNumber iss other
         → IsTrue (is_before number other) ↔ (count_of iss number < count_of iss other) }
@@ -47,5 +48,6 @@ pub fn extension_finds_the_number()
         → extended (residue n % 2 ^ 24) (residue reference) ≡ residue n }
     ensures distance { (n reference : ℕ) → n < 2 ^ 48 → reference < 2 ^ 48
         → (distance n reference < 2 ^ 23) ⊎ (distance reference n < 2 ^ 23) → extended (n % 2 ^ 24) reference ≡ n }
-    ensures near { (n reference : ℕ) → n < 2 ^ 48 → reference < 2 ^ 48 → is_far n reference ≡ false → extended (n % 2 ^ 24) reference ≡ n }
+    ensures near { (n reference : ℕ) → n < 2 ^ 48 → reference < 2 ^ 48 → is_far n reference ≡ false
+        → extended (n % 2 ^ 24) reference ≡ n }
 {}

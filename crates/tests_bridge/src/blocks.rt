@@ -4,9 +4,9 @@ use bridge_command::Status;
 use std::alloc::Global;
 use std::test::Fail;
 
-// The most significant byte first: a section, an interface of Ethernet that counts milliseconds, a block that nobody knows, an
-// interface of raw IP that counts parts of 512 from a second before 1970, a packet of each, and one without a time. Then a
-// section with the least significant byte first, an interface that says nothing of time, and a packet.
+// The most significant byte first: a section, an interface of Ethernet that counts milliseconds, a block that nobody
+// knows, an interface of raw IP that counts parts of 512 from a second before 1970, a packet of each, and one without a
+// time. Then a section with the least significant byte first, an interface that says nothing of time, and a packet.
 const BLOCKS: &[u8] =
     b"\x0a\x0d\x0d\x0a\x00\x00\x00\x20\x1a\x2b\x3c\x4d\x00\x01\x00\x00\xff\xff\xff\xff\xff\xff\xff\xff\x00\x00\x00\x00\x00\x00\x00\x20\
 \x00\x00\x00\x01\x00\x00\x00\x28\x00\x01\x00\x00\x00\x04\x00\x00\
@@ -55,8 +55,8 @@ fn blocks_of_two_sections(rt: HostRuntime) -> Result<(), Fail> {
     Ok(())
 }
 
-// A place in the blocks, the byte that stands there instead, how much is written before it is refused, and the line behind
-// that.
+// A place in the blocks, the byte that stands there instead, how much is written before it is refused, and the line
+// behind that.
 const REFUSED: [(usize, u8, usize, &str); 15] = [
     (8, 0, 0, "capture BadMagic after record 0\n"),
     (13, 2, 0, "capture BadVersion after record 0\n"),

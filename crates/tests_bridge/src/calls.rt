@@ -1,11 +1,13 @@
-//! Calls of the second tool over streams in memory. No test holds an answer: what it has to be is asked of a function here.
+//! Calls of the second tool over streams in memory. No test holds an answer: what it has to be is asked of a function
+//! here.
 use bridge_command::{Status, bridge};
 use dccp_io::{MemorySink, MemorySource};
 use std::alloc::Global;
 use std::test::Fail;
 
 /// The line that answers words which are none of the forms, as docs/TOOL.md has it.
-pub(crate) const USAGE: &[u8] = b"usage: dccp_bridge capture | unwrap | seed --seed S --events E | frames --flow F --side server|client | json\n";
+pub(crate) const USAGE: &[u8] =
+    b"usage: dccp_bridge capture | unwrap | seed --seed S --events E | frames --flow F --side server|client | json\n";
 
 // More than any output here has.
 const ROOM: usize = 4096;

@@ -1,12 +1,13 @@
-//! A captured connection as the lines of replays, in pieces of any length and over streams that fail; and what is refused.
+//! A captured connection as the lines of replays, in pieces of any length and over streams that fail; and what is
+//! refused.
 use crate::calls::{Streams, comes, is_cut_off, is_refused};
 use bridge_command::Status;
 use std::alloc::Global;
 use std::test::Fail;
 
-// Raw IP, the most significant byte first: a Request, and an Ack that comes before any number of the server; a Response whose
-// number is the last but one, and its Ack; a Request from another port; a DataAck and a Data packet with short numbers; a
-// Reset; and a Sync.
+// Raw IP, the most significant byte first: a Request, and an Ack that comes before any number of the server; a Response
+// whose number is the last but one, and its Ack; a Request from another port; a DataAck and a Data packet with short
+// numbers; a Reset; and a Sync.
 const CAPTURE: &[u8] =
     b"\xa1\xb2\xc3\xd4\x00\x02\x00\x04\x00\x00\x00\x00\x00\x00\x00\x00\x00\x04\x00\x00\x00\x00\x00\x65\
 \x00\x00\x00\x01\x00\x00\x00\x00\x00\x00\x00\x28\x00\x00\x00\x28\

@@ -1,5 +1,5 @@
-//! The tests of bridge_command, on its public call. They stand in a crate of their own since a crate with tests is proved twice,
-//! with them and without.
+//! The tests of bridge_command, on its public call. They stand in a crate of their own since a crate with tests is
+//! proved twice, with them and without.
 #![tactic(auto)]
 
 #[cfg(test)]

@@ -1,10 +1,11 @@
-//! The records of a capture as objects, in pieces of any length and over a source that fails; and a capture that is cut.
+//! The records of a capture as objects, in pieces of any length and over a source that fails; and a capture that is
+//! cut.
 use crate::calls::{Streams, comes, is_cut_off, is_refused};
 use bridge_command::Status;
 use std::test::Fail;
 
-// Ethernet: a DataAck of short numbers with an option, over IPv4; a Reset over IPv6 behind a VLAN tag, whose checksum is wrong; a packet of a
-// reserved type; ARP; and Data whose last four bytes were not captured.
+// Ethernet: a DataAck of short numbers with an option, over IPv4; a Reset over IPv6 behind a VLAN tag, whose checksum
+// is wrong; a packet of a reserved type; ARP; and Data whose last four bytes were not captured.
 const RECORDS: &[u8] =
     b"\xa1\xb2\xc3\xd4\x00\x02\x00\x04\x00\x00\x00\x00\x00\x00\x00\x00\x00\x04\x00\x00\x00\x00\x00\x01\
 \x00\x00\x00\x01\x00\x07\xa1\x20\x00\x00\x00\x3b\x00\x00\x00\x3b\x02\x00\x00\x00\x00\x02\x02\x00\x00\x00\x00\x01\

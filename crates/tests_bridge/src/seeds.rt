@@ -4,8 +4,8 @@ use bridge_command::Status;
 use std::alloc::Global;
 use std::test::Fail;
 
-// Words, and the schedule that a model apart draws: of one event; with data and a list for each end; with frames of both
-// ends and a timer; of the greatest seed, with its words in other orders.
+// Words, and the schedule that a model apart draws: of one event; with data and a list for each end; with frames of
+// both ends and a timer; of the greatest seed, with its words in other orders.
 const SCHEDULES: [(&str, &str); 4] = [
     (
         "seed,--seed,0,--events,1",

@@ -1,9 +1,11 @@
-//! A capture of the "any" device of Linux, unwrapped in pieces of any length and over streams that fail; and what is refused.
+//! A capture of the "any" device of Linux, unwrapped in pieces of any length and over streams that fail; and what is
+//! refused.
 use crate::calls::{Streams, comes, is_cut_off, is_refused};
 use bridge_command::Status;
 use std::test::Fail;
 
-// Link type 276, the least significant byte first: IPv4 behind the header of the device, ARP, IPv6 behind a VLAN tag, and a record of no bytes.
+// Link type 276, the least significant byte first: IPv4 behind the header of the device, ARP, IPv6 behind a VLAN tag,
+// and a record of no bytes.
 const ANY: &[u8] =
     b"\xd4\xc3\xb2\xa1\x02\x00\x04\x00\x00\x00\x00\x00\x00\x00\x00\x00\xff\xff\x00\x00\x14\x01\x00\x00\
 \x01\x00\x00\x00\x20\xa1\x07\x00\x18\x00\x00\x00\x3c\x00\x00\x00\
@@ -44,7 +46,13 @@ const CUT: [(usize, usize, &str); 5] = [
 #[test]
 fn captures_that_are_cut(rt: HostRuntime) -> Result<(), Fail> {
     for (size, written, line) in CUT {
-        let refused = is_refused(rt.alloc(), 7, ("unwrap", &ANY[..size]), (RAW, written), line)?;
+        let refused = is_refused(
+            rt.alloc(),
+            7,
+            ("unwrap", &ANY[..size]),
+            (RAW, written),
+            line,
+        )?;
         assert!(rt; refused, "{size} bytes");
     }
     Ok(())

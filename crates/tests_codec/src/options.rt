@@ -1,5 +1,5 @@
-//! Options in their areas. What a test tries stands in a helper that answers whether it holds: a proof follows each value
-//! that a function holds through each of its steps.
+//! Options in their areas. What a test tries stands in a helper that answers whether it holds: a proof follows each
+//! value that a function holds through each of its steps.
 ghost use Rattle.std.specs.Prelude.{◌≤◌, length};
 
 use crate::tables::{Table, holds};

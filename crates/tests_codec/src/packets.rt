@@ -43,7 +43,8 @@ const REFUSED: &str = "\
 
 // Packets. Behind the colon stand the type; the ports, CCVal, CsCov and the checksum; the number; the acknowledgement
 // number, the Service Code and the Reset Code, if the type has them; how many bytes of options and of data there are;
-// `again` where the packet is written as it was read; and `cut` where it is answered as it has to be when its end is cut off.
+// `again` where the packet is written as it was read; and `cut` where it is answered as it has to be when its end is
+// cut off.
 const PACKETS: &str = "\
     # Frames of worked runs of both ends, and a CloseReq, a short Data and a short DataAck written by hand: every type in every form\n\
     9c401389050031ec01000000000003e80000002a: Request 40000 5001 0 0 31ec 1000 None Some(42) 0 0 0 again cut\n\

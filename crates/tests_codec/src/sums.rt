@@ -4,8 +4,8 @@ use dccp_sum::{Pseudo, check, checksum, covered, seal};
 use std::alloc::Global;
 use std::test::Fail;
 
-// A packet by its way and its bytes. Behind the colon stand how many bytes its checksum covers, and that checksum; what the
-// check of the packet answers; and whether it is sealed, with its bytes 6 and 7 then.
+// A packet by its way and its bytes. Behind the colon stand how many bytes its checksum covers, and that checksum; what
+// the check of the packet answers; and whether it is sealed, with its bytes 6 and 7 then.
 const PACKETS: &str = "\
     # The plain handshake, a packet of odd length, and one byte changed\n\
     to_server 9c401389050031ec01000000000003e80000002a: 20 31ec Ok(()) true 31 ec\n\
@@ -106,7 +106,8 @@ fn sums_of_packets(rt: HostRuntime) -> Result<(), Fail> {
     holds(rt.alloc(), &Packets, PACKETS)
 }
 
-// The words of RFC 1071, section 3, stand around the checksum: their sum is ddf2, and with protocol 33 and ten bytes de1d.
+// The words of RFC 1071, section 3, stand around the checksum: their sum is ddf2, and with protocol 33 and ten bytes
+// de1d.
 #[test]
 fn sum_of_rfc_1071(rt: HostRuntime) {
     let nowhere = Pseudo::V4 {

@@ -1,7 +1,7 @@
 //! A step that is refused memory changes nothing, and made again it gives what it would have given at first.
 //!
-//! Each event of the plain handshake is tried again after NoMemory. What both ends sent and processed, and what they show,
-//! is then as it was worked out by hand. Where memory is ample no step is refused; `tools/refusals` refuses each
+//! Each event of the plain handshake is tried again after NoMemory. What both ends sent and processed, and what they
+//! show, is then as it was worked out by hand. Where memory is ample no step is refused; `tools/refusals` refuses each
 //! allocation in turn.
 ghost use Rattle.std.specs.Prelude.{◌≡◌};
 

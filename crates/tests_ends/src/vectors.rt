@@ -1,5 +1,5 @@
-//! Worked examples that no schedule or replay of examples/ can say: an end call by call, its negotiation and its features,
-//! and sets of runs, as tables of text.
+//! Worked examples that no schedule or replay of examples/ can say: an end call by call, its negotiation and its
+//! features, and sets of runs, as tables of text.
 mod asked;
 mod calls;
 mod early;

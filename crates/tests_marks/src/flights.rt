@@ -89,8 +89,8 @@ fn play(alloc: Global, calls: &[Call]) -> Result<(), Fail> {
 }
 
 // 10 to 15 are out. 17 and 16 lie outside the list, and 15 is marked. Two later ones make nothing lost, and three do;
-// what the mark covers is no congestion. A lost one that is reported after all is acknowledged, and in flight stays. One
-// that is reported as marked is congestion past the mark, once, and not acknowledged.
+// what the mark covers is no congestion. A lost one that is reported after all is acknowledged, and in flight stays.
+// One that is reported as marked is congestion past the mark, once, and not acknowledged.
 const SEVERAL_VECTORS: [Call; 14] = [
     Call::Send(10, 16),
     Call::Tell(17, [0x01, 0x40], Some(9), 0, true),

@@ -1,5 +1,5 @@
-//! The tests of run_list, ack_vectors, dccp_ecn, congestion_trait and ccid_two, on their public calls. They stand in a crate of
-//! their own since a crate with tests is proved twice, with them and without.
+//! The tests of run_list, ack_vectors, dccp_ecn, congestion_trait and ccid_two, on their public calls. They stand in a
+//! crate of their own since a crate with tests is proved twice, with them and without.
 #![tactic(auto)]
 
 #[cfg(test)]

@@ -27,8 +27,8 @@ enum Call {
     TakeEach(u64, u64, usize, Arrived),
     // Writes a vector of this type with these bytes at this number, and it is whole.
     Write(u64, u8, &'static [u8]),
-    // Writes a vector of this type at this number, which begins with this byte; all other numbers down to the floor, 2,047 of
-    // them, did not come.
+    // Writes a vector of this type at this number, which begins with this byte; all other numbers down to the floor,
+    // 2,047 of them, did not come.
     WriteLone(u64, u8, u8),
     // Writes a vector of this type at this number: 253 bytes, 0x00 and 0xc0 in turn, and it is cut.
     WriteCut(u64, u8),
@@ -348,7 +348,8 @@ fn is_first_report(world: &EcnWorld, ack: u64, kind: u8, bytes: &[u8]) -> bool {
 // A report by the number that it acknowledges, the type of its option and its bytes.
 type Reported = (u64, u8, &'static [u8]);
 
-// The place of the first event of which something else is seen, or the number of events where the first report is another.
+// The place of the first event of which something else is seen, or the number of events where the first report is
+// another.
 fn first_other_in(
     world: &mut EcnWorld,
     happenings: &[Happening],

@@ -21,8 +21,8 @@ enum Call {
     TakeEach(u64, u64, usize),
     // Writes these bytes at this number, and whether they are the whole vector.
     Write(u64, &'static [u8], bool),
-    // Writes so many bytes at this number, 0x00 and 0xc0 in turn, and whether they are the whole vector: first where one
-    // option has room for them, and then where two have.
+    // Writes so many bytes at this number, 0x00 and 0xc0 in turn, and whether they are the whole vector: first where
+    // one option has room for them, and then where two have.
     WriteInTurn(u64, (usize, bool), (usize, bool)),
     // Writes for this number where two options have room, and what bytes come last, and whether it is whole.
     WriteEnd(u64, &'static [u8], bool),
@@ -214,7 +214,8 @@ fn vector_cut_at_253(rt: HostRuntime) -> Result<(), Fail> {
     play(rt.alloc(), &VECTOR_CUT_AT_253)
 }
 
-// Every second number received, so that each byte is one number's. One option has room for 253 of them, and two for 506.
+// Every second number received, so that each byte is one number's. One option has room for 253 of them, and two for
+// 506.
 const VECTORS_AT_THE_EDGES: [Call; 14] = [
     Call::Start(0),
     Call::TakeEach(0, 254, 2),

@@ -362,8 +362,8 @@ fn halves_round_down(rt: HostRuntime) -> Result<(), Fail> {
 }
 
 // A marked number halves down to one packet, and at a window that is the threshold the window grows by one for a
-// window: not by three of four. Of more than a window nothing is left over: behind 3 and 4 of four, 2 of five are too few,
-// and 3 more are enough.
+// window: not by three of four. Of more than a window nothing is left over: behind 3 and 4 of four, 2 of five are too
+// few, and 3 more are enough.
 const AVOIDANCE_FROM_THE_THRESHOLD_ON: [Call; 26] = [
     Call::Send(1, 2),
     Call::Tell(1, 0x40),

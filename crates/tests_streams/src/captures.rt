@@ -5,10 +5,10 @@ use dccp_io::{MemorySource, Source, read_all};
 use std::alloc::Global;
 use std::test::Fail;
 
-// How many bytes a call of the source gives at most, and the number of the call that fails, or `-`; the bytes; and calls.
-// `next` gives a record: its number, the seconds and the fraction, whether that counts nanoseconds, the link type, how many
-// bytes the packet had, and those that were captured. `holds` tells whether a record is held, and `left` what is left of the
-// source.
+// How many bytes a call of the source gives at most, and the number of the call that fails, or `-`; the bytes; and
+// calls. `next` gives a record: its number, the seconds and the fraction, whether that counts nanoseconds, the link
+// type, how many bytes the packet had, and those that were captured. `holds` tells whether a record is held, and `left`
+// what is left of the source.
 const STORIES: &str = "\
     # The capture of one packet, and that all of it is read\n\
     1 - d4c3b2a1020004000000000000000000ffff0000650000000100000020a1070028000000280000004500002800010000402166b20a0000010a0000029c401389050031ec01000000000003e80000002a next next next left: 1 1 500000 false 101 40 [69, 0, 0, 40, 0, 1, 0, 0, 64, 33, 102, 178, 10, 0, 0, 1, 10, 0, 0, 2, 156, 64, 19, 137, 5, 0, 49, 236, 1, 0, 0, 0, 0, 0, 3, 232, 0, 0, 0, 42] end end []\n\
@@ -223,8 +223,8 @@ fn summary_of(alloc: Global, bytes: &[u8], most: usize) -> Result<Summary, Fail>
     Ok(summed(alloc, source_of(alloc, bytes, None, most)?))
 }
 
-// From which size on the first bytes of a capture have such an end, behind so many records: of the capture of one packet,
-// and of one of three records of 17, 16 and 18 bytes.
+// From which size on the first bytes of a capture have such an end, behind so many records: of the capture of one
+// packet, and of one of three records of 17, 16 and 18 bytes.
 const PREFIXES_OF_ONE: &str = "\
     d4c3b2a1020004000000000000000000ffff0000650000000100000020a1070028000000280000004500002800010000402166b20a0000010a0000029c401389050031ec01000000000003e80000002a: 0 CutShort-0 24 end-0 25 CutShort-0 80 end-1\n";
 

@@ -1,5 +1,5 @@
-//! The tests of dccp_io, capture_reader, packet_show and schedule_text, on their public calls: streams, and what is read
-//! of them and written. They stand in a crate of their own since a crate with tests is proved twice, with them and
+//! The tests of dccp_io, capture_reader, packet_show and schedule_text, on their public calls: streams, and what is
+//! read of them and written. They stand in a crate of their own since a crate with tests is proved twice, with them and
 //! without.
 #![tactic(auto)]
 

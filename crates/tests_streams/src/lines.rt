@@ -5,8 +5,8 @@ use dccp_io::{LineRead, Lines, LinesFault, MemorySource, read_all};
 use std::alloc::Global;
 use std::test::Fail;
 
-// An input, and calls over it. `next` and `find` give a line: behind `=` a whole one, and behind `+` the front of one that is
-// too long. `holds` tells whether one is held.
+// An input, and calls over it. `next` and `find` give a line: behind `=` a whole one, and behind `+` the front of one
+// that is too long. `holds` tells whether one is held.
 const LINES: &str = "\
     # Empty lines, a carriage return, and no newline at the end; no bytes are no line, and nothing behind the newline is none\n\
     open||deliver_c0^|last next next next next next next: =open = =deliver_c0^ =last end end\n\

@@ -12,8 +12,8 @@ use std::io;
 use std::io::{Error, ErrorKind, Read, Write};
 use std::test::Fail;
 
-// A kind of source or sink; how many bytes a call gives or takes at most; the number of the call that fails, or `-`; and
-// what stands behind them.
+// A kind of source or sink; how many bytes a call gives or takes at most; the number of the call that fails, or `-`;
+// and what stands behind them.
 fn parts_of(words: &str) -> Option<(&str, usize, Option<u64>, &str)> {
     let (kind, rest) = words.split_once(" ")?;
     let (most, rest) = rest.split_once(" ")?;
@@ -29,7 +29,8 @@ fn numbers_of(alloc: Global, failing: Option<u64>) -> Result<Vec<u64>, Fail> {
     Ok(numbers)
 }
 
-// An input, and calls: `read` reads a block of 4 bytes, and tells what that then has; a number reads all up to that limit.
+// An input, and calls: `read` reads a block of 4 bytes, and tells what that then has; a number reads all up to that
+// limit.
 const SOURCES: &str = "\
     # A call of a source gives what it has, and one that fails leaves the block as it was\n\
     memory 2 2 hello read read read read read: 2 [104, 101, 0, 0] Failed [104, 101, 0, 0] 2 [108, 108, 0, 0] 1 [111, 108, 0, 0] 0 [111, 108, 0, 0]\n\

@@ -1,5 +1,5 @@
-//! Bytes as text: `|` is a newline, `^` a carriage return, `_` a space, `-` alone no bytes, and `a*9` nine times `a`; `+` stands
-//! between pieces.
+//! Bytes as text: `|` is a newline, `^` a carriage return, `_` a space, `-` alone no bytes, and `a*9` nine times `a`;
+//! `+` stands between pieces.
 use std::alloc::Global;
 use std::test::Fail;
 

@@ -9,8 +9,9 @@ use std::alloc::Global;
 use std::test::Fail;
 use std::thread::Threads;
 
-// Of each form calls that are done, and where there is one, one whose input is refused: what comes of them where nothing
-// fails. Captures are in hexadecimal. In the third Mandatory stands at the end of the options, with nothing behind it.
+// Of each form calls that are done, and where there is one, one whose input is refused: what comes of them where
+// nothing fails. Captures are in hexadecimal. In the third Mandatory stands at the end of the options, with nothing
+// behind it.
 const FORMS: &str = "\
 ~ run\n\
 plain\nopen\ndeliver c0\ndeliver s0\ndeliver c1\n\
@@ -108,7 +109,8 @@ fn has_failed(answer: &Answer) -> bool {
     answer.failed_reads != 0 || answer.failed_writes != 0
 }
 
-// The status that a call has to end with whose reads and writes failed so often, if it ends with this one where none does.
+// The status that a call has to end with whose reads and writes failed so often, if it ends with this one where none
+// does.
 fn wanted(answer: &Answer, status: Status) -> Status {
     if answer.failed_reads != 0 {
         Status::Read
@@ -119,8 +121,8 @@ fn wanted(answer: &Answer, status: Status) -> Status {
     }
 }
 
-// Whether a call ended as it has to: with a front of the text that lacks something where a read or a write failed, and else
-// with all of it.
+// Whether a call ended as it has to: with a front of the text that lacks something where a read or a write failed, and
+// else with all of it.
 fn holds(answer: &Answer, status: Status, text: &str) -> bool {
     let is_front = text.as_bytes().starts_with(answer.text.as_slice());
     let is_whole = answer.text.len() == text.len();

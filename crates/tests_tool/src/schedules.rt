@@ -263,8 +263,8 @@ fn writes_openings<R: Threads + Sync>(rt: &R, alloc: Global) -> Result<bool, Fai
     )
 }
 
-// The text of a schedule that does not wait goes out in blocks of at least 4,096 bytes: neither line by line nor when it
-// is whole. Each further line is `N open: refused NotFresh`.
+// The text of a schedule that does not wait goes out in blocks of at least 4,096 bytes: neither line by line nor when
+// it is whole. Each further line is `N open: refused NotFresh`.
 #[test]
 fn blocks_of_a_schedule(rt: HostRuntime) -> Result<(), Fail> {
     assert!(rt; writes_openings(&rt, rt.alloc())?);

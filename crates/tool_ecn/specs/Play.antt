@@ -1,4 +1,5 @@
--- What `ecn` writes of an input: the line of each event that takes place, then the last line or the line of the first refusal (own).
+-- What `ecn` writes of an input: the line of each event that takes place, then the last line or the line of the first
+-- refusal (own).
 use Rattle.std.specs.Prelude.{ℕ, ◌+◌, nat_lt, Bool, is_some, List, Option, Some, None, Result, Ok, Err, if◌then◌else◌}
 use Rattle.dccp_ecn.specs.declared.event.EcnEvent.{EcnEvent}
 use Rattle.dccp_ecn.specs.declared.event.EcnFault.{EcnFault}
@@ -39,7 +40,8 @@ by_ecn_line play number line (Err fault) = Refused fault
 by_ecn_line play number line (Ok None) = Accepted None play
 by_ecn_line play number line (Ok (Some event)) = by_ecn_event play number line event
 
--- A line without its newline, judged in this order: what its words say, the count of events, the packet or report that it names.
+-- A line without its newline, judged in this order: what its words say, the count of events, the packet or report that
+-- it names.
 unfoldable pub ecn_judged : EcnPlay → ℕ → List ℕ → Verdict (List ℕ) EcnPlay
 ecn_judged play number line = by_ecn_line play number line (read_ecn_line line)
 

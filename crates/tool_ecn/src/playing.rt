@@ -10,10 +10,11 @@ use std::alloc::Global;
 use tool_lines::run_lines;
 use tool_output::Status;
 
-/// Lets the events of an input take place between an ECN-capable sender and an ECN-capable receiver (own): it reads the lines of
-/// `input` one by one, and writes to `output` a line for what is seen of each event, and at last how many packets were sent
-/// and reports kept, or the line of the first refusal. With status 0 or 1 the output is the text of the whole input, with
-/// another a front of it. Read comes where the source failed, Write where the sink did, and Memory where no memory was left.
+/// Lets the events of an input take place between an ECN-capable sender and an ECN-capable receiver (own): it reads the
+/// lines of `input` one by one, and writes to `output` a line for what is seen of each event, and at last how many
+/// packets were sent and reports kept, or the line of the first refusal. With status 0 or 1 the output is the text of
+/// the whole input, with another a front of it. Read comes where the source failed, Write where the sink did, and
+/// Memory where no memory was left.
 pub fn play_nonces<S: Source, K: Sink>(alloc: Global, input: &mut S, output: &mut K) -> Status
     ensures words { result ≢ Status.Words }
     ensures played { (bytes : List ℕ) → S.left input.old ≡ Some bytes

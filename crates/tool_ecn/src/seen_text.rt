@@ -52,8 +52,8 @@ fn put_seen(text: &mut Vec<u8>, world: &EcnWorld, seen: EcnSeen) -> Result<(), N
     }
 }
 
-/// Puts the line of an event that took place (own): the number of its line, the line as it was read, and what is seen of the
-/// event, which left the world so. NoMemory comes where the text could not grow.
+/// Puts the line of an event that took place (own): the number of its line, the line as it was read, and what is seen
+/// of the event, which left the world so. NoMemory comes where the text could not grow.
 pub(crate) fn put_event_line(
     text: &mut Vec<u8>,
     number: u64,
@@ -71,8 +71,8 @@ pub(crate) fn put_event_line(
     put(text, b"\n")
 }
 
-/// Puts the last line (own): how many packets were sent, and how many reports kept. NoMemory comes where the text could not
-/// grow.
+/// Puts the last line (own): how many packets were sent, and how many reports kept. NoMemory comes where the text could
+/// not grow.
 pub(crate) fn put_ending(text: &mut Vec<u8>, world: &EcnWorld) -> Result<(), NoMemory>
     ensures { OnOk result (text.new.items ≡ text.old.items ++ ecn_ending world.now) }
 {

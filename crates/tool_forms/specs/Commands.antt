@@ -1,7 +1,7 @@
 -- The commands of `clap` that read the words of a form (own), and what is made of their matches.
 --
--- The commands (`command_of`) are opened only where a proof says so. Written out, a check of the code gave no answer in the minutes that it had;
--- now it takes less than two.
+-- The commands (`command_of`) are opened only where a proof says so. Written out, a check of the code gave no answer in
+-- the minutes that it had; now it takes less than two.
 use Rattle.std.specs.Prelude.{◌≡◌, ◌≢◌, ℕ, Bool, true, false, List, [], ◌∷◌, map, codes, Option, Some, None, option_and_then, String, string_bytes}
 use Rattle.std.specs.Str.{bytes_eq}
 use Rattle.std.specs.List.{list_any}
@@ -57,7 +57,8 @@ is_dashes word = bytes_eq word (codes "--")
 abbrev pub has_dashes : List (String Global) → Bool
 has_dashes words = list_any is_dashes (map string_bytes words)
 
--- What a command reads of words: its matches, or nothing where it refuses them or one is `--`, which `clap` would take as the last.
+-- What a command reads of words: its matches, or nothing where it refuses them or one is `--`, which `clap` would take
+-- as the last.
 abbrev pub IsReadBy : App → List (String Global) → Option ArgMatches → Type 0
 IsReadBy command words (Some matches) = (has_dashes words ≡ false) × (fault_of command (map string_bytes words) ≡ [])
     × (rows_of (found_of matches) ≡ matches_of command (map string_bytes words))

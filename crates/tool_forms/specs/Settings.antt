@@ -1,8 +1,8 @@
--- The settings that words give to a form (own): in any order, each a name and its value, as two words or as one with `=` between them, but
--- for a mark, which has no value.
+-- The settings that words give to a form (own): in any order, each a name and its value, as two words or as one with
+-- `=` between them, but for a mark, which has no value.
 --
--- One table has them: whose each is, its name, how it is given, and the least and the most of its number. They are looked up one by one: what
--- words mean is a list and a question to it, and a second time is refused.
+-- One table has them: whose each is, its name, how it is given, and the least and the most of its number. They are
+-- looked up one by one: what words mean is a list and a question to it, and a second time is refused.
 use Rattle.std.specs.Prelude.{ℕ, ◌+◌, ◌-◌, ◌^◌, ◌++◌, Bool, true, false, ◌==◌, nat_lt, if◌then◌else◌, List, [], ◌∷◌, length, map, codes, Option, Some, None, option_and_then, option_map, String, string_bytes}
 use Rattle.std.specs.List.{position_or_len, before_first, after_first}
 use Rattle.std.specs.Option.{option_map_or}

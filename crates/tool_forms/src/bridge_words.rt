@@ -42,8 +42,8 @@ fn seed_run_in(matches: &ArgMatches) -> Option<SeedRun>
     })
 }
 
-/// The run that the words behind `seed` ask for, both settings once, or None where they ask for none (own). NoMemory says
-/// nothing of them.
+/// The run that the words behind `seed` ask for, both settings once, or None where they ask for none (own). NoMemory
+/// says nothing of them.
 pub fn seed_run_of(alloc: Global, words: &[String]) -> Result<Option<SeedRun>, NoMemory>
     ensures value { IfOk result (λ run. run ≡ seed_run_of words.now) }
     ensures within { IfOk result (λ run. IfSome run IsRunWithinBounds) }
@@ -66,8 +66,8 @@ fn flow_side_in(matches: &ArgMatches) -> Option<FlowSide>
     Some(FlowSide { flow, side })
 }
 
-/// The side of a flow that the words behind `frames` ask for, both settings once, or None where they ask for none (own).
-/// NoMemory says nothing of them.
+/// The side of a flow that the words behind `frames` ask for, both settings once, or None where they ask for none
+/// (own). NoMemory says nothing of them.
 pub fn flow_side_of(alloc: Global, words: &[String]) -> Result<Option<FlowSide>, NoMemory>
     ensures value { IfOk result (λ asked. asked ≡ flow_side_of words.now) }
     ensures within { IfOk result (λ asked. IfSome asked IsFlowWithinBounds) }

@@ -174,8 +174,8 @@ pub(crate) fn figure_in(matches: &ArgMatches, setting: Setting) -> Option<u64>
     setting.number(text.as_bytes())
 }
 
-/// The number that the matches have for this setting, which may be left out, and None where its text is no number within
-/// its bounds.
+/// The number that the matches have for this setting, which may be left out, and None where its text is no number
+/// within its bounds.
 pub(crate) fn chosen_in(matches: &ArgMatches, setting: Setting) -> Option<Option<u64>>
     ensures value { result ≡ chosen_in setting (rows_of (found_of matches.now)) }
     ensures within { IfSome result (λ chosen. IfSome chosen (λ n. least setting ≤ n × n ≤ most setting)) }

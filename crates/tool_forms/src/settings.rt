@@ -1,8 +1,8 @@
 //! The settings that words give to a form.
 //!
-//! One table has the settings of `replay`, `campaign` and `listen`, and those of the second program's `seed` and `frames`:
-//! of each its name, how it is given, and the least and the most of its number. A further setting is a line in each function
-//! of the table, and one where its form's command is put together.
+//! One table has the settings of `replay`, `campaign` and `listen`, and those of the second program's `seed` and
+//! `frames`: of each its name, how it is given, and the least and the most of its number. A further setting is a line
+//! in each function of the table, and one where its form's command is put together.
 ghost use Rattle.std.specs.Prelude.{◌≡◌, ◌≤◌, IfSome};
 ghost use Rattle.tool_forms.specs.Settings.{bare_name, least, most, number_for, side_in, way_of};
 

@@ -132,8 +132,8 @@ fn listen_of(alloc: Global, words: &[String]) -> Result<Option<Form>, NoMemory>
 }
 
 /// The job that these words ask for, those after the program's name, or None where they are none of the forms (own).
-/// NoMemory comes only for words behind `replay`, `campaign` and `listen`, whose settings are read by a command of `clap`,
-/// and then says nothing of them.
+/// NoMemory comes only for words behind `replay`, `campaign` and `listen`, whose settings are read by a command of
+/// `clap`, and then says nothing of them.
 #[tactic(auto, unfolding(crate::specs::Words::form_of))]
 pub fn form_of(alloc: Global, words: &[String]) -> Result<Option<Form>, NoMemory>
     ensures value { IfOk result (λ form. form ≡ form_of words.now) }

@@ -7,13 +7,14 @@ use Rattle.tool_words.specs.Refusals.{refusal_line, whole_line}
 use Rattle.tool_words.specs.declared.faults.LineFault.{LineFault}
 use Rattle.tool_words.specs.declared.faults.LineWhy.TheVariants as why
 
--- What a line comes to: it is accepted, with what it does, if it does anything, and the state behind it, or it is refused.
+-- What a line comes to: it is accepted, with what it does, if it does anything, and the state behind it, or it is
+-- refused.
 pub data Verdict (P V : Type 0) : Type 0 where
   Accepted : (deed : Option P) (next : V) → Verdict P V
   Refused : (fault : LineFault) → Verdict P V
 
--- A job over lines: what a line without its newline comes to, by the state and its number; the text of what it does; and the text at the
--- input's end.
+-- A job over lines: what a line without its newline comes to, by the state and its number; the text of what it does;
+-- and the text at the input's end.
 pub record Job (P V : Type 0) : Type 0 where
   pub judged : V → ℕ → List ℕ → Verdict P V
   pub told : P → List ℕ
@@ -24,7 +25,8 @@ abbrev pub line_text : {P V : Type 0} → Job P V → Option P → List ℕ
 line_text job None = []
 line_text job (Some deed) = job.told deed
 
--- A line was judged so: an accepted one leaves its text at the text's end and leads on, a refused one leaves the text as it was.
+-- A line was judged so: an accepted one leaves its text at the text's end and leads on, a refused one leaves the text
+-- as it was.
 abbrev pub Judges : {P V : Type 0} → Job P V → Verdict P V → List ℕ → List ℕ → V → Result (Unit {0}) LineFault → Type 0
 Judges job (Accepted deed next) old new after answer = (new ≡ old ++ line_text job deed) × (after ≡ next) × (answer ≡ Ok tt)
 Judges job (Refused fault) old new after answer = (new ≡ old) × (answer ≡ Err fault)
@@ -37,16 +39,16 @@ most_events = 16384
 abbrev pub too_long : LineFault
 too_long = record { column = 4097; why = why.LineTooLong }
 
--- What stands next in an input comes to this: a line as the job judges it, and one that is too long, or too much for an input, is
--- refused. Where no line stands next, nothing is done.
+-- What stands next in an input comes to this: a line as the job judges it, and one that is too long, or too much for an
+-- input, is refused. Where no line stands next, nothing is done.
 abbrev pub by_next : {P V : Type 0} → Job P V → V → ℕ → Next → Verdict P V
 by_next job state number (Line line) = job.judged state number (text_of line)
 by_next job state number (Long front) = Refused too_long
 by_next job state number Much = Refused (whole_line why.TooMuchInput)
 by_next job state number End = Accepted None state
 
--- What the lines of an input come to: what they did, the state behind them, the number of the line behind the last that was accepted,
--- how many bytes the accepted ones have, and why the line behind them is refused, if it is.
+-- What the lines of an input come to: what they did, the state behind them, the number of the line behind the last that
+-- was accepted, how many bytes the accepted ones have, and why the line behind them is refused, if it is.
 pub record Gone (P V : Type 0) : Type 0 where
   pub deeds : List P
   pub last : V
@@ -91,8 +93,8 @@ last_lines job last number (Some fault) = refusal_line number fault
 abbrev pub text_of_job : {P V : Type 0} → Job P V → Gone P V → List ℕ
 text_of_job job gone = flat_map job.told gone.deeds ++ last_lines job gone.last gone.number gone.refusal
 
--- The lines of an input were gone through behind a text that stood first: what was written and how it ended, how far the input was read
--- past the last accepted line where one was refused, and what holds of the last state.
+-- The lines of an input were gone through behind a text that stood first: what was written and how it ended, how far
+-- the input was read past the last accepted line where one was refused, and what holds of the last state.
 pub record GoesThrough {P V : Type 0} (job : Job P V) (Keeps : V → ℕ → Type 0) (first : V) (front input : List ℕ) (result : Status)
     (left before after : Option (List ℕ)) : Type 0 where
   pub answers : Answers (front ++ text_of_job job (gone_through job first input)) (is_some (gone_through job first input).refusal) result left before after

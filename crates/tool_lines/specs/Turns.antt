@@ -33,8 +33,8 @@ pub record RefusesNext {S : Type 0} (left : S → Option (List ℕ)) (faults len
   pub past : IfSome (rest_of_input left old) (λ bytes. GivesAtMost 12289 (Some bytes) (left new.source))
   pub refused : IfSome (rest_of_input left old) IsRefused
 
--- One turn: the line that stands next was judged and accepted, or what stands next is refused, or the input is at its end, and nothing
--- else changed.
+-- One turn: the line that stands next was judged and accepted, or what stands next is refused, or the input is at its
+-- end, and nothing else changed.
 abbrev pub TakesTurn : {S P V : Type 0} → (S → Option (List ℕ)) → (S → ℕ) → (S → ℕ) → Job P V → (V → ℕ → Type 0) → ℕ → LinesState S → LinesState S → V → V
     → List ℕ → List ℕ → Result Turn no_memory.NoMemory → Type 0
 TakesTurn left faults lender job Keeps number old new state next text written (Ok turn.Accepted) =

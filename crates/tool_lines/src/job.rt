@@ -9,8 +9,8 @@ use tool_words::LineFault;
 /// So many events a job over lines of events plays at most (own): what comes behind is refused as TooManyEvents.
 pub const MOST_EVENTS: u32 = 16_384;
 
-/// A job over the lines of an input (own). Contracts see what a line does, and what a job makes of lines: what each comes
-/// to by the job's state, the text of what it does, and the text at the input's end.
+/// A job over the lines of an input (own). Contracts see what a line does, and what a job makes of lines: what each
+/// comes to by the job's state, the text of what it does, and the text at the input's end.
 pub trait LineJob {
     // What a line does.
     ghost Deed: { Type 0 };
@@ -19,9 +19,9 @@ pub trait LineJob {
     // What holds of its state before the line of this number.
     ghost keeps: { Self → ℕ → Type 0 };
 
-    /// Judges the line of this number, counted from 1, without its newline: at most 4,096 bytes. An accepted line leaves
-    /// the text of what it does at the text's end; a refused one leaves the text as it was. NoMemory comes where no memory
-    /// was left.
+    /// Judges the line of this number, counted from 1, without its newline: at most 4,096 bytes. An accepted line
+    /// leaves the text of what it does at the text's end; a refused one leaves the text as it was. NoMemory comes where
+    /// no memory was left.
     fn judge(
         &mut self,
         alloc: Global,

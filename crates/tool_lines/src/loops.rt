@@ -16,8 +16,8 @@ use std::alloc::Global;
 use tool_output::{Status, answered, cut_off};
 use tool_words::LineFault;
 
-// Writes the rest of the text, and answers Input where a line was refused, and Done otherwise. Write comes where the sink
-// failed.
+// Writes the rest of the text, and answers Input where a line was refused, and Done otherwise. Write comes where the
+// sink failed.
 fn leave<K: Sink>(output: &mut K, text: &[u8], refused: bool) -> Status
     ensures words { result ≢ Status.Words }
     ensures read { result ≢ Status.Read }
@@ -96,12 +96,12 @@ fn go_through<J: LineJob, S: Source + Drop, K: Sink>(
 }
 
 /// Does a job over the lines of an input, one by one as they are read (own): it writes the text that it is given, then
-/// that of what each line does, and at last the text at the input's end or the line of the first refusal, under the number
-/// of the line. Text goes out in blocks of 65,536 bytes, and before the source is asked for more. A line of more than
-/// 4,096 bytes is refused at its 4,097th, as LineTooLong, and a line of which the newline or that byte does not lie
-/// within the input's first 16,777,216 bytes as TooMuchInput. With status 0 or 1 the output is that of the whole input,
-/// with another a front of it. Read comes where the source failed, Write where the sink did, and Memory where no memory
-/// was left.
+/// that of what each line does, and at last the text at the input's end or the line of the first refusal, under the
+/// number of the line. Text goes out in blocks of 65,536 bytes, and before the source is asked for more. A line of more
+/// than 4,096 bytes is refused at its 4,097th, as LineTooLong, and a line of which the newline or that byte does not
+/// lie within the input's first 16,777,216 bytes as TooMuchInput. With status 0 or 1 the output is that of the whole
+/// input, with another a front of it. Read comes where the source failed, Write where the sink did, and Memory where no
+/// memory was left.
 pub fn run_lines<J: LineJob, S: Source, K: Sink>(
     alloc: Global,
     job: &mut J,

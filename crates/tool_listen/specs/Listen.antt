@@ -1,4 +1,5 @@
--- What `listen` writes of an input: what each peer is answered, line by line, then the flows or the line of the first refusal (own).
+-- What `listen` writes of an input: what each peer is answered, line by line, then the flows or the line of the first
+-- refusal (own).
 use Rattle.std.specs.Prelude.{ℕ, ◌+◌, nat_lt, Bool, if◌then◌else◌, is_some, List, [], ◌∷◌, map, Option, Some, None, Result, Ok, Err}
 use Rattle.dccp_listener.specs.Chain.{Deed, Arrives, Calls, Sends, Fires, Closes, Aborts}
 use Rattle.dccp_listener.specs.Listens.{computed_turn, listening_after}

@@ -83,8 +83,8 @@ impl<'a> Row<'a> for ACall {
     }
 }
 
-/// The peer of a line and what happens to it, or None exactly where the line is empty or a comment; or the first of the line's
-/// faults, with its column. The line comes without its newline.
+/// The peer of a line and what happens to it, or None exactly where the line is empty or a comment; or the first of the
+/// line's faults, with its column. The line comes without its newline.
 pub(crate) fn read_call(line: &[u8]) -> Result<Option<(Peer, PeerCall)>, LineFault>
     ensures value { result ≡ spec.read_call line.now }
     ensures seals { IfOk result (λ said. IfSome said (λ s. spec.SealsInFull s.1)) }

@@ -106,8 +106,8 @@ fn call(
     put_frame(text, peer, &out)
 }
 
-/// What the line of this number says happens to the peer, and the lines of that are put. NoMemory comes where no memory was left
-/// for an end of the peer or for the text.
+/// What the line of this number says happens to the peer, and the lines of that are put. NoMemory comes where no memory
+/// was left for an end of the peer or for the text.
 pub(crate) fn exchange(
     listener: &mut Listener,
     number: u64,

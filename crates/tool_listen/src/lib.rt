@@ -1,7 +1,8 @@
-//! `listen`: what peers send and what is asked of their ends, handed to one listener, and the lines of what came of it (own).
+//! `listen`: what peers send and what is asked of their ends, handed to one listener, and the lines of what came of it
+//! (own).
 //!
-//! A line names a peer and says what happens to it. The listener serves each peer by an end; nothing here answers for an end
-//! itself, and no socket and no clock is opened. It takes memory where a peer gets an end, and for the text.
+//! A line names a peer and says what happens to it. The listener serves each peer by an end; nothing here answers for
+//! an end itself, and no socket and no clock is opened. It takes memory where a peer gets an end, and for the text.
 #![tactic(auto)]
 
 mod calls;

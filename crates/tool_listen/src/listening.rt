@@ -10,11 +10,11 @@ use std::alloc::Global;
 use tool_lines::run_lines;
 use tool_output::Status;
 
-/// Hands what peers send, and what is asked of their ends, to one listener of at most `most` flows, 1 to 1,024 (own): it reads the
-/// lines of `input` one by one, and writes to `output` a line for what each peer is answered and for each frame that goes to one,
-/// and at last how many flows stand and the phase of each, or the line of the first refusal. With status 0 or 1 the output is the
-/// text of the whole input, with another a front of it. Read comes where the source failed, Write where the sink did, and Memory
-/// where no memory was left, for an end or for the text.
+/// Hands what peers send, and what is asked of their ends, to one listener of at most `most` flows, 1 to 1,024 (own):
+/// it reads the lines of `input` one by one, and writes to `output` a line for what each peer is answered and for each
+/// frame that goes to one, and at last how many flows stand and the phase of each, or the line of the first refusal.
+/// With status 0 or 1 the output is the text of the whole input, with another a front of it. Read comes where the
+/// source failed, Write where the sink did, and Memory where no memory was left, for an end or for the text.
 pub fn listen_to_peers<S: Source, K: Sink>(
     alloc: Global,
     most: u16,

@@ -47,16 +47,17 @@ IsCutOff result = (result ≡ status.Read) ⊎ ((result ≡ status.Write) ⊎ (r
 abbrev pub StopsWithin : ℕ → ℕ → List ℕ → Status → Option (List ℕ) → Type 0
 StopsWithin most accepted bytes result left = result ≡ status.Input → GivesAtMost most (Some (drop accepted bytes)) left
 
--- What a form that reads its input owes, where that input has this text and is refused or not: an answer is the whole text, what was
--- cut off is a front of it, Done leaves nothing to read, and Done and Input say whether the input was refused.
+-- What a form that reads its input owes, where that input has this text and is refused or not: an answer is the whole
+-- text, what was cut off is a front of it, Done leaves nothing to read, and Done and Input say whether the input was
+-- refused.
 pub record Answers (text : List ℕ) (is_refused : Bool) (result : Status) (left before after : Option (List ℕ)) : Type 0 where
   pub whole : IsAnswered result → HasTaken before after text
   pub front : IsCutOff result → HasBegun before after text
   pub done : result ≡ status.Done → (is_refused ≡ false) × (left ≡ Some [])
   pub input : result ≡ status.Input → is_refused ≡ true
 
--- Why a form ends: with Read only where the source failed, with Write only where the sink did, and where neither failed with an
--- answer, if memory is found.
+-- Why a form ends: with Read only where the source failed, with Write only where the sink did, and where neither failed
+-- with an answer, if memory is found.
 pub record EndsForCause (result : Status) (source_failed sink_failed : Type 0) : Type 0 where
   pub read : result ≡ status.Read → source_failed
   pub write : result ≡ status.Write → sink_failed

@@ -1,4 +1,5 @@
--- What `replay` writes of an input where its end has a receive buffer, of which an application reads and which it may stop reading (own).
+-- What `replay` writes of an input where its end has a receive buffer, of which an application reads and which it may
+-- stop reading (own).
 use Rattle.std.specs.Prelude.{ℕ, ◌+◌, ◌++◌, Bool, if◌then◌else◌, is_some, List, [], ◌∷◌, codes, decimal, Option, Some, None, Result, Ok, Err}
 use Rattle.std.specs.Str.{bytes_eq}
 use Rattle.ccid_two.specs.Kinds.{Both, at_first, kinds_control}

@@ -1,5 +1,5 @@
--- What `replay` writes of an input: what one end does with its frames, line by line, then the end's line or the line of the first
--- refusal (own).
+-- What `replay` writes of an input: what one end does with its frames, line by line, then the end's line or the line of
+-- the first refusal (own).
 use Rattle.std.specs.Prelude.{ℕ, ◌+◌, ◌++◌, Bool, if◌then◌else◌, is_some, List, [], codes, Option, Some, None, Result, Ok, Err}
 use Rattle.ccid_two.specs.Kinds.{Both, at_first, kinds_control}
 use Rattle.dccp_endpoint.specs.Calling.{opens}
@@ -85,7 +85,8 @@ begun_from replay Server = record { text = []; replay = replay }
 abbrev pub begun_replay : Side → Bool → Begun
 begun_replay side plain = begun_from (first_replay side plain) side
 
--- The frame that a line makes arrive: with `seal` the checksum is set for these addresses, unless the coverage passes the frame's end.
+-- The frame that a line makes arrive: with `seal` the checksum is set for these addresses, unless the coverage passes
+-- the frame's end.
 abbrev pub arriving : Pseudo → FrameLine → List ℕ
 arriving addresses frame = if frame.seal then sealed addresses frame.bytes else frame.bytes
 

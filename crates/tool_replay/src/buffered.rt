@@ -1,4 +1,5 @@
-//! A replay at an end with a receive buffer, while it is played: frames arrive, and an application reads, or stops reading.
+//! A replay at an end with a receive buffer, while it is played: frames arrive, and an application reads, or stops
+//! reading.
 ghost use Rattle.std.specs.Prelude.{◌≡◌, ℕ, ◌++◌, ◌+◌, ◌^◌, ◌<◌, ◌≤◌, List, codes, decimal, length, IfOk, OnOk};
 ghost use Rattle.ccid_two.specs.Kinds.{kinds_control};
 ghost use Rattle.data_dropped.specs.Buffering.{Buffered, buffers};

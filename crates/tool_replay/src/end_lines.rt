@@ -49,8 +49,8 @@ fn stand_mark(stand: Stand) -> &'static [u8]
     }
 }
 
-/// Puts the line of a frame that was sent (own): whose it is, its index among those of its side, and its bytes. NoMemory comes
-/// where the text could not grow.
+/// Puts the line of a frame that was sent (own): whose it is, its index among those of its side, and its bytes.
+/// NoMemory comes where the text could not grow.
 pub fn put_frame_line(
     text: &mut Vec<u8>,
     side: Side,
@@ -107,8 +107,8 @@ fn put_end_counts(text: &mut Vec<u8>, end: &Endpoint<Kinds>) -> Result<(), NoMem
     put_counted(text, b" flight ", u64::from(end.in_flight()))
 }
 
-/// Puts the line of an end when the input is over (own): its phase, the counts of its congestion control, and the values of
-/// its features. NoMemory comes where the text could not grow.
+/// Puts the line of an end when the input is over (own): its phase, the counts of its congestion control, and the
+/// values of its features. NoMemory comes where the text could not grow.
 pub fn put_end_line(text: &mut Vec<u8>, side: Side, end: &Endpoint<Kinds>) -> Result<(), NoMemory>
     ensures { OnOk result (text.new.items ≡ text.old.items ++ end_line side end.now) }
 {

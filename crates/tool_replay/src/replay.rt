@@ -187,8 +187,8 @@ pub(crate) fn replay_config(side: Side, plain: bool) -> Config
     config
 }
 
-/// The addresses of the frames that arrive at the end of a side: those of its usual end, which are not taken out of a whole
-/// configuration for each frame.
+/// The addresses of the frames that arrive at the end of a side: those of its usual end, which are not taken out of a
+/// whole configuration for each frame.
 pub(crate) fn addresses(side: Side) -> Pseudo
     ensures { result ≡ (usual (role_of side)).pseudo_in }
 {

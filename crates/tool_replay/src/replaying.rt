@@ -13,11 +13,11 @@ use tool_lines::run_lines;
 use tool_output::Status;
 use world_events::Side;
 
-/// Hands the frames of an input to one end, new and of this side, with its offers or without (own): it reads the lines of
-/// `input` one by one, and writes to `output` a line for what the end answers and for each frame that it sends, and at
-/// last its state or the line of the first refusal. With status 0 or 1 the output is the text of the whole input, with
-/// another a front of it. Read comes where the source failed, Write where the sink did, and Memory where no memory was
-/// left.
+/// Hands the frames of an input to one end, new and of this side, with its offers or without (own): it reads the lines
+/// of `input` one by one, and writes to `output` a line for what the end answers and for each frame that it sends, and
+/// at last its state or the line of the first refusal. With status 0 or 1 the output is the text of the whole input,
+/// with another a front of it. Read comes where the source failed, Write where the sink did, and Memory where no memory
+/// was left.
 pub fn replay_frames<S: Source, K: Sink>(
     alloc: Global,
     side: Side,
@@ -39,10 +39,10 @@ pub fn replay_frames<S: Source, K: Sink>(
     run_lines(alloc, &mut replay, &mut text, input, output)
 }
 
-/// The same at an end with a receive buffer for so many packets, 1 to 1,024, of which an application reads (own). A line
-/// `read` takes the oldest data that are held, and after a line `stop` further data are dropped; each of both is such a
-/// line only where it is that word alone, and every other line is one of `replay_frames`. Data that were dropped are told
-/// by their Drop Code (RFC 4340, section 11.7).
+/// The same at an end with a receive buffer for so many packets, 1 to 1,024, of which an application reads (own). A
+/// line `read` takes the oldest data that are held, and after a line `stop` further data are dropped; each of both is
+/// such a line only where it is that word alone, and every other line is one of `replay_frames`. Data that were dropped
+/// are told by their Drop Code (RFC 4340, section 11.7).
 pub fn replay_at_buffer<S: Source, K: Sink>(
     alloc: Global,
     side: Side,

@@ -1,4 +1,5 @@
--- What `run` writes of an input: the lines of each event that takes place, then the two end lines or the line of the first refusal (own).
+-- What `run` writes of an input: the lines of each event that takes place, then the two end lines or the line of the
+-- first refusal (own).
 use Rattle.std.specs.Prelude.{◌≡◌, ℕ, ◌+◌, ◌≤◌, ◌++◌, Bool, true, false, ◌&&◌, ◌==◌, nat_lt, if◌then◌else◌, List, length, All, Option, Some, None, is_some, IfSome, Result, Ok, Err}
 use Rattle.ack_vectors.specs.declared.room.Vectors.{Vectors}
 use Rattle.ack_vectors.specs.declared.room.Vectors.TheVariants.{One, Two}
@@ -95,7 +96,8 @@ with_iss side number play = with_config side (record (config_of play side) { iss
 abbrev pub says_plain : Play → Play
 says_plain play = record play { client = config_without_offers play.client; server = config_without_offers play.server }
 
--- A wish or an offer that an end may not have changes nothing; its line was refused before. So the transcript needs no premise for it.
+-- A wish or an offer that an end may not have changes nothing; its line was refused before. So the transcript needs no
+-- premise for it.
 abbrev pub wishing : Config → Feature → Place → Result Wanted PreferFault → Config
 wishing config feature place (Ok wish) = record config { lists = with_wish config.lists feature place wish }
 wishing config feature place (Err fault) = config
@@ -114,8 +116,8 @@ with_set side feature place values play =
 abbrev pub with_offered : Side → Feature → Place → Bool → Play → Play
 with_offered side feature place mandatory play = with_config side (offering (config_of play side) feature place mandatory) play
 
--- An event that takes place, or the fault of its line: it names no frame. (No schedule comes to a world without room for it, or to a frame
--- that is far. Some fault has to be named for these, which the code does not have.)
+-- An event that takes place, or the fault of its line: it names no frame. (No schedule comes to a world without room
+-- for it, or to a frame that is far. Some fault has to be named for these, which the code does not have.)
 abbrev pub by_step : ℕ → Controlled Both → Event → Result (ControlledStep Both) WorldFault → Result Scene LineFault
 by_step number before event (Ok step) = Ok (record { number = number; before = before; event = event; step = step })
 by_step number before event (Err fault.NoSuchFrame) = Err no_such_frame
@@ -156,8 +158,8 @@ by_line play number (Ok (line.Set side place feature values)) = configures play 
 by_line play number (Ok (line.Offer side place feature mandatory)) = configures play (with_offered side feature place mandatory)
 by_line play number (Ok (line.Event event)) = says_event play number event
 
--- A line of this number, without its newline. Its faults are judged in this order: the line by itself up to its words, that it stands
--- before all events, what an end may wish, the count of events, the frame that it names.
+-- A line of this number, without its newline. Its faults are judged in this order: the line by itself up to its words,
+-- that it stands before all events, what an end may wish, the count of events, the frame that it names.
 unfoldable pub judged_line : Play → ℕ → List ℕ → Verdict Scene Play
 judged_line play number line = by_line play number (read_line line)
 
@@ -181,7 +183,8 @@ pub record ArePeers (client server : Config) : Type 0 where
   pub client_fits : Fits client
   pub server_fits : Fits server
 
--- Before each line the configurations are those of a client and a server, and no side has sent more frames than there were events.
+-- Before each line the configurations are those of a client and a server, and no side has sent more frames than there
+-- were events.
 pub record IsPlayable (play : Play) : Type 0 where
   pub peers : ArePeers play.client play.server
   pub few : IfSome play.world (λ w. SentFew w play.events)
@@ -202,7 +205,8 @@ is_refused input = is_some (performed input).refusal
 abbrev pub accepted_bytes : List ℕ → ℕ
 accepted_bytes input = (performed input).accepted
 
--- Each event took place in a safe world and left a safe one, and the schedule ends in a safe one: the worlds of which the lines are made.
+-- Each event took place in a safe world and left a safe one, and the schedule ends in a safe one: the worlds of which
+-- the lines are made.
 abbrev pub IsSafeThroughout : Gone Scene Play → Type 0
 IsSafeThroughout whole =
     All (λ scene. Safe kinds_control scene.before × Safe kinds_control scene.step.after) whole.deeds × Safe kinds_control (world_of whole.last)

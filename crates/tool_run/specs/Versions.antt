@@ -10,7 +10,8 @@ use Rattle.tool_run.specs.Transcript.{vectors_of}
 use Rattle.tool_run.specs.declared.play.Play.{Play}
 use Rattle.tool_words.specs.declared.faults.LineFault.{LineFault}
 
--- The ends' Ack Vectors by a line: one that says nothing leaves that to the lines behind it, and one with a fault stops the schedule.
+-- The ends' Ack Vectors by a line: one that says nothing leaves that to the lines behind it, and one with a fault stops
+-- the schedule.
 abbrev pub vectors_by : Result words.Line LineFault → Vectors → Vectors
 vectors_by (Err fault) later = One
 vectors_by (Ok line.Nothing) later = later
@@ -28,7 +29,8 @@ vectors_next (Line line) later = vectors_by (read_line (text_of line)) later
 vectors_next (Long front) later = One
 vectors_next Much later = One
 
--- The same by lines, behind so many bytes of their input: two options exactly where the first line that says something is `version 2`.
+-- The same by lines, behind so many bytes of their input: two options exactly where the first line that says something
+-- is `version 2`.
 abbrev pub vectors_said : ℕ → List (List ℕ) → Vectors
 vectors_said given [] = One
 vectors_said given (line ∷ lines) = vectors_next (next_in_lines given (line ∷ lines)) (vectors_said (given + length line) lines)

@@ -16,7 +16,8 @@ use two_ends::{Event, WorldFault, few_frames_are_never_far};
 /// last one left. So the world before the event told as the n-th is the one to which the n events before it lead. Where
 /// no line is refused, the text is that of these events, and then the end lines of the world to which they lead.
 pub fn every_schedule_is_a_run()
-    ensures run { (input : List ℕ) → IsRun (world_at_first (performed input)) (performed input).deeds (world_of (performed input).last) }
+    ensures run { (input : List ℕ)
+        → IsRun (world_at_first (performed input)) (performed input).deeds (world_of (performed input).last) }
     ensures nth { (input : List ℕ) (n : ℕ) (scene : Scene) → slice_get (performed input).deeds n ≡ Some scene
         → scene.before ≡ plays kinds_control (world_at_first (performed input)) (take n (scene_events (performed input).deeds)) }
     ensures last { (input : List ℕ)
@@ -29,13 +30,15 @@ pub fn every_schedule_is_a_run()
 /// A schedule's world has room for whatever event its next line makes (own): no side has sent more frames than there
 /// were events, 16,384 at most. Lines before a line are an input too, so this is said of every event that is judged.
 pub fn no_schedule_fills_a_world()
-    ensures { (input : List ℕ) (event : Event) → happens_to kinds_control (world_of (performed input).last) event ≢ Err WorldFault.Full }
+    ensures { (input : List ℕ) (event : Event)
+        → happens_to kinds_control (world_of (performed input).last) event ≢ Err WorldFault.Full }
 {}
 
-/// No line of a schedule names a frame whose short numbers could not be told where it arrives (own): the sides have sent
-/// too few. Lines before a line are an input too, so this is said of every event that is judged.
+/// No line of a schedule names a frame whose short numbers could not be told where it arrives (own): the sides have
+/// sent too few. Lines before a line are an input too, so this is said of every event that is judged.
 pub fn no_schedule_meets_a_far_frame()
-    ensures { (input : List ℕ) (event : Event) → happens_to kinds_control (world_of (performed input).last) event ≢ Err WorldFault.FarShort }
+    ensures { (input : List ℕ) (event : Event)
+        → happens_to kinds_control (world_of (performed input).last) event ≢ Err WorldFault.FarShort }
 {
     few_frames_are_never_far::<Kinds>();
 }

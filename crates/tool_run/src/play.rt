@@ -51,9 +51,9 @@ impl Play {
         }
     }
 
-    /// Plays the line of this number, by what was read of it, or answers why it is refused. The faults that need more than
-    /// the line are judged here, each at its place among those of the line itself: that it has to stand before all events
-    /// (but before what an end may wish), the limit of events, and a frame that was not sent.
+    /// Plays the line of this number, by what was read of it, or answers why it is refused. The faults that need more
+    /// than the line are judged here, each at its place among those of the line itself: that it has to stand before all
+    /// events (but before what an end may wish), the limit of events, and a frame that was not sent.
     pub(crate) fn say(
         &mut self,
         alloc: Global,
@@ -148,7 +148,8 @@ impl Play {
 
     fn say_iss(&mut self, side: Side, number: Seq48) -> Result<(), LineFault>
         requires { IsPlayable self.old }
-        ensures verdict { (text : List ℕ) → Judges run_job (configures self.old (with_iss side number)) text text self.new result }
+        ensures verdict { (text : List ℕ)
+            → Judges run_job (configures self.old (with_iss side number)) text text self.new result }
         ensures playable { IsPlayable self.new }
     {
         self.begin_header()?;
@@ -170,7 +171,8 @@ impl Play {
         values: &[u64],
     ) -> Result<(), LineFault>
         requires { IsPlayable self.old }
-        ensures verdict { (text : List ℕ) → Judges run_job (configures self.old (with_set side feature place values.now)) text text self.new result }
+        ensures verdict { (text : List ℕ)
+            → Judges run_job (configures self.old (with_set side feature place values.now)) text text self.new result }
         ensures playable { IsPlayable self.new }
     {
         self.begin_header()?;
@@ -189,7 +191,8 @@ impl Play {
         mandatory: bool,
     ) -> Result<(), LineFault>
         requires { IsPlayable self.old }
-        ensures verdict { (text : List ℕ) → Judges run_job (configures self.old (with_offered side feature place mandatory)) text text self.new result }
+        ensures verdict { (text : List ℕ)
+            → Judges run_job (configures self.old (with_offered side feature place mandatory)) text text self.new result }
         ensures playable { IsPlayable self.new }
     {
         self.begin_header()?;

@@ -76,16 +76,18 @@ impl LineJob for Schedule {
     }
 }
 
-/// Plays a schedule (own): it reads the lines of `input` one by one, and writes to `output` a line for each event and for
-/// each frame that was sent, and at last the state of both ends or the line of the first refusal. With status 0 or 1 the
-/// output is the text of the whole input, and each event took place in a safe world and left a safe one; with another it
-/// is a front of that text. Read comes where the source failed, Write where the sink did, and Memory where no memory was left.
+/// Plays a schedule (own): it reads the lines of `input` one by one, and writes to `output` a line for each event and
+/// for each frame that was sent, and at last the state of both ends or the line of the first refusal. With status 0 or
+/// 1 the output is the text of the whole input, and each event took place in a safe world and left a safe one; with
+/// another it is a front of that text. Read comes where the source failed, Write where the sink did, and Memory where
+/// no memory was left.
 pub fn run_schedule<S: Source, K: Sink>(alloc: Global, input: &mut S, output: &mut K) -> Status
     ensures words { result ≢ Status.Words }
     ensures transcript { (bytes : List ℕ) → S.left input.old ≡ Some bytes
         → Answers (transcript bytes) (is_refused bytes) result (S.left input.new) (K.taken output.old) (K.taken output.new) }
     ensures safe { (bytes : List ℕ) → S.left input.old ≡ Some bytes → IsAnswered result → SafeThroughout bytes }
-    ensures past { (bytes : List ℕ) → S.left input.old ≡ Some bytes → StopsWithin 16384 (accepted_bytes bytes) bytes result (S.left input.new) }
+    ensures past { (bytes : List ℕ) → S.left input.old ≡ Some bytes
+        → StopsWithin 16384 (accepted_bytes bytes) bytes result (S.left input.new) }
     ensures cause { EndsForCause result (Rose (S.faults input.old) (S.faults input.new)) (SinkFails K.faults K.empty_takes output.old output.new) }
 {
     // The law, which `safe` follows from.

@@ -1,4 +1,5 @@
--- What `show` writes of a capture: the lines of its records, and then how many there were or the fault that ended them (own).
+-- What `show` writes of a capture: the lines of its records, and then how many there were or the fault that ended them
+-- (own).
 use Rattle.std.specs.Prelude.{ℕ, ◌+◌, ◌<◌, ◌^◌, ◌++◌, Bool, is_some, List, [], ◌∷◌, length, codes, Option, Some, None}
 use Rattle.capture_reader.specs.declared.fault.CaptureFault.{CaptureFault}
 use Rattle.capture_reader.specs.declared.fault.CaptureFault.TheVariants as fault

@@ -13,8 +13,8 @@ use Rattle.tool_output.specs.declared.status.Status.TheVariants as status
 use Rattle.tool_show.specs.CaptureText.{tallied, record_text, fault_line, first_tally, text_from, size_of}
 use Rattle.tool_output.specs.Ends.{IsAnswered, IsCutOff, HasTaken, HasBegun, Answers}
 
--- One turn: the record that stands next was read, tallied and put; or the records ended, and nothing else changed. Where memory was
--- not found, the text stays as it was.
+-- One turn: the record that stands next was read, tallied and put; or the records ended, and nothing else changed.
+-- Where memory was not found, the text stays as it was.
 abbrev pub Turns : {S : Type 0} → (S → Option (List ℕ)) → (S → ℕ) → (S → ℕ) → CapturesState S → CapturesState S → Tally → Tally → List ℕ → List ℕ
     → Result Turn no_memory.NoMemory → Type 0
 Turns left faults lender old new tally after text written (Ok turn.Shown) =
@@ -27,15 +27,16 @@ Turns left faults lender old new tally after text written (Ok turn.Failed) =
     Advances left faults lender old new (Err ReadFault) × (written ≡ text)
 Turns left faults lender old new tally after text written (Err _) = (lender new.source ≡ lender old.source) × (written ≡ text)
 
--- Behind a capture's records: the text and the last line were written, whole with an answer and otherwise a front of both.
+-- Behind a capture's records: the text and the last line were written, whole with an answer and otherwise a front of
+-- both.
 pub record Closes (text : List ℕ) (end : Option CaptureFault) (result : Status) (before after : Option (List ℕ)) : Type 0 where
   pub whole : IsAnswered result → HasTaken before after text
   pub front : IsCutOff result → HasBegun before after text
   pub done : result ≡ status.Done → is_some end ≡ false
   pub input : result ≡ status.Input → is_some end ≡ true
 
--- A file header was refused: the line of its fault was written as the only one, or nothing where the source failed or memory was not
--- found.
+-- A file header was refused: the line of its fault was written as the only one, or nothing where the source failed or
+-- memory was not found.
 abbrev pub ShowsHeaderFault : CaptureFault → Status → Option (List ℕ) → Option (List ℕ) → Type 0
 ShowsHeaderFault ReadFault result before after = (result ≡ status.Read) × (after ≡ before)
 ShowsHeaderFault NoMemory result before after = (result ≡ status.Memory) × (after ≡ before)
@@ -46,8 +47,8 @@ ShowsHeaderFault why result before after =
 abbrev pub shown_text : Captured → List ℕ
 shown_text whole = text_from first_tally whole.records whole.end
 
--- The records of an input behind its file header were shown: what was written, how it ended, and, where a fault ended them, how far the
--- input was read past the last whole record.
+-- The records of an input behind its file header were shown: what was written, how it ended, and, where a fault ended
+-- them, how far the input was read past the last whole record.
 pub record ShowsRecords (whole : Captured) (input : List ℕ) (result : Status) (left before after : Option (List ℕ)) : Type 0 where
   pub answers : Answers (shown_text whole) (is_some whole.end) result left before after
   pub past : result ≡ status.Input → Passed 262160 (Some (drop (size_of whole.records) input)) left

@@ -115,7 +115,8 @@ fn finish<K: Sink>(
     ensures words { result ≢ Status.Words }
     ensures read { result ≢ Status.Read }
     ensures closes { Closes (text.old.items ++ last_line tally.now end) end result (K.taken output.old) (K.taken output.new) }
-    ensures write { result ≡ Status.Write → SinkFailed (K.faults output.old) (K.faults output.new) (K.empty_takes output.old) (K.empty_takes output.new) }
+    ensures write { result ≡ Status.Write
+        → SinkFailed (K.faults output.old) (K.faults output.new) (K.empty_takes output.old) (K.empty_takes output.new) }
 {
     if flush(output, text).is_err() {
         return Status::Write;
@@ -185,7 +186,8 @@ fn show_records<S: Source + Drop, K: Sink>(
 // Ends where the file header was refused.
 fn refuse_header<K: Sink>(alloc: Global, why: CaptureFault, output: &mut K) -> Status
     ensures refuses { ShowsHeaderFault why result (K.taken output.old) (K.taken output.new) }
-    ensures write { result ≡ Status.Write → SinkFailed (K.faults output.old) (K.faults output.new) (K.empty_takes output.old) (K.empty_takes output.new) }
+    ensures write { result ≡ Status.Write
+        → SinkFailed (K.faults output.old) (K.faults output.new) (K.empty_takes output.old) (K.empty_takes output.new) }
 {
     match why {
         CaptureFault::ReadFault => Status::Read,
@@ -195,9 +197,9 @@ fn refuse_header<K: Sink>(alloc: Global, why: CaptureFault, output: &mut K) -> S
 }
 
 /// Shows a capture (own): a line for each record that carries DCCP, and a last line that counts them or tells the fault
-/// that ended them. The lines are written in blocks as the records are read, and before the source is asked for more. It
-/// keeps one record of the input, the flows and one block of text. Input comes where the capture has a fault, Read where the source failed, Write where the sink did, and Memory
-/// where no memory was left.
+/// that ended them. The lines are written in blocks as the records are read, and before the source is asked for more.
+/// It keeps one record of the input, the flows and one block of text. Input comes where the capture has a fault, Read
+/// where the source failed, Write where the sink did, and Memory where no memory was left.
 pub fn show_capture<S: Source, K: Sink>(alloc: Global, input: &mut S, output: &mut K) -> Status
     ensures words { result ≢ Status.Words }
     ensures text { (bytes : List ℕ) → S.left input.old ≡ Some bytes

@@ -11,8 +11,8 @@ fn gap(value: u8) -> u8
     if value < 10 { 0 } else { b'a' - b'9' - 1 }
 }
 
-// The digit of a value. It is worked out, and not looked up in a table as that of the toolchain's `hex`, so that the compiler can make the
-// digits of many bytes side by side.
+// The digit of a value. It is worked out, and not looked up in a table as that of the toolchain's `hex`, so that the
+// compiler can make the digits of many bytes side by side.
 #[tactic(auto, using(crate::proofs::HexText::digit_of))]
 fn digit(value: u8) -> u8
     requires { value < 16 }

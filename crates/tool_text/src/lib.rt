@@ -1,7 +1,7 @@
 //! The pieces that the tool's texts are put together from, and numbers as texts have them (own).
 //!
-//! Each function puts at a text's end. After NoMemory all that stood there before still stands there first, so that a writer of
-//! a whole line cuts the text there again.
+//! Each function puts at a text's end. After NoMemory all that stood there before still stands there first, so that a
+//! writer of a whole line cuts the text there again.
 #![tactic(auto)]
 
 mod hexadecimal;

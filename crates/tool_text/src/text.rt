@@ -40,8 +40,8 @@ pub fn put_number(text: &mut Vec<u8>, number: u64) -> Result<(), NoMemory>
     put(text, buffer.format(number).as_bytes())
 }
 
-/// Puts a name behind what is said of it, as `refused ` (own). NoMemory comes where the text could not grow; then what is said
-/// may stand there alone.
+/// Puts a name behind what is said of it, as `refused ` (own). NoMemory comes where the text could not grow; then what
+/// is said may stand there alone.
 pub fn put_named(text: &mut Vec<u8>, what: &[u8], name: &[u8]) -> Result<(), NoMemory>
     ensures ok { OnOk result (text.new.items ≡ text.old.items ++ (what.now ++ name.now)) }
     ensures front { Keeps text.old.items text.new.items }
@@ -50,8 +50,8 @@ pub fn put_named(text: &mut Vec<u8>, what: &[u8], name: &[u8]) -> Result<(), NoM
     put(text, name)
 }
 
-/// Puts a number in decimal behind its word (own). NoMemory comes where the text could not grow; then the word may stand there
-/// alone.
+/// Puts a number in decimal behind its word (own). NoMemory comes where the text could not grow; then the word may
+/// stand there alone.
 pub fn put_counted(text: &mut Vec<u8>, word: &[u8], number: u64) -> Result<(), NoMemory>
     ensures ok { OnOk result (text.new.items ≡ text.old.items ++ labelled_number word.now number) }
     ensures front { Keeps text.old.items text.new.items }
@@ -60,8 +60,8 @@ pub fn put_counted(text: &mut Vec<u8>, word: &[u8], number: u64) -> Result<(), N
     put_number(text, number)
 }
 
-/// Puts bytes in lower-case hexadecimal, and nothing for none (own). NoMemory comes where the text could not grow; then the digits
-/// of the first bytes may stand there.
+/// Puts bytes in lower-case hexadecimal, and nothing for none (own). NoMemory comes where the text could not grow; then
+/// the digits of the first bytes may stand there.
 pub fn put_hex(text: &mut Vec<u8>, bytes: &[u8]) -> Result<(), NoMemory>
     ensures ok { OnOk result (text.new.items ≡ text.old.items ++ encode_lower bytes.now) }
     ensures front { Keeps text.old.items text.new.items }
@@ -135,8 +135,8 @@ fn put_dotted(text: &mut Vec<u8>, number: u8) -> Result<(), NoMemory>
     put_byte(text, number)
 }
 
-/// Puts an address of IPv4: four numbers, parted by dots (own). NoMemory comes where the text could not grow; then the first
-/// numbers may stand there.
+/// Puts an address of IPv4: four numbers, parted by dots (own). NoMemory comes where the text could not grow; then the
+/// first numbers may stand there.
 pub fn put_v4(text: &mut Vec<u8>, address: [u8; 4]) -> Result<(), NoMemory>
     ensures ok { OnOk result (text.new.items ≡ text.old.items ++ v4_text address) }
     ensures front { Keeps text.old.items text.new.items }

@@ -11,7 +11,8 @@ use Rattle.tool_words.specs.Refusals.{fault_at}
 use Rattle.tool_words.specs.Words.{WordAt}
 use Rattle.tool_words.specs.Digits.{digits_flaw, bytes_of_digits, AreSomeDigits, AreDigitsOrDash}
 
--- a kind of words: what a word is read as, what is wrong with one that is not of the kind, and which words spell a value
+-- a kind of words: what a word is read as, what is wrong with one that is not of the kind, and which words spell a
+-- value
 pub record Kind (A : Type 0) : Type 1 where
   pub reads : List ℕ → Result A Flaw
   pub flaw : List ℕ → Option Flaw
@@ -63,7 +64,8 @@ abbrev pub flaw_in : {A : Type 0} → Result A Flaw → Option Flaw
 flaw_in (Ok x) = None
 flaw_in (Err flaw) = Some flaw
 
--- the three parts of a kind say one thing: a word that is there is read exactly where it has no flaw, and as the value that it spells
+-- the three parts of a kind say one thing: a word that is there is read exactly where it has no flaw, and as the value
+-- that it spells
 pub record IsExactKind {A : Type 0} (kind : Kind A) : Type 0 where
   pub flaws : (text : List ℕ) → flaw_in (kind.reads text) ≡ kind.flaw text
   pub spelled : (text : List ℕ) (x : A) → (length text == 0) ≡ false → kind.reads text ≡ Ok x → kind.Spells x text

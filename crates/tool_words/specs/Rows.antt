@@ -41,7 +41,8 @@ abbrev pub fault_in : {A : Type 0} → Result A LineFault → Option LineFault
 fault_in (Ok x) = None
 fault_in (Err fault) = Some fault
 
--- the three parts of a row say one thing: words are refused for its fault, and otherwise they spell what it says of them
+-- the three parts of a row say one thing: words are refused for its fault, and otherwise they spell what it says of
+-- them
 pub record IsExactRow {A : Type 0} (row : Row A) : Type 0 where
   pub first : (left : WordsLeft) → fault_in (row.said left) ≡ row.fault left
   pub spelled : (left : WordsLeft) (x : A) → row.said left ≡ Ok x → row.Spells x (texts_of left.words)

@@ -25,8 +25,8 @@ fn lacks<S: Sought>(what: &S, block: &[u8]) -> bool
     lacks
 }
 
-// How many bytes without such a byte a text begins with, going on from so many by whole blocks. The bytes of a block are judged
-// side by side.
+// How many bytes without such a byte a text begins with, going on from so many by whole blocks. The bytes of a block
+// are judged side by side.
 #[tactic(auto, using(crate::proofs::BlockLaws::block_further))]
 fn blocks_from<const BLOCK: usize, S: Sought>(what: &S, text: &[u8], front: usize) -> usize
     requires some { 0 < BLOCK }

@@ -10,8 +10,8 @@ pub struct LineFault {
     pub why: LineWhy,
 }
 
-/// What may be wrong with a line, in the order in which it is judged (own). Missing, UnknownWord, BadPeer, BadNumber and
-/// BadHex are judged together, word by word from the left. Each grammar of lines says which of these it answers.
+/// What may be wrong with a line, in the order in which it is judged (own). Missing, UnknownWord, BadPeer, BadNumber
+/// and BadHex are judged together, word by word from the left. Each grammar of lines says which of these it answers.
 #[derive(Clone, Copy, Debug, PartialEq, Eq)]
 pub enum LineWhy {
     /// It ends past the input's limit. The program judges this.

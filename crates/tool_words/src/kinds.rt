@@ -33,8 +33,8 @@ pub trait WordKind<'a> {
         ensures within { IfErr result (λ flaw. flaw.place ≤ length word.now) };
 }
 
-/// What a word is read as, or its fault: Missing at its column where it is empty or absent, and otherwise its flaw, where
-/// that stands (own).
+/// What a word is read as, or its fault: Missing at its column where it is empty or absent, and otherwise its flaw,
+/// where that stands (own).
 pub fn read_word<'a, K: WordKind<'a>>(word: Word<'a>) -> Result<K::Read, LineFault>
     requires short { length word.text.now ≤ 4096 }
     requires begins { word.column ≤ 4098 }
@@ -105,8 +105,8 @@ impl<'a, T: Name> WordKind<'a> for Named<T> {
     }
 }
 
-/// Digits of bytes in hexadecimal, in either case, of one byte at least (own). BadHex comes at the first byte that is no digit,
-/// and otherwise behind an odd number of digits.
+/// Digits of bytes in hexadecimal, in either case, of one byte at least (own). BadHex comes at the first byte that is
+/// no digit, and otherwise behind an odd number of digits.
 pub struct Hex;
 
 impl<'a> WordKind<'a> for Hex {

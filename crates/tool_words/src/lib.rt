@@ -1,7 +1,7 @@
 //! The words of lines, and what may be wrong with a line, for every grammar of lines that the tool reads (own).
 //!
-//! A grammar is a [`Row`] of kinds of words, put together from tuples, and [`read_line`] reads a line by it. Reading takes no
-//! memory.
+//! A grammar is a [`Row`] of kinds of words, put together from tuples, and [`read_line`] reads a line by it. Reading
+//! takes no memory.
 #![tactic(auto)]
 
 mod blocks;

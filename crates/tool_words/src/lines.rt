@@ -58,8 +58,8 @@ pub fn says_nothing(line: &[u8]) -> bool
     }
 }
 
-/// What a line says by a row of words, without its newline, or None where it is empty or a comment; or the first of its faults
-/// (own): LineTooLong, then NotText, then the row's.
+/// What a line says by a row of words, without its newline, or None where it is empty or a comment; or the first of its
+/// faults (own): LineTooLong, then NotText, then the row's.
 pub fn read_line<'a, R: Row<'a>>(line: &'a [u8]) -> Result<Option<R::Said>, LineFault>
     ensures { result ≡ spec.line_read R.said line.now }
 {

@@ -10,8 +10,8 @@ use crate::faults::{LineFault, LineWhy};
 use crate::kinds::{Flaw, WordKind, read_word};
 use crate::words::Words;
 
-/// A row of words, read from the left (own): a tuple of kinds that ends in `()`, as `(ASide, (ANumber, ()))`, or what a grammar
-/// makes of such rows.
+/// A row of words, read from the left (own): a tuple of kinds that ends in `()`, as `(ASide, (ANumber, ()))`, or what a
+/// grammar makes of such rows.
 pub trait Row<'a> {
     /// What the words say.
     type Said: Drop;
@@ -62,7 +62,8 @@ pub trait Flag {
         ensures { result ≡ bytes_eq word.now name };
 }
 
-/// The end of a row in which this word may stand (own): UnknownWord where another does, and Trailing where one stands behind it.
+/// The end of a row in which this word may stand (own): UnknownWord where another does, and Trailing where one stands
+/// behind it.
 pub struct MaybeFlag<F>(F);
 
 // The word for a flag, as a kind of words.

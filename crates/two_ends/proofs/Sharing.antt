@@ -23,7 +23,7 @@ use Rattle.feature_lists.specs.declared.features.Place.{Place}
 use Rattle.feature_lists.specs.declared.wishes.Wanted.{Wanted}
 use Rattle.feature_machine.proofs.Turning.{turned-joined, turned-row}
 use Rattle.feature_machine.specs.Negotiating.{every_place, row_at, stepped}
-use Rattle.feature_machine.specs.Rows.{Change, Confirm, Confirmed, Offered, Offers, Preferred, Prefers, Proposed, RowEvent, Sending, Sends, answers_opening, entries, is_server_priority, list_confirmation, list_proposal, listed_confirmation, number_confirmation, proposal, reconciled_by, row_line, row_step, shared_or_not, tells_value, timely_confirmation, width}
+use Rattle.feature_machine.specs.Rows.{Change, Confirm, Confirmed, Offered, Offers, Preferred, Prefers, Proposed, RowEvent, Sending, Sends, answers_opening, entries, is_server_priority, list_confirmation, list_proposal, agreed_confirmation, number_confirmation, proposal, reconciled_by, row_line, row_step, shared_or_not, tells_value, timely_confirmation, width}
 use Rattle.byteorder.specs.Endian.{big_number}
 use Rattle.feature_machine.specs.Turns.{Turn, events_of, is_turn_of, row_turned, turned}
 use Rattle.feature_machine.specs.declared.judging.Confirmation.{Confirmation}
@@ -118,8 +118,8 @@ by-agreed row value agreed true is = inr (ap Some (eqb-true agreed value is))
 by-agreed row value agreed false is = inl refl
 
 by-listed : (row : Row) (s : Stand) (value : ℕ) (r : Option ℕ)
-    → ((row_line row s (Confirmed (listed_confirmation row value r))).row.value ≡ row.value)
-    ⊎ (r ≡ Some (row_line row s (Confirmed (listed_confirmation row value r))).row.value)
+    → ((row_line row s (Confirmed (agreed_confirmation row value r))).row.value ≡ row.value)
+    ⊎ (r ≡ Some (row_line row s (Confirmed (agreed_confirmation row value r))).row.value)
 by-listed row Stable value r = inl refl
 by-listed row Unstable value r = inl refl
 by-listed row Changing value (Some agreed) = by-agreed row value agreed (agreed == value) refl

@@ -24,8 +24,8 @@ abbrev pub place_delivered : Seen → Option (ℕ × ℕ)
 place_delivered (seen.Received (outcome.Took delivered)) = delivered
 place_delivered _ = None
 
--- The data at the place, from its first byte up to the frame's end, are those of the frame, a Data or a DataAck; and the receiving side
--- has processed its number by this.
+-- The data at the place, from its first byte up to the frame's end, are those of the frame, a Data or a DataAck; and
+-- the receiving side has processed its number by this.
 pub record DeliversFrame (old new : WorldState) (from : Side) (index : ℕ) (place : ℕ × ℕ) : Type 0 where
   pub frame : SentFrame
   pub packet : Parts

@@ -15,8 +15,8 @@ use Rattle.two_ends.specs.declared.frames.SentFrame.{SentFrame}
 abbrev pub packet_of : List ℕ → Option Parts
 packet_of bytes = result_ok (decoded bytes)
 
--- The sequence number in full of a packet that an end has just sent, by its marks then: a short form stands for the number near GSS
--- (RFC 4340, section 7.6).
+-- The sequence number in full of a packet that an end has just sent, by its marks then: a short form stands for the
+-- number near GSS (RFC 4340, section 7.6).
 abbrev pub number_in_full : Marks → Option Parts → ℕ
 number_in_full marks None = marks.gss
 number_in_full marks (Some p) = near marks.gss p.header.number

@@ -1,4 +1,5 @@
--- Agreement of the two ends, and where their values come from, read from the frames that they sent (RFC 4340, section 6.3).
+-- Agreement of the two ends, and where their values come from, read from the frames that they sent (RFC 4340, section
+-- 6.3).
 use Rattle.std.specs.Prelude.{◌≡◌, ℕ, ◌||◌, Bool, true, false, List, [], ◌∷◌, length, slice_get, Option, Some, None, IsSome, IsTrue}
 use Rattle.std.specs.List.{list_any}
 use Rattle.byteorder.specs.Endian.{big_number}

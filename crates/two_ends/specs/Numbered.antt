@@ -16,8 +16,9 @@ use Rattle.two_ends.specs.Frames.{packet_of, options_in, is_reset, SpellsItsNumb
 use Rattle.two_ends.specs.Pairs.{FeatureAt, times_said}
 use Rattle.two_ends.specs.Remembered.{AreRecordsHonest, MarksWhatItProcessed, NewestIsProcessed}
 
--- A Reset without a connection, whose number comes from the packet that it answers (own): its code is 3, No Connection, or a server's
--- 8, Bad Service Code (section 8.5, steps 2 and 3). A client's 8 belongs to its connection. It carries no option.
+-- A Reset without a connection, whose number comes from the packet that it answers (own): its code is 3, No Connection,
+-- or a server's 8, Bad Service Code (section 8.5, steps 2 and 3). A client's 8 belongs to its connection. It carries no
+-- option.
 pub record IsResetWithoutConnection (role : Role) (frame : SentFrame) : Type 0 where
   pub spells : SpellsItsNumbers frame
   pub has_code : is_without_connection role spells.packet.header.kind ≡ true
@@ -29,15 +30,16 @@ pub record IsNumberedFrame (role : Role) (number : ℕ) (frame : SentFrame) : Ty
   pub of_connection : is_without_connection role spells.packet.header.kind ≡ false
   pub has_number : frame.number ≡ number
 
--- All frames but Resets without a connection are numbered. Of these, so many went before the list, and `count` there are with
--- the list: each carries the next number.
+-- All frames but Resets without a connection are numbered. Of these, so many went before the list, and `count` there
+-- are with the list: each carries the next number.
 abbrev pub AreNumbered : Role → ℕ → ℕ → List SentFrame → ℕ → Type 0
 AreNumbered role iss before [] count = count ≡ before
 AreNumbered role iss before (frame ∷ frames) count =
     (IsNumberedFrame role (residue (iss + before)) frame × AreNumbered role iss (before + 1) frames count)
     ⊎ (IsResetWithoutConnection role frame × AreNumbered role iss before frames count)
 
--- A side's numbered frames carry ISS, ISS + 1, and so on up to GSS, in this order. With the others they are fewer than 2^47.
+-- A side's numbered frames carry ISS, ISS + 1, and so on up to GSS, in this order. With the others they are fewer than
+-- 2^47.
 pub record IsNumbered (half : Half) : Type 0 where
   pub count : ℕ
   pub in_order : AreNumbered half.end.config.role half.end.marks.iss 0 half.frames count
@@ -57,8 +59,8 @@ pub record IsNumberOf (iss count number : ℕ) : Type 0 where
   pub was_sent : place < count
   pub same : number ≡ residue (iss + place)
 
--- ISR and GSR are numbers of numbered frames of the other side, whose first is ISS and which has sent `count`, and the frame
--- of ISR is not the later one.
+-- ISR and GSR are numbers of numbered frames of the other side, whose first is ISS and which has sent `count`, and the
+-- frame of ISR is not the later one.
 pub record AreSentNumbers (iss count isr gsr : ℕ) : Type 0 where
   pub first : IsNumberOf iss count isr
   pub greatest : IsNumberOf iss count gsr
@@ -68,8 +70,8 @@ pub record AreSentNumbers (iss count isr gsr : ℕ) : Type 0 where
 abbrev pub Hears : ℕ → ℕ → EndState → Type 0
 Hears iss count e = IsUnset e ⊎ AreSentNumbers iss count e.marks.isr e.marks.gsr
 
--- An end keeps the numbers that it received, what it knows acknowledged, its rows, and its set with the floor, the records and the
--- count of what was marked.
+-- An end keeps the numbers that it received, what it knows acknowledged, its rows, and its set with the floor, the
+-- records and the count of what was marked.
 pub record KeepsReceived (before after : EndState) : Type 0 where
   pub first : after.marks.isr ≡ before.marks.isr
   pub greatest : after.marks.gsr ≡ before.marks.gsr

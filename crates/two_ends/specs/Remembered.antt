@@ -1,4 +1,5 @@
--- What an end has taken of its peer's packets, and what it remembers of its own Ack Vectors (RFC 4340, sections 7.1 and 11.4).
+-- What an end has taken of its peer's packets, and what it remembers of its own Ack Vectors (RFC 4340, sections 7.1 and
+-- 11.4).
 use Rattle.std.specs.Prelude.{◌≡◌, ◌↔◌, ℕ, ◌+◌, ◌^◌, ◌<◌, ◌≤◌, true, length, slice_get, Some, Contains}
 use Rattle.ack_vectors.specs.Vector.{is_whole_under}
 use Rattle.ack_vectors.specs.declared.received.Record.{Record}
@@ -26,17 +27,18 @@ pub record MarksWhatItProcessed (half : Half) : Type 0 where
   -- the floor lies from ISR up to the number after GSR, also before a first number was heard, when the floor, ISR and GSR are 0
   pub floor : IsWithin (floor_of half.end) half.end.marks.isr (residue (half.end.marks.gsr + 1))
 
--- In a phase in which a first number was received, GSR is a number that the side processed, if its frame is an Ack or a DataAck. A
--- packet of another type may have raised it and be out of place in the phase, and then it is never processed; no list of such numbers
--- is kept. Of an end that is CLOSED this is not claimed, since a Reset 5, 6 or 8 answers a packet that was not processed.
+-- In a phase in which a first number was received, GSR is a number that the side processed, if its frame is an Ack or a
+-- DataAck. A packet of another type may have raised it and be out of place in the phase, and then it is never
+-- processed; no list of such numbers is kept. Of an end that is CLOSED this is not claimed, since a Reset 5, 6 or 8
+-- answers a packet that was not processed.
 abbrev pub NewestIsProcessed : WorldState → Side → Type 0
 NewestIsProcessed w side = (index : ℕ) (frame : SentFrame) (packet : Parts) → is_live (half_of w side).end.phase ≡ true
     → slice_get (half_of w (other side)).frames index ≡ Some frame → packet_of frame.bytes ≡ Some packet
     → is_acking (packet_type packet.header.kind) ≡ true → frame.number ≡ (half_of w side).end.marks.gsr
     → Contains (half_of w side).processed (half_of w side).end.marks.gsr
 
--- A record is of an Ack or a DataAck of its end, with that frame's number and acknowledgement number, and whether its vector was
--- whole; and the end's floor is not before that frame's.
+-- A record is of an Ack or a DataAck of its end, with that frame's number and acknowledgement number, and whether its
+-- vector was whole; and the end's floor is not before that frame's.
 pub record IsRecordOf (w : WorldState) (side : Side) (r : Record) : Type 0 where
   pub index : ℕ
   pub frame : SentFrame

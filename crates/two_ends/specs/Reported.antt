@@ -15,8 +15,8 @@ use Rattle.world_events.specs.Actors.{other}
 use Rattle.two_ends.specs.Controlled.{Controlled, congestion_of}
 use Rattle.two_ends.specs.Frames.{packet_of, options_in, is_reset}
 
--- A side sent a packet with this number that is no Reset. The number of a Reset without a connection comes from the packet that it
--- answers, and says nothing of its sender's.
+-- A side sent a packet with this number that is no Reset. The number of a Reset without a connection comes from the
+-- packet that it answers, and says nothing of its sender's.
 pub record HasSentNumber (w : WorldState) (side : Side) (n : ℕ) : Type 0 where
   pub index : ℕ
   pub frame : SentFrame
@@ -57,8 +57,8 @@ pub record CarriesVector (frame : SentFrame) (ack : ℕ) (bytes : List ℕ) : Ty
   pub acknowledges : frame.ack ≡ Some ack
   pub carries : report_of ack (options_in frame.bytes) ≡ Some (record { ack = ack; bytes = bytes })
 
--- They are the vector of just what the side had processed, from the acknowledged number down to its floor, as far as its options have
--- room, and it had processed nothing after that number.
+-- They are the vector of just what the side had processed, from the acknowledged number down to its floor, as far as
+-- its options have room, and it had processed nothing after that number.
 pub record TellsTruth (half : Half) (frame : SentFrame) (ack : ℕ) (bytes : List ℕ) : Type 0 where
   pub is_vector : bytes ≡ vector_under (has (processed_by half frame)) frame.floor ack half.end.config.vectors
   pub none_after : (n : ℕ) → Contains (processed_by half frame) n → IsBefore ack n → ⊥
@@ -80,7 +80,8 @@ pub record ToldIn (w : WorldState) (side : Side) (n : ℕ) : Type 0 where
   pub heard : Contains (half_of w (other side)).processed frame.number
   pub reaches : IsWithin n frame.floor ack
 
--- why a side need not speak of a number any more: it lies more than 2,047 below one that it processed, or the other side was told
+-- why a side need not speak of a number any more: it lies more than 2,047 below one that it processed, or the other
+-- side was told
 pub data NeedsNoReport (w : WorldState) (side : Side) (n : ℕ) : Type 0 where
   Far : (processed : ℕ) → Contains (half_of w side).processed processed → IsBefore n (floor_under processed) → NeedsNoReport w side n
   WasTold : ToldIn w side n → NeedsNoReport w side n

@@ -15,8 +15,8 @@ abbrev pub reconciled_for : Side → List ℕ → List ℕ → Option ℕ
 reconciled_for Client own theirs = reconciled theirs own
 reconciled_for Server own theirs = reconciled own theirs
 
--- The value that a side holds in the new world is what its active list in the old one shared first with a list in a frame of the other
--- side.
+-- The value that a side holds in the new world is what its active list in the old one shared first with a list in a
+-- frame of the other side.
 pub record IsShared (old new : WorldState) (pair : FeatureAt) (side : Side) : Type 0 where
   pub theirs : List ℕ
   pub was_sent : HasSent old pair (other side) theirs

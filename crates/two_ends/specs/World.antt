@@ -1,5 +1,5 @@
--- Two ends, all frames that they ever sent, and what happens to them (own). Losing, repeating and reordering frames is the
--- choice of deliveries.
+-- Two ends, all frames that they ever sent, and what happens to them (own). Losing, repeating and reordering frames is
+-- the choice of deliveries.
 use Rattle.std.specs.Prelude.{◌≡◌, ℕ, ◌-◌, ◌^◌, ◌≤◌, ◌&&◌, ◌||◌, Bool, true, false, nat_le, nat_lt, if◌then◌else◌, List, [], ◌∷◌, ◌++◌, length, Option, Some, None, Result, Ok, Err, slice_get}
 use Rattle.dccp_endpoint.specs.End.{EndState, new_end, floor_of, marked_of}
 use Rattle.dccp_endpoint.specs.Inputs.{Input, Answer, end_stepped}
@@ -50,8 +50,8 @@ pub record WorldStep : Type 0 where
   pub calls : List Call
   pub seen : Seen
 
--- A frame as it is kept: its numbers in full, by its sender's marks after the step, how many numbers its sender had processed, that
--- step's included, and its floor.
+-- A frame as it is kept: its numbers in full, by its sender's marks after the step, how many numbers its sender had
+-- processed, that step's included, and its floor.
 abbrev pub as_sent : Marks → ℕ → ℕ → Option (List ℕ) → List SentFrame
 as_sent marks processed floor None = []
 as_sent marks processed floor (Some bytes) =
@@ -63,8 +63,8 @@ as_sent marks processed floor (Some bytes) =
       floor = floor;
     } ∷ []
 
--- A step processes the number of the frame that arrives, if one does, where the end's count of numbers that were taken rises. An end
--- hands out no list of them. A side is full long before that count could stop at 2^64 - 1.
+-- A step processes the number of the frame that arrives, if one does, where the end's count of numbers that were taken
+-- rises. An end hands out no list of them. A side is full long before that count could stop at 2^64 - 1.
 abbrev pub number_if : Bool → Option ℕ → List ℕ
 number_if true (Some number) = number ∷ []
 number_if true None = []
@@ -130,8 +130,9 @@ in_world w side (Err why) = Err why
 abbrev pub unless_full : WorldState → Side → Result HalfStep WorldFault → Result WorldStep WorldFault
 unless_full w side step = if is_full (half_of w side) then Err fault.Full else in_world w side step
 
--- A frame with short numbers, at an end that takes these, lies so far from what the end sent and received that the numbers cannot be told:
--- its number is 2^23 or more from GSR, or the one that it acknowledges from GSS, up and down the circle (RFC 4340, section 7.6).
+-- A frame with short numbers, at an end that takes these, lies so far from what the end sent and received that the
+-- numbers cannot be told: its number is 2^23 or more from GSR, or the one that it acknowledges from GSS, up and down
+-- the circle (RFC 4340, section 7.6).
 abbrev pub is_far_frame : EndState → SentFrame → Bool
 is_far_frame e frame =
     takes_short e && (is_short_packet (packet_of frame.bytes) && (is_far frame.number e.marks.gsr || is_ack_far frame.ack e.marks.gss))
@@ -155,7 +156,8 @@ pub data Happening : Type 0 where
   Calls : (side : Side) (given : Input) → Happening
   Delivers : (from : Side) (index : ℕ) → Happening
 
--- What a side's congestion control says when it is asked: whether a further data packet may be sent, and whether some are in flight.
+-- What a side's congestion control says when it is asked: whether a further data packet may be sent, and whether some
+-- are in flight.
 pub record Said : Type 0 where
   pub may_send : Bool
   pub in_flight : Bool

@@ -53,12 +53,15 @@ pub fn settled_features_are_alike<C: Congestion>()
     ensures servers { (w : Controlled C) → Safe C.control w → (feature : Feature)
         → (held_of w.world.client.end feature place.There).stand ≡ Stable → (held_of w.world.server.end feature place.Here).stand ≡ Stable
         → (held_of w.world.client.end feature place.There).value ≡ (held_of w.world.server.end feature place.Here).value }
-    ensures listed { (w : Controlled C) → Safe C.control w → (pair : FeatureAt) (side : Side) → IsSettled w.world pair → IsServerPriority pair
+    ensures listed { (w : Controlled C) → Safe C.control w → (pair : FeatureAt) (side : Side) → IsSettled w.world pair
+        → IsServerPriority pair
         → IsTrue (pair_was_negotiated w.world pair) → IsSome (last_list_sent w.world pair side) }
-    ensures first { (w : Controlled C) → Safe C.control w → (pair : FeatureAt) (side : Side) (value : ℕ) (later clients : List ℕ)
+    ensures first { (w : Controlled C) → Safe C.control w
+        → (pair : FeatureAt) (side : Side) (value : ℕ) (later clients : List ℕ)
         → IsSettled w.world pair → IsServerPriority pair → last_list_sent w.world pair Server ≡ Some (value ∷ later)
         → last_list_sent w.world pair Client ≡ Some clients → IsTrue (has_entry clients value) → (held_at w.world pair side).value ≡ value }
-    ensures told { (w : Controlled C) → Safe C.control w → (pair : FeatureAt) (side : Side) (value : ℕ) → IsSettled w.world pair → IsNotNegotiable pair
+    ensures told { (w : Controlled C) → Safe C.control w → (pair : FeatureAt) (side : Side) (value : ℕ)
+        → IsSettled w.world pair → IsNotNegotiable pair
         → IsTrue (pair_was_negotiated w.world pair) → last_value w.world pair ≡ Some value → (held_at w.world pair side).value ≡ value }
 {}
 
@@ -66,7 +69,8 @@ pub fn settled_features_are_alike<C: Congestion>()
 /// sides has sent no list for it; or no list of the server's shares an entry with one of the client's; or, if it is not
 /// negotiable, its location has told no value.
 pub fn values_come_from_both_sides<C: Congestion>()
-    ensures silent { (w : Controlled C) → Safe C.control w → (pair : FeatureAt) (quiet side : Side) → IsServerPriority pair
+    ensures silent { (w : Controlled C) → Safe C.control w → (pair : FeatureAt) (quiet side : Side)
+        → IsServerPriority pair
         → ((index : ℕ) (frame : SentFrame) → slice_get (half_of w.world quiet).frames index ≡ Some frame → list_said (said_by pair quiet frame.bytes) ≡ None)
         → (held_at w.world pair side).value ≡ initial_of pair.feature }
     ensures apart { (w : Controlled C) → Safe C.control w → (pair : FeatureAt) (side : Side) → IsServerPriority pair
@@ -81,15 +85,18 @@ pub fn values_come_from_both_sides<C: Congestion>()
 /// it; a whole vector tells received each of those from the frame's floor up to the number that it acknowledges; and
 /// none of them is after that.
 pub fn vectors_tell_what_was_processed<C: Congestion>()
-    ensures received { (w : Controlled C) → Safe C.control w → (side : Side) (index : ℕ) (frame : SentFrame) (ack n : ℕ) (bytes : List ℕ)
+    ensures received { (w : Controlled C) → Safe C.control w
+        → (side : Side) (index : ℕ) (frame : SentFrame) (ack n : ℕ) (bytes : List ℕ)
         → slice_get (half_of w.world side).frames index ≡ Some frame → CarriesVector frame ack bytes → ack < 2 ^ 48 → n < 2 ^ 48
         → IsTrue (is_received (state_at ack bytes n)) → Contains (processed_by (half_of w.world side) frame) n }
-    ensures all { (w : Controlled C) → Safe C.control w → (side : Side) (index : ℕ) (frame : SentFrame) (ack n : ℕ) (bytes : List ℕ)
+    ensures all { (w : Controlled C) → Safe C.control w
+        → (side : Side) (index : ℕ) (frame : SentFrame) (ack n : ℕ) (bytes : List ℕ)
         → slice_get (half_of w.world side).frames index ≡ Some frame → CarriesVector frame ack bytes
         → IsUncut (half_of w.world side) frame ack → frame.floor < 2 ^ 48 → ack < 2 ^ 48 → n < 2 ^ 48
         → IsFrom frame.floor ack → IsWithin n frame.floor ack → Contains (processed_by (half_of w.world side) frame) n
         → IsTrue (is_received (state_at ack bytes n)) }
-    ensures none_after { (w : Controlled C) → Safe C.control w → (side : Side) (index : ℕ) (frame : SentFrame) (ack n : ℕ) (bytes : List ℕ)
+    ensures none_after { (w : Controlled C) → Safe C.control w
+        → (side : Side) (index : ℕ) (frame : SentFrame) (ack n : ℕ) (bytes : List ℕ)
         → slice_get (half_of w.world side).frames index ≡ Some frame → CarriesVector frame ack bytes
         → Contains (processed_by (half_of w.world side) frame) n → IsBefore ack n → ⊥ }
 {}
@@ -98,7 +105,8 @@ pub fn vectors_tell_what_was_processed<C: Congestion>()
 /// an end's floor, then not all numbers that the end processed are among those of the first packets, up to 2,047 after
 /// that number's: it has processed one that is 2,048 after it or more.
 pub fn what_none_told_is_far_behind<C: Congestion>()
-    ensures { (w : Controlled C) → Safe C.control w → (side : Side) (iss count n : ℕ) → iss < 2 ^ 48 → 1 ≤ count → count + 2047 ≤ 2 ^ 47
+    ensures { (w : Controlled C) → Safe C.control w → (side : Side) (iss count n : ℕ) → iss < 2 ^ 48 → 1 ≤ count
+        → count + 2047 ≤ 2 ^ 47
         → n ≡ number_of iss count → LiesBelowFloor (half_of w.world side) n
         → ((index : ℕ) (frame : SentFrame) (ack : ℕ) (bytes : List ℕ) → slice_get (half_of w.world side).frames index ≡ Some frame
         → CarriesVector frame ack bytes → IsUncut (half_of w.world side) frame ack
@@ -107,9 +115,11 @@ pub fn what_none_told_is_far_behind<C: Congestion>()
 {}
 
 /// What the numbers that are kept of a frame come to, wherever the facts of a world hold: each frame is a packet, whose
-/// sequence number and acknowledgement number they are, whole where it is long, and their low 24 bits where it is short.
+/// sequence number and acknowledgement number they are, whole where it is long, and their low 24 bits where it is
+/// short.
 pub fn frames_spell_their_numbers()
-    ensures packet { (w : WorldState) → Facts w → (side : Side) (index : ℕ) (frame : SentFrame) → slice_get (half_of w side).frames index ≡ Some frame
+    ensures packet { (w : WorldState) → Facts w → (side : Side) (index : ℕ) (frame : SentFrame)
+        → slice_get (half_of w side).frames index ≡ Some frame
         → IsSome (packet_of frame.bytes) }
     ensures number { (w : WorldState) → Facts w → (side : Side) (index : ℕ) (frame : SentFrame) (packet : Parts)
         → slice_get (half_of w side).frames index ≡ Some frame → packet_of frame.bytes ≡ Some packet
@@ -122,7 +132,8 @@ pub fn frames_spell_their_numbers()
 /// After every list of events no further event is refused as `FarShort`, as long as each side has sent fewer than 2^23
 /// frames (own). An event sends one frame at most.
 pub fn few_frames_are_never_far<C: Congestion>()
-    ensures { (client server : Config) (for_client for_server : C) (events : List Event) (next : Event) → Fits client → Fits server
+    ensures { (client server : Config) (for_client for_server : C) (events : List Event) (next : Event) → Fits client
+        → Fits server
         → length (plays_from_start C.control client server for_client for_server events).world.client.frames < 2 ^ 23
         → length (plays_from_start C.control client server for_client for_server events).world.server.frames < 2 ^ 23
         → happens_to C.control (plays_from_start C.control client server for_client for_server events) next ≢ Err WorldFault.FarShort }
@@ -133,9 +144,11 @@ pub fn few_frames_are_never_far<C: Congestion>()
 /// What *once* comes to. A number that a side processed early it does not process later. A number that the other side
 /// has sent in no packet but Resets, or not at all, it has not processed.
 pub fn no_number_is_processed_again<C: Congestion>()
-    ensures apart { (w : Controlled C) → Safe C.control w → (side : Side) (early n : ℕ) → Contains (take early (half_of w.world side).processed) n
+    ensures apart { (w : Controlled C) → Safe C.control w → (side : Side) (early n : ℕ)
+        → Contains (take early (half_of w.world side).processed) n
         → Contains (drop early (half_of w.world side).processed) n → ⊥ }
-    ensures sent { (w : Controlled C) → Safe C.control w → (side : Side) (n : ℕ) → AreResets (half_of w.world (other side)).frames n
+    ensures sent { (w : Controlled C) → Safe C.control w → (side : Side) (n : ℕ)
+        → AreResets (half_of w.world (other side)).frames n
         → Contains (half_of w.world side).processed n → ⊥ }
 {}
 
@@ -144,14 +157,16 @@ pub fn no_number_is_processed_again<C: Congestion>()
 pub fn what_is_reported_arrived<C: Congestion>()
     ensures processed { (w : Controlled C) → Safe C.control w → (side : Side) (n : ℕ)
         → Has (C.control.flight (congestion_of w side)) n standing.Reported → Contains (half_of w.world (other side)).processed n }
-    ensures sent { (w : Controlled C) → Safe C.control w → (side : Side) (n : ℕ) → AreResets (half_of w.world side).frames n
+    ensures sent { (w : Controlled C) → Safe C.control w → (side : Side) (n : ℕ)
+        → AreResets (half_of w.world side).frames n
         → Has (C.control.flight (congestion_of w side)) n standing.Reported → ⊥ }
 {}
 
 /// A feature for which no frame of either side carries a Change has its initial value at both ends, whatever their
 /// stands, after every list of events (RFC 4340, section 6).
 pub fn what_none_asked_for_stays<C: Congestion>()
-    ensures { (client server : Config) (for_client for_server : C) (events : List Event) → client.role ≡ role.Client → server.role ≡ role.Server
+    ensures { (client server : Config) (for_client for_server : C) (events : List Event) → client.role ≡ role.Client
+        → server.role ≡ role.Server
         → Fits client → Fits server → KeepsInitialValues (plays_from_start C.control client server for_client for_server events).world }
 {
     every_step_has_one_effect();
@@ -161,7 +176,8 @@ pub fn what_none_asked_for_stays<C: Congestion>()
 /// that was asked for later, after every list of events. So where a row is STABLE and its end has sent a list, that is
 /// what its owner last asked for and was not refused, or else what was configured.
 pub fn last_lists_are_active<C: Congestion>()
-    ensures { (client server : Config) (for_client for_server : C) (events : List Event) → client.role ≡ role.Client → server.role ≡ role.Server
+    ensures { (client server : Config) (for_client for_server : C) (events : List Event) → client.role ≡ role.Client
+        → server.role ≡ role.Server
         → Fits client → Fits server → AllIsAsked (plays_from_start C.control client server for_client for_server events).world }
 {
     every_step_has_one_effect();
@@ -172,11 +188,13 @@ pub fn last_lists_are_active<C: Congestion>()
 /// next Change. Where none was accepted they are those that the side was configured with. So where a row is STABLE, the
 /// last list that its end sent for it, if it sent one, has just these values ([`last_lists_are_active`]).
 pub fn what_was_asked_last_is_wanted<C: Congestion>()
-    ensures asked { (client server : Config) (for_client for_server : C) (events : List Event) → Fits client → Fits server
+    ensures asked { (client server : Config) (for_client for_server : C) (events : List Event) → Fits client
+        → Fits server
         → (side : Side) (feature : Feature) (place : Place) (values : List ℕ)
         → IsLastAsked C.control (begins_with C.control client server for_client for_server) events side feature place values
         → WantsValues (row_of (plays_from_start C.control client server for_client for_server events).world side feature place) values }
-    ensures configured { (client server : Config) (for_client for_server : C) (events : List Event) → Fits client → Fits server
+    ensures configured { (client server : Config) (for_client for_server : C) (events : List Event) → Fits client
+        → Fits server
         → (side : Side) (feature : Feature) (place : Place)
         → AsksNothing C.control (begins_with C.control client server for_client for_server) events side feature place
         → WantsValues (row_of (plays_from_start C.control client server for_client for_server events).world side feature place)
@@ -189,7 +207,8 @@ pub fn what_was_asked_last_is_wanted<C: Congestion>()
 /// by lists changes only to the first entry, in the server's order, that its active list shares with a list in a frame
 /// of the other side (RFC 4340, section 6.3.1). So where nothing is shared, the value is the one held before.
 pub fn values_change_by_shared_lists<C: Congestion>()
-    ensures { (client server : Config) (for_client for_server : C) (events : List Event) (next : Event) → client.role ≡ role.Client
+    ensures { (client server : Config) (for_client for_server : C) (events : List Event) (next : Event)
+        → client.role ≡ role.Client
         → server.role ≡ role.Server → Fits client → Fits server
         → ChangesByLists (plays_from_start C.control client server for_client for_server events).world
         (plays_from_start C.control client server for_client for_server (events ++ next ∷ [])).world }

@@ -33,16 +33,16 @@ use std::marker::Model;
 ///
 /// The facts: a side's frames, but for Resets without a connection, carry its first number, the next, and so on up to
 /// its greatest number sent, in this order (RFC 4340, section 7.1); there are fewer than 2^47. The bytes of each frame
-/// spell the numbers that are kept of it, whole or their low 24 bits. A Reset without a connection, whose code is 3 or a server's 8, carries
-/// no option. Once an end has received a first number (in CLOSED and TIMEWAIT numbers that are 0 may mean none), that
-/// and its greatest number received are numbers of such frames of the other side, and the first is not the later one.
-/// Once it has sent such a frame, GAR, the greatest acknowledgement number that it received or its first number, is the
-/// number of one of its own. No number that a side processed is after its greatest number received. From its floor up
-/// to that, its set has just the numbers that it processed; the floor is not after the next. Where that number's frame
-/// is an Ack or a DataAck, the side processed it, unless its phase is CLOSED. Each record of an Ack Vector is one of
-/// the end's own frames, with that frame's numbers, and tells whether its vector was whole. A Reset that arrives moves
-/// nothing received, nothing acknowledged, no row and nothing that was marked. No frame says two things of one feature
-/// and side, and none has an Ack Vector without an acknowledgement number.
+/// spell the numbers that are kept of it, whole or their low 24 bits. A Reset without a connection, whose code is 3 or
+/// a server's 8, carries no option. Once an end has received a first number (in CLOSED and TIMEWAIT numbers that are 0
+/// may mean none), that and its greatest number received are numbers of such frames of the other side, and the first is
+/// not the later one. Once it has sent such a frame, GAR, the greatest acknowledgement number that it received or its
+/// first number, is the number of one of its own. No number that a side processed is after its greatest number
+/// received. From its floor up to that, its set has just the numbers that it processed; the floor is not after the
+/// next. Where that number's frame is an Ack or a DataAck, the side processed it, unless its phase is CLOSED. Each
+/// record of an Ack Vector is one of the end's own frames, with that frame's numbers, and tells whether its vector was
+/// whole. A Reset that arrives moves nothing received, nothing acknowledged, no row and nothing that was marked. No
+/// frame says two things of one feature and side, and none has an Ack Vector without an acknowledgement number.
 #[derive(Drop)]
 pub struct World<C: Congestion> {
     sides: Sides<C>,
@@ -104,10 +104,10 @@ impl<C: Congestion> World<C> {
     /// Lets one event happen: exactly what `happens_to` says of it. Refusals, in this order: `NoSuchFrame` exactly
     /// where a delivery's index is not below the number of frames of its sender, `Full` exactly where otherwise the
     /// side that would act has sent 2^47 - 1 frames, `FarShort` exactly where otherwise a frame with short numbers
-    /// arrives at an end that takes these, and its number lies 2^23 or more from that end's greatest number received, or
-    /// the one that it acknowledges from the greatest number sent, up and down the circle; `NoMemory`. Each leaves the
-    /// world unchanged: all memory that the step may need is taken before it. While both sides have sent fewer than 2^23
-    /// frames, `FarShort` never comes.
+    /// arrives at an end that takes these, and its number lies 2^23 or more from that end's greatest number received,
+    /// or the one that it acknowledges from the greatest number sent, up and down the circle; `NoMemory`. Each leaves
+    /// the world unchanged: all memory that the step may need is taken before it. While both sides have sent fewer than
+    /// 2^23 frames, `FarShort` never comes.
     ///
     /// Data that it delivers are those of the frame that arrives: `place`, as the outcome has it, is where the payload
     /// of the frame's bytes lies, and the receiving side has processed the frame's number by that step
@@ -122,7 +122,8 @@ impl<C: Congestion> World<C> {
         ensures lacks { (result ≡ Err WorldFault.NoSuchFrame) ↔ LacksFrame self.old.world event.now }
         ensures filled { (result ≡ Err WorldFault.Full) ↔ ((LacksFrame self.old.world event.now → ⊥) × ActorIsFull self.old.world event.now) }
         ensures far { (result ≡ Err WorldFault.FarShort) ↔ ((LacksFrame self.old.world event.now → ⊥) × (ActorIsFull self.old.world event.now → ⊥) × DeliversFar self.old.world event.now) }
-        ensures near { length self.old.world.client.frames < 2 ^ 23 → length self.old.world.server.frames < 2 ^ 23 → result ≢ Err WorldFault.FarShort }
+        ensures near { length self.old.world.client.frames < 2 ^ 23 → length self.old.world.server.frames < 2 ^ 23
+            → result ≢ Err WorldFault.FarShort }
         ensures err { OnErr result (self.new ≡ self.old) }
         ensures delivers { IfOk result (λ seen. DeliversItsData self.old.world event.now self.new.world seen) }
         ensures safe { Safe C.control self.new }
@@ -177,7 +178,8 @@ fn service_fits(service: u32)
 /// server whose fields fit their widths: as numbers of the logic they may be of any size, while those of a `Config`
 /// always fit.
 pub fn every_run_is_safe<C: Congestion>()
-    ensures { (client server : Config) (for_client for_server : C) (events : List Event) → client.role ≡ role.Client → server.role ≡ role.Server
+    ensures { (client server : Config) (for_client for_server : C) (events : List Event) → client.role ≡ role.Client
+        → server.role ≡ role.Server
         → Fits client → Fits server → Safe C.control (plays_from_start C.control client server for_client for_server events) }
 {
     every_step_has_one_effect();

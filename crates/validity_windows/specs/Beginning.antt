@@ -5,8 +5,8 @@ use Rattle.dccp_packets.specs.declared.header.PacketType.{PacketType}
 use Rattle.validity_windows.specs.declared.marks.Marks.{Marks}
 use Rattle.validity_windows.specs.Verdict.{gar_after}
 
--- The marks before any packet: the greatest number sent is the one before the first, GAR is ISS, and what is known of the
--- peer is 0. Both windows have one width, the feature Sequence Window's first value (section 7.5.2).
+-- The marks before any packet: the greatest number sent is the one before the first, GAR is ISS, and what is known of
+-- the peer is 0. Both windows have one width, the feature Sequence Window's first value (section 7.5.2).
 abbrev pub new_marks : ℕ → ℕ → Marks
 new_marks iss width = record {
   iss = iss;
@@ -24,8 +24,8 @@ new_marks iss width = record {
 abbrev pub begun : Marks → PacketType → ℕ → Option ℕ → Marks
 begun m kind number ack = record m { isr = number; gsr = number; osr = number; gar = gar_after m.gar kind ack }
 
--- Sound marks: iss <= gar <= gss and isr <= gsr, gss fewer than 2^47 after iss, and gsr fewer than 2^47 after isr. So at
--- least one packet was sent (own).
+-- Sound marks: iss <= gar <= gss and isr <= gsr, gss fewer than 2^47 after iss, and gsr fewer than 2^47 after isr. So
+-- at least one packet was sent (own).
 pub record AreSoundMarks (m : Marks) : Type 0 where
   pub acknowledged : IsFrom m.iss m.gar
   pub sent : IsFrom m.gar m.gss

@@ -39,9 +39,11 @@ pub fn windows_are_intervals_of_counts()
 /// (`otherwise`). Each number of a packet is the residue of just one whole number within one turn from the first on, so
 /// no packet is left out.
 pub fn verdicts_are_those_of_whole_numbers()
-    ensures valid { (w : Marks) (kind : PacketType) (n : ℕ) (ack : Option ℕ) → IsWhole w → InRange w → w.isr ≤ n → n < w.isr + 2 ^ 48
+    ensures valid { (w : Marks) (kind : PacketType) (n : ℕ) (ack : Option ℕ) → IsWhole w → InRange w → w.isr ≤ n
+        → n < w.isr + 2 ^ 48
         → IsAckOfTurn w.iss ack → (verdict (residues w) kind (residue n) (residue_of ack) ≡ verdicts.Valid) ↔ HasValidNumbers w kind n ack }
-    ensures otherwise { (m : Marks) (kind : PacketType) (number : ℕ) (ack : Option ℕ) → verdict m kind number ack ≢ verdicts.Valid
+    ensures otherwise { (m : Marks) (kind : PacketType) (number : ℕ) (ack : Option ℕ)
+        → verdict m kind number ack ≢ verdicts.Valid
         → verdict m kind number ack ≡ refusal m kind number }
 {}
 
@@ -58,13 +60,17 @@ pub fn sound_marks_are_whole_numbers()
 /// acknowledges AWL to AWH (`begun`, `first`). So sound marks stay so, and they are sound from the first packet sent on
 /// (`sent`).
 pub fn marks_stay_sound()
-    ensures raised { (w : Marks) (kind : PacketType) (n : ℕ) (ack : Option ℕ) → IsWhole w → w.isr ≤ n → n < w.isr + 2 ^ 47
+    ensures raised { (w : Marks) (kind : PacketType) (n : ℕ) (ack : Option ℕ) → IsWhole w → w.isr ≤ n
+        → n < w.isr + 2 ^ 47
         → HasValidNumbers w kind n ack → taken (residues w) kind (residue n) (residue_of ack) ≡ residues (whole_taken w kind n ack) }
-    ensures taken { (w : Marks) (kind : PacketType) (n : ℕ) (ack : Option ℕ) → IsWhole w → w.isr ≤ n → n < w.isr + 2 ^ 47
+    ensures taken { (w : Marks) (kind : PacketType) (n : ℕ) (ack : Option ℕ) → IsWhole w → w.isr ≤ n
+        → n < w.isr + 2 ^ 47
         → HasValidNumbers w kind n ack → IsWhole (whole_taken w kind n ack) }
-    ensures begun { (w : Marks) (kind : PacketType) (n : ℕ) (ack : Option ℕ) → IsWhole w → AckLies (whole_ack_low w) w.gss ack
+    ensures begun { (w : Marks) (kind : PacketType) (n : ℕ) (ack : Option ℕ) → IsWhole w
+        → AckLies (whole_ack_low w) w.gss ack
         → begun (residues w) kind (residue n) (residue_of ack) ≡ residues (whole_begun w kind n ack) }
-    ensures first { (w : Marks) (kind : PacketType) (n : ℕ) (ack : Option ℕ) → IsWhole w → AckLies (whole_ack_low w) w.gss ack
+    ensures first { (w : Marks) (kind : PacketType) (n : ℕ) (ack : Option ℕ) → IsWhole w
+        → AckLies (whole_ack_low w) w.gss ack
         → IsWhole (whole_begun w kind n ack) }
     ensures sent { (iss width : ℕ) → iss < 2 ^ 48 → AreSoundMarks (record (new_marks iss width) { gss = iss }) }
 {}

@@ -124,8 +124,8 @@ pub enum Event {
         side: Side,
         payload: Payload,
     },
-    /// The side, in PARTOPEN, sends these data before it has heard more than the Response (own; RFC 4340, section 8.1.5,
-    /// lets it). No line of a schedule says this.
+    /// The side, in PARTOPEN, sends these data before it has heard more than the Response (own; RFC 4340, section
+    /// 8.1.5, lets it). No line of a schedule says this.
     SendEarly {
         side: Side,
         payload: Payload,
@@ -157,7 +157,8 @@ pub enum Event {
 pub enum Refusal {
     /// `open`: the end is a server, or was opened before.
     NotFresh,
-    /// `prefer` and `close`: the phase is neither PARTOPEN nor OPEN. `send`: it is not OPEN. `send_early`: not PARTOPEN.
+    /// `prefer` and `close`: the phase is neither PARTOPEN nor OPEN. `send`: it is not OPEN. `send_early`: not
+    /// PARTOPEN.
     NotOpen,
     /// `send`, `send_early`: the data are longer than 1,024 bytes.
     TooLong,
@@ -222,9 +223,9 @@ pub enum WorldFault {
     NoSuchFrame,
     /// The side that would act has sent 2^47 - 1 frames.
     Full,
-    /// The frame has short numbers, which the end that takes them could not tell: its number lies 2^23 or more from that
-    /// end's greatest number received, or the one that it acknowledges from the greatest number sent, up and down the
-    /// circle (RFC 4340, section 7.6).
+    /// The frame has short numbers, which the end that takes them could not tell: its number lies 2^23 or more from
+    /// that end's greatest number received, or the one that it acknowledges from the greatest number sent, up and down
+    /// the circle (RFC 4340, section 7.6).
     FarShort,
     /// No memory was left for what the step may have to keep.
     NoMemory,
@@ -256,9 +257,9 @@ impl Event {
         }
     }
 
-    /// Makes it the arrival of a frame (own): of the one with this index, from 0, among all that the side `from` ever sent.
-    /// An event is large, for it has room for data. One of the same kind is changed where it stands, and its room is not
-    /// cleared again.
+    /// Makes it the arrival of a frame (own): of the one with this index, from 0, among all that the side `from` ever
+    /// sent. An event is large, for it has room for data. One of the same kind is changed where it stands, and its room
+    /// is not cleared again.
     pub fn become_delivery(&mut self, from: Side, index: u64)
         ensures { self.new ≡ Event.Deliver from index }
     {

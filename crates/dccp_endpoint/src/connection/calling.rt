@@ -197,7 +197,8 @@ impl Connection {
     #[tactic(auto, unfolding(crate::specs::Calling::fires))]
     pub(crate) fn timer(&mut self, timer: Timer, out: &mut Outbox) -> bool
         requires { timer ≢ Timer.Rto }
-        ensures step { (in_flight : Bool) → record { after = self.new; frame = out.new; calls = []; answer = result } ≡ fires self.old timer in_flight }
+        ensures step { (in_flight : Bool)
+            → record { after = self.new; frame = out.new; calls = []; answer = result } ≡ fires self.old timer in_flight }
         ensures applies { (in_flight : Bool) → result ≡ applies timer self.old in_flight }
         ensures idle { result ≡ false → self.new ≡ self.old }
         ensures sends_nothing { result ≡ false → out.new ≡ None }

@@ -179,8 +179,8 @@ impl Connection {
     }
 
     // Step 8, whole: the first fault of the options ends the connection, and else the rows are stored, once the
-    // congestion control has what is due to it. With the Confirms that are due come steps 10 to 16. It stands apart, for
-    // the room that it takes for a copy of the rows is large, and few packets come here.
+    // congestion control has what is due to it. With the Confirms that are due come steps 10 to 16. It stands apart,
+    // for the room that it takes for a copy of the rows is large, and few packets come here.
     #[inline(never)]
     fn negotiate<C: Congestion>(
         &mut self,

@@ -64,7 +64,8 @@ fn put_two(area: &mut OptWriter, bytes: &[u8])
     put_option(area, second);
 }
 
-// Writes the options of an Ack Vector with these bytes: one where it has room for them, otherwise a full one and a second.
+// Writes the options of an Ack Vector with these bytes: one where it has room for them, otherwise a full one and a
+// second.
 fn put_options(area: &mut OptWriter, bytes: &[u8])
     requires fits { length bytes.now ≤ 506 }
     requires room { length area.old + 510 ≤ 1008 }

@@ -17,7 +17,8 @@ enum Call {
     Arrive(u64, &'static [u8], Arrival),
     // So do longer ones.
     Long(u64, Arrival),
-    // Data arrive under each number of a step's distance from the first up to the second, and are dropped with this code.
+    // Data arrive under each number of a step's distance from the first up to the second, and are dropped with this
+    // code.
     DropEach(u64, u64, usize, u8),
     // The first item is taken.
     Take(u64, &'static [u8]),

@@ -22,8 +22,8 @@ const DATA: [u8; 17] = [
     0x9c, 0x40, 0x13, 0x89, 4, 0, 0, 0, 5, 0, 0, 0, 0, 0, 0, 0, 0xaa,
 ];
 
-// Changes of Minimum Checksum Coverage, CCID, Send Ack Vector and ECN Incapable at either place, and of Sequence Window:
-// their Confirms have 24, 12, 11, 11 and 9 bytes.
+// Changes of Minimum Checksum Coverage, CCID, Send Ack Vector and ECN Incapable at either place, and of Sequence
+// Window: their Confirms have 24, 12, 11, 11 and 9 bytes.
 const CHANGES: [u8; 41] = [
     34, 4, 8, 0, 32, 4, 8, 0, 34, 4, 1, 2, 32, 4, 1, 2, 34, 4, 6, 1, 32, 4, 6, 1, 34, 4, 4, 1, 32,
     4, 4, 1, 32, 9, 3, 0, 0, 0, 0, 0, 100,
@@ -117,8 +117,8 @@ fn answer(alloc: Global, unknown: u8) -> Option<(usize, u8)> {
     answered(&mut server, unknown)
 }
 
-// Behind a header of 24 bytes and vectors of 510 there are Confirms of 229 bytes, and with one more of 232. Data Dropped
-// and Slow Receiver take 256: 1,020 bytes in all, and 1,024, which the Data Offset cannot say.
+// Behind a header of 24 bytes and vectors of 510 there are Confirms of 229 bytes, and with one more of 232. Data
+// Dropped and Slow Receiver take 256: 1,020 bytes in all, and 1,024, which the Data Offset cannot say.
 #[test]
 fn room_for_a_report(rt: HostRuntime) {
     assert!(rt; answer(rt.alloc(), 54) == Some((1020, 2)), "room for it");

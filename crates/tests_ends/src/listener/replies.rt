@@ -228,8 +228,8 @@ fn ends_so(listener: &Listener, wanted: &str, told: &mut String) -> Result<(), F
     are_same("at the end", told.as_str(), wanted)
 }
 
-// Fails at the first line of which something else comes, with that; or where other flows stand at the end, or fewer than
-// one may or more than 1,024.
+// Fails at the first line of which something else comes, with that; or where other flows stand at the end, or fewer
+// than one may or more than 1,024.
 pub(crate) fn holds(alloc: Global, most: u16, lines: &str, flows: &str) -> Result<(), Fail> {
     if most == 0 || 1024 < most {
         return Err(Fail::from("how many flows may stand"));

@@ -1,7 +1,7 @@
 //! Lists of frames that an end is fed, among them such as no end of this project sends (RFC 4340, section 8.5).
 //!
-//! Each word is a frame. Behind the colon stand how many were taken; the phase; GSS, GSR, OSR and GAR; the floor, and how
-//! many numbers are marked.
+//! Each word is a frame. Behind the colon stand how many were taken; the phase; GSS, GSR, OSR and GAR; the floor, and
+//! how many numbers are marked.
 use crate::vectors::calls::{Shown, tell_shown};
 use crate::vectors::ends::{Endpoint, new_end, plain};
 use crate::vectors::tables::{Table, holds};
