@@ -87,7 +87,7 @@ typedef enum dccp_timer_kind {
 /* The features that may be wished for (RFC 4340, section 6.4). */
 typedef enum dccp_feature_kind {
     DCCP_CCID = 1,                /* 2 and 248 */
-    DCCP_SHORT_SEQNOS = 2,        /* 0 */
+    DCCP_SHORT_SEQNOS = 2,        /* 0 and 1 */
     DCCP_SEQUENCE_WINDOW = 3,     /* one value, 32 to 2^46 - 1, in packets */
     DCCP_ECN_INCAPABLE = 4,       /* 1 here; 0 and 1 at the peer */
     DCCP_ACK_RATIO = 5,           /* one value, 0 to 65,535, in data packets for one Ack */
@@ -280,10 +280,10 @@ uint32_t dccp_look(dccp_end *end, dccp_view *view);
 uint32_t dccp_feature(dccp_end *end, uint32_t feature, bool at_peer, dccp_feature_state *state);
 
 /* Makes a listener in the handle, for at most `most` flows at a time, 1 to 1,024. One that the handle held is freed first, also where making
- * fails; then the handle holds none. Of the settings count the own address and port, the service, `is_plain` and `is_v6`, which has to be
- * false; `first_number` has to be below 2^48, and counts for nothing else. The wishes are those of each peer's end, which makes no offer by
- * itself. The statuses of dccp_make, and DCCP_UNKNOWN for IPv6 and for another `most`. A flow takes about 87 KB, which it gives back where it
- * ends. */
+ * fails; then the handle holds none. Of the settings count the own address and port and the service; `is_v6` has to be false and
+ * `first_number` below 2^48, and the others make no difference. The wishes are those of each peer's end, which makes no offer by itself: so
+ * one for its own Sequence Window or Ack Ratio changes nothing. The statuses of dccp_make, and DCCP_UNKNOWN for IPv6 and for another `most`.
+ * A flow takes about 87 KB, which it gives back where it ends. */
 uint32_t dccp_listener_make(dccp_listener *listener, const dccp_settings *settings, const dccp_wish *wishes, size_t count, uint16_t most);
 
 /* Frees what the handle holds, with all flows. Afterwards it holds none, and may be freed again or made again. */
