@@ -172,7 +172,8 @@ fn call(
     }
 }
 
-/// `Listener::act` with `Act::Send`. NO_FLOW where the peer has none.
+/// `Listener::act` with `Act::Send`. Answers DONE, NOT_MADE, NO_FLOW, NOT_OPEN, TOO_LONG, NOT_NEGOTIATED, WINDOW_FULL
+/// or NO_MEMORY.
 #[unsafe(no_mangle)]
 pub extern "C" fn dccp_listener_send(
     listener: &mut ListenerHandle,
@@ -194,7 +195,7 @@ pub extern "C" fn dccp_listener_send(
     )
 }
 
-/// `Listener::act` with `Act::Close`. NO_FLOW where the peer has none.
+/// `Listener::act` with `Act::Close`. Answers DONE, NOT_MADE, NO_FLOW, NOT_OPEN or NO_MEMORY.
 #[unsafe(no_mangle)]
 pub extern "C" fn dccp_listener_close(
     listener: &mut ListenerHandle,
@@ -208,7 +209,7 @@ pub extern "C" fn dccp_listener_close(
     call(listener, alloc, peer_named(peer), Act::Close, now, frame)
 }
 
-/// `Listener::act` with `Act::Abort`. NO_FLOW where the peer has none.
+/// `Listener::act` with `Act::Abort`. Answers DONE, NOT_MADE, NO_FLOW, NOT_LIVE or NO_MEMORY.
 #[unsafe(no_mangle)]
 pub extern "C" fn dccp_listener_abort(
     listener: &mut ListenerHandle,
@@ -222,7 +223,8 @@ pub extern "C" fn dccp_listener_abort(
     call(listener, alloc, peer_named(peer), Act::Abort, now, frame)
 }
 
-/// Tells a flow the first of its timers that has run out, and C whose it is. NOTHING_DUE where none has.
+/// Tells a flow the first of its timers that has run out, and C whose it is. Answers DONE, NOT_MADE, NO_MEMORY, or
+/// NOTHING_DUE where none has.
 #[unsafe(no_mangle)]
 pub extern "C" fn dccp_listener_tick(
     listener: &mut ListenerHandle,
@@ -273,7 +275,7 @@ pub extern "C" fn dccp_listener_until_first(
     left
 }
 
-/// The numbers of a peer's end, its phase and its window. NO_FLOW where the peer has none.
+/// The numbers of a peer's end, its phase and its window. Answers DONE, NOT_MADE or NO_FLOW.
 #[unsafe(no_mangle)]
 pub extern "C" fn dccp_listener_look(
     listener: &mut ListenerHandle,
@@ -299,8 +301,8 @@ pub extern "C" fn dccp_listener_look(
     }
 }
 
-/// The peer at this place, from 0, among those that have a flow, in the order of their addresses and ports. NO_FLOW
-/// where there is none.
+/// The peer at this place, from 0, among those that have a flow, in the order of their addresses and ports. Answers
+/// DONE, NOT_MADE, or NO_FLOW past the last.
 #[unsafe(no_mangle)]
 pub extern "C" fn dccp_listener_peer(
     listener: &mut ListenerHandle,
