@@ -14,13 +14,13 @@ ghost use Rattle.dccp_c.specs.Listening.{address_of};
 ghost use Rattle.dccp_c.specs.Seeing.{seen as seen_end};
 ghost use Rattle.dccp_c.specs.Serving.{IsDone, IsPlaced, first_due_flow, in_flight_if, least_wait, served, deed_served, serving_begins, tells_data, timers_called, timers_of, timers_then};
 
-use crate::held::{condition, first_due};
+use crate::held::first_due;
 use crate::peer::address_of;
 use crate::readers::seen;
 use crate::{PeerAddress, View};
 use dccp_endpoint::{NoMemory, Outbox, Seq48, Timer};
 use dccp_listener::{Act, Heard, ListenConfig, Listener, NoFlow, Peer, Seen};
-use dccp_uses::{Alarms, arranged, is_delivery, rung, with_delivery, with_progress};
+use dccp_uses::{Alarms, Condition, arranged, is_delivery, rung, with_delivery, with_progress};
 use std::alloc::Global;
 use std::collections::BTreeMap;
 
@@ -88,7 +88,8 @@ fn arrange(
 {
     match listener.flow(peer) {
         Some(end) => {
-            let alarms = arranged(alarms, &condition(end), now);
+            let condition = Condition::of(end);
+            let alarms = arranged(alarms, &condition, now);
             let _ = timers.insert(peer, alarms);
         }
         None => {
