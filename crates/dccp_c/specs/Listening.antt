@@ -1,5 +1,5 @@
 -- What C finds once it has called a listener (own).
-use Rattle.std.specs.Prelude.{◌≡◌, ◌⊎◌, ℕ, ◌^◌, nat_lt, List, [], Option, Some, None, Result, Ok, Err, if◌then◌else◌, slice_get}
+use Rattle.std.specs.Prelude.{◌≡◌, ◌⊎◌, ℕ, ◌==◌, ◌^◌, nat_lt, List, [], Option, Some, None, Result, Ok, Err, if◌then◌else◌, slice_get}
 use Rattle.std.specs.Map.{keys_of}
 use Rattle.std.specs.Option.{option_map}
 use Rattle.dccp_listener.specs.Chain.{Deed, Arrives, Calls, Fires}
@@ -86,11 +86,11 @@ Serves now before after peer (Err refused) bytes code = IsUnserved before after 
 Serves now None after peer (Ok deed) bytes code = IsUnserved None after bytes × (code ≡ 1)
 Serves now (Some s) after peer (Ok deed) bytes code = (IsUnserved (Some s) after bytes × (code ≡ 2)) ⊎ IsServed now s after peer deed bytes code
 
--- What C is told of a datagram: where the call was not done, what it had stays.
+-- What C is told of a datagram; where the call was not done, or for want of memory, by 2, what it had stays.
 abbrev pub TellsC : Option Served → Peer → Result Deed ℕ → ℕ → Told → Told → Type 0
 TellsC held peer (Err refused) code old new = new ≡ old
 TellsC None peer (Ok deed) code old new = new ≡ old
-TellsC (Some s) peer (Ok deed) code old new = ((code ≡ 2) × (new ≡ old)) ⊎ (new ≡ listen_told (listens s.listening peer deed).told old)
+TellsC (Some s) peer (Ok deed) code old new = new ≡ (if code == 2 then old else listen_told (listens s.listening peer deed).told old)
 
 -- the first peer of which a timer has run out, and its timer, where there is a listener
 abbrev pub due_in : ℕ → Option Served → Option (Peer × Timer)

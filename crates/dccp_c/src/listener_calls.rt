@@ -1,5 +1,5 @@
 //! The functions of a listener that C calls: each does one deed of a peer with the listener that its handle holds.
-ghost use Rattle.std.specs.Prelude.{◌≡◌, None, Ok, unwrap_or};
+ghost use Rattle.std.specs.Prelude.{◌≡◌, ◌≢◌, None, Ok, unwrap_or};
 ghost use Rattle.dccp_listener.specs.Calls.{seen_if};
 ghost use Rattle.dccp_listener.specs.Chain.{Calls, Sends, Closes, Aborts, call_of};
 ghost use Rattle.dccp_listener.specs.Runs.{Stepped, told_of};
@@ -59,6 +59,7 @@ fn call_code(answer: &Result<Seen, NoFlow>) -> u32
 fn tell_heard(heard: &Heard, told: &mut Told) -> u32
     ensures told { told.new ≡ listen_told (told_of (Ok heard.now)) told.old }
     ensures code { result ≡ listen_code (told_of (Ok heard.now)) }
+    ensures memory { result ≢ 2 }
 {
     match heard {
         Heard::Flow(outcome) => {
@@ -106,7 +107,8 @@ pub extern "C" fn dccp_listener_free(listener: &mut ListenerHandle, alloc: Globa
 }
 
 /// `Listener::arrive`, and the timers of the peer's flow go on. BUSY where it answers Busy. UNKNOWN where the first
-/// number is none and TOO_LONG where the datagram is; then nothing changes, nor with NO_MEMORY.
+/// number is none and TOO_LONG where the datagram is; then nothing changes, nor with NO_MEMORY or NOT_MADE. C is told of
+/// the datagram where the answer is DONE alone.
 #[unsafe(no_mangle)]
 pub extern "C" fn dccp_listener_arrive(
     listener: &mut ListenerHandle,
