@@ -34,7 +34,7 @@ mod told;
 
 pub use crate::end::End;
 pub use crate::frame::Frame;
-pub use crate::laws::{calls_are_a_run, ticks_are_a_tick};
+pub use crate::laws::{calls_are_a_run, only_strangers_want_memory, ticks_are_a_tick};
 pub use crate::listener::ListenerHandle;
 pub use crate::making::{Settings, Wish};
 pub use crate::peer::PeerAddress;

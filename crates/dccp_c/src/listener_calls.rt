@@ -13,7 +13,7 @@ use crate::codes::{
 };
 use crate::founding::listening_by;
 use crate::peer::{address_of, peer_named};
-use crate::serving::{Serving, first_due_flow, least_wait};
+use crate::serving::{Serving, due_flow, least_wait};
 use crate::told::tell;
 use crate::{Frame, ListenerHandle, PeerAddress, Settings, Told, View, Wish};
 use dccp_endpoint::{MOST_FRAME_BYTES, NoMemory, Seq48};
@@ -225,8 +225,8 @@ pub extern "C" fn dccp_listener_abort(
     call(listener, alloc, peer_named(peer), Act::Abort, now, frame)
 }
 
-/// Tells a flow the first of its timers that has run out, and C whose it is. Answers DONE, NOT_MADE, NO_MEMORY, or
-/// NOTHING_DUE where none has.
+/// Tells a flow the first of its timers that has run out, and C whose it is. Answers DONE, NOT_MADE, or NOTHING_DUE
+/// where none has.
 #[unsafe(no_mangle)]
 pub extern "C" fn dccp_listener_tick(
     listener: &mut ListenerHandle,
@@ -241,7 +241,7 @@ pub extern "C" fn dccp_listener_tick(
     let Some(mut serving) = listener.take(alloc) else {
         return NOT_MADE;
     };
-    let Some((whose, timer)) = first_due_flow(&serving.timers, now) else {
+    let Some((whose, timer)) = due_flow(&serving.timers, now) else {
         listener.put(serving);
         return NOTHING_DUE;
     };
@@ -252,10 +252,8 @@ pub extern "C" fn dccp_listener_tick(
             listener.put(serving);
             DONE
         }
-        Err(NoMemory) => {
-            listener.put(serving);
-            NO_MEMORY
-        }
+        // Who has timers has a place for them.
+        Err(NoMemory) => unreachable!(),
     }
 }
 
