@@ -313,7 +313,7 @@ uint32_t dccp_listener_close(dccp_listener *listener, const dccp_peer *peer, uin
 uint32_t dccp_listener_abort(dccp_listener *listener, const dccp_peer *peer, uint64_t now, dccp_frame *frame);
 
 /* Tells a flow the first of its timers that has run out, and names its peer. DCCP_OK, also where that leaves no frame: call it again until it
- * answers DCCP_NOTHING_DUE. DCCP_NOT_MADE, DCCP_NO_MEMORY: nothing was told, and `peer` is as it was. */
+ * answers DCCP_NOTHING_DUE. DCCP_NOT_MADE: nothing was told, and `peer` is as it was. */
 uint32_t dccp_listener_tick(dccp_listener *listener, uint64_t now, dccp_peer *peer, dccp_frame *frame);
 
 /* How many milliseconds it is until dccp_listener_tick has something to do; DCCP_NEVER where no timer runs. Ask again after other calls. Both

@@ -5,3 +5,4 @@ pub mod ListenerAsBox
 pub mod Placing
 pub mod Through
 pub mod Ticking
+pub mod Tying

@@ -11,12 +11,12 @@ through : (s : Served) (deeds : List TimedDeed) → (served_through s deeds).lis
 through s [] = refl
 through s (it ∷ later) = through (deed_served it.now s it.peer it.deed) later
 
-none-in-order : AreInOrder []
+pub none_in_order : AreInOrder []
 unfolding IsStrictlySortedBy
-none-in-order = tt
+none_in_order = tt
 
 pub run_through : CallsAreARun
 run_through config deeds =
     let begun : Listening = (serving_begins config).listening in
     subst (λ (after : Listening). IsRunOfTurns begun after (turns_of begun (untimed deeds))) (sym (through (serving_begins config) deeds))
-    (computed_runs begun (untimed deeds) none-in-order).0
+    (computed_runs begun (untimed deeds) none_in_order).0

@@ -1,5 +1,5 @@
 -- What C finds once it has called a listener (own).
-use Rattle.std.specs.Prelude.{◌≡◌, ◌⊎◌, ℕ, ◌^◌, nat_lt, List, [], Option, Some, None, Result, Ok, Err, if◌then◌else◌, slice_get}
+use Rattle.std.specs.Prelude.{◌≡◌, ◌⊎◌, ℕ, ◌==◌, ◌^◌, nat_lt, List, [], Option, Some, None, Result, Ok, Err, if◌then◌else◌, slice_get}
 use Rattle.std.specs.Map.{keys_of}
 use Rattle.std.specs.Option.{option_map}
 use Rattle.dccp_listener.specs.Chain.{Deed, Arrives, Calls, Fires}
@@ -16,7 +16,7 @@ use Rattle.dccp_c.specs.Codes.{timer_code}
 use Rattle.dccp_c.specs.Doing.{bytes_of, never}
 use Rattle.dccp_c.specs.KeepingListener.{InnerListener}
 use Rattle.dccp_c.specs.Seeing.{seen as seen_end}
-use Rattle.dccp_c.specs.Serving.{Served, deed_served, first_due_flow, least_wait, served}
+use Rattle.dccp_c.specs.Serving.{Served, WantsMemory, deed_served, first_due_flow, least_wait, served}
 use Rattle.dccp_c.specs.Telling.{is_short, told_outcome}
 use Rattle.dccp_c.specs.declared.told.Told.{Told}
 use Rattle.dccp_c.specs.declared.peer.PeerAddress.{PeerAddress}
@@ -80,17 +80,18 @@ IsServed now s after peer deed bytes code =
     × (code ≡ listen_code (listens s.listening peer deed).told)
 
 -- What a call comes to: it is done, or nothing happens and the code says why: that of the refusal, 1 where there is no
--- listener, or 2 where memory is wanting.
+-- listener, or 2 where memory is wanting, which none is that needs none.
 abbrev pub Serves : ℕ → Option Served → Option Served → Peer → Result Deed ℕ → List ℕ → ℕ → Type 0
 Serves now before after peer (Err refused) bytes code = IsUnserved before after bytes × (code ≡ refused)
 Serves now None after peer (Ok deed) bytes code = IsUnserved None after bytes × (code ≡ 1)
-Serves now (Some s) after peer (Ok deed) bytes code = (IsUnserved (Some s) after bytes × (code ≡ 2)) ⊎ IsServed now s after peer deed bytes code
+Serves now (Some s) after peer (Ok deed) bytes code =
+    (IsUnserved (Some s) after bytes × WantsMemory s peer deed × (code ≡ 2)) ⊎ IsServed now s after peer deed bytes code
 
--- What C is told of a datagram: where the call was not done, what it had stays.
+-- What C is told of a datagram; where the call was not done, or for want of memory, by 2, what it had stays.
 abbrev pub TellsC : Option Served → Peer → Result Deed ℕ → ℕ → Told → Told → Type 0
 TellsC held peer (Err refused) code old new = new ≡ old
 TellsC None peer (Ok deed) code old new = new ≡ old
-TellsC (Some s) peer (Ok deed) code old new = ((code ≡ 2) × (new ≡ old)) ⊎ (new ≡ listen_told (listens s.listening peer deed).told old)
+TellsC (Some s) peer (Ok deed) code old new = new ≡ (if code == 2 then old else listen_told (listens s.listening peer deed).told old)
 
 -- the first peer of which a timer has run out, and its timer, where there is a listener
 abbrev pub due_in : ℕ → Option Served → Option (Peer × Timer)
@@ -98,14 +99,13 @@ due_in now None = None
 due_in now (Some s) = first_due_flow now s.timers
 
 -- What a tick comes to: the timer is told, and its peer named, or nothing happens: 1 where there is no listener, 12
--- where no timer has run out, or 2 where memory is wanting.
+-- where no timer has run out. It takes no memory.
 abbrev pub Ticks : ℕ → Option Served → Option Served → Option (Peer × Timer) → List ℕ → PeerAddress → PeerAddress → ℕ → Type 0
 Ticks now None after due bytes old new code = IsUnserved None after bytes × (new ≡ old) × (code ≡ 1)
 Ticks now (Some s) after None bytes old new code = IsUnserved (Some s) after bytes × (new ≡ old) × (code ≡ 12)
 Ticks now (Some s) after (Some due) bytes old new code =
-    (IsUnserved (Some s) after bytes × (new ≡ old) × (code ≡ 2))
-    ⊎ ((after ≡ Some (deed_served now s due.0 (Calls (Fires due.1)))) × (bytes ≡ bytes_of (listens s.listening due.0 (Calls (Fires due.1))).frame)
-    × (new ≡ address_of due.0) × (code ≡ 0))
+    (after ≡ Some (deed_served now s due.0 (Calls (Fires due.1)))) × (bytes ≡ bytes_of (listens s.listening due.0 (Calls (Fires due.1))).frame)
+    × (new ≡ address_of due.0) × (code ≡ 0)
 
 -- how long it is until a timer of a listener runs out, if any does
 abbrev pub listener_waits : ℕ → Option Served → ℕ

@@ -1,7 +1,7 @@
 -- What a listener of C's does with a peer, and the timers of its flows (own; the flows are the listener's).
-use Rattle.std.specs.Prelude.{◌≡◌, nat_lt, ℕ, Bool, true, false, List, [], ◌∷◌, map, Option, Some, None, IsSome, min, unwrap_or}
+use Rattle.std.specs.Prelude.{◌≡◌, ◌⊎◌, nat_lt, ℕ, Bool, true, false, List, [], ◌∷◌, map, Option, Some, None, IsSome, min, unwrap_or}
 use Rattle.std.specs.BTreeMap.{insert_entry}
-use Rattle.std.specs.Map.{lookup, remove_entry}
+use Rattle.std.specs.Map.{keys_of, lookup, remove_entry}
 use Rattle.ccid_two.specs.Kinds.{kinds_control}
 use Rattle.dccp_endpoint.specs.Controlled.{in_flight_of}
 use Rattle.dccp_listener.specs.Chain.{Deed, Arrives, Calls, FlowCall, Fires, Sends, Closes, Aborts}
@@ -82,6 +82,11 @@ deed_served now s peer deed =
     served (listening_after s.listening peer deed)
     (timers_then now s.timers peer (end_of_peer (listening_after s.listening peer deed).flows peer) (timers_by now s peer deed))
 
+-- Memory is wanting for a deed: the peer has no place for its timers, or its datagram may open a flow.
+abbrev pub WantsMemory : Served → Peer → Deed → Type 0
+WantsMemory s peer (Arrives iss bytes) = (end_of_peer s.listening.flows peer ≡ None) ⊎ (lookup (is_peer peer) s.timers ≡ None)
+WantsMemory s peer (Calls call) = lookup (is_peer peer) s.timers ≡ None
+
 -- the first of these timers that has run out, of this peer, else that of another
 abbrev pub due_or : Peer → Option Timer → Option (Peer × Timer) → Option (Peer × Timer)
 due_or peer None later = later
@@ -124,3 +129,15 @@ CallsAreARun =
     (config : ListenConfig) (deeds : List TimedDeed)
     → IsRunOfTurns (serving_begins config).listening (served_through (serving_begins config) deeds).listening
     (turns_of (serving_begins config).listening (untimed deeds))
+
+-- Whatever the times, a list of deeds leaves timers to the peers that have a flow, and to no others.
+abbrev pub TimersStandWithFlows : Type 0
+TimersStandWithFlows =
+    (config : ListenConfig) (deeds : List TimedDeed)
+    → keys_of (served_through (serving_begins config) deeds).timers ≡ keys_of (served_through (serving_begins config) deeds).listening.flows
+
+-- So memory is wanting only for a peer that has no flow.
+abbrev pub OnlyStrangersWantMemory : Type 0
+OnlyStrangersWantMemory =
+    (config : ListenConfig) (deeds : List TimedDeed) (peer : Peer) (deed : Deed) → WantsMemory (served_through (serving_begins config) deeds) peer deed
+    → end_of_peer (served_through (serving_begins config) deeds).listening.flows peer ≡ None

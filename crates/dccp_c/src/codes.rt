@@ -10,7 +10,7 @@ use dccp_endpoint::{
 /// It was done.
 pub const DONE: u32 = 0;
 
-/// There is no end: it was not made, or was freed.
+/// There is no end or listener: it was not made, or was freed.
 pub const NOT_MADE: u32 = 1;
 
 /// No memory was to be had.
@@ -40,7 +40,7 @@ pub const NOT_OURS: u32 = 9;
 /// There is no connection to abort.
 pub const NOT_LIVE: u32 = 10;
 
-/// There is no such feature, timer or sequence number.
+/// There is no such feature, timer or sequence number, or no listener is made so.
 pub const UNKNOWN: u32 = 11;
 
 /// The timer has nothing to do, or none has run out.

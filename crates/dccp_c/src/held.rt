@@ -23,16 +23,6 @@ pub struct Held {
     pub(crate) out: Outbox,
 }
 
-// What the timers of an end go by.
-pub(crate) fn condition(end: &Endpoint<Kinds>) -> Condition
-    ensures { result ≡ condition_of kinds_control end.now }
-{
-    Condition {
-        phase: end.phase(),
-        in_flight: 0 < end.in_flight(),
-    }
-}
-
 /// The first of the timers that has run out, in the order in which a session tells them.
 pub(crate) fn first_due(alarms: &Alarms, now: u64) -> Option<Timer>
     ensures { result ≡ first_due alarms.now now every_timer }
@@ -77,8 +67,7 @@ impl Held {
         ensures alarms { self.new.alarms ≡ arranged self.old.alarms (condition_of kinds_control self.old.end) now }
         ensures out { self.new.out ≡ self.old.out }
     {
-        let condition = condition(&self.end);
-        self.alarms = arranged(&self.alarms, &condition, now);
+        self.alarms = arranged(&self.alarms, &Condition::of(&self.end), now);
     }
 
     pub(crate) fn open(&mut self, now: u64) -> Result<(), OpenFault>

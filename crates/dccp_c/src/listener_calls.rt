@@ -1,5 +1,5 @@
 //! The functions of a listener that C calls: each does one deed of a peer with the listener that its handle holds.
-ghost use Rattle.std.specs.Prelude.{◌≡◌, None, Ok, unwrap_or};
+ghost use Rattle.std.specs.Prelude.{◌≡◌, ◌≢◌, None, Ok, unwrap_or};
 ghost use Rattle.dccp_listener.specs.Calls.{seen_if};
 ghost use Rattle.dccp_listener.specs.Chain.{Calls, Sends, Closes, Aborts, call_of};
 ghost use Rattle.dccp_listener.specs.Runs.{Stepped, told_of};
@@ -13,7 +13,7 @@ use crate::codes::{
 };
 use crate::founding::listening_by;
 use crate::peer::{address_of, peer_named};
-use crate::serving::{Serving, first_due_flow, least_wait};
+use crate::serving::{Serving, due_flow, least_wait};
 use crate::told::tell;
 use crate::{Frame, ListenerHandle, PeerAddress, Settings, Told, View, Wish};
 use dccp_endpoint::{MOST_FRAME_BYTES, NoMemory, Seq48};
@@ -59,6 +59,7 @@ fn call_code(answer: &Result<Seen, NoFlow>) -> u32
 fn tell_heard(heard: &Heard, told: &mut Told) -> u32
     ensures told { told.new ≡ listen_told (told_of (Ok heard.now)) told.old }
     ensures code { result ≡ listen_code (told_of (Ok heard.now)) }
+    ensures memory { result ≢ 2 }
 {
     match heard {
         Heard::Flow(outcome) => {
@@ -106,7 +107,8 @@ pub extern "C" fn dccp_listener_free(listener: &mut ListenerHandle, alloc: Globa
 }
 
 /// `Listener::arrive`, and the timers of the peer's flow go on. BUSY where it answers Busy. UNKNOWN where the first
-/// number is none and TOO_LONG where the datagram is; then nothing changes, nor with NO_MEMORY.
+/// number is none and TOO_LONG where the datagram is; then nothing changes, nor with NO_MEMORY or NOT_MADE. C is told of
+/// the datagram where the answer is DONE alone.
 #[unsafe(no_mangle)]
 pub extern "C" fn dccp_listener_arrive(
     listener: &mut ListenerHandle,
@@ -172,7 +174,8 @@ fn call(
     }
 }
 
-/// `Listener::act` with `Act::Send`. NO_FLOW where the peer has none.
+/// `Listener::act` with `Act::Send`. Answers DONE, NOT_MADE, NO_FLOW, NOT_OPEN, TOO_LONG, NOT_NEGOTIATED, WINDOW_FULL
+/// or NO_MEMORY.
 #[unsafe(no_mangle)]
 pub extern "C" fn dccp_listener_send(
     listener: &mut ListenerHandle,
@@ -194,7 +197,7 @@ pub extern "C" fn dccp_listener_send(
     )
 }
 
-/// `Listener::act` with `Act::Close`. NO_FLOW where the peer has none.
+/// `Listener::act` with `Act::Close`. Answers DONE, NOT_MADE, NO_FLOW, NOT_OPEN or NO_MEMORY.
 #[unsafe(no_mangle)]
 pub extern "C" fn dccp_listener_close(
     listener: &mut ListenerHandle,
@@ -208,7 +211,7 @@ pub extern "C" fn dccp_listener_close(
     call(listener, alloc, peer_named(peer), Act::Close, now, frame)
 }
 
-/// `Listener::act` with `Act::Abort`. NO_FLOW where the peer has none.
+/// `Listener::act` with `Act::Abort`. Answers DONE, NOT_MADE, NO_FLOW, NOT_LIVE or NO_MEMORY.
 #[unsafe(no_mangle)]
 pub extern "C" fn dccp_listener_abort(
     listener: &mut ListenerHandle,
@@ -222,7 +225,8 @@ pub extern "C" fn dccp_listener_abort(
     call(listener, alloc, peer_named(peer), Act::Abort, now, frame)
 }
 
-/// Tells a flow the first of its timers that has run out, and C whose it is. NOTHING_DUE where none has.
+/// Tells a flow the first of its timers that has run out, and C whose it is. Answers DONE, NOT_MADE, or NOTHING_DUE
+/// where none has.
 #[unsafe(no_mangle)]
 pub extern "C" fn dccp_listener_tick(
     listener: &mut ListenerHandle,
@@ -237,7 +241,7 @@ pub extern "C" fn dccp_listener_tick(
     let Some(mut serving) = listener.take(alloc) else {
         return NOT_MADE;
     };
-    let Some((whose, timer)) = first_due_flow(&serving.timers, now) else {
+    let Some((whose, timer)) = due_flow(&serving.timers, now) else {
         listener.put(serving);
         return NOTHING_DUE;
     };
@@ -248,10 +252,8 @@ pub extern "C" fn dccp_listener_tick(
             listener.put(serving);
             DONE
         }
-        Err(NoMemory) => {
-            listener.put(serving);
-            NO_MEMORY
-        }
+        // Who has timers has a place for them.
+        Err(NoMemory) => unreachable!(),
     }
 }
 
@@ -273,7 +275,7 @@ pub extern "C" fn dccp_listener_until_first(
     left
 }
 
-/// The numbers of a peer's end, its phase and its window. NO_FLOW where the peer has none.
+/// The numbers of a peer's end, its phase and its window. Answers DONE, NOT_MADE or NO_FLOW.
 #[unsafe(no_mangle)]
 pub extern "C" fn dccp_listener_look(
     listener: &mut ListenerHandle,
@@ -299,8 +301,8 @@ pub extern "C" fn dccp_listener_look(
     }
 }
 
-/// The peer at this place, from 0, among those that have a flow, in the order of their addresses and ports. NO_FLOW
-/// where there is none.
+/// The peer at this place, from 0, among those that have a flow, in the order of their addresses and ports. Answers
+/// DONE, NOT_MADE, or NO_FLOW past the last.
 #[unsafe(no_mangle)]
 pub extern "C" fn dccp_listener_peer(
     listener: &mut ListenerHandle,

@@ -1,5 +1,5 @@
 //! What a listener of C's is: the listener, the timers of its flows, and the place where it leaves its frame.
-ghost use Rattle.std.specs.Prelude.{◌≡◌, ◌≤◌, nat_lt, Ok, IfOk, OnOk, OnErr, IsSome, length, slice_get, if◌then◌else◌};
+ghost use Rattle.std.specs.Prelude.{◌≡◌, ◌≤◌, nat_lt, None, Ok, IfOk, IfSome, OnOk, OnErr, IsSome, length, slice_get, if◌then◌else◌};
 ghost use Rattle.std.specs.Map.{keys_of, lookup, remove_entry};
 ghost use Rattle.std.specs.Option.{option_map};
 ghost use Rattle.dccp_uses.specs.Alarms.{with_delivery, with_progress};
@@ -12,15 +12,15 @@ ghost use Rattle.dccp_listener.specs.Standing.{IsListening};
 ghost use Rattle.dccp_c.specs.Doing.{never};
 ghost use Rattle.dccp_c.specs.Listening.{address_of};
 ghost use Rattle.dccp_c.specs.Seeing.{seen as seen_end};
-ghost use Rattle.dccp_c.specs.Serving.{IsDone, IsPlaced, first_due_flow, in_flight_if, least_wait, served, deed_served, serving_begins, tells_data, timers_called, timers_of, timers_then};
+ghost use Rattle.dccp_c.specs.Serving.{IsDone, IsPlaced, WantsMemory, first_due_flow, in_flight_if, least_wait, served, deed_served, serving_begins, tells_data, timers_called, timers_of, timers_then};
 
-use crate::held::{condition, first_due};
+use crate::held::first_due;
 use crate::peer::address_of;
 use crate::readers::seen;
 use crate::{PeerAddress, View};
 use dccp_endpoint::{NoMemory, Outbox, Seq48, Timer};
 use dccp_listener::{Act, Heard, ListenConfig, Listener, NoFlow, Peer, Seen};
-use dccp_uses::{Alarms, arranged, is_delivery, rung, with_delivery, with_progress};
+use dccp_uses::{Alarms, Condition, arranged, is_delivery, rung, with_delivery, with_progress};
 use std::alloc::Global;
 use std::collections::BTreeMap;
 
@@ -56,6 +56,7 @@ fn place_for(timers: &mut BTreeMap<Peer, Alarms>, peer: Peer) -> Result<bool, No
     ensures placed { IfOk result (λ had. IsPlaced had timers.old.entries timers.new.entries peer) }
     ensures there { OnOk result (IsSome (lookup (is_peer peer) timers.new.entries)) }
     ensures unchanged { OnErr result (timers.new.entries ≡ timers.old.entries) }
+    ensures absent { OnErr result (lookup (is_peer peer) timers.old.entries ≡ None) }
 {
     if timers.contains_key(&peer) {
         return Ok(true);
@@ -88,7 +89,8 @@ fn arrange(
 {
     match listener.flow(peer) {
         Some(end) => {
-            let alarms = arranged(alarms, &condition(end), now);
+            let condition = Condition::of(end);
+            let alarms = arranged(alarms, &condition, now);
             let _ = timers.insert(peer, alarms);
         }
         None => {
@@ -134,6 +136,7 @@ fn hear(
     requires { length bytes.now ≤ 2044 }
     ensures done { IfOk result (λ heard. IsDone listener.old listener.new peer (Arrives iss bytes.now) out.new (told_of (Ok heard))) }
     ensures unchanged { OnErr result (listener.new ≡ listener.old) }
+    ensures stranger { OnErr result (end_of_peer listener.old.flows peer ≡ None) }
 {
     listener.arrive(peer, iss, bytes, out)
 }
@@ -145,8 +148,8 @@ fn ask(listener: &mut Listener, peer: Peer, act: Act<'_>, out: &mut Outbox) -> R
     listener.act(peer, act, out)
 }
 
-/// The first peer of which a timer has run out, and the first of its timers.
-pub(crate) fn first_due_flow(timers: &BTreeMap<Peer, Alarms>, now: u64) -> Option<(Peer, Timer)>
+// The first peer of which a timer has run out, and the first of its timers.
+fn first_due_flow(timers: &BTreeMap<Peer, Alarms>, now: u64) -> Option<(Peer, Timer)>
     ensures { result ≡ first_due_flow now timers.now.entries }
 {
     for (peer, alarms) in timers.iter() {
@@ -155,6 +158,14 @@ pub(crate) fn first_due_flow(timers: &BTreeMap<Peer, Alarms>, now: u64) -> Optio
         }
     }
     None
+}
+
+/// The same, whose peer has a place for its timers.
+pub(crate) fn due_flow(timers: &BTreeMap<Peer, Alarms>, now: u64) -> Option<(Peer, Timer)>
+    ensures value { result ≡ first_due_flow now timers.now.entries }
+    ensures there { IfSome result (λ due. IsSome (lookup (is_peer due.0) timers.now.entries)) }
+{
+    first_due_flow(timers, now)
 }
 
 /// How many milliseconds it is until the first of all timers runs out; 2^64 - 1 where none runs.
@@ -189,7 +200,7 @@ impl Serving {
         }
     }
 
-    /// A datagram of a peer. NoMemory where none is to be had for its flow or for the timers of that.
+    /// A datagram of a peer. NoMemory where it has no flow, or no place for its timers, and none is to be had.
     pub(crate) fn arrive(
         &mut self,
         peer: Peer,
@@ -202,6 +213,7 @@ impl Serving {
         ensures sent { OnOk result (self.new.out ≡ (listens self.old.listener peer (Arrives iss bytes.now)).frame) }
         ensures told { IfOk result (λ heard. told_of (Ok heard) ≡ (listens self.old.listener peer (Arrives iss bytes.now)).told) }
         ensures unchanged { OnErr result (served self.new.listener self.new.timers.entries ≡ served self.old.listener self.old.timers.entries) }
+        ensures wanting { OnErr result (WantsMemory (served self.old.listener self.old.timers.entries) peer (Arrives iss bytes.now)) }
     {
         let was = in_flight(&self.listener, peer);
         let alarms = timers_of(&self.timers, peer);
@@ -220,7 +232,7 @@ impl Serving {
         }
     }
 
-    /// A call of a peer's end. NoMemory where none is to be had for its timers.
+    /// A call of a peer's end. NoMemory where it has no place for its timers, and none is to be had.
     pub(crate) fn act(
         &mut self,
         peer: Peer,
@@ -231,6 +243,7 @@ impl Serving {
         ensures sent { OnOk result (self.new.out ≡ (listens self.old.listener peer (Calls (call_of act.entry))).frame) }
         ensures told { IfOk result (λ answer. Stepped (seen_if answer) ≡ (listens self.old.listener peer (Calls (call_of act.entry))).told) }
         ensures unchanged { OnErr result (served self.new.listener self.new.timers.entries ≡ served self.old.listener self.old.timers.entries) }
+        ensures wanting { OnErr result (WantsMemory (served self.old.listener self.old.timers.entries) peer (Calls (call_of act.entry))) }
     {
         let alarms = timers_called(&timers_of(&self.timers, peer), act, now);
         place_for(&mut self.timers, peer)?;

@@ -10,4 +10,4 @@ pub returns-in-Some : goal.returns-in-Some
 returns-in-Some c =
     inserted c.args.now c.args.timers.now.entries c.insert.new.self.entries c.args.peer (end_of_peer c.args.listener.now.flows c.args.peer) c.in-Some.end.now
     c.args.alarms.now c.arranged-alarms.result c.insert.result c.requires c.insert.ensures.entries c.insert.ensures.absent c.in-Some.ensures.value
-    (c.arranged-alarms.ensures ∙ ap (λ (k : Condition). arranged c.args.alarms.now k c.args.now) c.condition.ensures)
+    (c.arranged-alarms.ensures ∙ ap (λ (k : Condition). arranged c.args.alarms.now k c.args.now) c.of-condition.ensures)

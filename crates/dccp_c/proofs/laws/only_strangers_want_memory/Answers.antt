@@ -1,0 +1,8 @@
+use Rattle.dccp_c.proofs.Tying.{strangers, timers_tied}
+use Rattle.dccp_c.proofs.laws.only_strangers_want_memory.Goals as goal
+
+pub returns-clause-timers : goal.returns-clause-timers
+returns-clause-timers c = timers_tied
+
+pub returns-clause-memory : goal.returns-clause-memory
+returns-clause-memory c = strangers
