@@ -299,16 +299,15 @@ uint32_t dccp_listener_arrive(dccp_listener *listener, const dccp_peer *peer, ui
                               uint64_t now, dccp_frame *frame, dccp_told *told);
 
 /* Sends data to a peer, as dccp_send does it once the flow is DCCP_OPEN. DCCP_OK; DCCP_NOT_MADE, DCCP_NO_FLOW; DCCP_NOT_OPEN, DCCP_TOO_LONG,
- * DCCP_WINDOW_FULL, DCCP_NO_MEMORY; DCCP_NOT_NEGOTIATED: the peer sends no Ack Vectors. A flow's end asks for nothing by itself, so its peer
+ * DCCP_WINDOW_FULL; DCCP_NOT_NEGOTIATED: the peer sends no Ack Vectors. A flow's end asks for nothing by itself, so its peer
  * has to offer them: by a wish for DCCP_SEND_ACK_VECTOR, not at_peer, of the value 1, that is_offered. */
 uint32_t dccp_listener_send(dccp_listener *listener, const dccp_peer *peer, const uint8_t *data, size_t length, uint64_t now,
                             dccp_frame *frame);
 
-/* Closes a peer's connection in order, as dccp_close. DCCP_OK; DCCP_NOT_MADE, DCCP_NO_FLOW, DCCP_NOT_OPEN, DCCP_NO_MEMORY. */
+/* Closes a peer's connection in order, as dccp_close. DCCP_OK; DCCP_NOT_MADE, DCCP_NO_FLOW, DCCP_NOT_OPEN. */
 uint32_t dccp_listener_close(dccp_listener *listener, const dccp_peer *peer, uint64_t now, dccp_frame *frame);
 
-/* Ends a peer's connection at once, and its flow with it. DCCP_OK; DCCP_NOT_MADE, DCCP_NO_FLOW; DCCP_NOT_LIVE in DCCP_TIMEWAIT;
- * DCCP_NO_MEMORY. */
+/* Ends a peer's connection at once, and its flow with it. DCCP_OK; DCCP_NOT_MADE, DCCP_NO_FLOW; DCCP_NOT_LIVE in DCCP_TIMEWAIT. */
 uint32_t dccp_listener_abort(dccp_listener *listener, const dccp_peer *peer, uint64_t now, dccp_frame *frame);
 
 /* Tells a flow the first of its timers that has run out, and names its peer. DCCP_OK, also where that leaves no frame: call it again until it

@@ -167,6 +167,7 @@ fn call(
             listener.put(serving);
             call_code(&answer)
         }
+        // Whatever was called before, this does not come: `only_strangers_want_memory`.
         Err(NoMemory) => {
             listener.put(serving);
             NO_MEMORY
@@ -174,8 +175,8 @@ fn call(
     }
 }
 
-/// `Listener::act` with `Act::Send`. Answers DONE, NOT_MADE, NO_FLOW, NOT_OPEN, TOO_LONG, NOT_NEGOTIATED, WINDOW_FULL
-/// or NO_MEMORY.
+/// `Listener::act` with `Act::Send`. Answers DONE, NOT_MADE, NO_FLOW, NOT_OPEN, TOO_LONG, NOT_NEGOTIATED or
+/// WINDOW_FULL.
 #[unsafe(no_mangle)]
 pub extern "C" fn dccp_listener_send(
     listener: &mut ListenerHandle,
@@ -197,7 +198,7 @@ pub extern "C" fn dccp_listener_send(
     )
 }
 
-/// `Listener::act` with `Act::Close`. Answers DONE, NOT_MADE, NO_FLOW, NOT_OPEN or NO_MEMORY.
+/// `Listener::act` with `Act::Close`. Answers DONE, NOT_MADE, NO_FLOW or NOT_OPEN.
 #[unsafe(no_mangle)]
 pub extern "C" fn dccp_listener_close(
     listener: &mut ListenerHandle,
@@ -211,7 +212,7 @@ pub extern "C" fn dccp_listener_close(
     call(listener, alloc, peer_named(peer), Act::Close, now, frame)
 }
 
-/// `Listener::act` with `Act::Abort`. Answers DONE, NOT_MADE, NO_FLOW, NOT_LIVE or NO_MEMORY.
+/// `Listener::act` with `Act::Abort`. Answers DONE, NOT_MADE, NO_FLOW or NOT_LIVE.
 #[unsafe(no_mangle)]
 pub extern "C" fn dccp_listener_abort(
     listener: &mut ListenerHandle,
