@@ -70,20 +70,19 @@ static bool may_answer(struct server *server, uint32_t status, const dccp_told *
     return server->answers++ < ANSWERS_A_SECOND;
 }
 
-/* Notes that something came of a peer, if it has a flow. There are as many places as flows. */
+/* Notes that something came of a peer that has a flow, and else frees its place: so there is a place for each flow. */
 static void note(struct server *server, const dccp_peer *peer) {
     struct guest *place = NULL;
     dccp_view view;
-    if (dccp_listener_look(&server->listener, peer, &view) != DCCP_OK) return;
+    bool has_flow = dccp_listener_look(&server->listener, peer, &view) == DCCP_OK;
     for (struct guest *it = server->guests; it != server->guests + MOST_PEERS; it++) {
-        if (!it->is_there) {
-            place = it;
-        } else if (it->peer.port == peer->port && memcmp(it->peer.address, peer->address, 4) == 0) {
+        if (it->is_there && it->peer.port == peer->port && memcmp(it->peer.address, peer->address, 4) == 0) {
             place = it;
             break;
         }
+        if (!it->is_there && has_flow) place = it;
     }
-    if (place != NULL) *place = (struct guest){.is_there = true, .heard = now(), .peer = *peer};
+    if (place != NULL) *place = (struct guest){.is_there = has_flow, .heard = now(), .peer = *peer};
 }
 
 /* Hears one datagram, if one has come. Where data came, they go back. */

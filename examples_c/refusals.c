@@ -425,6 +425,7 @@ static void a_listener(void) {
 
 /* A client and its flow: an Ack of the flow waits for 200 milliseconds (RFC 4340, section 8.1.5), and data that arrive are told. */
 static void a_flow(void) {
+    static const uint8_t many[DCCP_MOST_DATA_BYTES + 1];
     dccp_listener listener = begun();
     dccp_end end = DCCP_NONE;
     dccp_wish vectors = {.values = {1}, .count = 1, .feature = DCCP_SEND_ACK_VECTOR, .is_offered = true};
@@ -446,12 +447,45 @@ static void a_flow(void) {
     same("data back", DCCP_OK, dccp_listener_send(&listener, &guest, frame.bytes + told.first, 3, 0, &answer));
     same("their arrival", DCCP_OK, dccp_receive(&end, answer.bytes, answer.length, 0, &frame, &told));
     same("what became of them", DCCP_DATA, told.kind);
+    same("1,025 bytes", DCCP_TOO_LONG, dccp_listener_send(&listener, &guest, many, sizeof many, 0, &answer));
+    for (unsigned more = 0; more < 3; more++)
+        same("data in the window of four", DCCP_OK, dccp_listener_send(&listener, &guest, many, 1, 0, &answer));
+    same("one more than the window", DCCP_WINDOW_FULL, dccp_listener_send(&listener, &guest, many, 1, 0, &answer));
+    same("its frame", 0, answer.length);
     same("the time until a timer", 200, dccp_listener_until_first(&listener, 0));
     same("a tick before that", DCCP_NOTHING_DUE, dccp_listener_tick(&listener, 199, &peer, &frame));
     same("a tick", DCCP_OK, dccp_listener_tick(&listener, 200, &peer, &frame));
     same("whose timer it was", guest.port, peer.port);
     same("its Ack", 3, (frame.bytes[8] >> 1) & 15);
     same("close", DCCP_OK, dccp_listener_close(&listener, &guest, 200, &frame));
+    dccp_free(&end);
+    dccp_listener_free(&listener);
+    same("blocks behind free", 0, held);
+}
+
+/* What a flow refuses whose client sends no Ack Vectors, and behind that client's Reset. */
+static void refusals_of_a_flow(void) {
+    dccp_listener listener = begun();
+    dccp_end end = DCCP_NONE;
+    dccp_wish none = {.count = 0};
+    dccp_frame frame, answer;
+    dccp_told told;
+    dccp_view view = {.phase = DCCP_CLOSED};
+    uint8_t byte = 0;
+    same("a client", DCCP_OK, dccp_make(&end, &client, &none, 0));
+    same("its open", DCCP_OK, dccp_open(&end, 0, &frame));
+    while (frame.length) {
+        same("a frame that arrives", DCCP_OK, arrives(&listener, 1, &frame, &answer, &told));
+        if (answer.length == 0) break;
+        same("its answer", DCCP_OK, dccp_receive(&end, answer.bytes, answer.length, 0, &frame, &told));
+    }
+    same("data without Ack Vectors", DCCP_NOT_NEGOTIATED, dccp_listener_send(&listener, &guest, &byte, 1, 0, &answer));
+    same("the client's abort", DCCP_OK, dccp_abort(&end, 0, &frame));
+    same("its arrival", DCCP_OK, arrives(&listener, 1, &frame, &answer, &told));
+    same("what became of it", DCCP_WAS_RESET, told.kind);
+    same("its flow", DCCP_OK, dccp_listener_look(&listener, &guest, &view));
+    same("its phase", DCCP_TIMEWAIT, view.phase);
+    same("abort in TIMEWAIT", DCCP_NOT_LIVE, dccp_listener_abort(&listener, &guest, 0, &answer));
     dccp_free(&end);
     dccp_listener_free(&listener);
     same("blocks behind free", 0, held);
@@ -495,6 +529,7 @@ int main(void) {
     limits_of_a_listener();
     a_listener();
     a_flow();
+    refusals_of_a_flow();
     memory_of_a_flow();
     return wrong;
 }

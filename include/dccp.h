@@ -1,18 +1,18 @@
 /* One end of a DCCP connection (RFC 4340) with CCID 2 (RFC 4341) and feature negotiation, and a server of many peers.
  *
  * The library has no socket, no clock and no thread. Datagrams that arrived and the time go in, and each call leaves at most
- * one frame, which the caller sends to the peer. It takes memory in dccp_make, dccp_accept and dccp_listener_make, and in
- * dccp_listener_arrive from a peer that has no flow, which keeps a block for timers at most where none is opened.
+ * one frame, which the caller sends to the peer. It takes memory in dccp_make, dccp_accept and dccp_listener_make, and in a
+ * call of a listener for a peer that has no flow, which keeps one block for timers at most where none is opened.
  *
  * Order of calls: begin a handle with DCCP_NONE; a client makes an end in it and opens it, a server lets dccp_accept make it of
  * a peer's first datagram. From then on dccp_receive for each datagram, dccp_tick as soon as dccp_until_first has gone by,
  * dccp_send, dccp_prefer, dccp_close and dccp_abort in whatever order. dccp_free at last.
  *
- * Time is `now`, a number of milliseconds from any beginning, the same for all calls of an end; it does not go back.
+ * Time is `now`, a number of milliseconds from any beginning, the same for all calls of an end or a listener; it does not go back.
  *
  * After every call: if frame.length is not 0, its bytes go to the peer, whatever the call answered. A call that was refused has changed
- * nothing and leaves no bytes. But where dccp_make or dccp_accept made no end the handle holds none any more, and dccp_accept may leave
- * an answer to the datagram.
+ * nothing and leaves no bytes. But where dccp_make, dccp_accept or dccp_listener_make made nothing the handle holds nothing any more, and
+ * dccp_accept may leave an answer to the datagram, as dccp_listener_arrive does with DCCP_BUSY.
  *
  * A server of many peers holds a dccp_listener, begun with DCCP_NO_LISTENER, in place of an end for each: dccp_listener_make, then
  * dccp_listener_arrive for each datagram with the address that it came from, dccp_listener_tick as soon as dccp_listener_until_first has
@@ -45,7 +45,7 @@ extern "C" {
 /* What a call answers. */
 typedef enum dccp_status {
     DCCP_OK = 0,
-    DCCP_NOT_MADE = 1,       /* the handle holds no end */
+    DCCP_NOT_MADE = 1,       /* the handle holds no end, or no listener */
     DCCP_NO_MEMORY = 2,      /* no memory was to be had for an end, a listener or a flow */
     DCCP_NOT_FRESH = 3,      /* dccp_open: a server's end, or one that was opened before */
     DCCP_NOT_OPEN = 4,       /* the connection is in no phase for the call */
@@ -55,7 +55,7 @@ typedef enum dccp_status {
     DCCP_BAD_LIST = 8,       /* the values are none, over eight, twice the same, not permitted, or not just one where one is due */
     DCCP_NOT_OURS = 9,       /* Sequence Window or Ack Ratio of the peer, which it alone sets */
     DCCP_NOT_LIVE = 10,      /* dccp_abort: there is no connection */
-    DCCP_UNKNOWN = 11,       /* no feature or timer has this number, or the first number is not below 2^48 */
+    DCCP_UNKNOWN = 11,       /* no feature or timer has this number, the first number is not below 2^48, or no listener is made so */
     DCCP_NOTHING_DUE = 12,   /* dccp_tick: no timer has run out; dccp_timer: this one has nothing to do */
     DCCP_NO_CONNECTION = 13, /* dccp_accept: the datagram opens no connection */
     DCCP_BUSY = 14,          /* dccp_listener_arrive: as many flows stand as may, and the datagram would open one more */
@@ -87,7 +87,7 @@ typedef enum dccp_timer_kind {
 /* The features that may be wished for (RFC 4340, section 6.4). */
 typedef enum dccp_feature_kind {
     DCCP_CCID = 1,                /* 2 and 248 */
-    DCCP_SHORT_SEQNOS = 2,        /* 0 */
+    DCCP_SHORT_SEQNOS = 2,        /* 0 and 1 */
     DCCP_SEQUENCE_WINDOW = 3,     /* one value, 32 to 2^46 - 1, in packets */
     DCCP_ECN_INCAPABLE = 4,       /* 1 here; 0 and 1 at the peer */
     DCCP_ACK_RATIO = 5,           /* one value, 0 to 65,535, in data packets for one Ack */
@@ -280,9 +280,10 @@ uint32_t dccp_look(dccp_end *end, dccp_view *view);
 uint32_t dccp_feature(dccp_end *end, uint32_t feature, bool at_peer, dccp_feature_state *state);
 
 /* Makes a listener in the handle, for at most `most` flows at a time, 1 to 1,024. One that the handle held is freed first, also where making
- * fails; then the handle holds none. Of the settings count the own address and port, the service, `is_plain` and `is_v6`, which has to be
- * false. The wishes are those of each peer's end, which makes no offer by itself. The statuses of dccp_make, and DCCP_UNKNOWN for IPv6 and for
- * another `most`. A flow takes about 90 KB, which it gives back where it ends. */
+ * fails; then the handle holds none. Of the settings count the own address and port and the service; `is_v6` has to be false and
+ * `first_number` below 2^48, and the others make no difference. The wishes are those of each peer's end, which makes no offer by itself: so
+ * one for its own Sequence Window or Ack Ratio changes nothing. The statuses of dccp_make, and DCCP_UNKNOWN for IPv6 and for another `most`.
+ * A flow takes about 87 KB, which it gives back where it ends. */
 uint32_t dccp_listener_make(dccp_listener *listener, const dccp_settings *settings, const dccp_wish *wishes, size_t count, uint16_t most);
 
 /* Frees what the handle holds, with all flows. Afterwards it holds none, and may be freed again or made again. */

@@ -2,15 +2,13 @@
 use Rattle.std.proofs.Common.{◌≡◌, refl, sym, ap, ◌∙◌, subst, ℕ, suc, ◌+◌, ◌/◌, ◌%◌, ◌≤◌, ◌<◌, ◌||◌, nat_lt, arith, Bool, true, false, if◌then◌else◌, List, [], ◌∷◌, ◌++◌, length, length-append, None, Some, Ok, Err}
 use Rattle.std.proofs.lemmas.Bool.{ltb-false}
 use Rattle.std.proofs.lemmas.Bool.Decides.{nat_tests}
-use Rattle.std.proofs.lemmas.List.{length-take, take-append-drop, take-append-le, take_all}
-use Rattle.std.proofs.lemmas.List.Folds.{list_all-append}
+use Rattle.std.proofs.lemmas.List.{length-take, take-append-le, take_all}
 use Rattle.std.specs.List.{list_all}
-use Rattle.std.specs.Prelude.{IsTrue, codes, take, drop}
+use Rattle.std.specs.Prelude.{IsTrue, codes, take}
 use Rattle.hex.specs.Hex.{IsBytes, encode_lower, encode_with}
 use Rattle.hex.proofs.HexLemmas.{IsDigits-lower_digits}
 use Rattle.tool_words.specs.Digits.{AreDigitsOf}
 use Rattle.tool_words.specs.Lines.{is_text}
-use Rattle.tool_words.proofs.Bytes.{both-true}
 use Rattle.schedule_text.specs.Frames.{read_frame}
 use Rattle.schedule_text.proofs.FrameForms.{spelled-frame}
 use Rattle.dccp_packets.specs.Grammar.{HeaderFits, Parts, decoded, header_bytes, header_length, is_long, is_valid, packet_type, padded, spelling}
@@ -23,6 +21,7 @@ use Rattle.bridge_frames.specs.Mapping.{frame_with, moved_frame, moved_header, u
 use Rattle.bridge_frames.specs.declared.mapping.NoFrame.{NoFrame}
 use Rattle.bridge_frames.specs.declared.mapping.NoFrame.TheVariants as none
 use Rattle.bridge_frames.proofs.Moving.{header-fits, moved_valid}
+use Rattle.bridge_frames.proofs.Texts.{text-cut}
 
 lower-spells : (bytes : List ℕ) → IsBytes bytes → AreDigitsOf (encode_lower bytes) bytes
 unfolding encode_with
@@ -40,12 +39,6 @@ sealed-read bytes are some few =
 pub none-read : (why : NoFrame) → read_frame (no_frame_words why) ≡ Ok None
 none-read none.NumberUnknown = refl
 none-read none.FrameTooLong = refl
-
--- text that is cut is text
-text-cut : (count : ℕ) (text : List ℕ) → list_all is_text text ≡ true → list_all is_text (take count text) ≡ true
-text-cut count text are =
-    (both-true (list_all is_text (take count text)) (list_all is_text (drop count text))
-    (sym (list_all-append is_text (take count text) (drop count text)) ∙ ap (list_all is_text) (take-append-drop count text) ∙ are)).0
 
 pub comment-read : (front : List ℕ) → list_all is_text front ≡ true → read_frame (take 4096 (codes "# " ++ front)) ≡ Ok None
 comment-read front are =
@@ -72,10 +65,10 @@ pub comment-ends : (front : List ℕ) → comment_line (front ++ codes "\n") ≡
 comment-ends front = cut-by (codes "# " ++ front) (nat_lt 4097 (length (codes "# " ++ front) + 1)) refl
 
 -- a packet that has a frame is not too long
-record IsFrame (h : Header) (o d bytes : List ℕ) : Type 0 where
-  same : spelling h o d ≡ bytes
-  header : header_length h + length (padded o) ≤ 1020
-  whole : length (spelling h o d) ≤ 2044
+pub record IsFrame (h : Header) (o d bytes : List ℕ) : Type 0 where
+  pub same : spelling h o d ≡ bytes
+  pub header : header_length h + length (padded o) ≤ 1020
+  pub whole : length (spelling h o d) ≤ 2044
 
 frame-by : (h : Header) (o d bytes : List ℕ) (header whole : Bool) → nat_lt 1020 (header_length h + length (padded o)) ≡ header → nat_lt 2044 (length (spelling h o d)) ≡ whole
     → (if header || whole then Err none.FrameTooLong else Ok (spelling h o d)) ≡ Ok bytes → IsFrame h o d bytes
@@ -87,7 +80,7 @@ frame-by h o d bytes false false p q is = record {
   whole = (let few = ltb-false 2044 (length (spelling h o d)) q in omega (arith, few));
 }
 
-is-frame : (h : Header) (o d bytes : List ℕ) → frame_with h o d ≡ Ok bytes → IsFrame h o d bytes
+pub is-frame : (h : Header) (o d bytes : List ℕ) → frame_with h o d ≡ Ok bytes → IsFrame h o d bytes
 is-frame h o d bytes is =
     frame-by h o d bytes (nat_lt 1020 (header_length h + length (padded o))) (nat_lt 2044 (length (spelling h o d))) refl refl is
 

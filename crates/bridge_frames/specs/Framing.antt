@@ -1,6 +1,6 @@
 -- What `frames` makes of a capture, classic or pcapng: lines of a replay for the packets of one flow that go to one of
 -- its sides (own).
-use Rattle.std.specs.Prelude.{ℕ, ◌==◌, ◌++◌, Bool, false, not, is_some, if◌then◌else◌, List, [], Option, Some, None, Result, Ok, Err}
+use Rattle.std.specs.Prelude.{◌≡◌, ℕ, ◌==◌, ◌++◌, Bool, false, true, not, is_some, if◌then◌else◌, List, [], codes, Option, Some, None, Result, Ok, Err}
 use Rattle.capture_reader.specs.Records.{RecordParts}
 use Rattle.capture_writer.specs.declared.headers.RecordHeader.{RecordHeader}
 use Rattle.dccp_packets.specs.Grammar.{Parts, decoded}
@@ -17,10 +17,12 @@ use Rattle.bridge_records.specs.declared.found.Found.TheVariants as found
 use Rattle.bridge_unwrap.specs.Links.{ip_bytes}
 use Rattle.bridge_unwrap.specs.Unwrapping.{unwrap_closing}
 use Rattle.dccp_io.specs.Counts.{one_more}
+use Rattle.schedule_text.specs.Frames.{frame_line, read_frame}
+use Rattle.schedule_text.specs.declared.line.FrameLine.{FrameLine}
 use Rattle.world_events.specs.declared.event.Side.{Side}
 use Rattle.world_events.specs.declared.event.Side.TheVariants.{Client, Server}
 use Rattle.bridge_frames.specs.Mapping.{frame_for, usual_end}
-use Rattle.bridge_frames.specs.Lines.{comment_line, packet_frame_line}
+use Rattle.bridge_frames.specs.Lines.{comment_line, packet_frame_line, packet_frame_words}
 use Rattle.bridge_frames.specs.declared.framing.Framing.{Framing}
 use Rattle.bridge_frames.specs.declared.framing.Met.{Met}
 use Rattle.bridge_frames.specs.declared.mapping.NoFrame.{NoFrame}
@@ -33,6 +35,18 @@ pub record FlowPacket : Type 0 where
 -- its two lines: a comment, and the frame
 abbrev pub flow_packet_text : FlowPacket → List ℕ
 flow_packet_text p = comment_line p.line ++ packet_frame_line p.frame
+
+-- the frame that its second line says, whose checksum is to be set, if it has one
+abbrev pub frame_said : Result (List ℕ) NoFrame → Option FrameLine
+frame_said (Ok bytes) = Some (frame_line true bytes)
+frame_said (Err why) = None
+
+-- `replay` reads its two lines: the first says nothing, and the second its frame, or nothing where it has none.
+pub record IsReadBack (p : FlowPacket) : Type 0 where
+  pub comment : List ℕ
+  pub is_line : comment_line p.line ≡ comment ++ codes "\n"
+  pub nothing : read_frame comment ≡ Ok None
+  pub frame : read_frame (packet_frame_words p.frame) ≡ Ok (frame_said p.frame)
 
 -- before the first piece, where this flow is asked for
 abbrev pub first_framing : ℕ → Side → Framing

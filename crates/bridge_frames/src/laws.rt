@@ -1,15 +1,23 @@
 //! What the definition of `frames` says.
 ghost use Rattle.std.specs.List.{list_all};
-ghost use Rattle.std.specs.Prelude.{◌≡◌, ◌++◌, ◌%◌, ◌^◌, ◌<◌, ◌≤◌, ℕ, List, IsTrue, None, Ok, Some, codes, length, take, true};
+ghost use Rattle.std.specs.Prelude.{◌≡◌, ◌++◌, All, ◌%◌, ◌^◌, ◌<◌, ◌≤◌, ℕ, List, IsTrue, None, Ok, Some, codes, length, take, true};
 ghost use Rattle.hex.specs.Hex.{IsBytes};
 ghost use Rattle.dccp_packets.specs.Grammar.{HeaderFits, Parts, decoded, is_valid, padded};
 ghost use Rattle.schedule_text.specs.Frames.{read_frame};
 ghost use Rattle.seq_circle.specs.Circle.{distance};
 ghost use Rattle.world_events.specs.declared.event.Side.{Side};
 ghost use Rattle.tool_words.specs.Lines.{is_text};
+ghost use Rattle.bridge_frames.specs.Framing.{IsReadBack, frames_pieces};
 ghost use Rattle.bridge_frames.specs.Lines.{comment_line, no_frame_words, sealed_words};
 ghost use Rattle.bridge_frames.specs.Mapping.{moved_ack, moved_frame, moved_header, usual_end};
 ghost use Rattle.bridge_frames.specs.declared.mapping.NoFrame.{NoFrame};
+
+/// Of any input of bytes, `replay` reads both lines of each packet that `frames` writes: the first, the line of `show`,
+/// says nothing, and the second is the packet's frame, whose checksum is to be set, or says nothing where it has none
+/// (own).
+pub fn each_packet_reads_back()
+    ensures { (flow : ℕ) (side : Side) (input : List ℕ) → IsBytes input → All IsReadBack (frames_pieces flow side input).deeds }
+{}
 
 /// A frame's words are read by `replay` as that frame, whose checksum is to be set. The comment on a packet without
 /// one, and that with a line of `show`, whose bytes are text, are read as lines that say nothing (own).

@@ -12,6 +12,6 @@ mod mapping;
 
 pub use crate::framing::frame_flow;
 pub use crate::laws::{
-    a_frame_is_its_packet, acknowledgements_keep_their_distance, lines_read_back,
+    a_frame_is_its_packet, acknowledgements_keep_their_distance, each_packet_reads_back,
+    lines_read_back,
 };
-pub use crate::mapping::{NoFrame, UsualEnd};

@@ -10,20 +10,20 @@ use world_events::Side;
 
 /// What of an end's configuration the packets that it gets depend on (own).
 #[derive(Clone, Copy, Debug, PartialEq, Eq)]
-pub struct UsualEnd {
+pub(crate) struct UsualEnd {
     /// Their destination port.
-    pub own_port: u16,
+    pub(crate) own_port: u16,
     /// Their source port.
-    pub peer_port: u16,
+    pub(crate) peer_port: u16,
     /// The Service Code of a connection (RFC 4340, section 8.1.2).
-    pub service: u32,
+    pub(crate) service: u32,
     /// The end's initial sequence number (RFC 4340, section 7.2).
-    pub iss: Seq48,
+    pub(crate) iss: Seq48,
 }
 
 /// Why a packet has no frame in a replay (own).
 #[derive(Clone, Copy, Debug, PartialEq, Eq)]
-pub enum NoFrame {
+pub(crate) enum NoFrame {
     /// It has an acknowledgement number, and the captured end sent no number of 48 bits before it, from which that
     /// could be counted.
     NumberUnknown,

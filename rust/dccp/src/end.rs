@@ -1,4 +1,4 @@
-//! An end of the library for C. All unsafe code of this crate is here.
+//! An end of the library for C. All unsafe code of this crate is here and, of a listener, in `src/flows.rs`.
 //!
 //! What the library asks of its caller, as `include/dccp.h` has it, holds of each call: every pointer is that of a
 //! reference, so that it is not null, points to a value of its type and overlaps no other; a slice gives its own pointer

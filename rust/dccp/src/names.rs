@@ -198,8 +198,9 @@ refusals! {
     ListenError {
         /// No memory was to be had.
         NoMemory = NO_MEMORY, "no memory for a listener";
-        /// The flows at a time are not 1 to 1,024.
-        Limit = UNKNOWN, "a listener has 1 to 1,024 flows";
+        /// The flows at a time are not 1 to 1,024, or the configuration is not a [`Config::listener`](crate::Config::listener):
+        /// it is of IPv6, or its first number is not below 2^48.
+        Limit = UNKNOWN, "not 1 to 1,024 flows, or not the configuration of a listener";
         /// The values of a wish are none, over eight, twice the same, not permitted, or not just one where one is due.
         BadList = BAD_LIST, "values that a feature may not have";
         /// A wish for Sequence Window or Ack Ratio of the peer, which it alone sets.
