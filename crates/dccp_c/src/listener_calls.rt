@@ -107,8 +107,8 @@ pub extern "C" fn dccp_listener_free(listener: &mut ListenerHandle, alloc: Globa
 }
 
 /// `Listener::arrive`, and the timers of the peer's flow go on. BUSY where it answers Busy. UNKNOWN where the first
-/// number is none and TOO_LONG where the datagram is; then nothing changes, nor with NO_MEMORY or NOT_MADE. C is told of
-/// the datagram where the answer is DONE alone.
+/// number is none and TOO_LONG where the datagram is; then nothing changes, nor with NO_MEMORY or NOT_MADE. C is told
+/// of the datagram where the answer is DONE alone.
 #[unsafe(no_mangle)]
 pub extern "C" fn dccp_listener_arrive(
     listener: &mut ListenerHandle,
