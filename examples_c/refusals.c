@@ -391,6 +391,12 @@ static void a_listener(void) {
     static uint8_t bytes[DCCP_MOST_FRAME_BYTES + 1];
     same("2^48", DCCP_UNKNOWN, dccp_listener_arrive(&listener, &guest, (uint64_t)1 << 48, bytes, 0, 0, &frame, &told));
     same("2,045 bytes", DCCP_TOO_LONG, dccp_listener_arrive(&listener, &guest, 0, bytes, sizeof bytes, 0, &frame, &told));
+    refused = 1;
+    same("data for a stranger", DCCP_NO_FLOW, dccp_listener_send(&listener, &guest, bytes, 1, 0, &frame));
+    same("close of a stranger", DCCP_NO_FLOW, dccp_listener_close(&listener, &guest, 0, &frame));
+    same("abort of a stranger", DCCP_NO_FLOW, dccp_listener_abort(&listener, &guest, 0, &frame));
+    same("allocations left to be refused", 1, refused);
+    refused = 0;
     same("a Request for another service", DCCP_OK, arrives(&listener, 1, &elsewhere, &frame, &told));
     same("what became of it", DCCP_SENT_RESET, told.kind);
     same("the code: Bad Service Code", 8, told.code);

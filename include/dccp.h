@@ -1,8 +1,8 @@
 /* One end of a DCCP connection (RFC 4340) with CCID 2 (RFC 4341) and feature negotiation, and a server of many peers.
  *
  * The library has no socket, no clock and no thread. Datagrams that arrived and the time go in, and each call leaves at most
- * one frame, which the caller sends to the peer. It takes memory in dccp_make, dccp_accept and dccp_listener_make, and in a
- * call of a listener for a peer that has no flow, which keeps one block for timers at most where none is opened.
+ * one frame, which the caller sends to the peer. It takes memory in dccp_make, dccp_accept and dccp_listener_make, and in
+ * dccp_listener_arrive from a peer that has no flow, which keeps one block for timers at most where none is opened.
  *
  * Order of calls: begin a handle with DCCP_NONE; a client makes an end in it and opens it, a server lets dccp_accept make it of
  * a peer's first datagram. From then on dccp_receive for each datagram, dccp_tick as soon as dccp_until_first has gone by,
@@ -300,16 +300,15 @@ uint32_t dccp_listener_arrive(dccp_listener *listener, const dccp_peer *peer, ui
                               uint64_t now, dccp_frame *frame, dccp_told *told);
 
 /* Sends data to a peer, as dccp_send does it once the flow is DCCP_OPEN. DCCP_OK; DCCP_NOT_MADE, DCCP_NO_FLOW; DCCP_NOT_OPEN, DCCP_TOO_LONG,
- * DCCP_WINDOW_FULL, DCCP_NO_MEMORY; DCCP_NOT_NEGOTIATED: the peer sends no Ack Vectors. A flow's end asks for nothing by itself, so its peer
- * has to offer them: by a wish for DCCP_SEND_ACK_VECTOR, not at_peer, of the value 1, that is_offered. */
+ * DCCP_WINDOW_FULL; DCCP_NOT_NEGOTIATED: the peer sends no Ack Vectors. A flow's end asks for nothing by itself, so its peer has to offer
+ * them: by a wish for DCCP_SEND_ACK_VECTOR, not at_peer, of the value 1, that is_offered. */
 uint32_t dccp_listener_send(dccp_listener *listener, const dccp_peer *peer, const uint8_t *data, size_t length, uint64_t now,
                             dccp_frame *frame);
 
-/* Closes a peer's connection in order, as dccp_close. DCCP_OK; DCCP_NOT_MADE, DCCP_NO_FLOW, DCCP_NOT_OPEN, DCCP_NO_MEMORY. */
+/* Closes a peer's connection in order, as dccp_close. DCCP_OK; DCCP_NOT_MADE, DCCP_NO_FLOW, DCCP_NOT_OPEN. */
 uint32_t dccp_listener_close(dccp_listener *listener, const dccp_peer *peer, uint64_t now, dccp_frame *frame);
 
-/* Ends a peer's connection at once, and its flow with it. DCCP_OK; DCCP_NOT_MADE, DCCP_NO_FLOW; DCCP_NOT_LIVE in DCCP_TIMEWAIT;
- * DCCP_NO_MEMORY. */
+/* Ends a peer's connection at once, and its flow with it. DCCP_OK; DCCP_NOT_MADE, DCCP_NO_FLOW; DCCP_NOT_LIVE in DCCP_TIMEWAIT. */
 uint32_t dccp_listener_abort(dccp_listener *listener, const dccp_peer *peer, uint64_t now, dccp_frame *frame);
 
 /* Tells a flow the first of its timers that has run out, and names its peer. DCCP_OK, also where that leaves no frame: call it again until it

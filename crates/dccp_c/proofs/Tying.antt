@@ -26,7 +26,7 @@ use Rattle.dccp_uses.specs.declared.alarms.Alarms.{Alarms}
 use Rattle.end_answers.specs.declared.calls.Timer.{Timer}
 use Rattle.seq_circle.specs.declared.memory.NoMemory.{NoMemory}
 use Rattle.dccp_c.specs.Doing.{first_due}
-use Rattle.dccp_c.specs.Serving.{OnlyStrangersWantMemory, Served, TimedDeed, Timers, TimersStandWithFlows, WantsMemory, deed_served, due_or, first_due_flow, served_through, serving_begins, timers_by, timers_then}
+use Rattle.dccp_c.specs.Serving.{CallsWantNoMemory, OnlyStrangersWantMemory, Served, TimedDeed, Timers, TimersStandWithFlows, WantsMemory, deed_served, due_or, first_due_flow, served_through, serving_begins, timers_by, timers_then}
 use Rattle.dccp_c.proofs.Through.{none_in_order}
 
 -- peers with one less, and with one more
@@ -171,14 +171,19 @@ no-flow s peer tied none =
     none-from (end_of_peer s.listening.flows peer)
     (found-among (is_peer peer) s.listening.flows ∙ ap (list_any (is_peer peer)) (sym tied) ∙ sym (found-among (is_peer peer) s.timers) ∙ ap is_some none)
 
-stranger-by : (s : Served) (peer : Peer) (deed : Deed) → keys_of s.timers ≡ keys_of s.listening.flows → WantsMemory s peer deed
-    → end_of_peer s.listening.flows peer ≡ None
-stranger-by s peer (Arrives iss bytes) tied (inl none) = none
-stranger-by s peer (Arrives iss bytes) tied (inr none) = no-flow s peer tied none
-stranger-by s peer (Calls call) tied none = no-flow s peer tied none
+stranger-by : (s : Served) (peer : Peer) (iss : ℕ) (bytes : List ℕ) → keys_of s.timers ≡ keys_of s.listening.flows
+    → WantsMemory s peer (Arrives iss bytes) → end_of_peer s.listening.flows peer ≡ None
+stranger-by s peer iss bytes tied (inl none) = none
+stranger-by s peer iss bytes tied (inr none) = no-flow s peer tied none
 
 pub strangers : OnlyStrangersWantMemory
-strangers config deeds peer deed wants = stranger-by (served_through (serving_begins config) deeds) peer deed (timers_tied config deeds) wants
+strangers config deeds peer iss bytes wants =
+    stranger-by (served_through (serving_begins config) deeds) peer iss bytes (timers_tied config deeds) wants
+
+pub calls_want_none : CallsWantNoMemory
+calls_want_none config deeds peer call wants =
+    let s : Served = served_through (serving_begins config) deeds in
+    false≢true (sym (ap is_some (no-flow s peer (timers_tied config deeds) wants.1)) ∙ wants.0)
 
 -- a peer of which a timer has run out has timers
 

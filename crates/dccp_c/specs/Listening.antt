@@ -80,7 +80,7 @@ IsServed now s after peer deed bytes code =
     × (code ≡ listen_code (listens s.listening peer deed).told)
 
 -- What a call comes to: it is done, or nothing happens and the code says why: that of the refusal, 1 where there is no
--- listener, or 2 where memory is wanting, which none is that needs none.
+-- listener, or 2 where memory is wanting for the deed.
 abbrev pub Serves : ℕ → Option Served → Option Served → Peer → Result Deed ℕ → List ℕ → ℕ → Type 0
 Serves now before after peer (Err refused) bytes code = IsUnserved before after bytes × (code ≡ refused)
 Serves now None after peer (Ok deed) bytes code = IsUnserved None after bytes × (code ≡ 1)

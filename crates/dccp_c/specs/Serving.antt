@@ -82,10 +82,11 @@ deed_served now s peer deed =
     served (listening_after s.listening peer deed)
     (timers_then now s.timers peer (end_of_peer (listening_after s.listening peer deed).flows peer) (timers_by now s peer deed))
 
--- Memory is wanting for a deed: the peer has no place for its timers, or its datagram may open a flow.
+-- Memory is wanting for a deed: a datagram of a peer that has no flow or no place for its timers, or a call of a flow
+-- that has none.
 abbrev pub WantsMemory : Served → Peer → Deed → Type 0
 WantsMemory s peer (Arrives iss bytes) = (end_of_peer s.listening.flows peer ≡ None) ⊎ (lookup (is_peer peer) s.timers ≡ None)
-WantsMemory s peer (Calls call) = lookup (is_peer peer) s.timers ≡ None
+WantsMemory s peer (Calls call) = IsSome (end_of_peer s.listening.flows peer) × (lookup (is_peer peer) s.timers ≡ None)
 
 -- the first of these timers that has run out, of this peer, else that of another
 abbrev pub due_or : Peer → Option Timer → Option (Peer × Timer) → Option (Peer × Timer)
@@ -136,8 +137,15 @@ TimersStandWithFlows =
     (config : ListenConfig) (deeds : List TimedDeed)
     → keys_of (served_through (serving_begins config) deeds).timers ≡ keys_of (served_through (serving_begins config) deeds).listening.flows
 
--- So memory is wanting only for a peer that has no flow.
+-- So memory is wanting only for a datagram of a peer that has no flow.
 abbrev pub OnlyStrangersWantMemory : Type 0
 OnlyStrangersWantMemory =
-    (config : ListenConfig) (deeds : List TimedDeed) (peer : Peer) (deed : Deed) → WantsMemory (served_through (serving_begins config) deeds) peer deed
+    (config : ListenConfig) (deeds : List TimedDeed) (peer : Peer) (iss : ℕ) (bytes : List ℕ)
+    → WantsMemory (served_through (serving_begins config) deeds) peer (Arrives iss bytes)
     → end_of_peer (served_through (serving_begins config) deeds).listening.flows peer ≡ None
+
+-- And for no call.
+abbrev pub CallsWantNoMemory : Type 0
+CallsWantNoMemory =
+    (config : ListenConfig) (deeds : List TimedDeed) (peer : Peer) (call : FlowCall)
+    → WantsMemory (served_through (serving_begins config) deeds) peer (Calls call) → ⊥

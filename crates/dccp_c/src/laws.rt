@@ -1,5 +1,5 @@
 //! What the definitions of the calls mean.
-ghost use Rattle.dccp_c.specs.Serving.{CallsAreARun, OnlyStrangersWantMemory, TimersStandWithFlows};
+ghost use Rattle.dccp_c.specs.Serving.{CallsAreARun, CallsWantNoMemory, OnlyStrangersWantMemory, TimersStandWithFlows};
 ghost use Rattle.dccp_c.specs.Ticking.{TicksAreATick};
 
 /// Ticks at one time, told one by one, are what a session's own tick does: each timer that has run out is told once, in
@@ -14,9 +14,10 @@ pub fn calls_are_a_run()
     ensures { CallsAreARun }
 {}
 
-/// Whatever the calls, the peers that have timers are those that have a flow; so memory is wanting only for a peer that
-/// has none, and no tick takes any (own).
+/// Whatever the calls, the peers that have timers are those that have a flow; so memory is wanting only for a datagram
+/// of a peer that has none, and for no call or tick (own).
 pub fn only_strangers_want_memory()
     ensures timers { TimersStandWithFlows }
     ensures memory { OnlyStrangersWantMemory }
+    ensures calls { CallsWantNoMemory }
 {}

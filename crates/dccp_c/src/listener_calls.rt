@@ -107,8 +107,8 @@ pub extern "C" fn dccp_listener_free(listener: &mut ListenerHandle, alloc: Globa
 }
 
 /// `Listener::arrive`, and the timers of the peer's flow go on. BUSY where it answers Busy. UNKNOWN where the first
-/// number is none and TOO_LONG where the datagram is; then nothing changes, nor with NO_MEMORY or NOT_MADE. C is told of
-/// the datagram where the answer is DONE alone.
+/// number is none and TOO_LONG where the datagram is; then nothing changes, nor with NO_MEMORY or NOT_MADE. C is told
+/// of the datagram where the answer is DONE alone.
 #[unsafe(no_mangle)]
 pub extern "C" fn dccp_listener_arrive(
     listener: &mut ListenerHandle,
@@ -167,6 +167,7 @@ fn call(
             listener.put(serving);
             call_code(&answer)
         }
+        // Whatever was called before, this does not come: `only_strangers_want_memory`.
         Err(NoMemory) => {
             listener.put(serving);
             NO_MEMORY
@@ -174,8 +175,8 @@ fn call(
     }
 }
 
-/// `Listener::act` with `Act::Send`. Answers DONE, NOT_MADE, NO_FLOW, NOT_OPEN, TOO_LONG, NOT_NEGOTIATED, WINDOW_FULL
-/// or NO_MEMORY.
+/// `Listener::act` with `Act::Send`. Answers DONE, NOT_MADE, NO_FLOW, NOT_OPEN, TOO_LONG, NOT_NEGOTIATED or
+/// WINDOW_FULL.
 #[unsafe(no_mangle)]
 pub extern "C" fn dccp_listener_send(
     listener: &mut ListenerHandle,
@@ -197,7 +198,7 @@ pub extern "C" fn dccp_listener_send(
     )
 }
 
-/// `Listener::act` with `Act::Close`. Answers DONE, NOT_MADE, NO_FLOW, NOT_OPEN or NO_MEMORY.
+/// `Listener::act` with `Act::Close`. Answers DONE, NOT_MADE, NO_FLOW or NOT_OPEN.
 #[unsafe(no_mangle)]
 pub extern "C" fn dccp_listener_close(
     listener: &mut ListenerHandle,
@@ -211,7 +212,7 @@ pub extern "C" fn dccp_listener_close(
     call(listener, alloc, peer_named(peer), Act::Close, now, frame)
 }
 
-/// `Listener::act` with `Act::Abort`. Answers DONE, NOT_MADE, NO_FLOW, NOT_LIVE or NO_MEMORY.
+/// `Listener::act` with `Act::Abort`. Answers DONE, NOT_MADE, NO_FLOW or NOT_LIVE.
 #[unsafe(no_mangle)]
 pub extern "C" fn dccp_listener_abort(
     listener: &mut ListenerHandle,

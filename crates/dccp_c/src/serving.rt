@@ -1,5 +1,5 @@
 //! What a listener of C's is: the listener, the timers of its flows, and the place where it leaves its frame.
-ghost use Rattle.std.specs.Prelude.{◌≡◌, ◌≤◌, nat_lt, None, Ok, IfOk, IfSome, OnOk, OnErr, IsSome, length, slice_get, if◌then◌else◌};
+ghost use Rattle.std.specs.Prelude.{◌≡◌, ◌≤◌, nat_lt, None, Ok, IfOk, IfSome, OnOk, OnErr, IsSome, is_some, length, slice_get, if◌then◌else◌};
 ghost use Rattle.std.specs.Map.{keys_of, lookup, remove_entry};
 ghost use Rattle.std.specs.Option.{option_map};
 ghost use Rattle.dccp_uses.specs.Alarms.{with_delivery, with_progress};
@@ -40,6 +40,12 @@ fn in_flight(listener: &Listener, peer: Peer) -> u32
         Some(end) => end.in_flight(),
         None => 0,
     }
+}
+
+fn has_flow(listener: &Listener, peer: Peer) -> bool
+    ensures { result ≡ is_some (end_of_peer listener.now.flows peer) }
+{
+    listener.flow(peer).is_some()
 }
 
 fn timers_of(timers: &BTreeMap<Peer, Alarms>, peer: Peer) -> Alarms
@@ -232,7 +238,7 @@ impl Serving {
         }
     }
 
-    /// A call of a peer's end. NoMemory where it has no place for its timers, and none is to be had.
+    /// A call of a peer's end. NoMemory where it has a flow without a place for its timers, and none is to be had.
     pub(crate) fn act(
         &mut self,
         peer: Peer,
@@ -245,6 +251,11 @@ impl Serving {
         ensures unchanged { OnErr result (served self.new.listener self.new.timers.entries ≡ served self.old.listener self.old.timers.entries) }
         ensures wanting { OnErr result (WantsMemory (served self.old.listener self.old.timers.entries) peer (Calls (call_of act.entry))) }
     {
+        if !has_flow(&self.listener, peer) {
+            let refused = ask(&mut self.listener, peer, act, &mut self.out);
+            let _ = self.timers.remove(&peer);
+            return Ok(refused);
+        }
         let alarms = timers_called(&timers_of(&self.timers, peer), act, now);
         place_for(&mut self.timers, peer)?;
         let answer = ask(&mut self.listener, peer, act, &mut self.out);

@@ -1,4 +1,4 @@
-use Rattle.dccp_c.proofs.Tying.{strangers, timers_tied}
+use Rattle.dccp_c.proofs.Tying.{calls_want_none, strangers, timers_tied}
 use Rattle.dccp_c.proofs.laws.only_strangers_want_memory.Goals as goal
 
 pub returns-clause-timers : goal.returns-clause-timers
@@ -6,3 +6,6 @@ returns-clause-timers c = timers_tied
 
 pub returns-clause-memory : goal.returns-clause-memory
 returns-clause-memory c = strangers
+
+pub returns-clause-calls : goal.returns-clause-calls
+returns-clause-calls c = calls_want_none
