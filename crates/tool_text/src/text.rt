@@ -17,7 +17,7 @@ const BLOCK: usize = 128;
 pub fn is_text(bytes: &[u8], text: &[u8]) -> bool
     ensures { result ≡ bytes_eq bytes.now text.now }
 {
-    bytes == text
+    bytes.len() == text.len() && bytes == text
 }
 
 /// Puts a piece at the text's end (own). NoMemory comes where the text could not grow, and leaves it as it was.
