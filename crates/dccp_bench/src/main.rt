@@ -5,8 +5,8 @@
 //! end, and lets two ends send each other data, so that what they allocate can be counted. `ratios` and a number of
 //! rounds times marks, the writing of Ack Vectors and the taking of reports, `nonces` those of ECN-capable ends. `runs`
 //! and a number of rounds times marks in several orders, over both ways to keep runs. `ends` and a number of rounds
-//! times an end in OPEN to which packets of data come, `inboxes` the calls of a bounded inbox. `campaign` and a number
-//! of workers times a campaign.
+//! times an end in OPEN to which packets of data come, `calls` one `send` and one packet of each kind at an end beside
+//! copying its bytes, `inboxes` the calls of a bounded inbox. `campaign` and a number of workers times a campaign.
 //!
 //! `requests`, `options`, `faults` and `acks` and a number of datagrams has them come at a listener, `end` and
 //! `end-options` at one end, and `frames` makes them alone.
@@ -15,6 +15,7 @@
 #![tactic(auto)]
 
 mod arrivals;
+mod calls;
 mod campaigns;
 mod data;
 mod ends;
@@ -39,17 +40,19 @@ enum Form {
     Nonces,
     Runs,
     Ends,
+    Calls,
     Inboxes,
     Campaign,
     Arrivals(Load),
 }
 
-const FORMS: [(&str, Form); 14] = [
+const FORMS: [(&str, Form); 15] = [
     ("marks", Form::Marks),
     ("ratios", Form::Ratios),
     ("nonces", Form::Nonces),
     ("runs", Form::Runs),
     ("ends", Form::Ends),
+    ("calls", Form::Calls),
     ("inboxes", Form::Inboxes),
     ("campaign", Form::Campaign),
     ("requests", Form::Arrivals(Load::Requests)),
@@ -92,6 +95,7 @@ fn main(rt: HostRuntime) -> io::Result<()> {
         Form::Nonces => nonces::all(&rt, rounds),
         Form::Runs => runs::all(&rt, rounds),
         Form::Ends => ends::all(&rt, rounds),
+        Form::Calls => calls::all(&rt, rounds),
         Form::Inboxes => inboxes::all(&rt, rounds),
         Form::Campaign => campaigns::all(&rt, &rt, rounds),
         Form::Arrivals(load) => arrivals::all(&rt, load, rounds),
