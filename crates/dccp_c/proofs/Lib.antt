@@ -1,4 +1,3 @@
-pub mod AsBox
 pub mod Doings
 pub mod Going
 pub mod ListenerAsBox

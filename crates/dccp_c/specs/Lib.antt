@@ -2,7 +2,6 @@ pub mod Accepting
 pub mod Codes
 pub mod Doing
 pub mod Founding
-pub mod Keeping
 pub mod KeepingListener
 pub mod Listening
 pub mod Making

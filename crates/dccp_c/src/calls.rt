@@ -1,9 +1,10 @@
 //! The functions that C calls: each does one step of the end that its handle holds, and of its timers.
 ghost use Rattle.std.specs.Prelude.{◌≡◌, None};
 ghost use Rattle.feature_lists.specs.Features.{feature_numbered};
+ghost use Rattle.dccp_c_end.specs.Stepping.{bytes_in, c_aborts, c_closes, c_fires, c_opens, c_prefers, c_sends};
 ghost use Rattle.dccp_c.specs.Codes.{abort_code, close_code, open_code, place_by, send_code, timer_code, timer_coded, wish_code};
 ghost use Rattle.dccp_c.specs.Accepting.{AcceptsCode, accepted_end, as_server, accept_step, step_bytes, step_told};
-ghost use Rattle.dccp_c.specs.Doing.{c_aborts, kept_after, end_if_known, bytes_in, c_closes, code_after, code_if_known, end_in, frame_after, frame_if_known, c_opens, c_fires, c_sends, c_prefers, c_ticks, c_waits};
+ghost use Rattle.dccp_c.specs.Doing.{c_ticks, c_waits, code_after, code_if_known, end_if_known, end_in, frame_after, frame_if_known, kept_after};
 ghost use Rattle.dccp_c.specs.Making.{MakesCode, configured_by, made_of};
 ghost use Rattle.dccp_c.specs.Seeing.{feature_after, feature_code, look_code, seen_after, seen};
 ghost use Rattle.dccp_c.specs.Telling.{hear_code, hear_frame, hear_told, hears_if_short};
@@ -12,11 +13,11 @@ use crate::codes::{
     DONE, NO_CONNECTION, NO_MEMORY, NOT_MADE, NOTHING_DUE, TOO_LONG, UNKNOWN, abort_code,
     close_code, feature_of, open_code, place_of, send_code, timer_code, timer_of, wish_code,
 };
-use crate::held::{Held, first_due};
+use crate::due::first_due;
 use crate::making::{as_server, configured_by};
 use crate::readers::{seen, seen_feature};
-use crate::told::tell;
-use crate::{End, FeatureState, Frame, Settings, Told, View, Wish};
+use crate::{FeatureState, Settings, View, Wish};
+use dccp_c_end::{End, Frame, Held, Told, tell};
 use dccp_endpoint::MOST_FRAME_BYTES;
 use std::alloc::Global;
 
@@ -91,7 +92,7 @@ pub extern "C" fn dccp_accept(
 pub extern "C" fn dccp_free(end: &mut End, alloc: Global)
     ensures { end.new.kept.value ≡ None }
 {
-    drop(end.take(alloc));
+    end.clear(alloc);
 }
 
 /// `Session::open` at `now`, in milliseconds as in each call. Answers DONE, NOT_MADE or NOT_FRESH.
