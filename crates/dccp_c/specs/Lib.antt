@@ -7,5 +7,6 @@ pub mod Listening
 pub mod Making
 pub mod Seeing
 pub mod Serving
+pub mod Stepping
 pub mod Telling
 pub mod Ticking

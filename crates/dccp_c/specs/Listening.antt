@@ -12,7 +12,7 @@ use Rattle.world_events.specs.declared.event.Refusal.{Refusal}
 use Rattle.world_events.specs.declared.event.Refusal.TheVariants as refusal
 use Rattle.world_events.specs.declared.event.Seen.{Seen}
 use Rattle.world_events.specs.declared.event.Seen.TheVariants as seen
-use Rattle.dccp_c_end.specs.Stepping.{bytes_of}
+use Rattle.dccp_c_end.specs.Framing.{bytes_of}
 use Rattle.dccp_c_end.specs.Telling.{told_outcome}
 use Rattle.dccp_c_end.specs.declared.told.Told.{Told}
 use Rattle.dccp_c.specs.Codes.{timer_code}

@@ -27,6 +27,7 @@ mod making;
 mod peer;
 mod readers;
 mod serving;
+mod steps;
 
 pub use crate::laws::{calls_are_a_run, only_strangers_want_memory, ticks_are_a_tick};
 pub use crate::listener::ListenerHandle;

@@ -1,3 +1,3 @@
+pub mod Framing
 pub mod Keeping
-pub mod Stepping
 pub mod Telling

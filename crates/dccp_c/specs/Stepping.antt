@@ -1,5 +1,5 @@
 -- What a call from C does to the end that a handle holds, and to its timers (own; the steps are the end's).
-use Rattle.std.specs.Prelude.{ℕ, Bool, List, [], take, Option, Some, None, Result}
+use Rattle.std.specs.Prelude.{ℕ, Bool, List, Option, Result}
 use Rattle.ccid_two.specs.Kinds.{Both, kinds_control}
 use Rattle.congestion_trait.specs.Control.{may_send}
 use Rattle.dccp_endpoint.specs.Calling.{aborts, closes, opens, prefers}
@@ -17,7 +17,6 @@ use Rattle.end_answers.specs.declared.outcome.Outcome.{Outcome}
 use Rattle.feature_lists.specs.declared.features.Feature.{Feature}
 use Rattle.feature_lists.specs.declared.features.Place.{Place}
 use Rattle.feature_lists.specs.declared.wishes.PreferFault.{PreferFault}
-use Rattle.dccp_c_end.specs.declared.frame.Frame.{Frame}
 
 -- an end of C's, with CCID 2 or the fixed window, and the alarms of its timers
 abbrev pub CEnd : Type 0
@@ -68,12 +67,3 @@ c_aborts now s = calls kinds_control now s (with_control kinds_control s.end.con
 -- a datagram arrives (section 8.5)
 abbrev pub c_receives : List ℕ → ℕ → CDoing Outcome
 c_receives bytes now s = after_hearing kinds_control now s (with_control kinds_control s.end.congestion (receives s.end.state bytes))
-
--- the bytes of a frame, none where there is no frame
-abbrev pub bytes_of : Option (List ℕ) → List ℕ
-bytes_of None = []
-bytes_of (Some bytes) = bytes
-
--- the bytes that C finds in the frame that it gave
-abbrev pub bytes_in : Frame → List ℕ
-bytes_in frame = take frame.length frame.bytes
