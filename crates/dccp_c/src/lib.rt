@@ -29,7 +29,9 @@ mod readers;
 mod serving;
 mod steps;
 
-pub use crate::laws::{calls_are_a_run, only_strangers_want_memory, ticks_are_a_tick};
+pub use crate::laws::{
+    calls_are_a_run, only_strangers_want_memory, refused_calls_change_nothing, ticks_are_a_tick,
+};
 pub use crate::listener::ListenerHandle;
 pub use crate::making::{Settings, Wish};
 pub use crate::peer::PeerAddress;
