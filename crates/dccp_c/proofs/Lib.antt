@@ -1,4 +1,5 @@
 pub mod Doings
+pub mod Ending
 pub mod Going
 pub mod ListenerAsBox
 pub mod Placing

@@ -201,10 +201,10 @@ found-so None is = absurd (false≢true is)
 
 -- In each listener every flow has timers that need no change, and its end is not CLOSED.
 
-abbrev Rests : Alarms → FlowEnd → Type 0
+abbrev pub Rests : Alarms → FlowEnd → Type 0
 Rests alarms e = (is_given_up e.state.phase ≡ false) × ((later : ℕ) → arranged alarms (condition_of kinds_control e) later ≡ alarms)
 
-abbrev AllRest : Listening → Timers → Type 0
+abbrev pub AllRest : Listening → Timers → Type 0
 AllRest l timers = (q : Peer) → IfSome (end_of_peer l.flows q) (Rests (timers_of timers q))
 
 abbrev IsLive : FlowEnd → Type 0
@@ -297,13 +297,13 @@ module _ (now : ℕ) (peer : Peer) (l : Listening) (timers : Timers) (alarms : A
   all-rest rests after deed frame turned HadNoMemory same = stayed rests after same
 
 -- the timers stand with the flows, in order, and rest
-record IsResting (s : Served) : Type 0 where
-  tied : keys_of s.timers ≡ keys_of s.listening.flows
-  ordered : AreInOrder s.listening.flows
-  rests : AllRest s.listening s.timers
+pub record IsResting (s : Served) : Type 0 where
+  pub tied : keys_of s.timers ≡ keys_of s.listening.flows
+  pub ordered : AreInOrder s.listening.flows
+  pub rests : AllRest s.listening s.timers
 
-rests-after : (now : ℕ) (s : Served) (peer : Peer) (deed : Deed) → IsResting s → IsResting (deed_served now s peer deed)
-rests-after now s peer deed is =
+pub rests_after : (now : ℕ) (s : Served) (peer : Peer) (deed : Deed) → IsResting s → IsResting (deed_served now s peer deed)
+rests_after now s peer deed is =
     let alarms : Alarms = timers_by now s peer deed in
     let run = computed_runs s.listening ((peer, deed) ∷ []) is.ordered in
     record {
@@ -314,9 +314,12 @@ rests-after now s peer deed is =
           (listens s.listening peer deed).frame (listens s.listening peer deed).told (listens s.listening peer deed).told run.0.1);
     }
 
-rests-through : (s : Served) (deeds : List TimedDeed) → IsResting s → IsResting (served_through s deeds)
-rests-through s [] is = is
-rests-through s (it ∷ later) is = rests-through (deed_served it.now s it.peer it.deed) later (rests-after it.now s it.peer it.deed is)
+pub rests_through : (s : Served) (deeds : List TimedDeed) → IsResting s → IsResting (served_through s deeds)
+rests_through s [] is = is
+rests_through s (it ∷ later) is = rests_through (deed_served it.now s it.peer it.deed) later (rests_after it.now s it.peer it.deed is)
+
+pub resting : (config : ListenConfig) (deeds : List TimedDeed) → IsResting (served_through (serving_begins config) deeds)
+resting config deeds = rests_through (serving_begins config) deeds (record { tied = refl; ordered = none_in_order; rests = λ q. tt })
 
 module _ (now : ℕ) (s : Served) (peer : Peer) (call : FlowCall) (is : IsResting s) where
   abbrev a : Alarms
@@ -356,5 +359,4 @@ module _ (now : ℕ) (s : Served) (peer : Peer) (call : FlowCall) (is : IsRestin
 pub refused_change_nothing : RefusedCallsChangeNothing
 refused_change_nothing config deeds now peer call told =
     let s : Served = served_through (serving_begins config) deeds in
-    let is : IsResting s = rests-through (serving_begins config) deeds (record { tied = refl; ordered = none_in_order; rests = λ q. tt }) in
-    refused now s peer call is (end_of_peer s.listening.flows peer) refl told
+    refused now s peer call (resting config deeds) (end_of_peer s.listening.flows peer) refl told

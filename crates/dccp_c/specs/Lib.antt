@@ -1,6 +1,7 @@
 pub mod Accepting
 pub mod Codes
 pub mod Doing
+pub mod Ending
 pub mod Founding
 pub mod KeepingListener
 pub mod Listening

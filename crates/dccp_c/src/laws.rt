@@ -1,4 +1,5 @@
 //! What the definitions of the calls mean.
+ghost use Rattle.dccp_c.specs.Ending.{ListenerTicksEnd};
 ghost use Rattle.dccp_c.specs.Serving.{CallsAreARun, CallsWantNoMemory, OnlyStrangersWantMemory, RefusedCallsChangeNothing, TimersStandWithFlows};
 ghost use Rattle.dccp_c.specs.Ticking.{TicksAreATick};
 
@@ -26,4 +27,10 @@ pub fn only_strangers_want_memory()
 /// no timer (own).
 pub fn refused_calls_change_nothing()
     ensures { RefusedCallsChangeNothing }
+{}
+
+/// Whatever the calls before, ticks of a listener at one time come to an end: after six for each flow none of its timers
+/// has run out (own).
+pub fn ticks_of_a_listener_end()
+    ensures { ListenerTicksEnd }
 {}

@@ -31,6 +31,7 @@ mod steps;
 
 pub use crate::laws::{
     calls_are_a_run, only_strangers_want_memory, refused_calls_change_nothing, ticks_are_a_tick,
+    ticks_of_a_listener_end,
 };
 pub use crate::listener::ListenerHandle;
 pub use crate::making::{Settings, Wish};
