@@ -92,36 +92,93 @@ module _ (now : ℕ) where
   unfolding due-count
   less s timers.Request is =
       let t = timers.Request in
-      omega (arith, own s t, was s.alarms t is, other s t timers.Ack refl, other s t timers.Negotiate refl, other s t timers.Rto refl, other s t timers.Close refl, other s t timers.TimeWait refl)
+      omega (
+        arith,
+        own s t,
+        was s.alarms t is,
+        other s t timers.Ack refl,
+        other s t timers.Negotiate refl,
+        other s t timers.Rto refl,
+        other s t timers.Close refl,
+        other s t timers.TimeWait refl,
+      )
   less s timers.Ack is =
       let t = timers.Ack in
-      omega (arith, own s t, was s.alarms t is, other s t timers.Request refl, other s t timers.Negotiate refl, other s t timers.Rto refl, other s t timers.Close refl, other s t timers.TimeWait refl)
+      omega (
+        arith,
+        own s t,
+        was s.alarms t is,
+        other s t timers.Request refl,
+        other s t timers.Negotiate refl,
+        other s t timers.Rto refl,
+        other s t timers.Close refl,
+        other s t timers.TimeWait refl,
+      )
   less s timers.Negotiate is =
       let t = timers.Negotiate in
-      omega (arith, own s t, was s.alarms t is, other s t timers.Request refl, other s t timers.Ack refl, other s t timers.Rto refl, other s t timers.Close refl, other s t timers.TimeWait refl)
+      omega (
+        arith,
+        own s t,
+        was s.alarms t is,
+        other s t timers.Request refl,
+        other s t timers.Ack refl,
+        other s t timers.Rto refl,
+        other s t timers.Close refl,
+        other s t timers.TimeWait refl,
+      )
   less s timers.Rto is =
       let t = timers.Rto in
-      omega (arith, own s t, was s.alarms t is, other s t timers.Request refl, other s t timers.Ack refl, other s t timers.Negotiate refl, other s t timers.Close refl, other s t timers.TimeWait refl)
+      omega (
+        arith,
+        own s t,
+        was s.alarms t is,
+        other s t timers.Request refl,
+        other s t timers.Ack refl,
+        other s t timers.Negotiate refl,
+        other s t timers.Close refl,
+        other s t timers.TimeWait refl,
+      )
   less s timers.Close is =
       let t = timers.Close in
-      omega (arith, own s t, was s.alarms t is, other s t timers.Request refl, other s t timers.Ack refl, other s t timers.Negotiate refl, other s t timers.Rto refl, other s t timers.TimeWait refl)
+      omega (
+        arith,
+        own s t,
+        was s.alarms t is,
+        other s t timers.Request refl,
+        other s t timers.Ack refl,
+        other s t timers.Negotiate refl,
+        other s t timers.Rto refl,
+        other s t timers.TimeWait refl,
+      )
   less s timers.TimeWait is =
       let t = timers.TimeWait in
-      omega (arith, own s t, was s.alarms t is, other s t timers.Request refl, other s t timers.Ack refl, other s t timers.Negotiate refl, other s t timers.Rto refl, other s t timers.Close refl)
+      omega (
+        arith,
+        own s t,
+        was s.alarms t is,
+        other s t timers.Request refl,
+        other s t timers.Ack refl,
+        other s t timers.Negotiate refl,
+        other s t timers.Rto refl,
+        other s t timers.Close refl,
+      )
 
   -- of one that has run out what a session tells is what its end is told
-  told-so : (s : CEnd) (timer : Timer) → has_run_out (alarm_of s.alarms timer) now ≡ true → told s timer ≡ (tells_end kinds_control now s timer).session.alarms
+  told-so : (s : CEnd) (timer : Timer) → has_run_out (alarm_of s.alarms timer) now ≡ true
+      → told s timer ≡ (tells_end kinds_control now s timer).session.alarms
   told-so s timer is =
       ap (λ (due : Bool). (if due then tells_end kinds_control now s timer else record { session = s; frame = None; answer = false }).session.alarms) is
 
   first-by : (alarms : Alarms) (one timer : Timer) (rest : List Timer) (here : Bool) → has_run_out (alarm_of alarms one) now ≡ here
-      → (if here then Some one else first_due alarms now rest) ≡ Some timer → (first_due alarms now rest ≡ Some timer → has_run_out (alarm_of alarms timer) now ≡ true)
+      → (if here then Some one else first_due alarms now rest) ≡ Some timer
+      → (first_due alarms now rest ≡ Some timer → has_run_out (alarm_of alarms timer) now ≡ true)
       → has_run_out (alarm_of alarms timer) now ≡ true
   first-by alarms one timer rest true is found later =
       subst (λ (t : Timer). has_run_out (alarm_of alarms t) now ≡ true) (ap (λ (t : Option Timer). unwrap_or t one) found) is
   first-by alarms one timer rest false is found later = later found
 
-  first-is-due : (alarms : Alarms) (timer : Timer) (list : List Timer) → first_due alarms now list ≡ Some timer → has_run_out (alarm_of alarms timer) now ≡ true
+  first-is-due : (alarms : Alarms) (timer : Timer) (list : List Timer) → first_due alarms now list ≡ Some timer
+      → has_run_out (alarm_of alarms timer) now ≡ true
   first-is-due alarms timer [] found = cc found
   first-is-due alarms timer (one ∷ rest) found =
       first-by alarms one timer rest (has_run_out (alarm_of alarms one) now) refl found (first-is-due alarms timer rest)
@@ -131,8 +188,8 @@ module _ (now : ℕ) where
   abbrev IsItsFirst : Timers → Peer × Timer → Type 0
   IsItsFirst list it = (v : Alarms) × (lookup (is_peer it.0) list ≡ Some v) × (first_due v now every_timer ≡ Some it.1)
 
-  skipped : (one : Peer × Alarms) (rest : Timers) (it : Peer × Timer) → IsStrictlySortedBy peer_cmp (keys_of (one ∷ rest)) → (here : Bool) → is_peer it.0 one.0 ≡ here
-      → IsItsFirst rest it → IsItsFirst (one ∷ rest) it
+  skipped : (one : Peer × Alarms) (rest : Timers) (it : Peer × Timer) → IsStrictlySortedBy peer_cmp (keys_of (one ∷ rest)) → (here : Bool)
+      → is_peer it.0 one.0 ≡ here → IsItsFirst rest it → IsItsFirst (one ∷ rest) it
   unfolding IsStrictlySortedBy
   skipped one rest it ordered true is found =
       let among : list_any (is_peer one.0) (keys_of rest) ≡ true =
@@ -142,8 +199,8 @@ module _ (now : ℕ) where
   skipped one rest it ordered false is found = (found.0, ap (λ (b : Bool). cond b (Some one.1) (lookup (is_peer it.0) rest)) is ∙ found.1, found.2)
 
   its-by : (one : Peer × Alarms) (rest : Timers) (it : Peer × Timer) → IsStrictlySortedBy peer_cmp (keys_of (one ∷ rest)) → (first : Option Timer)
-      → first_due one.1 now every_timer ≡ first → due_or one.0 first (first_due_flow now rest) ≡ Some it → (first_due_flow now rest ≡ Some it → IsItsFirst rest it)
-      → IsItsFirst (one ∷ rest) it
+      → first_due one.1 now every_timer ≡ first → due_or one.0 first (first_due_flow now rest) ≡ Some it
+      → (first_due_flow now rest ≡ Some it → IsItsFirst rest it) → IsItsFirst (one ∷ rest) it
   its-by one rest it ordered (Some timer) is found later =
       let same : (one.0, timer) ≡ it = ap (λ (x : Option (Peer × Timer)). unwrap_or x (one.0, timer)) found in
       subst (λ (x : Peer × Timer). IsItsFirst (one ∷ rest) x) same
@@ -186,8 +243,8 @@ module _ (now : ℕ) where
   is-stepped WasBusy = false
   is-stepped HadNoMemory = false
 
-  end-then : (l after : Listening) (peer : Peer) (timer : Timer) (e : FlowEnd) (frame : Option (List ℕ)) (turned told : CallTold) → end_of_peer l.flows peer ≡ Some e
-      → is-stepped told ≡ true → IsTurnSo l after (record { peer = peer; deed = Calls (Fires timer); frame = frame; told = turned }) told
+  end-then : (l after : Listening) (peer : Peer) (timer : Timer) (e : FlowEnd) (frame : Option (List ℕ)) (turned told : CallTold)
+      → end_of_peer l.flows peer ≡ Some e → is-stepped told ≡ true → IsTurnSo l after (record { peer = peer; deed = Calls (Fires timer); frame = frame; told = turned }) told
       → end_of_peer after.flows peer
       ≡ (if is_given_up (flow_step e (Calls (Fires timer))).after.state.phase then None else Some (flow_step e (Calls (Fires timer))).after)
   unfolding is-stepped
@@ -216,7 +273,7 @@ module _ (now : ℕ) where
         in
         let left : end_of_peer (listening_after s.listening peer (Calls (Fires timer))).flows peer ≡ (if over then None else Some next) =
         ap (λ (l : Listening). end_of_peer l.flows peer) run.0.2
-        ∙ end-then s.listening run.0.0 peer timer e (listens s.listening peer (Calls (Fires timer))).frame (listens s.listening peer (Calls (Fires timer))).told
+        ∙ end-then s.listening run.0.0 peer timer e _ (listens s.listening peer (Calls (Fires timer))).told
         (listens s.listening peer (Calls (Fires timer))).told found stepped run.0.1
         in
         let of-v : timers_of s.timers peer ≡ v = ap (λ (x : Option Alarms). unwrap_or x no_alarms) at in
