@@ -1,12 +1,11 @@
 -- Ticks of a listener come to an end: each leaves fewer timers that have run out.
-use Rattle.std.proofs.Common.{◌≡◌, refl, sym, ap, ◌∙◌, subst, ℕ, zero, suc, ◌+◌, ◌*◌, ◌≤◌, Bool, true, false, cond, if◌then◌else◌, List, [], ◌∷◌, length, Option, Some, None, is_some, IsSome, IfSome, arith}
+use Rattle.std.proofs.Common.{◌≡◌, refl, sym, ap, ◌∙◌, subst, ℕ, zero, suc, ◌+◌, ◌*◌, ◌≤◌, Bool, true, false, cond, if◌then◌else◌, List, [], ◌∷◌, length, Option, Some, None, is_some, IsSome, arith}
 use Rattle.std.proofs.lemmas.Bool.{false≢true}
 use Rattle.std.proofs.lemmas.List.Sums.{sum_by-cons}
 use Rattle.std.proofs.lemmas.Map.Entries.{length-keys_of, sum_by-insert_entry, sum_by-remove_entry}
-use Rattle.std.specs.BTreeMap.{insert_entry}
 use Rattle.std.specs.List.{list_any, sum_by}
 use Rattle.std.specs.List.Sorted.{IsStrictlySortedBy}
-use Rattle.std.specs.Map.{keys_of, lookup, remove_entry, values_of}
+use Rattle.std.specs.Map.{keys_of, lookup, values_of}
 use Rattle.std.specs.Option.{option_map}
 use Rattle.std.specs.Prelude.{unwrap_or}
 use Rattle.ccid_two.specs.Kinds.{kinds_control}
@@ -25,7 +24,7 @@ use Rattle.end_answers.specs.declared.calls.Timer.{Timer}
 use Rattle.end_answers.specs.declared.calls.Timer.TheVariants as timers
 use Rattle.dccp_c.specs.Doing.{first_due}
 use Rattle.dccp_c.specs.Ending.{ListenerTicksEnd, due_served, listener_ticked}
-use Rattle.dccp_c.specs.Serving.{Served, Timers, deed_served, due_or, first_due_flow, served_through, serving_begins, timers_by, timers_of, timers_then}
+use Rattle.dccp_c.specs.Serving.{Served, Timers, deed_served, due_or, first_due_flow, served_through, serving_begins, timers_of, timers_then}
 use Rattle.dccp_c.specs.Stepping.{CEnd}
 use Rattle.dccp_c.proofs.Refusing.{IsResting, rests_after, resting}
 use Rattle.dccp_c.proofs.Tying.{found_among, not_among}

@@ -1,5 +1,5 @@
 -- A call that is refused changes nothing, neither the listener nor the timers of its flows.
-use Rattle.std.proofs.Common.{◌≡◌, refl, sym, ap, ◌∙◌, subst, ℕ, Bool, true, false, cond, ◌||◌, if◌then◌else◌, List, [], ◌∷◌, Option, Some, None, is_some, IsSome, IfSome, Result, Ok, Err, Ordering, Less, Equal, Greater, is_eq}
+use Rattle.std.proofs.Common.{◌≡◌, refl, sym, ap, ◌∙◌, subst, ℕ, Bool, true, false, cond, if◌then◌else◌, List, [], ◌∷◌, Option, Some, None, is_some, IsSome, IfSome, Ordering, Less, Equal, Greater, is_eq}
 use Rattle.std.proofs.lemmas.Bool.{false≢true}
 use Rattle.std.proofs.lemmas.Map.{lookup-remove_entry}
 use Rattle.std.proofs.lemmas.Map.Keys.{IsDistinct-from_sorted}
@@ -25,14 +25,13 @@ use Rattle.end_answers.specs.declared.calls.Timer.{Timer}
 use Rattle.end_answers.specs.declared.calls.Timer.TheVariants as timers
 use Rattle.dccp_listener.proofs.Computing.{computed_runs}
 use Rattle.dccp_listener.proofs.OnePeer.{exact_peers, one_peer, peers_alike}
-use Rattle.dccp_listener.specs.Calls.{IsStep}
 use Rattle.dccp_listener.specs.Chain.{Aborts, Arrives, Calls, ChainStep, Closes, Deed, Fires, FlowCall, Sends, chain_step, flow_step, fresh_end, is_flow, is_given_up}
 use Rattle.dccp_listener.specs.Listens.{AreInOrder, listens, listens_by, with_end}
 use Rattle.dccp_listener.specs.Peers.{FlowEnd, Flows, Listening, end_of_peer, is_peer, peer_cmp}
 use Rattle.dccp_listener.specs.Runs.{CallTold, HadNoMemory, IsTurnSo, Stepped, WasBusy}
 use Rattle.dccp_listener.specs.declared.config.ListenConfig.{ListenConfig}
 use Rattle.dccp_listener.specs.declared.peer.Peer.{Peer}
-use Rattle.dccp_uses.specs.Alarms.{alarm_after, alarm_of, arranged, arranged_alarm, no_alarms, runs_in, starting_wait}
+use Rattle.dccp_uses.specs.Alarms.{alarm_after, arranged, arranged_alarm, no_alarms, runs_in}
 use Rattle.dccp_uses.specs.Session.{condition_of}
 use Rattle.dccp_uses.specs.declared.alarms.Alarm.{Alarm}
 use Rattle.dccp_uses.specs.declared.alarms.Alarms.{Alarms}
@@ -288,13 +287,13 @@ module _ (now : ℕ) (peer : Peer) (l : Listening) (timers : Timers) (alarms : A
 
   all-rest : AllRest l timers → (after : Listening) (deed : Deed) (frame : Option (List ℕ)) (turned told : CallTold)
       → IsTurnSo l after (record { peer = peer; deed = deed; frame = frame; told = turned }) told → AllRest after (then' (end_of_peer after.flows peer))
-  all-rest rests after deed frame turned (Stepped it) step q =
-      by-peer rests after
+  all-rest rests next deed frame turned (Stepped it) step q =
+      by-peer rests next
       (subst (λ (x : Option FlowEnd). IfSome x IsLive) (sym (ap (λ (s : ChainStep). s.after) step.own))
       (chain-lives l.config peer (end_of_peer l.flows peer) deed))
       step.others q (is_peer peer q) refl
-  all-rest rests after deed frame turned WasBusy same = stayed rests after same
-  all-rest rests after deed frame turned HadNoMemory same = stayed rests after same
+  all-rest rests next deed frame turned WasBusy same q = stayed rests next same q
+  all-rest rests next deed frame turned HadNoMemory same q = stayed rests next same q
 
 -- the timers stand with the flows, in order, and rest
 pub record IsResting (s : Served) : Type 0 where
