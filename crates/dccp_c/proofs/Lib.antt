@@ -1,8 +1,9 @@
-pub mod AsBox
 pub mod Doings
+pub mod Ending
 pub mod Going
 pub mod ListenerAsBox
 pub mod Placing
+pub mod Refusing
 pub mod Through
 pub mod Ticking
 pub mod Tying

@@ -52,9 +52,9 @@ module _ (peer : Peer) where
   none-by one rest true none later = cc none
   none-by one rest false none later = ap (λ (t : Timers). one ∷ t) (later none)
 
-  none-gone : (timers : Timers) → lookup (is_peer peer) timers ≡ None → gone timers ≡ timers
-  none-gone [] none = refl
-  none-gone (one ∷ rest) none = none-by one rest (is_peer peer one.0) none (none-gone rest)
+  pub none_gone : (timers : Timers) → lookup (is_peer peer) timers ≡ None → gone timers ≡ timers
+  none_gone [] none = refl
+  none_gone (one ∷ rest) none = none-by one rest (is_peer peer one.0) none (none_gone rest)
 
   -- one that was put there is
   rest-none : (one : Peer × Alarms) (rest : Timers) (here : Bool) → cond here (Some one.1) (lookup (is_peer peer) rest) ≡ None → lookup (is_peer peer) rest ≡ None
@@ -82,7 +82,7 @@ undone peer before after is = ap (λ (t : Timers). remove_entry (is_peer peer) t
 
 then-from : (now : ℕ) (peer : Peer) (before : Timers) (end : Option FlowEnd) (alarms : Alarms) → lookup (is_peer peer) before ≡ None
     → timers_then now (insert_entry peer_cmp before peer no_alarms) peer end alarms ≡ timers_then now before peer end alarms
-then-from now peer before None alarms none = put-gone peer no_alarms before none ∙ sym (none-gone peer before none)
+then-from now peer before None alarms none = put-gone peer no_alarms before none ∙ sym (none_gone peer before none)
 then-from now peer before (Some e) alarms none = put-twice peer no_alarms _ before
 
 pub then_placed : (now : ℕ) (had : Bool) (before after : Timers) (peer : Peer) (end : Option FlowEnd) (alarms : Alarms) → IsPlaced had before after peer

@@ -66,13 +66,13 @@ module _ {X : Type 0} where
   among-by v rest others true is = refl
   among-by v rest others false is = is
 
-  found-among : (test : Peer → Bool) (xs : List (Peer × X)) → is_some (lookup test xs) ≡ list_any test (keys_of xs)
-  found-among test [] = refl
-  found-among test (x ∷ xs) = among-by x.1 (lookup test xs) (list_any test (keys_of xs)) (test x.0) (found-among test xs)
+  pub found_among : (test : Peer → Bool) (xs : List (Peer × X)) → is_some (lookup test xs) ≡ list_any test (keys_of xs)
+  found_among test [] = refl
+  found_among test (x ∷ xs) = among-by x.1 (lookup test xs) (list_any test (keys_of xs)) (test x.0) (found_among test xs)
 
-  none-from : (found : Option X) → is_some found ≡ false → found ≡ None
-  none-from None is = refl
-  none-from (Some v) is = absurd (false≢true (sym is))
+  pub none_from : (found : Option X) → is_some found ≡ false → found ≡ None
+  none_from None is = refl
+  none_from (Some v) is = absurd (false≢true (sym is))
 
 -- one that is not there is not taken out
 stays-by : (test : Peer → Bool) (k : Peer) (ks : List Peer) (here : Bool) → (here || list_any test ks) ≡ false
@@ -86,19 +86,19 @@ stays test [] none = refl
 stays test (k ∷ ks) none = stays-by test k ks (test k) none (stays test ks)
 
 -- and one that is there is not put twice
-all-after : (peer k : Peer) (ks : List Peer) → peer_cmp peer k ≡ Less → AllByRecursion (λ other. peer_cmp k other ≡ Less) ks
+pub all_after : (peer k : Peer) (ks : List Peer) → peer_cmp peer k ≡ Less → AllByRecursion (λ other. peer_cmp k other ≡ Less) ks
     → AllByRecursion (λ other. peer_cmp peer other ≡ Less) ks
-all-after peer k [] is all = tt
-all-after peer k (other ∷ ks) is all = (peers_total.trans peer k other is all.0, all-after peer k ks is all.1)
+all_after peer k [] is all = tt
+all_after peer k (other ∷ ks) is all = (peers_total.trans peer k other is all.0, all_after peer k ks is all.1)
 
-not-among : (peer : Peer) (ks : List Peer) → AllByRecursion (λ other. peer_cmp peer other ≡ Less) ks → list_any (is_peer peer) ks ≡ false
-not-among peer [] all = refl
-not-among peer (k ∷ ks) all = ap (λ (o : Ordering). is_eq o || list_any (is_peer peer) ks) all.0 ∙ not-among peer ks all.1
+pub not_among : (peer : Peer) (ks : List Peer) → AllByRecursion (λ other. peer_cmp peer other ≡ Less) ks → list_any (is_peer peer) ks ≡ false
+not_among peer [] all = refl
+not_among peer (k ∷ ks) all = ap (λ (o : Ordering). is_eq o || list_any (is_peer peer) ks) all.0 ∙ not_among peer ks all.1
 
 once-by : (peer k : Peer) (ks : List Peer) (o : Ordering) → peer_cmp peer k ≡ o → AllByRecursion (λ other. peer_cmp k other ≡ Less) ks
     → (is_eq o || list_any (is_peer peer) ks) ≡ true → (list_any (is_peer peer) ks ≡ true → with-peer ks peer ≡ ks)
     → match_ordering o (peer ∷ k ∷ ks) (k ∷ ks) (k ∷ with-peer ks peer) ≡ k ∷ ks
-once-by peer k ks Less is all there later = absurd (false≢true (sym (not-among peer ks (all-after peer k ks is all)) ∙ there))
+once-by peer k ks Less is all there later = absurd (false≢true (sym (not_among peer ks (all_after peer k ks is all)) ∙ there))
 once-by peer k ks Equal is all there later = refl
 once-by peer k ks Greater is all there later = ap (λ (l : List Peer). k ∷ l) (later there)
 
@@ -118,7 +118,7 @@ module _ (now : ℕ) (peer : Peer) (timers : Timers) (alarms : Alarms) where
   untouched : (flows : Flows) → keys_of timers ≡ keys_of flows → end_of_peer flows peer ≡ None → then' (end_of_peer flows peer) ≡ keys_of flows
   untouched flows tied none =
       ap then' none ∙ keys-without (is_peer peer) timers ∙ ap (without (is_peer peer)) tied
-      ∙ stays (is_peer peer) (keys_of flows) (sym (found-among (is_peer peer) flows) ∙ ap is_some none)
+      ∙ stays (is_peer peer) (keys_of flows) (sym (found_among (is_peer peer) flows) ∙ ap is_some none)
 
   stepped : (flows : Flows) (e : FlowEnd) (over : Bool) → keys_of timers ≡ keys_of flows → AreInOrder flows → IsSome (end_of_peer flows peer)
       → then' (end_of_peer (if over then remove_entry (is_peer peer) flows else set_value (is_peer peer) flows e) peer)
@@ -132,7 +132,7 @@ module _ (now : ℕ) (peer : Peer) (timers : Timers) (alarms : Alarms) where
       ap then'
       (lookup-set_value peers_alike (is_peer peer) (peers_alike.congr peer) peer e flows there
       ∙ ap (λ (b : Bool). cond b (Some e) (end_of_peer flows peer)) (peers_alike.refl peer))
-      ∙ put e ∙ ap (λ (ks : List Peer). with-peer ks peer) tied ∙ once peer (keys_of flows) ordered (sym (found-among (is_peer peer) flows) ∙ there)
+      ∙ put e ∙ ap (λ (ks : List Peer). with-peer ks peer) tied ∙ once peer (keys_of flows) ordered (sym (found_among (is_peer peer) flows) ∙ there)
       ∙ sym (keys-set_value (is_peer peer) flows e)
 
   met : (l : Listening) (iss : ℕ) (bytes : List ℕ) (step : EndStep Both Answer) (stays full : Bool) → keys_of timers ≡ keys_of l.flows
@@ -154,12 +154,16 @@ module _ (now : ℕ) (peer : Peer) (timers : Timers) (alarms : Alarms) where
       (is_flow (flow_step (fresh_end l.config peer iss bytes) (Arrives iss bytes)).after.state.phase) (is_table_full l) tied is
   tied-by l None (Calls call) is tied ordered = untouched l.flows tied is
 
+pub tied_after : (now : ℕ) (s : Served) (peer : Peer) (deed : Deed) → keys_of s.timers ≡ keys_of s.listening.flows → AreInOrder s.listening.flows
+    → keys_of (deed_served now s peer deed).timers ≡ keys_of (deed_served now s peer deed).listening.flows
+tied_after now s peer deed tied ordered =
+    tied-by now peer s.timers (timers_by now s peer deed) s.listening (end_of_peer s.listening.flows peer) deed refl tied ordered
+
 tied-through : (s : Served) (deeds : List TimedDeed) → keys_of s.timers ≡ keys_of s.listening.flows → AreInOrder s.listening.flows
     → keys_of (served_through s deeds).timers ≡ keys_of (served_through s deeds).listening.flows
 tied-through s [] tied ordered = tied
 tied-through s (it ∷ later) tied ordered =
-    tied-through (deed_served it.now s it.peer it.deed) later
-    (tied-by it.now it.peer s.timers (timers_by it.now s it.peer it.deed) s.listening (end_of_peer s.listening.flows it.peer) it.deed refl tied ordered)
+    tied-through (deed_served it.now s it.peer it.deed) later (tied_after it.now s it.peer it.deed tied ordered)
     (computed_runs s.listening ((it.peer, it.deed) ∷ []) ordered).1
 
 pub timers_tied : TimersStandWithFlows
@@ -168,8 +172,8 @@ timers_tied config deeds = tied-through (serving_begins config) deeds refl none_
 no-flow : (s : Served) (peer : Peer) → keys_of s.timers ≡ keys_of s.listening.flows → lookup (is_peer peer) s.timers ≡ None
     → end_of_peer s.listening.flows peer ≡ None
 no-flow s peer tied none =
-    none-from (end_of_peer s.listening.flows peer)
-    (found-among (is_peer peer) s.listening.flows ∙ ap (list_any (is_peer peer)) (sym tied) ∙ sym (found-among (is_peer peer) s.timers) ∙ ap is_some none)
+    none_from (end_of_peer s.listening.flows peer)
+    (found_among (is_peer peer) s.listening.flows ∙ ap (list_any (is_peer peer)) (sym tied) ∙ sym (found_among (is_peer peer) s.timers) ∙ ap is_some none)
 
 stranger-by : (s : Served) (peer : Peer) (iss : ℕ) (bytes : List ℕ) → keys_of s.timers ≡ keys_of s.listening.flows
     → WantsMemory s peer (Arrives iss bytes) → end_of_peer s.listening.flows peer ≡ None

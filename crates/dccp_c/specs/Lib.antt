@@ -1,12 +1,13 @@
 pub mod Accepting
 pub mod Codes
 pub mod Doing
+pub mod Ending
 pub mod Founding
-pub mod Keeping
 pub mod KeepingListener
 pub mod Listening
 pub mod Making
 pub mod Seeing
 pub mod Serving
+pub mod Stepping
 pub mod Telling
 pub mod Ticking

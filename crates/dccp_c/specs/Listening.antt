@@ -12,13 +12,15 @@ use Rattle.world_events.specs.declared.event.Refusal.{Refusal}
 use Rattle.world_events.specs.declared.event.Refusal.TheVariants as refusal
 use Rattle.world_events.specs.declared.event.Seen.{Seen}
 use Rattle.world_events.specs.declared.event.Seen.TheVariants as seen
+use Rattle.dccp_c_end.specs.Framing.{bytes_of}
+use Rattle.dccp_c_end.specs.Telling.{told_outcome}
+use Rattle.dccp_c_end.specs.declared.told.Told.{Told}
 use Rattle.dccp_c.specs.Codes.{timer_code}
-use Rattle.dccp_c.specs.Doing.{bytes_of, never}
+use Rattle.dccp_c.specs.Doing.{never}
 use Rattle.dccp_c.specs.KeepingListener.{InnerListener}
 use Rattle.dccp_c.specs.Seeing.{seen as seen_end}
 use Rattle.dccp_c.specs.Serving.{Served, WantsMemory, deed_served, first_due_flow, least_wait, served}
-use Rattle.dccp_c.specs.Telling.{is_short, told_outcome}
-use Rattle.dccp_c.specs.declared.told.Told.{Told}
+use Rattle.dccp_c.specs.Telling.{is_short}
 use Rattle.dccp_c.specs.declared.peer.PeerAddress.{PeerAddress}
 use Rattle.dccp_c.specs.declared.readers.View.{View}
 

@@ -16,7 +16,7 @@ use Rattle.feature_lists.specs.declared.wishes.PreferFault.{PreferFault}
 use Rattle.feature_lists.specs.declared.wishes.Wanted.{Wanted}
 use Rattle.feature_machine.specs.Lists.{with_offer, with_wish, without_offers}
 use Rattle.dccp_c.specs.Codes.{place_by, wish_code}
-use Rattle.dccp_c.specs.Doing.{CEnd}
+use Rattle.dccp_c.specs.Stepping.{CEnd}
 use Rattle.dccp_c.specs.declared.making.Settings.{Settings}
 use Rattle.dccp_c.specs.declared.making.Wish.{Wish}
 

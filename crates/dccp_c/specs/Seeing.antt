@@ -6,7 +6,7 @@ use Rattle.dccp_endpoint.specs.End.{held_of, marked_of}
 use Rattle.feature_lists.specs.declared.features.Feature.{Feature}
 use Rattle.feature_lists.specs.declared.features.Place.{Place}
 use Rattle.dccp_c.specs.Codes.{phase_code, stand_code}
-use Rattle.dccp_c.specs.Doing.{CEnd}
+use Rattle.dccp_c.specs.Stepping.{CEnd}
 use Rattle.dccp_c.specs.declared.readers.FeatureState.{FeatureState}
 use Rattle.dccp_c.specs.declared.readers.View.{View}
 

@@ -1,5 +1,5 @@
 -- What a listener of C's does with a peer, and the timers of its flows (own; the flows are the listener's).
-use Rattle.std.specs.Prelude.{◌≡◌, ◌⊎◌, nat_lt, ℕ, Bool, true, false, List, [], ◌∷◌, map, Option, Some, None, IsSome, min, unwrap_or}
+use Rattle.std.specs.Prelude.{◌≡◌, ◌⊎◌, nat_lt, ℕ, Bool, true, false, List, [], ◌∷◌, map, Option, Some, None, IsSome, Err, min, unwrap_or}
 use Rattle.std.specs.BTreeMap.{insert_entry}
 use Rattle.std.specs.Map.{keys_of, lookup, remove_entry}
 use Rattle.ccid_two.specs.Kinds.{kinds_control}
@@ -14,7 +14,7 @@ use Rattle.dccp_uses.specs.Alarms.{arranged, no_alarms, rung, until_first, with_
 use Rattle.dccp_uses.specs.Session.{condition_of, every_timer, is_delivery}
 use Rattle.dccp_uses.specs.declared.alarms.Alarms.{Alarms}
 use Rattle.end_answers.specs.declared.calls.Timer.{Timer}
-use Rattle.world_events.specs.declared.event.Seen.TheVariants.{Received}
+use Rattle.world_events.specs.declared.event.Seen.TheVariants.{Called, Received}
 use Rattle.dccp_c.specs.Doing.{first_due, never}
 
 -- the timers of each peer that has a flow, in the order of the peers
@@ -149,3 +149,16 @@ abbrev pub CallsWantNoMemory : Type 0
 CallsWantNoMemory =
     (config : ListenConfig) (deeds : List TimedDeed) (peer : Peer) (call : FlowCall)
     → WantsMemory (served_through (serving_begins config) deeds) peer (Calls call) → ⊥
+
+-- the peer's end has refused the call, or there is none
+abbrev pub is_refusal : CallTold → Bool
+is_refusal (Stepped None) = true
+is_refusal (Stepped (Some (Called (Err fault)))) = true
+is_refusal _ = false
+
+-- A call that is refused leaves the listener and the timers of all flows as they were, whatever was done before.
+abbrev pub RefusedCallsChangeNothing : Type 0
+RefusedCallsChangeNothing =
+    (config : ListenConfig) (deeds : List TimedDeed) (now : ℕ) (peer : Peer) (call : FlowCall)
+    → is_refusal (listens (served_through (serving_begins config) deeds).listening peer (Calls call)).told ≡ true
+    → deed_served now (served_through (serving_begins config) deeds) peer (Calls call) ≡ served_through (serving_begins config) deeds

@@ -2,7 +2,8 @@
 use Rattle.std.specs.Prelude.{◌≡◌, ℕ, zero, suc, false}
 use Rattle.ccid_two.specs.Kinds.{kinds_control}
 use Rattle.dccp_uses.specs.Session.{every_timer, rings_each}
-use Rattle.dccp_c.specs.Doing.{CEnd, c_ticks}
+use Rattle.dccp_c.specs.Doing.{c_ticks}
+use Rattle.dccp_c.specs.Stepping.{CEnd}
 
 -- an end after so many ticks at one time
 abbrev pub ticked : ℕ → ℕ → CEnd → CEnd

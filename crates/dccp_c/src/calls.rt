@@ -1,22 +1,25 @@
 //! The functions that C calls: each does one step of the end that its handle holds, and of its timers.
 ghost use Rattle.std.specs.Prelude.{◌≡◌, None};
 ghost use Rattle.feature_lists.specs.Features.{feature_numbered};
+ghost use Rattle.dccp_c_end.specs.Framing.{bytes_in};
 ghost use Rattle.dccp_c.specs.Codes.{abort_code, close_code, open_code, place_by, send_code, timer_code, timer_coded, wish_code};
 ghost use Rattle.dccp_c.specs.Accepting.{AcceptsCode, accepted_end, as_server, accept_step, step_bytes, step_told};
-ghost use Rattle.dccp_c.specs.Doing.{c_aborts, kept_after, end_if_known, bytes_in, c_closes, code_after, code_if_known, end_in, frame_after, frame_if_known, c_opens, c_fires, c_sends, c_prefers, c_ticks, c_waits};
+ghost use Rattle.dccp_c.specs.Doing.{c_ticks, c_waits, code_after, code_if_known, end_if_known, end_in, frame_after, frame_if_known, kept_after};
 ghost use Rattle.dccp_c.specs.Making.{MakesCode, configured_by, made_of};
 ghost use Rattle.dccp_c.specs.Seeing.{feature_after, feature_code, look_code, seen_after, seen};
+ghost use Rattle.dccp_c.specs.Stepping.{c_aborts, c_closes, c_fires, c_opens, c_prefers, c_sends};
 ghost use Rattle.dccp_c.specs.Telling.{hear_code, hear_frame, hear_told, hears_if_short};
 
 use crate::codes::{
     DONE, NO_CONNECTION, NO_MEMORY, NOT_MADE, NOTHING_DUE, TOO_LONG, UNKNOWN, abort_code,
     close_code, feature_of, open_code, place_of, send_code, timer_code, timer_of, wish_code,
 };
-use crate::held::{Held, first_due};
+use crate::due::first_due;
 use crate::making::{as_server, configured_by};
 use crate::readers::{seen, seen_feature};
-use crate::told::tell;
-use crate::{End, FeatureState, Frame, Settings, Told, View, Wish};
+use crate::steps::{abort, close, fire, is_listening, new_end, open, prefer, receive, send};
+use crate::{FeatureState, Settings, View, Wish};
+use dccp_c_end::{End, Frame, Told, tell};
 use dccp_endpoint::MOST_FRAME_BYTES;
 use std::alloc::Global;
 
@@ -37,7 +40,7 @@ pub extern "C" fn dccp_make(
         Ok(config) => config,
         Err(code) => return code,
     };
-    match Held::new(alloc, config) {
+    match new_end(alloc, config) {
         Ok(held) => {
             end.put(held);
             DONE
@@ -74,12 +77,12 @@ pub extern "C" fn dccp_accept(
     if MOST_FRAME_BYTES < datagram.len() {
         return TOO_LONG;
     }
-    let Ok(mut held) = Held::new(alloc, config) else {
+    let Ok(mut held) = new_end(alloc, config) else {
         return NO_MEMORY;
     };
-    tell(&held.receive(datagram, now), told);
+    tell(&receive(&mut held, datagram, now), told);
     frame.fill(&held.out);
-    if held.is_listening() {
+    if is_listening(&held) {
         return NO_CONNECTION;
     }
     end.put(held);
@@ -91,7 +94,7 @@ pub extern "C" fn dccp_accept(
 pub extern "C" fn dccp_free(end: &mut End, alloc: Global)
     ensures { end.new.kept.value ≡ None }
 {
-    drop(end.take(alloc));
+    end.clear(alloc);
 }
 
 /// `Session::open` at `now`, in milliseconds as in each call. Answers DONE, NOT_MADE or NOT_FRESH.
@@ -105,7 +108,7 @@ pub extern "C" fn dccp_open(end: &mut End, alloc: Global, now: u64, frame: &mut 
         frame.clear();
         return NOT_MADE;
     };
-    let answer = held.open(now);
+    let answer = open(&mut held, now);
     frame.fill(&held.out);
     end.put(held);
     open_code(&answer)
@@ -128,7 +131,7 @@ pub extern "C" fn dccp_send(
         frame.clear();
         return NOT_MADE;
     };
-    let answer = held.send(payload, now);
+    let answer = send(&mut held, payload, now);
     frame.fill(&held.out);
     end.put(held);
     send_code(&answer)
@@ -145,7 +148,7 @@ pub extern "C" fn dccp_close(end: &mut End, alloc: Global, now: u64, frame: &mut
         frame.clear();
         return NOT_MADE;
     };
-    let answer = held.close(now);
+    let answer = close(&mut held, now);
     frame.fill(&held.out);
     end.put(held);
     close_code(&answer)
@@ -162,7 +165,7 @@ pub extern "C" fn dccp_abort(end: &mut End, alloc: Global, now: u64, frame: &mut
         frame.clear();
         return NOT_MADE;
     };
-    let answer = held.abort(now);
+    let answer = abort(&mut held, now);
     frame.fill(&held.out);
     end.put(held);
     abort_code(&answer)
@@ -190,7 +193,7 @@ pub extern "C" fn dccp_prefer(
     let Some(mut held) = end.take(alloc) else {
         return NOT_MADE;
     };
-    let answer = held.prefer(feature, place_of(at_peer), values, now);
+    let answer = prefer(&mut held, feature, place_of(at_peer), values, now);
     frame.fill(&held.out);
     end.put(held);
     wish_code(&answer)
@@ -217,7 +220,7 @@ pub extern "C" fn dccp_timer(
     let Some(mut held) = end.take(alloc) else {
         return NOT_MADE;
     };
-    let applies = held.timer(timer, now);
+    let applies = fire(&mut held, timer, now);
     frame.fill(&held.out);
     end.put(held);
     timer_code(applies)
@@ -238,7 +241,7 @@ pub extern "C" fn dccp_tick(end: &mut End, alloc: Global, now: u64, frame: &mut 
         end.put(held);
         return NOTHING_DUE;
     };
-    let _ = held.timer(timer, now);
+    let _ = fire(&mut held, timer, now);
     frame.fill(&held.out);
     end.put(held);
     DONE
@@ -281,7 +284,7 @@ pub extern "C" fn dccp_receive(
     let Some(mut held) = end.take(alloc) else {
         return NOT_MADE;
     };
-    let outcome = held.receive(datagram, now);
+    let outcome = receive(&mut held, datagram, now);
     tell(&outcome, told);
     frame.fill(&held.out);
     end.put(held);

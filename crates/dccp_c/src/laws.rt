@@ -1,5 +1,6 @@
 //! What the definitions of the calls mean.
-ghost use Rattle.dccp_c.specs.Serving.{CallsAreARun, CallsWantNoMemory, OnlyStrangersWantMemory, TimersStandWithFlows};
+ghost use Rattle.dccp_c.specs.Ending.{ListenerTicksEnd};
+ghost use Rattle.dccp_c.specs.Serving.{CallsAreARun, CallsWantNoMemory, OnlyStrangersWantMemory, RefusedCallsChangeNothing, TimersStandWithFlows};
 ghost use Rattle.dccp_c.specs.Ticking.{TicksAreATick};
 
 /// Ticks at one time, told one by one, are what a session's own tick does: each timer that has run out is told once, in
@@ -20,4 +21,16 @@ pub fn only_strangers_want_memory()
     ensures timers { TimersStandWithFlows }
     ensures memory { OnlyStrangersWantMemory }
     ensures calls { CallsWantNoMemory }
+{}
+
+/// Whatever the calls before, a call that a peer's end refuses, or for which there is none, changes nothing: no flow and
+/// no timer (own).
+pub fn refused_calls_change_nothing()
+    ensures { RefusedCallsChangeNothing }
+{}
+
+/// Whatever the calls before, ticks of a listener at one time come to an end: after six for each flow none of its timers
+/// has run out (own).
+pub fn ticks_of_a_listener_end()
+    ensures { ListenerTicksEnd }
 {}

@@ -3,7 +3,7 @@ ghost use Rattle.std.specs.Prelude.{◌≡◌, ◌≢◌, None, Ok, unwrap_or};
 ghost use Rattle.dccp_listener.specs.Calls.{seen_if};
 ghost use Rattle.dccp_listener.specs.Chain.{Calls, Sends, Closes, Aborts, call_of};
 ghost use Rattle.dccp_listener.specs.Runs.{Stepped, told_of};
-ghost use Rattle.dccp_c.specs.Doing.{bytes_in};
+ghost use Rattle.dccp_c_end.specs.Framing.{bytes_in};
 ghost use Rattle.dccp_c.specs.Founding.{FoundsCode, founded_of, listening_by};
 ghost use Rattle.dccp_c.specs.Listening.{Serves, TellsC, Ticks, deed_of_datagram, due_in, flow_code, flow_in, listen_code, listen_told, listener_waits, peer_in, peer_named, refusal_code, seen_code, served_in};
 
@@ -14,8 +14,8 @@ use crate::codes::{
 use crate::founding::listening_by;
 use crate::peer::{address_of, peer_named};
 use crate::serving::{Serving, due_flow, least_wait};
-use crate::told::tell;
-use crate::{Frame, ListenerHandle, PeerAddress, Settings, Told, View, Wish};
+use crate::{ListenerHandle, PeerAddress, Settings, View, Wish};
+use dccp_c_end::{Frame, Told, tell};
 use dccp_endpoint::{MOST_FRAME_BYTES, NoMemory, Seq48};
 use dccp_listener::{Act, Heard, NoFlow, Peer, Refusal, Seen};
 use std::alloc::Global;
@@ -103,7 +103,7 @@ pub extern "C" fn dccp_listener_make(
 pub extern "C" fn dccp_listener_free(listener: &mut ListenerHandle, alloc: Global)
     ensures { listener.new.kept.value ≡ None }
 {
-    drop(listener.take(alloc));
+    listener.clear(alloc);
 }
 
 /// `Listener::arrive`, and the timers of the peer's flow go on. BUSY where it answers Busy. UNKNOWN where the first

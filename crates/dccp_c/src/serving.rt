@@ -14,7 +14,7 @@ ghost use Rattle.dccp_c.specs.Listening.{address_of};
 ghost use Rattle.dccp_c.specs.Seeing.{seen as seen_end};
 ghost use Rattle.dccp_c.specs.Serving.{IsDone, IsPlaced, WantsMemory, first_due_flow, in_flight_if, least_wait, served, deed_served, serving_begins, tells_data, timers_called, timers_of, timers_then};
 
-use crate::held::first_due;
+use crate::due::first_due;
 use crate::peer::address_of;
 use crate::readers::seen;
 use crate::{PeerAddress, View};

@@ -1,0 +1,40 @@
+//! A `Box` with its fields in sight.
+ghost use Rattle.std.specs.Prelude.{◌≡◌};
+ghost use Rattle.std.specs.Box.Ownership.{box_owns};
+
+use std::alloc::Allocator;
+use std::marker::Model;
+
+/// A box taken apart, which owns what the box does. A handle of one's own keeps its pointer.
+pub struct Parts<T, A: Allocator> {
+    /// Where its value lies.
+    pub ptr: *mut T,
+    /// What it was allocated by.
+    pub alloc: A,
+    /// The value.
+    pub ghost value: { T },
+}
+
+impl<T, A: Allocator> Model for Parts<T, A> {
+    ghost also_owns = { λ p. box_owns (A.dealloc_token p.alloc) T.row p.ptr p.value };
+}
+
+impl<T, A: Allocator> Parts<T, A> {
+    /// The parts of a box.
+    pub fn of(held: Box<T, A>) -> Parts<T, A>
+    where
+        T: Drop,
+        ensures { result.value ≡ held.value }
+    {
+        let (ptr, alloc) = Box::into_raw_with_allocator(held);
+        Parts { ptr, alloc }
+    }
+
+    /// The box of these parts.
+    pub fn into_box(self) -> Box<T, A>
+        ensures { result.value ≡ self.value }
+    {
+        let Parts { ptr, alloc } = self;
+        unsafe { Box::from_raw(alloc, ptr) }
+    }
+}
