@@ -3,7 +3,7 @@ ghost use Rattle.std.specs.Prelude.{◌≡◌, IfErr};
 ghost use Rattle.tool_words.specs.Left.{left_of};
 ghost use Rattle.bridge_capture.specs.Lines as spec;
 
-use tool_text::number_up_to;
+use tool_text::{is_text, number_up_to};
 use tool_words::{
     Digits, Flaw, Hex, LineFault, LineWhy, Row, WordKind, Words, found_or, read_line, read_word,
 };
@@ -62,7 +62,7 @@ impl<'a> WordKind<'a> for AFrameName {
 fn is_other(word: &[u8]) -> bool
     ensures { result ≡ spec.is_other word.now }
 {
-    word == b"open:".as_slice() || word == b"end".as_slice() || word == b"line".as_slice()
+    is_text(word, b"open:") || is_text(word, b"end") || is_text(word, b"line")
 }
 
 // A word without the colon at its end, if one stands there.
@@ -135,7 +135,7 @@ impl<'a> Row<'a> for ALine {
 
     fn read(words: &mut Words<'a>) -> Result<Told<'a>, LineFault> {
         let first = words.next_word();
-        if first.text == b"sent".as_slice() {
+        if is_text(first.text, b"sent") {
             return sent(words);
         }
         read_word::<AFirstWord>(first)

@@ -5,7 +5,8 @@
 //! end, and lets two ends send each other data, so that what they allocate can be counted. `ratios` and a number of
 //! rounds times marks, the writing of Ack Vectors and the taking of reports, `nonces` those of ECN-capable ends. `runs`
 //! and a number of rounds times marks in several orders, over both ways to keep runs. `ends` and a number of rounds
-//! times an end in OPEN to which packets of data come, `inboxes` the calls of a bounded inbox.
+//! times an end in OPEN to which packets of data come, `calls` one `send` and one packet of each kind at an end beside
+//! copying its bytes, `inboxes` the calls of a bounded inbox.
 //!
 //! `requests`, `options`, `faults` and `acks` and a number of datagrams has them come at a listener, `end` and
 //! `end-options` at one end, and `frames` makes them alone.
@@ -14,6 +15,7 @@
 #![tactic(auto)]
 
 mod arrivals;
+mod calls;
 mod data;
 mod ends;
 mod figures;
@@ -37,16 +39,18 @@ enum Form {
     Nonces,
     Runs,
     Ends,
+    Calls,
     Inboxes,
     Arrivals(Load),
 }
 
-const FORMS: [(&str, Form); 13] = [
+const FORMS: [(&str, Form); 14] = [
     ("marks", Form::Marks),
     ("ratios", Form::Ratios),
     ("nonces", Form::Nonces),
     ("runs", Form::Runs),
     ("ends", Form::Ends),
+    ("calls", Form::Calls),
     ("inboxes", Form::Inboxes),
     ("requests", Form::Arrivals(Load::Requests)),
     ("options", Form::Arrivals(Load::Options)),
@@ -88,6 +92,7 @@ fn main(rt: HostRuntime) -> io::Result<()> {
         Form::Nonces => nonces::all(&rt, rounds),
         Form::Runs => runs::all(&rt, rounds),
         Form::Ends => ends::all(&rt, rounds),
+        Form::Calls => calls::all(&rt, rounds),
         Form::Inboxes => inboxes::all(&rt, rounds),
         Form::Arrivals(load) => arrivals::all(&rt, load, rounds),
     }

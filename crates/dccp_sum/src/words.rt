@@ -1,26 +1,28 @@
 //! Sums of 16-bit words, taken many at a time.
 //!
-//! Two words of 32 bits are added a turn into 64 bits, and the carries are folded at the end. So the contract of the
-//! inner sum is a relation: the same residue modulo 65,535, and zero for zero (`IsSameSum`). The public contracts are
+//! Words of 32 bits are added into 64 bits with their low byte first, as most processors have them, so that the compiler
+//! can add many side by side; the bytes of the sum are put in order and its carries folded at the end. So the contract of
+//! the inner sum is a relation: the same residue modulo 65,535, and zero for zero (`IsSameSum`). The public contracts are
 //! equations.
 ghost use Rattle.std.specs.Prelude.{◌≡◌, ◌+◌, ◌*◌, ◌^◌, ◌<◌, ◌≤◌, length};
 ghost use Rattle.dccp_sum.specs.Words.{word_sum, ones_complement, IsSameSum};
 
-// The sum with the words of the bytes added, where words of 32 bits stand for the two of 16 bits in them: 2^16 is
-// congruent to 1 modulo 65,535, so carries need no care before the end (RFC 1071, section 2).
+// The sum with the words of the bytes added, where a word of 32 bits stands for the two of 16 bits in it: 2^16 is
+// congruent to 1 modulo 65,535, so carries need no care before the end, and a factor of 256 exchanges the bytes of each
+// word (RFC 1071, section 2).
 pub(crate) fn add_words(start: u64, bytes: &[u8]) -> u64
-    requires { start + 2 ^ 30 * length bytes.now < 2 ^ 64 }
+    requires { start + 2 ^ 38 * length bytes.now < 2 ^ 64 }
     ensures value { IsSameSum result (start + word_sum bytes.now) }
-    ensures bound { result ≤ start + 2 ^ 30 * length bytes.now }
+    ensures bound { result ≤ start + 2 ^ 38 * length bytes.now }
 {
-    let mut sum = start;
+    let mut swapped = 0;
     let mut rest = bytes;
-    while let [a, b, c, d, e, f, g, h, tail @ ..] = rest {
-        sum += u64::from(u32::from_be_bytes([*a, *b, *c, *d]));
-        sum += u64::from(u32::from_be_bytes([*e, *f, *g, *h]));
+    while let [a, b, c, d, tail @ ..] = rest {
+        swapped += u64::from(u32::from_le_bytes([*a, *b, *c, *d]));
         rest = tail;
     }
-    while let [high, low, tail @ ..] = rest {
+    let mut sum = start + 256 * swapped;
+    if let [high, low, tail @ ..] = rest {
         sum += u64::from(u16::from_be_bytes([*high, *low]));
         rest = tail;
     }

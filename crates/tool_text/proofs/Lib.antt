@@ -1,3 +1,4 @@
 pub mod Decimals
+pub mod HexLanes
 pub mod HexText
 pub mod Keeping

@@ -1,18 +1,23 @@
 //! Bytes as digits in hexadecimal.
 #![tactic(auto)]
 
-ghost use Rattle.std.specs.Prelude.{◌≡◌, ◌*◌, ◌<◌, nat_lt, if◌then◌else◌, length, slice_index};
+ghost use Rattle.std.specs.Prelude.{◌≡◌, ◌*◌, ◌<◌, ◌++◌, nat_lt, if◌then◌else◌, length, map, slice_index};
+ghost use Rattle.std.specs.Simd.Lanes.{Each1};
 ghost use Rattle.hex.specs.Hex.{encode_lower, lower_digits};
 
-// How many bytes stand between the figures and the letters, where the digit of a value is a letter.
+use std::simd::prelude::*;
+
+// How many bytes stand between the figures and the letters.
+const GAP: u8 = b'a' - b'9' - 1;
+
+// How far a value's digit stands behind the figures.
 fn gap(value: u8) -> u8
     ensures { result ≡ (if nat_lt value 10 then 0 else 39) }
 {
-    if value < 10 { 0 } else { b'a' - b'9' - 1 }
+    if value < 10 { 0 } else { GAP }
 }
 
-// The digit of a value. It is worked out, and not looked up in a table as that of the toolchain's `hex`, so that the
-// compiler can make the digits of many bytes side by side.
+// The digit of a value.
 #[tactic(auto, using(crate::proofs::HexText::digit_of))]
 fn digit(value: u8) -> u8
     requires { value < 16 }
@@ -21,8 +26,7 @@ fn digit(value: u8) -> u8
     value + b'0' + gap(value)
 }
 
-/// Writes bytes as digits in lower case into the room for them (own).
-pub(crate) fn encode(bytes: &[u8], room: &mut [u8])
+fn encode_singly(bytes: &[u8], room: &mut [u8])
     requires { length room.old ≡ 2 * length bytes.now }
     ensures { room.new ≡ encode_lower bytes.now }
 {
@@ -33,4 +37,43 @@ pub(crate) fn encode(bytes: &[u8], room: &mut [u8])
         room[2 * place + 1] = digit(byte % 16);
         place += 1;
     }
+}
+
+// How many bytes are written at a time.
+const BLOCK: usize = 16;
+
+// The digits of values. They are worked out side by side, and not looked up in a table as those of the toolchain's
+// `hex`.
+fn digits_of(values: u8x16) -> u8x16
+    requires { Each1 (λ value. value < 16) values }
+    ensures { result ≡ map (λ value. slice_index lower_digits value) values }
+{
+    let letters = values.simd_gt(u8x16::splat(9));
+    values + u8x16::splat(b'0') + letters.select(u8x16::splat(GAP), u8x16::splat(0))
+}
+
+// The digits of a block's bytes, in two halves.
+fn halves_of(bytes: u8x16) -> (u8x16, u8x16)
+    ensures value { result.0 ++ result.1 ≡ encode_lower bytes }
+    ensures first { length result.0 ≡ 16 }
+    ensures second { length result.1 ≡ 16 }
+{
+    let highs = digits_of(bytes >> u8x16::splat(4));
+    let lows = digits_of(bytes & u8x16::splat(15));
+    highs.interleave(lows)
+}
+
+/// Writes bytes as digits in lower case into the room for them (own).
+pub(crate) fn encode(bytes: &[u8], room: &mut [u8])
+    requires { length room.old ≡ 2 * length bytes.now }
+    ensures { room.new ≡ encode_lower bytes.now }
+{
+    let mut done = 0;
+    while BLOCK <= bytes.len() - done {
+        let (first, second) = halves_of(u8x16::from_slice(&bytes[done..]));
+        first.copy_to_slice(&mut room[2 * done..]);
+        second.copy_to_slice(&mut room[2 * done + BLOCK..]);
+        done += BLOCK;
+    }
+    encode_singly(&bytes[done..], &mut room[2 * done..]);
 }

@@ -17,7 +17,7 @@ const BLOCK: usize = 128;
 pub fn is_text(bytes: &[u8], text: &[u8]) -> bool
     ensures { result ≡ bytes_eq bytes.now text.now }
 {
-    bytes == text
+    bytes.len() == text.len() && bytes == text
 }
 
 /// Puts a piece at the text's end (own). NoMemory comes where the text could not grow, and leaves it as it was.
@@ -42,6 +42,8 @@ pub fn put_number(text: &mut Vec<u8>, number: u64) -> Result<(), NoMemory>
 
 /// Puts a name behind what is said of it, as `refused ` (own). NoMemory comes where the text could not grow; then what
 /// is said may stand there alone.
+// What is said is mostly written out where this is called: inlined, it is put as bytes of a known number.
+#[inline(always)]
 pub fn put_named(text: &mut Vec<u8>, what: &[u8], name: &[u8]) -> Result<(), NoMemory>
     ensures ok { OnOk result (text.new.items ≡ text.old.items ++ (what.now ++ name.now)) }
     ensures front { Keeps text.old.items text.new.items }
@@ -52,6 +54,8 @@ pub fn put_named(text: &mut Vec<u8>, what: &[u8], name: &[u8]) -> Result<(), NoM
 
 /// Puts a number in decimal behind its word (own). NoMemory comes where the text could not grow; then the word may
 /// stand there alone.
+// Inlined as `put_named` is.
+#[inline(always)]
 pub fn put_counted(text: &mut Vec<u8>, word: &[u8], number: u64) -> Result<(), NoMemory>
     ensures ok { OnOk result (text.new.items ≡ text.old.items ++ labelled_number word.now number) }
     ensures front { Keeps text.old.items text.new.items }

@@ -5,6 +5,7 @@ pub mod DigitLaws
 pub mod KindLaws
 pub mod LineLaws
 pub mod Numerals
+pub mod Past
 pub mod Pieces
 pub mod Placed
 pub mod RowLaws

@@ -63,12 +63,23 @@ fn first_behind<S: Sought>(what: &S, text: &[u8], front: usize) -> Option<usize>
     }
 }
 
+// The same, by large blocks and then by small ones.
+fn far_from<S: Sought>(what: &S, text: &[u8], front: usize) -> usize
+    requires without { list_all (λ byte. not (S.sought what.now byte)) (take front text.now) ≡ true }
+    requires within { front ≤ length text.now }
+    ensures without { list_all (λ byte. not (S.sought what.now byte)) (take result text.now) ≡ true }
+    ensures within { result ≤ length text.now }
+{
+    let large = blocks_from::<64, S>(what, text, front);
+    blocks_from::<16, S>(what, text, large)
+}
+
 /// The place of the first byte that is looked for, where it seldom stands anywhere.
 pub(crate) fn first_far<S: Sought>(what: &S, text: &[u8]) -> Option<usize>
     ensures first { result ≡ position_from (S.sought what.now) 0 text.now }
     ensures within { IfSome result (λ place. place < length text.now) }
 {
-    let large = blocks_from::<32, S>(what, text, 0);
+    let large = far_from(what, text, 0);
     let front = blocks_from::<8, S>(what, text, large);
     first_behind(what, text, front)
 }
@@ -83,7 +94,7 @@ pub(crate) fn first_near<S: Sought>(what: &S, text: &[u8]) -> Option<usize>
     match first_in(what, &text[..near]) {
         Some(place) => Some(place),
         None => {
-            let front = blocks_from::<32, S>(what, text, near);
+            let front = far_from(what, text, near);
             first_behind(what, text, front)
         }
     }

@@ -7,10 +7,14 @@ use crate::blocks::{Sought, first_far};
 use dccp_packets::{Frame, MOST_FRAME_BYTES};
 use std::marker::Model;
 
+// A digit is past neither the figures nor the letters of either case. Many bytes side by side are judged so in the
+// fewest operations.
 fn is_hex_digit(byte: u8) -> bool
     ensures { result ≡ is_hex_digit byte }
 {
-    matches!(byte, b'0'..=b'9' | b'a'..=b'f' | b'A'..=b'F')
+    let past_figures = byte.wrapping_sub(b'0').saturating_sub(9);
+    let past_letters = (byte | 32).wrapping_sub(b'a').saturating_sub(5);
+    past_figures.min(past_letters) == 0
 }
 
 // Bytes that are no digits.

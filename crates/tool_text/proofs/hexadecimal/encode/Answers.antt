@@ -1,29 +1,25 @@
-use Rattle.std.proofs.Common.{◌≡◌, sym, ◌+◌, ◌*◌, ◌<◌, length, arith}
-use Rattle.std.specs.Prelude.{slice_set}
-use Rattle.std.proofs.lemmas.Grind.{common_steps}
-use Rattle.tool_text.proofs.HexText.{all_encoded, encode-none, one_encoded}
+use Rattle.std.proofs.Common.{◌+◌, ◌*◌, length, sym, arith}
+use Rattle.tool_text.proofs.HexLanes.{block-written, rest-written, still-sized}
+use Rattle.tool_text.proofs.HexText.{encode-none}
 use Rattle.tool_text.proofs.hexadecimal.encode.Goals as goal
 
-pub loop-place-init : goal.loop-place-init
-loop-place-init c = record { within = omega arith; sized = c.requires; done = sym encode-none }
+pub loop-done-init : goal.loop-done-init
+loop-done-init c = record { within = omega arith; sized = c.requires; done = sym encode-none }
 
-pub loop-place-preserved : goal.loop-place-preserved
-loop-place-preserved c =
-    let bytes = c.args.bytes.now in
-    let room = c.loop-place.room in
-    let place = c.loop-place.place in
-    let high = c.digit.result in
-    let low = c.digit-in-loop-place.result in
-    let within : place < length bytes = c.loop-place-test.true in
-    let sized = c.loop-place.invariant.sized in
-    let first : length (slice_set room (2 * place) high) ≡ length room = grind (arith, common_steps) in
-    let second : length (slice_set (slice_set room (2 * place) high) (2 * place + 1) low) ≡ length (slice_set room (2 * place) high) = grind (arith, common_steps) in
+pub loop-done-preserved : goal.loop-done-preserved
+loop-done-preserved c =
+    let room = c.loop-done.room in
+    let done = c.loop-done.done in
+    let more = c.loop-done-test.true in
+    let within = c.loop-done.invariant.within in
     record {
       within = omega arith;
-      sized = omega arith;
-      done = one_encoded bytes room place high low sized within c.loop-place.invariant.done c.digit.ensures c.digit-in-loop-place.ensures;
+      sized = still-sized room c.halves_of.result.0 c.halves_of.result.1 (2 * done) (2 * done + 16) (2 * length c.args.bytes.now) c.loop-done.invariant.sized;
+      done = block-written c.args.bytes.now room c.halves_of.result.0 c.halves_of.result.1 done c.loop-done.invariant.sized (omega arith) c.halves_of.ensures.first
+          c.halves_of.ensures.second c.loop-done.invariant.done c.halves_of.ensures.value;
     }
 
 pub returns : goal.returns
 returns c =
-    all_encoded c.args.bytes.now c.loop-place.room c.loop-place.place c.loop-place.invariant.sized c.loop-place-test.false c.loop-place.invariant.done
+    rest-written c.args.bytes.now c.loop-done.room c.encode_singly.new.room c.loop-done.done c.loop-done.invariant.sized c.loop-done.invariant.within c.loop-done.invariant.done
+    c.encode_singly.ensures

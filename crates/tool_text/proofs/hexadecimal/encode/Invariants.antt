@@ -2,12 +2,12 @@ use Rattle.std.proofs.Common.{◌≡◌, ◌-◌, ◌*◌, ◌≤◌, length, ta
 use Rattle.hex.specs.Hex.{encode_lower}
 use Rattle.tool_text.proofs.hexadecimal.encode.Given as goal
 
-abbrev pub invariant-loop-place : goal.invariant-loop-place
-invariant-loop-place l = record {
-  within : l.place ≤ length l.bytes;
+abbrev pub invariant-loop-done : goal.invariant-loop-done
+invariant-loop-done l = record {
+  within : l.done ≤ length l.bytes;
   sized : length l.room ≡ 2 * length l.bytes;
-  done : take (2 * l.place) l.room ≡ encode_lower (take l.place l.bytes);
+  done : take (2 * l.done) l.room ≡ encode_lower (take l.done l.bytes);
 }
 
-abbrev pub decreases-loop-place : goal.decreases-loop-place
-decreases-loop-place l = length l.bytes - l.place
+abbrev pub decreases-loop-done : goal.decreases-loop-done
+decreases-loop-done l = length l.bytes - l.done
