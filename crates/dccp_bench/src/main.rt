@@ -6,7 +6,7 @@
 //! rounds times marks, the writing of Ack Vectors and the taking of reports, `nonces` those of ECN-capable ends. `runs`
 //! and a number of rounds times marks in several orders, over both ways to keep runs. `ends` and a number of rounds
 //! times an end in OPEN to which packets of data come, `calls` one `send` and one packet of each kind at an end beside
-//! copying its bytes, `inboxes` the calls of a bounded inbox. `campaign` and a number of workers times a campaign.
+//! copying its bytes, `inboxes` the calls of a bounded inbox.
 //!
 //! `requests`, `options`, `faults` and `acks` and a number of datagrams has them come at a listener, `end` and
 //! `end-options` at one end, and `frames` makes them alone.
@@ -16,7 +16,6 @@
 
 mod arrivals;
 mod calls;
-mod campaigns;
 mod data;
 mod ends;
 mod figures;
@@ -42,11 +41,10 @@ enum Form {
     Ends,
     Calls,
     Inboxes,
-    Campaign,
     Arrivals(Load),
 }
 
-const FORMS: [(&str, Form); 15] = [
+const FORMS: [(&str, Form); 14] = [
     ("marks", Form::Marks),
     ("ratios", Form::Ratios),
     ("nonces", Form::Nonces),
@@ -54,7 +52,6 @@ const FORMS: [(&str, Form); 15] = [
     ("ends", Form::Ends),
     ("calls", Form::Calls),
     ("inboxes", Form::Inboxes),
-    ("campaign", Form::Campaign),
     ("requests", Form::Arrivals(Load::Requests)),
     ("options", Form::Arrivals(Load::Options)),
     ("faults", Form::Arrivals(Load::Faults)),
@@ -97,7 +94,6 @@ fn main(rt: HostRuntime) -> io::Result<()> {
         Form::Ends => ends::all(&rt, rounds),
         Form::Calls => calls::all(&rt, rounds),
         Form::Inboxes => inboxes::all(&rt, rounds),
-        Form::Campaign => campaigns::all(&rt, &rt, rounds),
         Form::Arrivals(load) => arrivals::all(&rt, load, rounds),
     }
 }

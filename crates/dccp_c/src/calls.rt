@@ -1,5 +1,5 @@
 //! The functions that C calls: each does one step of the end that its handle holds, and of its timers.
-ghost use Rattle.std.specs.Prelude.{◌≡◌, None};
+ghost use Rattle.std.specs.Prelude.{◌≡◌, None, Ok};
 ghost use Rattle.feature_lists.specs.Features.{feature_numbered};
 ghost use Rattle.dccp_c_end.specs.Framing.{bytes_in};
 ghost use Rattle.dccp_c.specs.Codes.{abort_code, close_code, open_code, place_by, send_code, timer_code, timer_coded, wish_code};
@@ -20,7 +20,7 @@ use crate::readers::{seen, seen_feature};
 use crate::steps::{abort, close, fire, is_listening, new_end, open, prefer, receive, send};
 use crate::{FeatureState, Settings, View, Wish};
 use dccp_c_end::{End, Frame, Told, tell};
-use dccp_endpoint::MOST_FRAME_BYTES;
+use dccp_endpoint::{Config, MOST_FRAME_BYTES};
 use std::alloc::Global;
 
 /// Makes an end, in place of what the handle held, which is freed first. Refused as `Config::set` refuses a wish,
@@ -68,12 +68,33 @@ pub extern "C" fn dccp_accept(
     ensures told { told.new ≡ step_told (accept_step datagram.now now result (configured_by (as_server settings.now) wishes.now)) told.old }
     ensures code { AcceptsCode datagram.now now (configured_by (as_server settings.now) wishes.now) result }
 {
+    match configured_by(&as_server(settings), wishes) {
+        Ok(config) => accept(end, alloc, config, datagram, now, frame, told),
+        Err(code) => {
+            end.clear(alloc);
+            frame.clear();
+            code
+        }
+    }
+}
+
+// The same for a configuration that was not refused.
+fn accept(
+    end: &mut End,
+    alloc: Global,
+    config: Config,
+    datagram: &[u8],
+    now: u64,
+    frame: &mut Frame,
+    told: &mut Told,
+) -> u32
+    ensures end { end_in end.new.kept.value ≡ accepted_end datagram.now now result (Ok config) }
+    ensures frame { bytes_in frame.new ≡ step_bytes (accept_step datagram.now now result (Ok config)) }
+    ensures told { told.new ≡ step_told (accept_step datagram.now now result (Ok config)) told.old }
+    ensures code { AcceptsCode datagram.now now (Ok config) result }
+{
     end.clear(alloc);
     frame.clear();
-    let config = match configured_by(&as_server(settings), wishes) {
-        Ok(config) => config,
-        Err(code) => return code,
-    };
     if MOST_FRAME_BYTES < datagram.len() {
         return TOO_LONG;
     }

@@ -9,7 +9,7 @@ use dccp_endpoint::{Config, Feature, Place, Ports, Pseudo, Seq48};
 
 /// Whose end it is, and between which addresses and ports.
 #[repr(C)]
-#[derive(Clone, Copy, Debug, PartialEq, Eq)]
+#[derive(Clone, Copy)]
 pub struct Settings {
     /// The address from which it sends, in the order of the network; of an IPv4 address the first four bytes.
     pub own_address: [u8; 16],
@@ -33,7 +33,7 @@ pub struct Settings {
 
 /// What an end wishes for a feature from the start on.
 #[repr(C)]
-#[derive(Clone, Copy, Debug, PartialEq, Eq)]
+#[derive(Clone, Copy)]
 pub struct Wish {
     /// The values, best first.
     pub values: [u64; 8],

@@ -6,7 +6,7 @@ use dccp_listener::Peer;
 
 /// Whom a datagram came from, or a frame goes to.
 #[repr(C)]
-#[derive(Clone, Copy, Debug, PartialEq, Eq)]
+#[derive(Clone, Copy)]
 pub struct PeerAddress {
     /// The IPv4 address, in the order of the network.
     pub address: [u8; 4],

@@ -8,7 +8,7 @@ use dccp_endpoint::{Endpoint, Feature, Place};
 
 /// An end as C may read it.
 #[repr(C)]
-#[derive(Clone, Copy, Debug, PartialEq, Eq)]
+#[derive(Clone, Copy)]
 pub struct View {
     /// The first number sent.
     pub iss: u64,
@@ -32,7 +32,7 @@ pub struct View {
 
 /// What an end holds for a feature.
 #[repr(C)]
-#[derive(Clone, Copy, Debug, PartialEq, Eq)]
+#[derive(Clone, Copy)]
 pub struct FeatureState {
     /// The value that holds.
     pub value: u64,

@@ -1,7 +1,8 @@
 //! What each call does to an end of C's: one step of it, behind which its timers go on.
 ghost use Rattle.std.specs.Prelude.{◌≡◌, ◌≤◌, IfOk, length};
 ghost use Rattle.ccid_two.specs.Kinds.{at_first, kinds_control};
-ghost use Rattle.dccp_uses.specs.Alarms.{arranged};
+ghost use Rattle.dccp_endpoint.specs.Controlled.{begins};
+ghost use Rattle.dccp_uses.specs.Alarms.{arranged, no_alarms};
 ghost use Rattle.dccp_uses.specs.Session.{condition_of, is_listening, session_begins};
 ghost use Rattle.dccp_c.specs.Stepping.{c_aborts, c_closes, c_fires, c_opens, c_prefers, c_receives, c_sends, done, with_alarms};
 
@@ -18,7 +19,23 @@ use std::alloc::Global;
 pub(crate) fn new_end(alloc: Global, config: Config) -> Result<Box<Held>, NoMemory>
     ensures { IfOk result (λ held. with_alarms held.value.end held.value.alarms ≡ session_begins kinds_control config at_first) }
 {
-    let end = Endpoint::new(alloc, config, Kinds::new(alloc)?)?;
+    match begun(alloc, config) {
+        Ok(end) => boxed(alloc, end),
+        Err(fault) => Err(fault),
+    }
+}
+
+fn begun(alloc: Global, config: Config) -> Result<Endpoint<Kinds>, NoMemory>
+    ensures { IfOk result (λ end. end ≡ begins kinds_control config at_first) }
+{
+    let congestion = Kinds::new(alloc)?;
+    Endpoint::new(alloc, config, congestion)
+}
+
+// An end and no timers in a box.
+fn boxed(alloc: Global, end: Endpoint<Kinds>) -> Result<Box<Held>, NoMemory>
+    ensures { IfOk result (λ held. with_alarms held.value.end held.value.alarms ≡ with_alarms end no_alarms) }
+{
     let alarms = Alarms::none();
     let out = Outbox::new();
     match Box::new(alloc, Held { end, alarms, out }) {

@@ -6,7 +6,7 @@ use dccp_endpoint::{MOST_FRAME_BYTES, Outbox};
 
 /// The frame that a call leaves for the peer: its first `length` bytes, at most 2,044; none where `length` is 0.
 #[repr(C)]
-#[derive(Debug, Drop)]
+#[derive(Drop)]
 pub struct Frame {
     /// How many bytes it has.
     pub length: usize,

@@ -7,7 +7,7 @@ use dccp_endpoint::{Malformed, Outcome, SumFault, Why};
 
 /// What became of a datagram; what does not belong to its kind is 0.
 #[repr(C)]
-#[derive(Clone, Copy, Debug, PartialEq, Eq)]
+#[derive(Clone, Copy)]
 pub struct Told {
     /// 0 taken, 1 taken with data, 2 dropped, 3 answered with a Sync, 4 a Reset, 5 answered with a Reset.
     pub kind: u32,
