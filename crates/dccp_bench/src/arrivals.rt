@@ -5,7 +5,7 @@ use crate::ratios::zero;
 use arrayvec::ArrayVec;
 use byteorder::{BigEndian, ByteOrder};
 use ccid_two::Kinds;
-use dccp_endpoint::{Config, Endpoint, Frame, Lists, Outbox, Outcome, Ports, Pseudo, Seq48};
+use dccp_endpoint::{Config, Endpoint, Frame, Lists, Outbox, Ports, Pseudo, Seq48};
 use dccp_listener::{Heard, ListenConfig, Listener, Peer};
 use dccp_sum::seal;
 use std::alloc::Global;
@@ -26,6 +26,8 @@ pub(crate) enum Load {
     End,
     /// Requests with options at one end.
     EndOptions,
+    /// As many Acks at one end, which is in LISTEN.
+    EndAcks,
     /// Datagrams that nobody hears: what making them takes alone.
     Frames,
 }
@@ -186,13 +188,14 @@ fn end(alloc: Global, first: Seq48) -> Option<Endpoint<Kinds>> {
     Endpoint::new(alloc, config, congestion).ok()
 }
 
-// A Request of the first peer arrives at its end. Tells whether it was answered.
+// A packet of the first peer arrives at its end. Tells whether it was answered.
 fn hear_alone(end: &mut Endpoint<Kinds>, packet: &[u8], number: u32, out: &mut Outbox) -> bool {
     let frame = datagram(0, packet, number);
-    matches!(end.receive(frame.bytes(), out), Outcome::Took { .. })
+    let _ = end.receive(frame.bytes(), out);
+    out.frame().is_some()
 }
 
-// So many Requests at one end.
+// So many packets at one end.
 fn at_end(alloc: Global, packet: &[u8], count: u32, first: Seq48) -> u32 {
     let Some(mut end) = end(alloc, first) else {
         return 0;
@@ -230,6 +233,7 @@ fn answered(alloc: Global, load: Load, count: u32, first: Seq48) -> u32 {
         Load::Acks => at_listener(alloc, &ACK, count, first),
         Load::End => at_end(alloc, &REQUEST, count, first),
         Load::EndOptions => at_end(alloc, &REQUEST_WITH_OPTIONS, count, first),
+        Load::EndAcks => at_end(alloc, &ACK, count, first),
         Load::Frames => nowhere(count),
     }
 }
