@@ -62,9 +62,7 @@ pub(crate) fn config_for(config: &ListenConfig, peer: Peer, iss: Seq48, bytes: &
 {
     let own_address = config.own_address;
     let address = peer.address;
-    let mut lists = config.lists;
-    lists.plain();
-    Config {
+    let mut fresh = Config {
         role: Role::Server,
         pseudo_out: Pseudo::V4 {
             from: own_address,
@@ -78,7 +76,9 @@ pub(crate) fn config_for(config: &ListenConfig, peer: Peer, iss: Seq48, bytes: &
         peer_port: peer.port,
         service: service_for(config.services.as_slice(), asked_service(bytes)),
         iss,
-        lists,
+        lists: config.lists,
         vectors: Vectors::One,
-    }
+    };
+    fresh.plain();
+    fresh
 }
