@@ -192,12 +192,7 @@ fn end(alloc: Global, first: Seq48) -> Option<Endpoint<Kinds>> {
 }
 
 // A packet of the first peer arrives at its end. Tells whether it was answered.
-fn hear_alone(
-    end: &mut Endpoint<Kinds>,
-    frame: &mut Frame,
-    number: u32,
-    out: &mut Outbox,
-) -> bool {
+fn hear_alone(end: &mut Endpoint<Kinds>, frame: &mut Frame, number: u32, out: &mut Outbox) -> bool {
     write(frame, Arrival { place: 0, number });
     let _ = end.receive(frame.bytes(), out);
     out.frame().is_some()
