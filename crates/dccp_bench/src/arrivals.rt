@@ -5,7 +5,7 @@ use crate::ratios::zero;
 use arrayvec::ArrayVec;
 use byteorder::{BigEndian, ByteOrder};
 use ccid_two::Kinds;
-use dccp_endpoint::{Config, Endpoint, Frame, Lists, Outbox, Outcome, Ports, Pseudo, Seq48};
+use dccp_endpoint::{Config, Endpoint, Frame, Lists, Outbox, Ports, Pseudo, Seq48};
 use dccp_listener::{Heard, ListenConfig, Listener, Peer};
 use dccp_sum::seal;
 use std::alloc::Global;
@@ -26,6 +26,8 @@ pub(crate) enum Load {
     End,
     /// Requests with options at one end.
     EndOptions,
+    /// As many Acks at one end, which is in LISTEN.
+    EndAcks,
     /// Datagrams that nobody hears: what making them takes alone.
     Frames,
 }
@@ -84,17 +86,28 @@ fn from(place: u32) -> Pseudo {
     }
 }
 
-// What it sends under this number, with its checksum.
-fn datagram(place: u32, packet: &[u8], number: u32) -> Frame {
-    let Some(mut frame) = Frame::of(packet) else {
-        return Frame::new();
-    };
+// What comes: a packet of the peer at this place, under this number.
+#[derive(Clone, Copy)]
+struct Arrival {
+    place: u32,
+    number: u32,
+}
+
+// A packet, where it stays: numbers and checksums are written into it.
+fn frame_of(packet: &[u8]) -> Frame {
+    match Frame::of(packet) {
+        Some(frame) => frame,
+        None => Frame::new(),
+    }
+}
+
+// Writes the number and the checksum of what comes.
+fn write(frame: &mut Frame, arrival: Arrival) {
     let bytes = frame.bytes_mut();
     if bytes.len() >= 16 {
-        BigEndian::write_u32(&mut bytes[12..16], number);
-        let _ = seal(&from(place), bytes);
+        BigEndian::write_u32(&mut bytes[12..16], arrival.number);
+        let _ = seal(&from(arrival.place), bytes);
     }
-    frame
 }
 
 fn listening(alloc: Global) -> Listener {
@@ -112,34 +125,29 @@ fn listening(alloc: Global) -> Listener {
     )
 }
 
-// What arrives: a packet of the peer at this place, under this number.
-#[derive(Clone, Copy)]
-struct Arrival<'a> {
-    place: u32,
-    packet: &'a [u8],
-    number: u32,
-}
-
-// It arrives at the listener. Tells whether it was answered.
-fn hear(listener: &mut Listener, arrival: Arrival<'_>, first: Seq48, out: &mut Outbox) -> bool {
-    let frame = datagram(arrival.place, arrival.packet, arrival.number);
+// A packet arrives at the listener. Tells whether it was answered.
+fn hear(
+    listener: &mut Listener,
+    frame: &mut Frame,
+    arrival: Arrival,
+    first: Seq48,
+    out: &mut Outbox,
+) -> bool {
+    write(frame, arrival);
     let heard = listener.arrive(peer(arrival.place), first, frame.bytes(), out);
     matches!(heard, Ok(Heard::Busy)) || out.frame().is_some()
 }
 
 // The first peers have their flows.
 fn fill(listener: &mut Listener, first: Seq48, out: &mut Outbox) {
+    let mut frame = frame_of(&REQUEST);
     for place in 0..FLOWS {
-        let arrival = Arrival {
-            place,
-            packet: &REQUEST,
-            number: 0,
-        };
-        let _ = hear(listener, arrival, first, out);
+        let arrival = Arrival { place, number: 0 };
+        let _ = hear(listener, &mut frame, arrival, first, out);
     }
 }
 
-// So many datagrams of all peers in turn. Gives how many were answered.
+// So many packets of all peers in turn. Gives how many were answered.
 fn hear_all(
     listener: &mut Listener,
     packet: &[u8],
@@ -147,16 +155,13 @@ fn hear_all(
     first: Seq48,
     out: &mut Outbox,
 ) -> u32 {
+    let mut frame = frame_of(packet);
     let mut answered = 0u32;
     let mut place = 0u32;
     for number in 0..count {
         place = place.wrapping_add(STEP) % PEERS;
-        let arrival = Arrival {
-            place,
-            packet,
-            number,
-        };
-        if hear(listener, arrival, first, out) {
+        let arrival = Arrival { place, number };
+        if hear(listener, &mut frame, arrival, first, out) {
             answered = answered.wrapping_add(1);
         }
     }
@@ -186,21 +191,23 @@ fn end(alloc: Global, first: Seq48) -> Option<Endpoint<Kinds>> {
     Endpoint::new(alloc, config, congestion).ok()
 }
 
-// A Request of the first peer arrives at its end. Tells whether it was answered.
-fn hear_alone(end: &mut Endpoint<Kinds>, packet: &[u8], number: u32, out: &mut Outbox) -> bool {
-    let frame = datagram(0, packet, number);
-    matches!(end.receive(frame.bytes(), out), Outcome::Took { .. })
+// A packet of the first peer arrives at its end. Tells whether it was answered.
+fn hear_alone(end: &mut Endpoint<Kinds>, frame: &mut Frame, number: u32, out: &mut Outbox) -> bool {
+    write(frame, Arrival { place: 0, number });
+    let _ = end.receive(frame.bytes(), out);
+    out.frame().is_some()
 }
 
-// So many Requests at one end.
+// So many packets at one end.
 fn at_end(alloc: Global, packet: &[u8], count: u32, first: Seq48) -> u32 {
     let Some(mut end) = end(alloc, first) else {
         return 0;
     };
+    let mut frame = frame_of(packet);
     let mut out = Outbox::new();
     let mut answered = 0u32;
     for number in 0..count {
-        if hear_alone(&mut end, packet, number, &mut out) {
+        if hear_alone(&mut end, &mut frame, number, &mut out) {
             answered = answered.wrapping_add(1);
         }
     }
@@ -209,11 +216,12 @@ fn at_end(alloc: Global, packet: &[u8], count: u32, first: Seq48) -> u32 {
 
 // So many datagrams that nobody hears. Gives how many have a number of their own.
 fn nowhere(count: u32) -> u32 {
+    let mut frame = frame_of(&REQUEST);
     let mut made = 0u32;
     let mut place = 0u32;
     for number in 0..count {
         place = place.wrapping_add(STEP) % PEERS;
-        let frame = datagram(place, &REQUEST, number);
+        write(&mut frame, Arrival { place, number });
         if frame.bytes() != REQUEST.as_slice() {
             made = made.wrapping_add(1);
         }
@@ -230,6 +238,7 @@ fn answered(alloc: Global, load: Load, count: u32, first: Seq48) -> u32 {
         Load::Acks => at_listener(alloc, &ACK, count, first),
         Load::End => at_end(alloc, &REQUEST, count, first),
         Load::EndOptions => at_end(alloc, &REQUEST_WITH_OPTIONS, count, first),
+        Load::EndAcks => at_end(alloc, &ACK, count, first),
         Load::Frames => nowhere(count),
     }
 }

@@ -8,8 +8,8 @@
 //! times an end in OPEN to which packets of data come, `calls` one `send` and one packet of each kind at an end beside
 //! copying its bytes, `inboxes` the calls of a bounded inbox.
 //!
-//! `requests`, `options`, `faults` and `acks` and a number of datagrams has them come at a listener, `end` and
-//! `end-options` at one end, and `frames` makes them alone.
+//! `requests`, `options`, `faults` and `acks` and a number of datagrams has them come at a listener, `end`,
+//! `end-options` and `end-acks` the same at one end, and `frames` makes them alone.
 //!
 //! Nothing is claimed of what it prints.
 #![tactic(auto)]
@@ -44,7 +44,7 @@ enum Form {
     Arrivals(Load),
 }
 
-const FORMS: [(&str, Form); 14] = [
+const FORMS: [(&str, Form); 15] = [
     ("marks", Form::Marks),
     ("ratios", Form::Ratios),
     ("nonces", Form::Nonces),
@@ -58,6 +58,7 @@ const FORMS: [(&str, Form); 14] = [
     ("acks", Form::Arrivals(Load::Acks)),
     ("end", Form::Arrivals(Load::End)),
     ("end-options", Form::Arrivals(Load::EndOptions)),
+    ("end-acks", Form::Arrivals(Load::EndAcks)),
     ("frames", Form::Arrivals(Load::Frames)),
 ];
 

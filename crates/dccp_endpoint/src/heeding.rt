@@ -1,5 +1,5 @@
 //! What the options of a packet say to the rows of an end (RFC 4340, section 8.5, step 8).
-ghost use Rattle.std.specs.Prelude.{◌≡◌, ◌<◌, ◌≤◌, ℕ, Option, Ok, true, length, map};
+ghost use Rattle.std.specs.Prelude.{◌≡◌, ◌<◌, ◌≤◌, ℕ, Option, None, Ok, true, false, length, map};
 ghost use Rattle.dccp_options.specs.Grammar.{options_of};
 ghost use Rattle.dccp_options.specs.Left.{entry_of_option, item_of};
 ghost use Rattle.dccp_endpoint.specs.Receiving.{fault_if, reads_request};
@@ -306,6 +306,25 @@ pub(crate) fn are_silent(area: &[u8], on_data: bool, count: bool) -> bool
     true
 }
 
+// Reads an option area of a Request, where the rows are these.
+fn heed_beside(rows: &Negotiation, area: &[u8]) -> Result<(), Fault>
+    requires { length area.now ≤ 1008 }
+    ensures { result ≡ fault_if (heeds true None (unheeded rows.now) (options_of area.now false)) }
+{
+    let mut reading = Reading::new(rows);
+    heed(&mut reading, area, false, true, &None)?;
+    Ok(())
+}
+
+// The same, where they are fresh. It stands apart, for the room of the rows is made ready where it begins, and few
+// Requests come here.
+fn heed_freshly(lists: &Lists, area: &[u8]) -> Result<(), Fault>
+    requires { length area.now ≤ 1008 }
+    ensures { result ≡ fault_if (reads_request lists.now area.now) }
+{
+    heed_beside(&Negotiation::new(Role2::Server, lists), area)
+}
+
 /// Reads the option area of a Request for its service that reaches a server's end in LISTEN, without such an end, whose
 /// configuration has these lists: Ok where the end would answer the Request, and else the fault for which it would
 /// close and that its Reset would tell (RFC 4340, sections 5.8 and 8.5, step 8). It takes no memory.
@@ -316,7 +335,5 @@ pub fn heed_request(lists: &Lists, area: &[u8]) -> Result<(), Fault>
     if are_silent(area, false, true) {
         return Ok(());
     }
-    let mut reading = Reading::new(&Negotiation::new(Role2::Server, lists));
-    heed(&mut reading, area, false, true, &None)?;
-    Ok(())
+    heed_freshly(lists, area)
 }

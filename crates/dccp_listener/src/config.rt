@@ -5,7 +5,7 @@ ghost use Rattle.dccp_listener.specs.Chain.{asked_service, config_for, service_f
 
 use crate::Peer;
 use arrayvec::ArrayVec;
-use dccp_endpoint::{Config, Lists, Ports, Pseudo, Seq48};
+use dccp_endpoint::{Config, Lists, Pseudo, Role, Seq48, Vectors};
 use dccp_packets::{Kind, decode};
 
 /// What a listener is made from (own).
@@ -62,17 +62,23 @@ pub(crate) fn config_for(config: &ListenConfig, peer: Peer, iss: Seq48, bytes: &
 {
     let own_address = config.own_address;
     let address = peer.address;
-    let addresses = Pseudo::V4 {
-        from: own_address,
-        to: address,
+    let mut fresh = Config {
+        role: Role::Server,
+        pseudo_out: Pseudo::V4 {
+            from: own_address,
+            to: address,
+        },
+        pseudo_in: Pseudo::V4 {
+            from: address,
+            to: own_address,
+        },
+        own_port: config.own_port,
+        peer_port: peer.port,
+        service: service_for(config.services.as_slice(), asked_service(bytes)),
+        iss,
+        lists: config.lists,
+        vectors: Vectors::One,
     };
-    let ports = Ports {
-        own: config.own_port,
-        peer: peer.port,
-    };
-    let service = service_for(config.services.as_slice(), asked_service(bytes));
-    let mut fresh = Config::server(addresses, ports, service, iss);
-    fresh.lists = config.lists;
     fresh.plain();
     fresh
 }
