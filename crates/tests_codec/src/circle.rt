@@ -1,8 +1,8 @@
 //! Numbers on their circles of 48 and 24 bits: what the short ones mean, and which of two is before the other.
-use crate::tables::{Table, holds};
 use seq_circle::{Seq24, Seq48, extend};
 use std::alloc::Global;
 use std::test::Fail;
+use tests_tables::{Table, holds};
 
 const NUMBERS: &str = "\
     # A short number near a reference, and the number that it stands for there\n\

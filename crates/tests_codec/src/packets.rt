@@ -1,7 +1,6 @@
 //! Packets, their headers and the frames that hold them. What a test tries stands in a helper that answers whether it
 //! holds: a proof follows each value that a function holds through each of its steps.
-use crate::tables::{Table, holds};
-use crate::windows::type_of;
+use crate::windows::TYPES;
 use dccp_packets::{
     Frame, Header, Kind, MOST_FRAME_BYTES, Malformed, Number, OptionsTooLong, Outbox, Packet,
     PacketType, ResetCode, decode, encode,
@@ -9,6 +8,7 @@ use dccp_packets::{
 use seq_circle::Seq48;
 use std::alloc::Global;
 use std::test::Fail;
+use tests_tables::{Table, holds, named};
 
 // A Request from port 40000 to 5001 with number 1000 and service 42.
 const REQUEST: &str = "9c401389050031ec01000000000003e80000002a";
@@ -360,7 +360,7 @@ const FORMS: &str = "\
 
 fn kind_of(word: &str, ack: Seq48) -> Option<Kind> {
     let long = Number::Long(ack);
-    match type_of(word)? {
+    match named(word, &TYPES)? {
         PacketType::Request => Some(Kind::Request { service: 42 }),
         PacketType::Data => Some(Kind::Data),
         PacketType::Ack => Some(Kind::Ack { ack: long }),
@@ -411,18 +411,19 @@ fn in_form(number: u64, short: bool, reference: u64) -> Option<(u64, u64)> {
     Some((form.value().get(), form.near(Seq48::new(reference)?).get()))
 }
 
+// Whether the form is the short one, a number near the number, and what stands in the form.
+const BY_A_FORM: [(bool, u64, u64); 3] = [
+    (true, 1_108_168_934_661, 8_652_038),
+    (true, 1_108_152_157_447, 8_652_038),
+    (false, 2_207_672_173_830, 1_108_160_546_054),
+];
+
 // Up to half a turn of the short form away, and 2^40 away.
 #[test]
 fn forms_of_a_number(rt: HostRuntime) {
     let number = 1_108_160_546_054;
-    for (short, reference, value) in [
-        (true, 1_108_168_934_661, 8_652_038),
-        (true, 1_108_152_157_447, 8_652_038),
-        (false, 2_207_672_173_830, number),
-    ] {
-        assert!(rt;
-            in_form(number, short, reference) == Some((value, number)),
-            "near {reference}"
-        );
+    for (short, reference, value) in &BY_A_FORM {
+        let told = in_form(number, *short, *reference);
+        assert!(rt; told == Some((*value, number)), "near {reference}");
     }
 }

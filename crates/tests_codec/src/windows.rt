@@ -2,11 +2,11 @@
 ghost use Rattle.std.specs.Prelude.{true, ◌≡◌};
 ghost use Rattle.validity_windows.specs.Windows.{InRange};
 
-use crate::tables::{Table, holds};
 use dccp_packets::PacketType;
 use seq_circle::Seq48;
 use std::alloc::Global;
 use std::test::Fail;
+use tests_tables::{Table, holds, named};
 use validity_windows::{Marks, Verdict};
 
 // Marks by a name, and what is asked of them. A packet is its type, its number and its acknowledgement number.
@@ -119,7 +119,7 @@ fn are_in_range(marks: &Marks) -> bool
     true
 }
 
-fn named(name: &str) -> Option<Marks> {
+fn marks_by(name: &str) -> Option<Marks> {
     match name {
         "later" => marks_of(&LATER),
         "wrapped" => marks_of(&AT_THE_WRAP),
@@ -151,7 +151,7 @@ fn tell_verdict(verdict: Verdict, told: &mut String) -> Result<(), Fail> {
     Ok(())
 }
 
-const TYPES: [(&str, PacketType); 10] = [
+pub(crate) const TYPES: [(&str, PacketType); 10] = [
     ("Request", PacketType::Request),
     ("Response", PacketType::Response),
     ("Data", PacketType::Data),
@@ -164,15 +164,6 @@ const TYPES: [(&str, PacketType); 10] = [
     ("SyncAck", PacketType::SyncAck),
 ];
 
-pub(crate) fn type_of(name: &str) -> Option<PacketType> {
-    for (other, kind) in TYPES {
-        if name == other {
-            return Some(kind);
-        }
-    }
-    None
-}
-
 // A type, a number, and the acknowledgement number that stands there exactly where the type has one.
 fn packet_of(word: &str) -> Option<(PacketType, Seq48, Option<Seq48>)> {
     let (name, numbers) = word.split_once("/")?;
@@ -182,7 +173,7 @@ fn packet_of(word: &str) -> Option<(PacketType, Seq48, Option<Seq48>)> {
     } else {
         Some(Seq48::new(ack.parse().ok()?)?)
     };
-    Some((type_of(name)?, Seq48::new(number.parse().ok()?)?, ack))
+    Some((named(name, &TYPES)?, Seq48::new(number.parse().ok()?)?, ack))
 }
 
 // The verdict, if the type has an acknowledgement number exactly where one is given.
@@ -247,7 +238,7 @@ fn begins(marks: &mut Marks, word: &str) -> Result<(), Fail> {
 }
 
 fn tell_marks(marks: &Marks, told: &mut String) -> Result<(), Fail> {
-    for number in numbers_of(marks) {
+    for number in &numbers_of(marks) {
         write!(told, " {number}")?;
     }
     Ok(())
@@ -270,7 +261,7 @@ struct Stories;
 impl Table for Stories {
     fn tell(&self, _alloc: Global, words: &str, told: &mut String) -> Result<(), Fail> {
         let (name, rest) = words.split_once(" ").ok_or("marks")?;
-        let mut marks = named(name).ok_or("a name")?;
+        let mut marks = marks_by(name).ok_or("a name")?;
         for word in rest.split_whitespace() {
             tell_word(&mut marks, word, told)?;
         }

@@ -57,9 +57,9 @@ const EVENTS: [&[u8]; 7] = [
 
 // Whether each event is printed as its line.
 fn are_printed_alone(text: &mut Vec<u8>) -> bool {
-    for line in EVENTS {
+    for line in &EVENTS {
         text.clear();
-        if !is_printed(line, text) || text.as_slice() != line {
+        if !is_printed(line, text) || text.as_slice() != *line {
             return false;
         }
     }

@@ -1,0 +1,157 @@
+//! Lists of calls to a set of runs, over both ways to keep it.
+//!
+//! A word is `start`, `mark` or `raise` with a number. Behind the number may stand a step up or down and how many such
+//! calls there are: `mark=0+2*1024` marks every second number from 0 to 2,046.
+use run_list::{PlainRuns, RunCall, RunList, Runs, replay_runs};
+use seq_circle::Seq48;
+use std::alloc::Global;
+use std::test::Fail;
+use tests_tables::{Table, holds};
+
+// Each row is a list of calls, and behind a colon how many marks are New, and the floor in the end.
+const ROWS: &str = "\
+    start=10: 0 10\n\
+    mark=0: 1 0\n\
+    start=10 mark=12: 1 10\n\
+    start=10 mark=10+1*3: 3 10\n\
+    start=10 mark=12-1*3: 3 10\n\
+    start=10 mark=10 mark=12 mark=11: 3 10\n\
+    start=10 mark=10 mark=20 mark=15 mark=15: 3 10\n\
+    start=10 mark=9 mark=10: 1 10\n\
+    start=10 mark=140737488355338: 0 10\n\
+    start=10 mark=140737488355337: 1 140737488353290\n\
+    start=10 mark=2057 mark=2058 mark=10 mark=11: 3 11\n\
+    start=10 mark=10+1*2 mark=2058 mark=10: 3 11\n\
+    start=281474976710654 mark=281474976710654+1*4: 4 281474976710654\n\
+    start=281474976710654 mark=1-1*4 raise=0 mark=281474976710655: 4 0\n\
+    start=10 mark=10+1*3 mark=20+1*3 raise=21 mark=20 mark=21: 6 21\n\
+    start=10 mark=10+1*3 mark=20+1*3 raise=30 mark=29 mark=30: 7 30\n\
+    start=10 mark=10+2*3 raise=12 mark=11 mark=12 mark=13: 4 12\n\
+    start=10 mark=10+2*3 raise=13 raise=11 mark=12 mark=13: 4 13\n\
+    start=10 mark=10+2*3 raise=10 raise=9 mark=9: 3 10\n\
+    start=10 mark=20 raise=20 mark=19 mark=20 mark=21: 2 20\n\
+    start=10 mark=20+1*5 raise=22 mark=21 mark=25: 6 22\n\
+    mark=0+1*2048 mark=0+1*2048: 2048 0\n\
+    mark=2047-1*2048 mark=2047-1*2048: 2048 0\n\
+    mark=0+2*1024 mark=1+2*1024: 2048 0\n\
+    mark=0+2*1024 mark=2047-2*1024: 2048 0\n\
+    mark=2046-2*1024 mark=1+2*1024: 2048 0\n\
+    mark=2046-2*1024 mark=2047-2*1024 mark=5: 2048 0\n\
+    mark=0+2*1024 raise=1024 mark=1025+2*512 mark=2048+2*512: 2048 1024\n\
+    mark=0+2*1024 raise=2046 mark=2047+2*1023: 2047 2046\n\
+    mark=0+2*2000 mark=1+2*2000: 3025 1952\n\
+    mark=0+3*700 mark=1+3*700 mark=2+3*700: 2066 52\n\
+    mark=0+2*1024 start=7 mark=7+2*1024 mark=8+2*1023: 3071 7\n\
+    mark=0+2047*20 mark=0+2047*20: 20 36846\n\
+    mark=0+2048*20 mark=1+2048*20: 22 36866\n\
+    start=281474976709655 mark=281474976709655+2*1024 mark=281474976709656+2*1024: 2048 281474976709655\n\
+    start=281474976709655 mark=1045-2*1024 raise=0 mark=1046-2*1024: 1548 0\n\
+    start=1000 mark=1036 mark=984+1*16 mark=1040+2*11 mark=1021 mark=1033 mark=1054 mark=992 mark=1058 mark=1020 mark=1055 mark=1011-3*24 mark=1032 mark=1025 mark=1046 mark=1049 mark=1023 mark=1027 mark=1048 mark=1035 raise=1003 mark=1050 mark=1026-1*22 mark=1058+3*13 mark=1000: 53 1003\n\
+    start=281474976710625 mark=8 mark=1 mark=5 raise=281474976710574 mark=281474976710612 mark=46 mark=281474976710643 mark=281474976710605 mark=0+3*9 mark=281474976710652 mark=17 mark=281474976710621 mark=23 mark=26 mark=281474976710642 mark=9 mark=281474976710631 mark=281474976710628 mark=24 mark=46 mark=281474976710653 mark=14 mark=7 mark=16: 25 281474976710625\n\
+    start=5000 mark=6309 mark=5068 mark=5496+1*15 mark=5270-1*35 mark=6057-1*28 mark=5211 mark=6571 mark=7967+3*19 mark=5881 mark=5329 mark=6120+1*2 mark=6421-2*37 raise=3940 raise=6245 mark=5198 mark=6920 mark=7215 mark=7281 mark=7428 mark=5138 mark=7267 mark=5185-2*16 raise=3605 mark=6748+2*16: 161 6245\n\
+    start=70000 mark=73130 mark=73388 mark=71946+3*32 mark=71716-3*30 mark=71441 mark=70018 mark=71085 mark=72801 mark=73567 mark=72756+1*21 mark=71474 mark=72434 mark=75149 mark=71101 mark=72728 mark=71876 mark=75926 mark=70191-3*25 mark=74305-3*31 mark=71432 mark=73619 mark=70061 mark=71916 mark=70309 mark=72622 mark=71784+2*33 mark=74970 mark=73204-1*24 mark=70966-3*14 mark=72183-1*39: 123 73879\n";
+
+// A number, a step up or down, and how many such calls there are.
+#[derive(Clone, Copy)]
+struct Steps {
+    first: Seq48,
+    up: bool,
+    by: u64,
+    times: u32,
+}
+
+fn steps_of(first: &str, up: bool, by: &str, times: &str) -> Option<Steps> {
+    Some(Steps {
+        first: Seq48::new(first.parse().ok()?)?,
+        up,
+        by: by.parse().ok()?,
+        times: times.parse().ok()?,
+    })
+}
+
+fn read_steps(text: &str) -> Option<Steps> {
+    let Some((from, times)) = text.split_once("*") else {
+        return steps_of(text, true, "0", "1");
+    };
+    match from.split_once("+") {
+        Some((first, by)) => steps_of(first, true, by, times),
+        None => {
+            let (first, by) = from.split_once("-")?;
+            steps_of(first, false, by, times)
+        }
+    }
+}
+
+fn call(kind: &str, n: Seq48) -> Option<RunCall> {
+    match kind {
+        "start" => Some(RunCall::Start(n)),
+        "mark" => Some(RunCall::Mark(n)),
+        "raise" => Some(RunCall::Raise(n)),
+        _ => None,
+    }
+}
+
+fn put_call(calls: &mut Vec<RunCall>, kind: &str, n: Seq48) -> Result<(), Fail> {
+    calls.push(call(kind, n).ok_or("a call is start, mark or raise")?)?;
+    Ok(())
+}
+
+// Puts the calls of a word behind the others.
+fn put_calls(calls: &mut Vec<RunCall>, word: &str) -> Result<(), Fail> {
+    let (kind, numbers) = word.split_once("=").ok_or("a word has a number")?;
+    let steps = read_steps(numbers).ok_or("a number, and a step")?;
+    let mut n = steps.first;
+    for _ in 0..steps.times {
+        put_call(calls, kind, n)?;
+        n = if steps.up {
+            n.add(steps.by)
+        } else {
+            n.sub(steps.by)
+        };
+    }
+    Ok(())
+}
+
+// How many marks are New, and the floor.
+fn tell_runs<R: Runs>(runs: &mut R, calls: &[RunCall], told: &mut String) -> Result<(), Fail> {
+    if calls.len() > 1_000_000 {
+        return Err(Fail::from("a row has at most a million calls"));
+    }
+    let new = replay_runs(runs, calls);
+    let floor = runs.floor().get();
+    Ok(write!(told, "{new} {floor}")?)
+}
+
+fn calls_of(alloc: Global, words: &str) -> Result<Vec<RunCall>, Fail> {
+    let mut calls = Vec::new(alloc);
+    for word in words.split_whitespace() {
+        put_calls(&mut calls, word)?;
+    }
+    Ok(calls)
+}
+
+// Linked runs.
+struct Linked;
+
+impl Table for Linked {
+    fn tell(&self, alloc: Global, words: &str, told: &mut String) -> Result<(), Fail> {
+        let mut runs = RunList::new(alloc)?;
+        tell_runs(&mut runs, &calls_of(alloc, words)?, told)
+    }
+}
+
+// A plain row of runs.
+struct Plain;
+
+impl Table for Plain {
+    fn tell(&self, alloc: Global, words: &str, told: &mut String) -> Result<(), Fail> {
+        let mut runs = PlainRuns::new(alloc)?;
+        tell_runs(&mut runs, &calls_of(alloc, words)?, told)
+    }
+}
+
+#[test]
+fn each_list_of_calls(rt: HostRuntime) -> Result<(), Fail> {
+    holds(rt.alloc(), &Linked, ROWS)?;
+    holds(rt.alloc(), &Plain, ROWS)
+}

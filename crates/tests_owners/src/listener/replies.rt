@@ -1,0 +1,244 @@
+//! A listener, line by line. A line is a peer and what comes of it, in hexadecimal, or what is asked of its end; behind
+//! the colon stand the answer and the frame that goes to the peer, or `-`. A line costs no proof.
+ghost use Rattle.std.specs.Prelude.{◌≤◌};
+
+use arrayvec::ArrayVec;
+use dccp_endpoint::{Lists, Outbox, Outcome, Phase, Seq48, Timer, Why};
+use dccp_listener::{Act, Heard, ListenConfig, Listener, Peer, Refusal, Seen};
+use std::alloc::Global;
+use std::test::Fail;
+use tests_tables::{are_same, named, tell_frame};
+
+// At 10.0.0.2, port 5001, for the services 42 and 43.
+fn listening(alloc: Global, most: u16) -> Listener
+    requires least { 1 ≤ most }
+    requires most { most ≤ 1024 }
+{
+    let mut services = ArrayVec::new();
+    let _ = services.try_push(42);
+    let _ = services.try_push(43);
+    Listener::new(
+        alloc,
+        ListenConfig {
+            own_address: [10, 0, 0, 2],
+            own_port: 5001,
+            services,
+            lists: Lists::usual(),
+            most,
+        },
+    )
+}
+
+// A peer of 10.0.0.0, such as `10.0.0.1:40000`.
+fn peer(word: &str) -> Option<Peer> {
+    let (address, port) = word.split_once(":")?;
+    let last = address.strip_prefix("10.0.0.")?;
+    Some(Peer {
+        address: [10, 0, 0, last.parse().ok()?],
+        port: port.parse().ok()?,
+    })
+}
+
+const TIMERS: [(&str, Timer); 6] = [
+    ("request", Timer::Request),
+    ("ack", Timer::Ack),
+    ("negotiate", Timer::Negotiate),
+    ("rto", Timer::Rto),
+    ("close", Timer::Close),
+    ("timewait", Timer::TimeWait),
+];
+
+fn refusal(refusal: Refusal) -> &'static str {
+    match refusal {
+        Refusal::NotOpen => "refused NotOpen",
+        Refusal::TooLong => "refused TooLong",
+        Refusal::NotNegotiated => "refused NotNegotiated",
+        Refusal::WindowFull => "refused WindowFull",
+        Refusal::NotLive => "refused NotLive",
+        _ => "refused as no call of a listener is",
+    }
+}
+
+fn seen(seen: Seen) -> &'static str {
+    match seen {
+        Seen::Called(Ok(())) => "ok",
+        Seen::Called(Err(why)) => refusal(why),
+        Seen::Fired(true) => "fired",
+        Seen::Fired(false) => "idle",
+        Seen::Received(_) => "an outcome",
+    }
+}
+
+fn dropped(why: Why) -> &'static str {
+    match why {
+        Why::Malformed(_) => "dropped Malformed",
+        Why::Sum(_) => "dropped Sum",
+        Why::OtherFlow => "dropped OtherFlow",
+        Why::StrayReset => "dropped StrayReset",
+        Why::ShortOff => "dropped ShortOff",
+        Why::BadSync => "dropped BadSync",
+    }
+}
+
+fn tell_outcome(outcome: &Outcome, told: &mut String) -> Result<(), Fail> {
+    match *outcome {
+        Outcome::Took { delivered: None } => told.push_str("took")?,
+        Outcome::Took { delivered: Some(_) } => told.push_str("took data")?,
+        Outcome::SentReset { code, detail } => {
+            let [first, second, third] = detail;
+            write!(told, "sent reset {code} {first} {second} {third}")?;
+        }
+        Outcome::Synced(acknowledged) => {
+            let number = acknowledged.get();
+            write!(told, "synced {number}")?;
+        }
+        Outcome::WasReset(code) => write!(told, "was reset {code}")?,
+        Outcome::Dropped(why) => told.push_str(dropped(why))?,
+    }
+    Ok(())
+}
+
+fn tell_arrival(
+    alloc: Global,
+    listener: &mut Listener,
+    peer: Peer,
+    packet: &str,
+    out: &mut Outbox,
+    told: &mut String,
+) -> Result<(), Fail> {
+    let bytes = hex::decode(alloc, packet)?;
+    if 2044 < bytes.len() {
+        return Err(Fail::from("no packet is longer"));
+    }
+    let first = Seq48::new(2000).ok_or("a number")?;
+    match listener.arrive(peer, first, &bytes, out)? {
+        Heard::Flow(outcome) => tell_outcome(&outcome, told),
+        Heard::Busy => Ok(told.push_str("busy")?),
+    }
+}
+
+fn tell_act(
+    listener: &mut Listener,
+    peer: Peer,
+    act: Act<'_>,
+    out: &mut Outbox,
+    told: &mut String,
+) -> Result<(), Fail> {
+    match listener.act(peer, act, out) {
+        Ok(it) => told.push_str(seen(it))?,
+        Err(_) => told.push_str("refused NoFlow")?,
+    }
+    Ok(())
+}
+
+// What comes of the words behind the peer.
+fn tell(
+    alloc: Global,
+    listener: &mut Listener,
+    peer: Peer,
+    words: &str,
+    out: &mut Outbox,
+    told: &mut String,
+) -> Result<(), Fail> {
+    match words.split_once(" ") {
+        Some(("timer", word)) => {
+            let timer = named(word, &TIMERS).ok_or("a timer")?;
+            tell_act(listener, peer, Act::Timer(timer), out, told)
+        }
+        Some(_) => {
+            let data = b"x";
+            tell_act(listener, peer, Act::Send(data), out, told)
+        }
+        None => match words {
+            "close" => tell_act(listener, peer, Act::Close, out, told),
+            "abort" => tell_act(listener, peer, Act::Abort, out, told),
+            _ => tell_arrival(alloc, listener, peer, words, out, told),
+        },
+    }
+}
+
+// The peer of a line, the words behind it, all that is given, and what is wanted.
+fn parts_of(line: &str) -> Option<(Peer, &str, &str, &str)> {
+    let (given, wanted) = line.split_once(": ")?;
+    let (whose, words) = given.split_once(" ")?;
+    Some((peer(whose)?, words, given, wanted))
+}
+
+fn line_holds(
+    alloc: Global,
+    listener: &mut Listener,
+    line: &str,
+    out: &mut Outbox,
+    told: &mut String,
+) -> Result<(), Fail> {
+    let (peer, words, given, wanted) = parts_of(line).ok_or("a peer, words and a colon")?;
+    told.clear();
+    tell(alloc, listener, peer, words, out, told)?;
+    told.push_str(",")?;
+    tell_frame(alloc, out, told)?;
+    are_same(given, told.as_str(), wanted)
+}
+
+fn lines_hold(
+    alloc: Global,
+    listener: &mut Listener,
+    lines: &str,
+    out: &mut Outbox,
+    told: &mut String,
+) -> Result<(), Fail> {
+    for line in lines.lines() {
+        line_holds(alloc, listener, line, out, told)?;
+    }
+    Ok(())
+}
+
+fn phase(phase: Phase) -> &'static str {
+    match phase {
+        Phase::Closed => "CLOSED",
+        Phase::Listen => "LISTEN",
+        Phase::Request => "REQUEST",
+        Phase::Respond => "RESPOND",
+        Phase::PartOpen => "PARTOPEN",
+        Phase::Open => "OPEN",
+        Phase::CloseReq => "CLOSEREQ",
+        Phase::Closing => "CLOSING",
+        Phase::TimeWait => "TIMEWAIT",
+    }
+}
+
+// The peer at a place, with its end's phase.
+fn tell_place(listener: &Listener, place: u16, told: &mut String) -> Result<(), Fail> {
+    let peer = listener.peer(place).ok_or("a peer")?;
+    let end = listener.flow(peer).ok_or("a flow")?;
+    let [a, b, c, d] = peer.address;
+    let port = peer.port;
+    let name = phase(end.phase());
+    write!(told, " {a}.{b}.{c}.{d}:{port} {name}")?;
+    Ok(())
+}
+
+fn ends_so(listener: &Listener, wanted: &str, told: &mut String) -> Result<(), Fail> {
+    let count = listener.flows();
+    told.clear();
+    write!(told, "{count}")?;
+    for place in 0..count {
+        tell_place(listener, place, told)?;
+    }
+    if listener.peer(count).is_some() {
+        return Err(Fail::from("a peer too many"));
+    }
+    are_same("at the end", told.as_str(), wanted)
+}
+
+// Fails at the first line of which something else comes, with that; or where other flows stand at the end, or fewer
+// than one may or more than 1,024.
+pub(crate) fn holds(alloc: Global, most: u16, lines: &str, flows: &str) -> Result<(), Fail> {
+    if most == 0 || 1024 < most {
+        return Err(Fail::from("how many flows may stand"));
+    }
+    let mut listener = listening(alloc, most);
+    let mut out = Outbox::new();
+    let mut told = String::new(alloc);
+    lines_hold(alloc, &mut listener, lines, &mut out, &mut told)?;
+    ends_so(&listener, flows, &mut told)
+}

@@ -1,0 +1,276 @@
+//! A client and a server with a wire in each direction, as their two owners drive them. Where a call answers a bool, it
+//! is whether the step went as it has to.
+use crate::uses::wire::Wire;
+use ccid_two::Kinds;
+use dccp_endpoint::{Config, Congestion, Feature, Held, Phase, Place, Role, SendFault, Timer};
+use dccp_uses::{Alarms, News, Session, accept};
+use std::alloc::Global;
+
+// How many milliseconds a turn takes.
+const TURN: u64 = 50;
+
+// A client that asks for the usual service, the server's session once there is one, what each was told of its end, and
+// what was delivered to the server.
+#[derive(Drop)]
+pub(crate) struct Pair<C> {
+    alloc: Global,
+    now: u64,
+    service: u32,
+    client: Session<C>,
+    server: Option<Session<Kinds>>,
+    to_server: Wire,
+    to_client: Wire,
+    client_ended: Option<u8>,
+    server_ended: Option<u8>,
+    got: Vec<u8>,
+}
+
+// A server's session, where a stranger's datagram opens a connection.
+fn accepted(
+    alloc: Global,
+    config: Config,
+    datagram: &[u8],
+    now: u64,
+    wire: &mut Wire,
+) -> Option<Session<Kinds>> {
+    let Ok(congestion) = Kinds::new(alloc) else {
+        return None;
+    };
+    match accept(alloc, config, congestion, datagram, now, wire) {
+        Ok(session) => session,
+        Err(_) => None,
+    }
+}
+
+/// A client that has sent nothing.
+pub(crate) fn client<C: Congestion + Drop>(alloc: Global, congestion: C) -> Option<Session<C>> {
+    if !congestion.knows(2) {
+        return None;
+    }
+    Session::new(alloc, Config::usual(Role::Client), congestion).ok()
+}
+
+fn wait_in(alarms: &Alarms, timer: Timer) -> Option<u64> {
+    match alarms.of(timer) {
+        Some(alarm) => Some(alarm.wait),
+        None => None,
+    }
+}
+
+impl<C: Congestion> Pair<C> {
+    /// This client, a wire like this one in each direction, and a server of this service, which has no session yet.
+    pub(crate) fn new(
+        alloc: Global,
+        client: Session<C>,
+        to_server: Wire,
+        service: u32,
+    ) -> Pair<C> {
+        let to_client = to_server.other();
+        Pair {
+            alloc,
+            now: 5_000,
+            service,
+            client,
+            server: None,
+            to_server,
+            to_client,
+            client_ended: None,
+            server_ended: None,
+            got: Vec::new(alloc),
+        }
+    }
+
+    /// The client asks for its service.
+    pub(crate) fn asks(&mut self) -> bool {
+        self.client.open(self.now, &mut self.to_server).is_ok()
+    }
+
+    /// Turns go by until both ends are open.
+    pub(crate) fn opens(&mut self) -> bool {
+        for _ in 0..2_000 {
+            if self.are(Phase::Open) {
+                return true;
+            }
+            if !self.pass(TURN) {
+                return false;
+            }
+        }
+        false
+    }
+
+    // The server's phase.
+    fn serving(&self) -> Phase {
+        match &self.server {
+            Some(server) => server.end().phase(),
+            None => Phase::Listen,
+        }
+    }
+
+    /// Both are in this phase.
+    pub(crate) fn are(&self, phase: Phase) -> bool {
+        self.client.end().phase() == phase && self.serving() == phase
+    }
+
+    /// So many turns go by.
+    pub(crate) fn go_on(&mut self, turns: usize) -> bool {
+        for _ in 0..turns {
+            if !self.pass(TURN) {
+                return false;
+            }
+        }
+        true
+    }
+
+    /// So many milliseconds go by, and nothing arrives.
+    pub(crate) fn wait(&mut self, time: u64) {
+        self.now = self.now.saturating_add(time);
+        self.tick();
+    }
+
+    /// So many milliseconds go by in one turn: a frame arrives at each side, if there is one, and the timers get the
+    /// time.
+    pub(crate) fn pass(&mut self, time: u64) -> bool {
+        self.now = self.now.saturating_add(time);
+        if !self.server_takes() {
+            return false;
+        }
+        self.client_takes();
+        self.tick();
+        true
+    }
+
+    fn tick(&mut self) {
+        self.client.tick(self.now, &mut self.to_server);
+        if let Some(server) = &mut self.server {
+            server.tick(self.now, &mut self.to_client);
+        }
+    }
+
+    // The server's owner: a datagram belongs to the connection, or may open one.
+    fn server_takes(&mut self) -> bool {
+        let Some(datagram) = self.to_server.take() else {
+            return true;
+        };
+        if self.server.is_some() {
+            return self.serve(&datagram);
+        }
+        let mut config = Config::usual(Role::Server);
+        config.service = self.service;
+        self.server = accepted(self.alloc, config, &datagram, self.now, &mut self.to_client);
+        true
+    }
+
+    // A datagram of the connection.
+    fn serve(&mut self, datagram: &[u8]) -> bool {
+        let Some(server) = &mut self.server else {
+            return true;
+        };
+        match server.arrived(datagram, self.now, &mut self.to_client) {
+            News::Data { first, past } => {
+                return self.got.extend_from_slice(&datagram[first..past]).is_ok();
+            }
+            News::Ended { code } => self.server_ended = Some(code),
+            News::Quiet | News::TooLong => {}
+        }
+        true
+    }
+
+    // The client's owner.
+    fn client_takes(&mut self) {
+        if let Some(datagram) = self.to_client.take()
+            && let News::Ended { code } = self.hear(&datagram)
+        {
+            self.client_ended = Some(code);
+        }
+    }
+
+    /// A datagram arrives at the client: what its owner is told.
+    pub(crate) fn hear(&mut self, datagram: &[u8]) -> News {
+        self.client.arrived(datagram, self.now, &mut self.to_server)
+    }
+
+    /// The client sends data if there is room: whether they went out. None where they may not be sent at all.
+    pub(crate) fn send(&mut self, payload: &[u8]) -> Option<bool> {
+        match self.client.send(payload, self.now, &mut self.to_server) {
+            Ok(()) => Some(true),
+            Err(SendFault::WindowFull | SendFault::NotNegotiated) => Some(false),
+            Err(SendFault::NotOpen | SendFault::TooLong) => None,
+        }
+    }
+
+    /// All frames that are on their way to the server are lost.
+    pub(crate) fn lose(&mut self) {
+        self.to_server.lose();
+    }
+
+    /// How many frames are on their way to the server.
+    pub(crate) fn sent(&self) -> usize {
+        self.to_server.len()
+    }
+
+    /// How long it is until the client's first timer runs out.
+    pub(crate) fn until_first(&self) -> Option<u64> {
+        self.client.until_first(self.now)
+    }
+
+    /// The wait of a timer of this side, if it runs.
+    pub(crate) fn wait_of(&self, role: Role, timer: Timer) -> Option<u64> {
+        match (role, &self.server) {
+            (Role::Client, _) => wait_in(&self.client.alarms(), timer),
+            (Role::Server, Some(server)) => wait_in(&server.alarms(), timer),
+            (Role::Server, None) => None,
+        }
+    }
+
+    /// How many packets the client may send.
+    pub(crate) fn room(&self) -> u32 {
+        self.client.room()
+    }
+
+    /// The server has a connection.
+    pub(crate) fn is_served(&self) -> bool {
+        self.server.is_some()
+    }
+
+    pub(crate) fn close(&mut self, role: Role) -> bool {
+        match (role, &mut self.server) {
+            (Role::Server, Some(server)) => server.close(self.now, &mut self.to_client).is_ok(),
+            (Role::Server, None) => false,
+            (Role::Client, _) => self.client.close(self.now, &mut self.to_server).is_ok(),
+        }
+    }
+
+    /// The client asks for an own feature.
+    pub(crate) fn prefer(&mut self, feature: Feature, values: &[u64]) -> bool {
+        self.client
+            .prefer(feature, Place::Here, values, self.now, &mut self.to_server)
+            .is_ok()
+    }
+
+    /// What the client holds for a feature of its own.
+    pub(crate) fn held(&self, feature: Feature) -> Held {
+        self.client.end().held(feature, Place::Here)
+    }
+
+    /// What the server holds for it.
+    pub(crate) fn told(&self, feature: Feature) -> Option<Held> {
+        match &self.server {
+            Some(server) => Some(server.end().held(feature, Place::There)),
+            None => None,
+        }
+    }
+
+    /// The code with which the client was told that the connection has ended.
+    pub(crate) fn client_ended(&self) -> Option<u8> {
+        self.client_ended
+    }
+
+    /// The code with which the server was.
+    pub(crate) fn server_ended(&self) -> Option<u8> {
+        self.server_ended
+    }
+
+    pub(crate) fn delivered(&self) -> &[u8] {
+        &self.got
+    }
+}
