@@ -119,14 +119,17 @@ fn are_in_range(marks: &Marks) -> bool
     true
 }
 
+const MARKS: [(&str, Numbers); 3] = [
+    ("later", LATER),
+    ("wrapped", AT_THE_WRAP),
+    ("uneven", UNEVEN),
+];
+
 fn marks_by(name: &str) -> Option<Marks> {
-    match name {
-        "later" => marks_of(&LATER),
-        "wrapped" => marks_of(&AT_THE_WRAP),
-        "uneven" => marks_of(&UNEVEN),
-        "new" => Some(Marks::new(Seq48::new(0)?, 100)),
-        _ => None,
+    if name == "new" {
+        return Some(Marks::new(Seq48::new(0)?, 100));
     }
+    marks_of(&named(name, &MARKS)?)
 }
 
 fn tell_ends(marks: &Marks, told: &mut String) -> Result<(), Fail> {
@@ -244,15 +247,33 @@ fn tell_marks(marks: &Marks, told: &mut String) -> Result<(), Fail> {
     Ok(())
 }
 
+#[derive(Clone, Copy)]
+enum Verb {
+    Ends,
+    Marks,
+    Take,
+    Acks,
+    Begin,
+}
+
+const VERBS: [(&str, Verb); 5] = [
+    ("ends", Verb::Ends),
+    ("marks", Verb::Marks),
+    ("take", Verb::Take),
+    ("acks", Verb::Acks),
+    ("begin", Verb::Begin),
+];
+
+// A word that begins with no verb is a packet, of which a verdict is asked.
 fn tell_word(marks: &mut Marks, word: &str, told: &mut String) -> Result<(), Fail> {
     let (verb, rest) = word.split_once("/").unwrap_or((word, ""));
-    match verb {
-        "ends" => tell_ends(marks, told),
-        "marks" => tell_marks(marks, told),
-        "take" => tell_taken(marks, rest, told),
-        "acks" => tell_acknowledged(marks, rest, told),
-        "begin" => begins(marks, rest),
-        _ => tell_judged(marks, word, told),
+    match named(verb, &VERBS) {
+        Some(Verb::Ends) => tell_ends(marks, told),
+        Some(Verb::Marks) => tell_marks(marks, told),
+        Some(Verb::Take) => tell_taken(marks, rest, told),
+        Some(Verb::Acks) => tell_acknowledged(marks, rest, told),
+        Some(Verb::Begin) => begins(marks, rest),
+        None => tell_judged(marks, word, told),
     }
 }
 

@@ -203,7 +203,7 @@ fn tell_asked(
 }
 
 // An end in OPEN that asks.
-#[derive(Clone, Copy)]
+#[derive(Drop)]
 struct Asking(Role);
 
 impl AtAnEnd for Asking {
@@ -233,7 +233,7 @@ fn tell_reply(
     tell_frame(alloc, &out, told)
 }
 
-#[derive(Clone, Copy)]
+#[derive(Drop)]
 struct Replying;
 
 impl AtAnEnd for Replying {
@@ -249,7 +249,7 @@ impl AtAnEnd for Replying {
 }
 
 // A server in OPEN that has asked for a Close.
-#[derive(Clone, Copy)]
+#[derive(Drop)]
 struct Closing;
 
 impl AtAnEnd for Closing {

@@ -280,7 +280,7 @@ fn tell_call(
 }
 
 // Calls, one after another.
-#[derive(Clone, Copy)]
+#[derive(Drop)]
 pub(crate) struct Calls;
 
 impl AtAnEnd for Calls {

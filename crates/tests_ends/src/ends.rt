@@ -41,7 +41,7 @@ pub(crate) trait AtAnEnd {
 }
 
 // A table of what comes of its words at a new end of this configuration. It alone owns an end.
-#[derive(Clone, Copy)]
+#[derive(Drop)]
 pub(crate) struct NewEnd<T> {
     pub(crate) config: Config,
     pub(crate) it: T,

@@ -56,7 +56,7 @@ fn tell_feeding(end: &mut Endpoint, frames: &[Frame], told: &mut String) -> Resu
     tell_shown(end, Shown::Floor, "", told)
 }
 
-#[derive(Clone, Copy)]
+#[derive(Drop)]
 struct Fed;
 
 impl AtAnEnd for Fed {

@@ -39,13 +39,17 @@ fn peer(word: &str) -> Option<Peer> {
     })
 }
 
-const TIMERS: [(&str, Timer); 6] = [
-    ("request", Timer::Request),
-    ("ack", Timer::Ack),
-    ("negotiate", Timer::Negotiate),
-    ("rto", Timer::Rto),
-    ("close", Timer::Close),
-    ("timewait", Timer::TimeWait),
+// What is asked of a peer's end.
+const ACTS: [(&str, Act<'static>); 9] = [
+    ("timer request", Act::Timer(Timer::Request)),
+    ("timer ack", Act::Timer(Timer::Ack)),
+    ("timer negotiate", Act::Timer(Timer::Negotiate)),
+    ("timer rto", Act::Timer(Timer::Rto)),
+    ("timer close", Act::Timer(Timer::Close)),
+    ("timer timewait", Act::Timer(Timer::TimeWait)),
+    ("send 78", Act::Send(b"x")),
+    ("close", Act::Close),
+    ("abort", Act::Abort),
 ];
 
 fn refusal(refusal: Refusal) -> &'static str {
@@ -140,20 +144,9 @@ fn tell(
     out: &mut Outbox,
     told: &mut String,
 ) -> Result<(), Fail> {
-    match words.split_once(" ") {
-        Some(("timer", word)) => {
-            let timer = named(word, &TIMERS).ok_or("a timer")?;
-            tell_act(listener, peer, Act::Timer(timer), out, told)
-        }
-        Some(_) => {
-            let data = b"x";
-            tell_act(listener, peer, Act::Send(data), out, told)
-        }
-        None => match words {
-            "close" => tell_act(listener, peer, Act::Close, out, told),
-            "abort" => tell_act(listener, peer, Act::Abort, out, told),
-            _ => tell_arrival(alloc, listener, peer, words, out, told),
-        },
+    match named(words, &ACTS) {
+        Some(act) => tell_act(listener, peer, act, out, told),
+        None => tell_arrival(alloc, listener, peer, words, out, told),
     }
 }
 

@@ -9,20 +9,20 @@ use std::alloc::Global;
 // How many milliseconds a turn takes.
 const TURN: u64 = 50;
 
-// A client that asks for the usual service, the server's session once there is one, what each was told of its end, and
-// what was delivered to the server.
+// A client that asks for the usual service, the server's session once there is one, the code with which each was told
+// that the connection has ended, and what was delivered to the server.
 #[derive(Drop)]
 pub(crate) struct Pair<C> {
     alloc: Global,
     now: u64,
     service: u32,
     client: Session<C>,
-    server: Option<Session<Kinds>>,
-    to_server: Wire,
+    pub(crate) server: Option<Session<Kinds>>,
+    pub(crate) to_server: Wire,
     to_client: Wire,
-    client_ended: Option<u8>,
-    server_ended: Option<u8>,
-    got: Vec<u8>,
+    pub(crate) client_ended: Option<u8>,
+    pub(crate) server_ended: Option<u8>,
+    pub(crate) got: Vec<u8>,
 }
 
 // A server's session, where a stranger's datagram opens a connection.
@@ -198,16 +198,6 @@ impl<C: Congestion> Pair<C> {
         }
     }
 
-    /// All frames that are on their way to the server are lost.
-    pub(crate) fn lose(&mut self) {
-        self.to_server.lose();
-    }
-
-    /// How many frames are on their way to the server.
-    pub(crate) fn sent(&self) -> usize {
-        self.to_server.len()
-    }
-
     /// How long it is until the client's first timer runs out.
     pub(crate) fn until_first(&self) -> Option<u64> {
         self.client.until_first(self.now)
@@ -225,11 +215,6 @@ impl<C: Congestion> Pair<C> {
     /// How many packets the client may send.
     pub(crate) fn room(&self) -> u32 {
         self.client.room()
-    }
-
-    /// The server has a connection.
-    pub(crate) fn is_served(&self) -> bool {
-        self.server.is_some()
     }
 
     pub(crate) fn close(&mut self, role: Role) -> bool {
@@ -258,19 +243,5 @@ impl<C: Congestion> Pair<C> {
             Some(server) => Some(server.end().held(feature, Place::There)),
             None => None,
         }
-    }
-
-    /// The code with which the client was told that the connection has ended.
-    pub(crate) fn client_ended(&self) -> Option<u8> {
-        self.client_ended
-    }
-
-    /// The code with which the server was.
-    pub(crate) fn server_ended(&self) -> Option<u8> {
-        self.server_ended
-    }
-
-    pub(crate) fn delivered(&self) -> &[u8] {
-        &self.got
     }
 }

@@ -65,14 +65,14 @@ fn are_once(got: &[u8], sent: u8) -> bool {
 
 fn delivers_once<C: Congestion>(pair: &mut Pair<C>) -> bool {
     match sends_sixty(pair) {
-        Some(sent) => are_once(pair.delivered(), sent),
+        Some(sent) => are_once(&pair.got, sent),
         None => false,
     }
 }
 
 // Where the Reset that answers the client's Close is lost, its next Close finds no connection: code 3.
 fn has_ended<C: Congestion>(pair: &Pair<C>) -> bool {
-    matches!(pair.client_ended(), Some(1 | 3)) && pair.server_ended() == Some(1)
+    matches!(pair.client_ended, Some(1 | 3)) && pair.server_ended == Some(1)
 }
 
 // TIMEWAIT is over two lifetimes of a segment later.
@@ -144,13 +144,13 @@ fn closing_wait_amiss<C: Congestion>(pair: &mut Pair<C>) -> usize {
 
 // So many frames have gone out, and the next one does after this wait.
 fn has_sent<C: Congestion>(pair: &Pair<C>, sent: usize, wait: u64) -> bool {
-    pair.sent() == sent && pair.until_first() == Some(wait)
+    pair.to_server.len() == sent && pair.until_first() == Some(wait)
 }
 
 // After this wait a Request goes out, not before, and once.
 fn asks_again<C: Congestion>(pair: &mut Pair<C>, wait: u64, sent: usize, next: u64) -> bool {
     pair.wait(wait.saturating_sub(1));
-    let early = pair.sent();
+    let early = pair.to_server.len();
     pair.wait(1);
     let once = has_sent(pair, sent, next);
     pair.wait(0);
@@ -196,7 +196,7 @@ fn idles<C: Congestion>(pair: &mut Pair<C>) -> bool {
 
 // An owner waits for this long, and has no answer.
 fn hears_nothing<C: Congestion>(pair: &mut Pair<C>, wait: u64) -> bool {
-    pair.lose();
+    pair.to_server.lose();
     pair.pass(wait.saturating_sub(1)) && pair.until_first() == Some(1) && pair.pass(1)
 }
 
@@ -247,7 +247,7 @@ fn report_amiss<C: Congestion>(pair: &mut Pair<C>) -> usize {
         }
     }
     // The three others were lost.
-    if pair.delivered().len() == 4 && waits_anew(pair) {
+    if pair.got.len() == 4 && waits_anew(pair) {
         0
     } else {
         9
@@ -263,12 +263,12 @@ fn heeds_no_zeros<C: Congestion>(pair: &mut Pair<C>) -> bool {
 
 // A server takes a Request for its service, and the client acknowledges the Response.
 fn is_taken<C: Congestion>(pair: &mut Pair<C>) -> bool {
-    pair.go_on(1) && pair.is_served() && pair.sent() == 1
+    pair.go_on(1) && pair.server.is_some() && pair.to_server.len() == 1
 }
 
 // It takes none for another service, and the client hears the code Bad Service Code (RFC 4340, section 5.6).
 fn is_refused<C: Congestion>(pair: &mut Pair<C>) -> bool {
-    pair.go_on(1) && !pair.is_served() && pair.client_ended() == Some(8)
+    pair.go_on(1) && pair.server.is_none() && pair.client_ended == Some(8)
 }
 
 // The client's Ack is lost, and its first data open the server (RFC 4340, section 8.1.5).
@@ -276,12 +276,12 @@ fn speaks_first<C: Congestion>(pair: &mut Pair<C>) -> bool {
     if !pair.go_on(1) {
         return false;
     }
-    pair.lose();
+    pair.to_server.lose();
     pair.send(&[1]) == Some(true)
         && pair.send(&[2]) == Some(true)
         && pair.go_on(20)
         && pair.are(Phase::Open)
-        && pair.delivered() == [1, 2].as_slice()
+        && pair.got.as_slice() == [1, 2].as_slice()
 }
 
 fn amiss_if(came: bool) -> usize {
@@ -297,7 +297,7 @@ fn sends_by_ones<C: Congestion>(pair: &mut Pair<C>) -> bool {
         && pair.send(&[2]) == Some(false)
         && pair.go_on(10)
         && pair.room() == 1
-        && pair.delivered() == [1].as_slice()
+        && pair.got.as_slice() == [1].as_slice()
 }
 
 // The row of a story that is amiss, or 0; 10 where the ends do not open.
