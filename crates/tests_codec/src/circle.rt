@@ -62,7 +62,7 @@ const NUMBERS: &str = "\
     far 16777216 0: true false\n\
     far 140737488355328 0: true false\n";
 
-fn number_of(text: &str) -> Option<Seq48> {
+pub(crate) fn number_of(text: &str) -> Option<Seq48> {
     Seq48::new(text.parse().ok()?)
 }
 

@@ -1,5 +1,6 @@
 //! Packets, their headers and the frames that hold them. What a test tries stands in a helper that answers whether it
 //! holds: a proof follows each value that a function holds through each of its steps.
+use crate::circle::number_of;
 use crate::windows::TYPES;
 use dccp_packets::{
     Frame, Header, Kind, MOST_FRAME_BYTES, Malformed, Number, OptionsTooLong, Outbox, Packet,
@@ -384,19 +385,19 @@ fn tell_forms(kind: &Kind, reference: Seq48, told: &mut String) -> Result<(), Fa
     Ok(write!(told, "{may} {ack:?} {long:?} {near:?}")?)
 }
 
-fn number_of(text: &str) -> Option<Seq48> {
-    Seq48::new(text.parse().ok()?)
+// What a type carries that acknowledges the first number, and the other number.
+fn form_of(words: &str) -> Option<(Kind, Seq48)> {
+    let (word, numbers) = words.split_once(" ")?;
+    let (ack, reference) = numbers.split_once(" ")?;
+    Some((kind_of(word, number_of(ack)?)?, number_of(reference)?))
 }
 
 struct Forms;
 
 impl Table for Forms {
     fn tell(&self, _alloc: Global, words: &str, told: &mut String) -> Result<(), Fail> {
-        let (word, numbers) = words.split_once(" ").ok_or("a type")?;
-        let (ack, reference) = numbers.split_once(" ").ok_or("two numbers")?;
-        let ack = number_of(ack).ok_or("a number")?;
-        let kind = kind_of(word, ack).ok_or("a type")?;
-        tell_forms(&kind, number_of(reference).ok_or("a number")?, told)
+        let (kind, reference) = form_of(words).ok_or("a type and two numbers")?;
+        tell_forms(&kind, reference, told)
     }
 }
 

@@ -2,6 +2,7 @@
 ghost use Rattle.std.specs.Prelude.{true, ◌≡◌};
 ghost use Rattle.validity_windows.specs.Windows.{InRange};
 
+use crate::circle::number_of;
 use dccp_packets::PacketType;
 use seq_circle::Seq48;
 use std::alloc::Global;
@@ -174,9 +175,9 @@ fn packet_of(word: &str) -> Option<(PacketType, Seq48, Option<Seq48>)> {
     let ack = if ack.is_empty() {
         None
     } else {
-        Some(Seq48::new(ack.parse().ok()?)?)
+        Some(number_of(ack)?)
     };
-    Some((named(name, &TYPES)?, Seq48::new(number.parse().ok()?)?, ack))
+    Some((named(name, &TYPES)?, number_of(number)?, ack))
 }
 
 // The verdict, if the type has an acknowledgement number exactly where one is given.
@@ -223,7 +224,7 @@ fn is_acknowledged(marks: &Marks, ack: &str) -> Option<bool> {
     if ack.is_empty() {
         return Some(marks.acknowledges(None));
     }
-    Some(marks.acknowledges(Some(Seq48::new(ack.parse().ok()?)?)))
+    Some(marks.acknowledges(Some(number_of(ack)?)))
 }
 
 fn tell_acknowledged(marks: &Marks, ack: &str, told: &mut String) -> Result<(), Fail> {
