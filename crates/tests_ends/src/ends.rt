@@ -9,6 +9,7 @@ use dccp_endpoint::{
 };
 use dccp_packets::Outbox;
 use feature_lists::{Feature, Place};
+use seq_circle::Seq48;
 use std::alloc::Global;
 use std::test::Fail;
 use tests_tables::Table;
@@ -141,25 +142,32 @@ pub(crate) fn meets(alloc: Global, end: &mut Endpoint, role: Role) -> Result<(),
     Ok(())
 }
 
+fn tell_delivered(first: usize, past: usize, told: &mut String) -> Result<(), Fail> {
+    Ok(write!(told, " took {first}-{past}")?)
+}
+
+fn tell_reset(code: u8, detail: [u8; 3], told: &mut String) -> Result<(), Fail> {
+    let [first, second, third] = detail;
+    Ok(write!(told, " sent reset {code} {first} {second} {third}")?)
+}
+
+fn tell_synced(acknowledged: Seq48, told: &mut String) -> Result<(), Fail> {
+    let number = acknowledged.get();
+    Ok(write!(told, " synced {number}")?)
+}
+
 fn tell_outcome(outcome: &Outcome, told: &mut String) -> Result<(), Fail> {
     match *outcome {
-        Outcome::Took { delivered: None } => told.push_str(" took")?,
+        Outcome::Took { delivered: None } => Ok(told.push_str(" took")?),
         Outcome::Took {
             delivered: Some((first, past)),
-        } => write!(told, " took {first}-{past}")?,
-        Outcome::SentReset { code, detail } => {
-            let [first, second, third] = detail;
-            write!(told, " sent reset {code} {first} {second} {third}")?;
-        }
-        Outcome::Synced(acknowledged) => {
-            let number = acknowledged.get();
-            write!(told, " synced {number}")?;
-        }
-        Outcome::WasReset(code) => write!(told, " was reset {code}")?,
-        Outcome::Dropped(Why::StrayReset) => told.push_str(" dropped StrayReset")?,
-        _ => return Err(Fail::from("another outcome")),
+        } => tell_delivered(first, past, told),
+        Outcome::SentReset { code, detail } => tell_reset(code, detail, told),
+        Outcome::Synced(acknowledged) => tell_synced(acknowledged, told),
+        Outcome::WasReset(code) => Ok(write!(told, " was reset {code}")?),
+        Outcome::Dropped(Why::StrayReset) => Ok(told.push_str(" dropped StrayReset")?),
+        _ => Err(Fail::from("another outcome")),
     }
-    Ok(())
 }
 
 // What an end answers to a packet in hexadecimal.

@@ -75,11 +75,22 @@ fn put_changes(bytes: &mut Bytes, unknown: u8) -> Option<()> {
     for feature in 128..128 + unknown.min(100) {
         bytes.try_extend_from_slice(&[34, 4, feature, 0]).ok()?;
     }
+    fill(bytes)?;
+    set_header(bytes)
+}
+
+// Fills the last word with Padding.
+fn fill(bytes: &mut Bytes) -> Option<()> {
     for _ in 0..3 {
         if bytes.len() % 4 != 0 {
             bytes.try_push(0).ok()?;
         }
     }
+    Some(())
+}
+
+// Sets the Data Offset to all of the bytes, the number to 1603, and the acknowledgement number to 2071.
+fn set_header(bytes: &mut Bytes) -> Option<()> {
     *bytes.get_mut(4)? = (bytes.len() / 4) as u8;
     *bytes.get_mut(14)? = 0x06;
     *bytes.get_mut(15)? = 0x43;

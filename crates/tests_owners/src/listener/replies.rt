@@ -84,22 +84,25 @@ fn dropped(why: Why) -> &'static str {
     }
 }
 
+fn tell_reset(code: u8, detail: [u8; 3], told: &mut String) -> Result<(), Fail> {
+    let [first, second, third] = detail;
+    Ok(write!(told, "sent reset {code} {first} {second} {third}")?)
+}
+
+fn tell_synced(acknowledged: Seq48, told: &mut String) -> Result<(), Fail> {
+    let number = acknowledged.get();
+    Ok(write!(told, "synced {number}")?)
+}
+
 fn tell_outcome(outcome: &Outcome, told: &mut String) -> Result<(), Fail> {
     match *outcome {
-        Outcome::Took { delivered: None } => told.push_str("took")?,
-        Outcome::Took { delivered: Some(_) } => told.push_str("took data")?,
-        Outcome::SentReset { code, detail } => {
-            let [first, second, third] = detail;
-            write!(told, "sent reset {code} {first} {second} {third}")?;
-        }
-        Outcome::Synced(acknowledged) => {
-            let number = acknowledged.get();
-            write!(told, "synced {number}")?;
-        }
-        Outcome::WasReset(code) => write!(told, "was reset {code}")?,
-        Outcome::Dropped(why) => told.push_str(dropped(why))?,
+        Outcome::Took { delivered: None } => Ok(told.push_str("took")?),
+        Outcome::Took { delivered: Some(_) } => Ok(told.push_str("took data")?),
+        Outcome::SentReset { code, detail } => tell_reset(code, detail, told),
+        Outcome::Synced(acknowledged) => tell_synced(acknowledged, told),
+        Outcome::WasReset(code) => Ok(write!(told, "was reset {code}")?),
+        Outcome::Dropped(why) => Ok(told.push_str(dropped(why))?),
     }
-    Ok(())
 }
 
 fn tell_arrival(
@@ -199,15 +202,18 @@ fn phase(phase: Phase) -> &'static str {
     }
 }
 
+fn tell_peer(peer: Peer, told: &mut String) -> Result<(), Fail> {
+    let [a, b, c, d] = peer.address;
+    let port = peer.port;
+    Ok(write!(told, " {a}.{b}.{c}.{d}:{port} ")?)
+}
+
 // The peer at a place, with its end's phase.
 fn tell_place(listener: &Listener, place: u16, told: &mut String) -> Result<(), Fail> {
     let peer = listener.peer(place).ok_or("a peer")?;
     let end = listener.flow(peer).ok_or("a flow")?;
-    let [a, b, c, d] = peer.address;
-    let port = peer.port;
-    let name = phase(end.phase());
-    write!(told, " {a}.{b}.{c}.{d}:{port} {name}")?;
-    Ok(())
+    tell_peer(peer, told)?;
+    Ok(told.push_str(phase(end.phase()))?)
 }
 
 fn ends_so(listener: &Listener, wanted: &str, told: &mut String) -> Result<(), Fail> {

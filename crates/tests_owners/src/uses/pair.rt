@@ -146,17 +146,21 @@ impl<C: Congestion> Pair<C> {
         }
     }
 
-    // The server's owner: a datagram belongs to the connection, or may open one.
     fn server_takes(&mut self) -> bool {
-        let Some(datagram) = self.to_server.take() else {
-            return true;
-        };
+        match self.to_server.take() {
+            Some(datagram) => self.server_hears(&datagram),
+            None => true,
+        }
+    }
+
+    // The server's owner: a datagram belongs to the connection, or may open one.
+    fn server_hears(&mut self, datagram: &[u8]) -> bool {
         if self.server.is_some() {
-            return self.serve(&datagram);
+            return self.serve(datagram);
         }
         let mut config = Config::usual(Role::Server);
         config.service = self.service;
-        self.server = accepted(self.alloc, config, &datagram, self.now, &mut self.to_client);
+        self.server = accepted(self.alloc, config, datagram, self.now, &mut self.to_client);
         true
     }
 

@@ -113,6 +113,11 @@ fn first_wait_amiss<C: Congestion>(pair: &mut Pair<C>) -> usize {
     if !pair.go_on(1) || !waits_in_part_open(pair) {
         return 2;
     }
+    open_wait_amiss(pair)
+}
+
+// Both are in OPEN, and the client's data are in flight.
+fn open_wait_amiss<C: Congestion>(pair: &mut Pair<C>) -> usize {
     if !pair.opens() || pair.wait_of(Role::Server, Timer::Ack) != Some(200) {
         return 3;
     }
