@@ -2,9 +2,7 @@
 //! wish, at both roles (RFC 4340, section 6, and the table of this profile); each packet type at a client before
 //! `open`, and what a server that has asked for a Close answers to types that its peer may not send (RFC 4340, section
 //! 8.5).
-use crate::ends::{
-    AtAnEnd, Endpoint, NewEnd, closes, fires, meets, prefers, tell_packet,
-};
+use crate::ends::{AtAnEnd, Endpoint, NewEnd, closes, fires, meets, prefers, tell_packet};
 use crate::words::{pieces, tell_held, values};
 use dccp_endpoint::{Role, Timer};
 use dccp_packets::Outbox;
@@ -269,8 +267,16 @@ impl AtAnEnd for Closing {
 #[test]
 fn what_meets_a_wish(rt: HostRuntime) -> Result<(), Fail> {
     let (server, client) = (Asking(Role::Server), Asking(Role::Client));
-    holds(rt.alloc(), &NewEnd::plain(Role::Server, server), AT_A_SERVER)?;
-    holds(rt.alloc(), &NewEnd::plain(Role::Client, client), AT_A_CLIENT)
+    holds(
+        rt.alloc(),
+        &NewEnd::plain(Role::Server, server),
+        AT_A_SERVER,
+    )?;
+    holds(
+        rt.alloc(),
+        &NewEnd::plain(Role::Client, client),
+        AT_A_CLIENT,
+    )
 }
 
 #[test]

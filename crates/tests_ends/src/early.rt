@@ -57,5 +57,9 @@ fn a_server_hears_it(rt: HostRuntime) -> Result<(), Fail> {
 
 #[test]
 fn early_data_need_vectors(rt: HostRuntime) -> Result<(), Fail> {
-    holds(rt.alloc(), &NewEnd::plain(Role::Client, Calls), WITHOUT_VECTORS)
+    holds(
+        rt.alloc(),
+        &NewEnd::plain(Role::Client, Calls),
+        WITHOUT_VECTORS,
+    )
 }

@@ -5,9 +5,7 @@
 //! allocation in turn.
 use crate::ends::plain;
 use ccid_two::Kinds;
-use dccp_endpoint::{
-    Endpoint, Feature, Held, Marks, NoMemory, Outcome, Phase, Place, Role, Stand,
-};
+use dccp_endpoint::{Endpoint, Feature, Held, Marks, NoMemory, Outcome, Phase, Place, Role, Stand};
 use std::alloc::Global;
 use std::test::Fail;
 use two_ends::{Event, Seen, SentFrame, Side, World, WorldFault};

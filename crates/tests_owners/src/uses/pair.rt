@@ -59,12 +59,7 @@ fn wait_in(alarms: &Alarms, timer: Timer) -> Option<u64> {
 
 impl<C: Congestion> Pair<C> {
     /// This client, a wire like this one in each direction, and a server of this service, which has no session yet.
-    pub(crate) fn new(
-        alloc: Global,
-        client: Session<C>,
-        to_server: Wire,
-        service: u32,
-    ) -> Pair<C> {
+    pub(crate) fn new(alloc: Global, client: Session<C>, to_server: Wire, service: u32) -> Pair<C> {
         let to_client = to_server.other();
         Pair {
             alloc,

@@ -75,7 +75,12 @@ const OTHER_WORDS: [&str; 5] = ["", "walk", "Capture", "capture,capture", "show"
 #[test]
 fn other_words_of_the_bridge(rt: HostRuntime) -> Result<(), Fail> {
     let usage = Wanted::Whole(Status::Words, USAGE);
-    all_come(rt.alloc(), &Streams::of(7), (&OTHER_WORDS, TRANSCRIPT), &usage)
+    all_come(
+        rt.alloc(),
+        &Streams::of(7),
+        (&OTHER_WORDS, TRANSCRIPT),
+        &usage,
+    )
 }
 
 #[test]

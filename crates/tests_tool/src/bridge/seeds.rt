@@ -74,5 +74,10 @@ fn refused_words_of_seeds(rt: HostRuntime) -> Result<(), Fail> {
 #[test]
 fn schedule_for_a_sink_that_fails(rt: HostRuntime) -> Result<(), Fail> {
     let (words, schedule) = SCHEDULES[2];
-    failures_are_told(rt.alloc(), (words, b""), schedule.as_bytes(), (&[], &[1, 9]))
+    failures_are_told(
+        rt.alloc(),
+        (words, b""),
+        schedule.as_bytes(),
+        (&[], &[1, 9]),
+    )
 }
