@@ -13,4 +13,6 @@ mod phases;
 #[cfg(test)]
 mod sums;
 #[cfg(test)]
+mod tables;
+#[cfg(test)]
 mod windows;

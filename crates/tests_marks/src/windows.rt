@@ -496,8 +496,8 @@ const BEHIND_A_TIMEOUT: [&[Call]; 5] = [
 
 #[test]
 fn the_mark_of_a_timeout(rt: HostRuntime) -> Result<(), Fail> {
-    for calls in &BEHIND_A_TIMEOUT {
-        play_behind(rt.alloc(), &TIMED_OUT_AT_47, *calls)?;
+    for calls in BEHIND_A_TIMEOUT {
+        play_behind(rt.alloc(), &TIMED_OUT_AT_47, calls)?;
     }
     Ok(())
 }

@@ -14,4 +14,6 @@ mod schedules;
 #[cfg(test)]
 mod streams;
 #[cfg(test)]
+mod tables;
+#[cfg(test)]
 mod texts;
