@@ -3,12 +3,9 @@
 //! Each event of the plain handshake is tried again after NoMemory. What both ends sent and processed, and what they
 //! show, is then as it was worked out by hand. Where memory is ample no step is refused; `tools/refusals` refuses each
 //! allocation in turn.
-ghost use Rattle.std.specs.Prelude.{◌≡◌};
-
+use crate::ends::plain;
 use ccid_two::Kinds;
-use dccp_endpoint::{
-    Config, Endpoint, Feature, Held, Marks, NoMemory, Outcome, Phase, Place, Role, Stand,
-};
+use dccp_endpoint::{Endpoint, Feature, Held, Marks, NoMemory, Outcome, Phase, Place, Role, Stand};
 use std::alloc::Global;
 use std::test::Fail;
 use two_ends::{Event, Seen, SentFrame, Side, World, WorldFault};
@@ -16,30 +13,12 @@ use two_ends::{Event, Seen, SentFrame, Side, World, WorldFault};
 // How often something is tried that may be refused memory. One allocation is refused in a run.
 const TRIES: usize = 3;
 
-// An end that offers nothing.
-fn plain(role: Role) -> Config
-    ensures { result.role ≡ role }
-{
-    let mut config = Config::usual(role);
-    config.plain();
-    config
-}
-
 fn new_world(alloc: Global) -> Result<World<Kinds>, NoMemory> {
     let client = plain(Role::Client);
     let server = plain(Role::Server);
     let for_client = Kinds::new(alloc)?;
     let for_server = Kinds::new(alloc)?;
     World::new(alloc, client, server, for_client, for_server)
-}
-
-fn begin(alloc: Global) -> Option<World<Kinds>> {
-    for _ in 0..TRIES {
-        if let Ok(world) = new_world(alloc) {
-            return Some(world);
-        }
-    }
-    None
 }
 
 // What is seen of an event, which is tried again where memory is refused.
@@ -196,8 +175,12 @@ fn comes_out(world: &mut World<Kinds>) -> bool {
 }
 
 fn connects_from_the_start(alloc: Global) -> Option<bool> {
-    let mut world = begin(alloc)?;
-    Some(comes_out(&mut world))
+    for _ in 0..TRIES {
+        if let Ok(mut world) = new_world(alloc) {
+            return Some(comes_out(&mut world));
+        }
+    }
+    None
 }
 
 #[test]

@@ -2,12 +2,12 @@
 //!
 //! Each word is a frame. Behind the colon stand how many were taken; the phase; GSS, GSR, OSR and GAR; the floor, and
 //! how many numbers are marked.
-use crate::vectors::calls::{Shown, tell_shown};
-use crate::vectors::ends::{Endpoint, new_end, plain};
-use crate::vectors::tables::{Table, holds};
+use crate::calls::{Shown, tell_shown};
+use crate::ends::{AtAnEnd, Endpoint, NewEnd};
 use dccp_endpoint::{Frame, Role, feed};
 use std::alloc::Global;
 use std::test::Fail;
+use tests_tables::holds;
 
 // A Request and an Ack open the server; other frames stand around them.
 const AT_A_SERVER: &str = "\
@@ -51,23 +51,27 @@ fn feeds(end: &mut Endpoint, frames: &[Frame]) -> Option<u32> {
 fn tell_feeding(end: &mut Endpoint, frames: &[Frame], told: &mut String) -> Result<(), Fail> {
     let taken = feeds(end, frames).ok_or("a row has at most 100 frames")?;
     write!(told, "{taken}")?;
-    for shown in [Shown::Phase, Shown::Marks, Shown::Floor] {
-        tell_shown(end, shown, "", told)?;
-    }
-    Ok(())
+    tell_shown(end, Shown::Phase, "", told)?;
+    tell_shown(end, Shown::Marks, "", told)?;
+    tell_shown(end, Shown::Floor, "", told)
 }
 
-// A server that offers nothing.
-struct Server;
+#[derive(Drop)]
+struct Fed;
 
-impl Table for Server {
-    fn tell(&self, alloc: Global, words: &str, told: &mut String) -> Result<(), Fail> {
-        let mut end = new_end(alloc, plain(Role::Server))?;
-        tell_feeding(&mut end, &frames_of(alloc, words)?, told)
+impl AtAnEnd for Fed {
+    fn tell(
+        &self,
+        alloc: Global,
+        end: &mut Endpoint,
+        words: &str,
+        told: &mut String,
+    ) -> Result<(), Fail> {
+        tell_feeding(end, &frames_of(alloc, words)?, told)
     }
 }
 
 #[test]
 fn fed_at_a_server(rt: HostRuntime) -> Result<(), Fail> {
-    holds(rt.alloc(), &Server, AT_A_SERVER)
+    holds(rt.alloc(), &NewEnd::plain(Role::Server, Fed), AT_A_SERVER)
 }

@@ -1,10 +1,10 @@
 //! A client that speaks first, and the server that hears it (RFC 4340, section 8.1.5). The words are those of `calls`:
 //! `early` calls `send_early`, and `soon` calls `send_soon`.
-use crate::vectors::calls::Calls;
-use crate::vectors::ends::plain;
-use crate::vectors::tables::holds;
+use crate::calls::Calls;
+use crate::ends::NewEnd;
 use dccp_endpoint::{Config, Role};
 use std::test::Fail;
+use tests_tables::holds;
 
 const AT_A_CLIENT: &str = "\
     # Two packets with data before the server spoke: each acknowledges the Response. Its answer opens, and tells of the first\n\
@@ -36,19 +36,30 @@ const AT_A_SERVER: &str = "\
 const WITHOUT_VECTORS: &str = "\
     open/ packet/13899c400700261403000000000007d000000000000003e80000002a early/aa soon/aa phase/: ok 9c401389050031ec01000000000003e80000002a took 9c4013890600234107000000000003e900000000000007d0 NotNegotiated - NotNegotiated - PartOpen\n";
 
+fn usual(role: Role) -> NewEnd<Calls> {
+    NewEnd {
+        config: Config::usual(role),
+        it: Calls,
+    }
+}
+
 #[test]
 fn a_client_speaks_first(rt: HostRuntime) -> Result<(), Fail> {
-    let client = Calls(Config::usual(Role::Client));
+    let client = usual(Role::Client);
     holds(rt.alloc(), &client, AT_A_CLIENT)
 }
 
 #[test]
 fn a_server_hears_it(rt: HostRuntime) -> Result<(), Fail> {
-    let server = Calls(Config::usual(Role::Server));
+    let server = usual(Role::Server);
     holds(rt.alloc(), &server, AT_A_SERVER)
 }
 
 #[test]
 fn early_data_need_vectors(rt: HostRuntime) -> Result<(), Fail> {
-    holds(rt.alloc(), &Calls(plain(Role::Client)), WITHOUT_VECTORS)
+    holds(
+        rt.alloc(),
+        &NewEnd::plain(Role::Client, Calls),
+        WITHOUT_VECTORS,
+    )
 }

@@ -177,8 +177,8 @@ const CASES: [(u16, &str, &str); 9] = [
 
 #[test]
 fn drawn_cases(rt: HostRuntime) -> Result<(), Fail> {
-    for (most, lines, flows) in CASES {
-        holds(rt.alloc(), most, lines, flows)?;
+    for (most, lines, flows) in &CASES {
+        holds(rt.alloc(), *most, lines, flows)?;
     }
     Ok(())
 }

@@ -68,25 +68,35 @@ fn drop_many(server: &mut Server, out: &mut Outbox) -> Option<()> {
     Some(())
 }
 
-// An Ack with these Changes and so many more, of features that nobody knows: 3 bytes each in the answer.
-fn changes(unknown: u8) -> Option<Bytes> {
-    let mut bytes = Bytes::new();
+// Puts an Ack with these Changes and so many more, of features that nobody knows: 3 bytes each in the answer.
+fn put_changes(bytes: &mut Bytes, unknown: u8) -> Option<()> {
     bytes.try_extend_from_slice(&ACK).ok()?;
     bytes.try_extend_from_slice(&CHANGES).ok()?;
     for feature in 128..128 + unknown.min(100) {
         bytes.try_extend_from_slice(&[34, 4, feature, 0]).ok()?;
     }
+    fill(bytes)?;
+    set_header(bytes)
+}
+
+// Fills the last word with Padding.
+fn fill(bytes: &mut Bytes) -> Option<()> {
     for _ in 0..3 {
         if bytes.len() % 4 != 0 {
             bytes.try_push(0).ok()?;
         }
     }
+    Some(())
+}
+
+// Sets the Data Offset to all of the bytes, the number to 1603, and the acknowledgement number to 2071.
+fn set_header(bytes: &mut Bytes) -> Option<()> {
     *bytes.get_mut(4)? = (bytes.len() / 4) as u8;
     *bytes.get_mut(14)? = 0x06;
     *bytes.get_mut(15)? = 0x43;
     *bytes.get_mut(22)? = 0x08;
     *bytes.get_mut(23)? = 0x17;
-    Some(bytes)
+    Some(())
 }
 
 // Opens the connection, and lets many data come.
@@ -106,7 +116,8 @@ fn length_and_last(out: &Outbox) -> Option<(usize, u8)> {
 fn answered(server: &mut Server, unknown: u8) -> Option<(usize, u8)> {
     let mut out = Outbox::new();
     begin(server, &mut out)?;
-    let changes = changes(unknown)?;
+    let mut changes = Bytes::new();
+    put_changes(&mut changes, unknown)?;
     receive(server, changes.as_slice(), &mut out)?;
     length_and_last(&out)
 }

@@ -1,7 +1,6 @@
 //! Cases as lists of calls of an inbox, each with its answer. One helper makes all calls.
 ghost use Rattle.std.specs.Prelude.{◌≤◌};
 
-use crate::texts::all_come;
 use data_dropped::{Arrival, DropBytes, Inbox};
 use seq_circle::Seq48;
 use std::alloc::Global;
@@ -100,6 +99,14 @@ fn first_other(inbox: &mut Inbox, calls: &[Call]) -> Option<usize> {
         }
     }
     None
+}
+
+// Fails where a call comes to something else, with the place of the first.
+fn all_come(first_other: Option<usize>) -> Result<(), Fail> {
+    match first_other {
+        None => Ok(()),
+        Some(place) => Err(Fail::new(format_args!("call {place}"))),
+    }
 }
 
 // Makes these calls of a new inbox, one after another.

@@ -2,12 +2,12 @@
 //! the colon stand the answer and the frame that goes to the peer, or `-`. A line costs no proof.
 ghost use Rattle.std.specs.Prelude.{◌≤◌};
 
-use crate::texts::{are_same, tell_frame};
 use arrayvec::ArrayVec;
 use dccp_endpoint::{Lists, Outbox, Outcome, Phase, Seq48, Timer, Why};
 use dccp_listener::{Act, Heard, ListenConfig, Listener, Peer, Refusal, Seen};
 use std::alloc::Global;
 use std::test::Fail;
+use tests_tables::{are_same, named, tell_frame};
 
 // At 10.0.0.2, port 5001, for the services 42 and 43.
 fn listening(alloc: Global, most: u16) -> Listener
@@ -39,17 +39,18 @@ fn peer(word: &str) -> Option<Peer> {
     })
 }
 
-fn timer(word: &str) -> Option<Timer> {
-    match word {
-        "request" => Some(Timer::Request),
-        "ack" => Some(Timer::Ack),
-        "negotiate" => Some(Timer::Negotiate),
-        "rto" => Some(Timer::Rto),
-        "close" => Some(Timer::Close),
-        "timewait" => Some(Timer::TimeWait),
-        _ => None,
-    }
-}
+// What is asked of a peer's end.
+const ACTS: [(&str, Act<'static>); 9] = [
+    ("timer request", Act::Timer(Timer::Request)),
+    ("timer ack", Act::Timer(Timer::Ack)),
+    ("timer negotiate", Act::Timer(Timer::Negotiate)),
+    ("timer rto", Act::Timer(Timer::Rto)),
+    ("timer close", Act::Timer(Timer::Close)),
+    ("timer timewait", Act::Timer(Timer::TimeWait)),
+    ("send 78", Act::Send(b"x")),
+    ("close", Act::Close),
+    ("abort", Act::Abort),
+];
 
 fn refusal(refusal: Refusal) -> &'static str {
     match refusal {
@@ -83,22 +84,25 @@ fn dropped(why: Why) -> &'static str {
     }
 }
 
+fn tell_reset(code: u8, detail: [u8; 3], told: &mut String) -> Result<(), Fail> {
+    let [first, second, third] = detail;
+    Ok(write!(told, "sent reset {code} {first} {second} {third}")?)
+}
+
+fn tell_synced(acknowledged: Seq48, told: &mut String) -> Result<(), Fail> {
+    let number = acknowledged.get();
+    Ok(write!(told, "synced {number}")?)
+}
+
 fn tell_outcome(outcome: &Outcome, told: &mut String) -> Result<(), Fail> {
     match *outcome {
-        Outcome::Took { delivered: None } => told.push_str("took")?,
-        Outcome::Took { delivered: Some(_) } => told.push_str("took data")?,
-        Outcome::SentReset { code, detail } => {
-            let [first, second, third] = detail;
-            write!(told, "sent reset {code} {first} {second} {third}")?;
-        }
-        Outcome::Synced(acknowledged) => {
-            let number = acknowledged.get();
-            write!(told, "synced {number}")?;
-        }
-        Outcome::WasReset(code) => write!(told, "was reset {code}")?,
-        Outcome::Dropped(why) => told.push_str(dropped(why))?,
+        Outcome::Took { delivered: None } => Ok(told.push_str("took")?),
+        Outcome::Took { delivered: Some(_) } => Ok(told.push_str("took data")?),
+        Outcome::SentReset { code, detail } => tell_reset(code, detail, told),
+        Outcome::Synced(acknowledged) => tell_synced(acknowledged, told),
+        Outcome::WasReset(code) => Ok(write!(told, "was reset {code}")?),
+        Outcome::Dropped(why) => Ok(told.push_str(dropped(why))?),
     }
-    Ok(())
 }
 
 fn tell_arrival(
@@ -143,21 +147,17 @@ fn tell(
     out: &mut Outbox,
     told: &mut String,
 ) -> Result<(), Fail> {
-    match words.split_once(" ") {
-        Some(("timer", word)) => {
-            let timer = timer(word).ok_or("a timer")?;
-            tell_act(listener, peer, Act::Timer(timer), out, told)
-        }
-        Some(_) => {
-            let data = b"x";
-            tell_act(listener, peer, Act::Send(data), out, told)
-        }
-        None => match words {
-            "close" => tell_act(listener, peer, Act::Close, out, told),
-            "abort" => tell_act(listener, peer, Act::Abort, out, told),
-            _ => tell_arrival(alloc, listener, peer, words, out, told),
-        },
+    match named(words, &ACTS) {
+        Some(act) => tell_act(listener, peer, act, out, told),
+        None => tell_arrival(alloc, listener, peer, words, out, told),
     }
+}
+
+// The peer of a line, the words behind it, all that is given, and what is wanted.
+fn parts_of(line: &str) -> Option<(Peer, &str, &str, &str)> {
+    let (given, wanted) = line.split_once(": ")?;
+    let (whose, words) = given.split_once(" ")?;
+    Some((peer(whose)?, words, given, wanted))
 }
 
 fn line_holds(
@@ -167,9 +167,7 @@ fn line_holds(
     out: &mut Outbox,
     told: &mut String,
 ) -> Result<(), Fail> {
-    let (given, wanted) = line.split_once(": ").ok_or("a line has a colon")?;
-    let (whose, words) = given.split_once(" ").ok_or("a line has a peer")?;
-    let peer = peer(whose).ok_or("a peer")?;
+    let (peer, words, given, wanted) = parts_of(line).ok_or("a peer, words and a colon")?;
     told.clear();
     tell(alloc, listener, peer, words, out, told)?;
     told.push_str(",")?;
@@ -204,15 +202,18 @@ fn phase(phase: Phase) -> &'static str {
     }
 }
 
+fn tell_peer(peer: Peer, told: &mut String) -> Result<(), Fail> {
+    let [a, b, c, d] = peer.address;
+    let port = peer.port;
+    Ok(write!(told, " {a}.{b}.{c}.{d}:{port} ")?)
+}
+
 // The peer at a place, with its end's phase.
 fn tell_place(listener: &Listener, place: u16, told: &mut String) -> Result<(), Fail> {
     let peer = listener.peer(place).ok_or("a peer")?;
     let end = listener.flow(peer).ok_or("a flow")?;
-    let [a, b, c, d] = peer.address;
-    let port = peer.port;
-    let name = phase(end.phase());
-    write!(told, " {a}.{b}.{c}.{d}:{port} {name}")?;
-    Ok(())
+    tell_peer(peer, told)?;
+    Ok(told.push_str(phase(end.phase()))?)
 }
 
 fn ends_so(listener: &Listener, wanted: &str, told: &mut String) -> Result<(), Fail> {

@@ -9,20 +9,20 @@ use std::alloc::Global;
 // How many milliseconds a turn takes.
 const TURN: u64 = 50;
 
-// A client that asks for the usual service, the server's session once there is one, what each was told of its end, and
-// what was delivered to the server.
+// A client that asks for the usual service, the server's session once there is one, the code with which each was told
+// that the connection has ended, and what was delivered to the server.
 #[derive(Drop)]
 pub(crate) struct Pair<C> {
     alloc: Global,
     now: u64,
     service: u32,
     client: Session<C>,
-    server: Option<Session<Kinds>>,
-    to_server: Wire,
+    pub(crate) server: Option<Session<Kinds>>,
+    pub(crate) to_server: Wire,
     to_client: Wire,
-    client_ended: Option<u8>,
-    server_ended: Option<u8>,
-    got: Vec<u8>,
+    pub(crate) client_ended: Option<u8>,
+    pub(crate) server_ended: Option<u8>,
+    pub(crate) got: Vec<u8>,
 }
 
 // A server's session, where a stranger's datagram opens a connection.
@@ -42,43 +42,12 @@ fn accepted(
     }
 }
 
-// A client that has sent nothing.
-fn client<C: Congestion + Drop>(alloc: Global, congestion: C) -> Option<Session<C>> {
+/// A client that has sent nothing.
+pub(crate) fn client<C: Congestion + Drop>(alloc: Global, congestion: C) -> Option<Session<C>> {
     if !congestion.knows(2) {
         return None;
     }
     Session::new(alloc, Config::usual(Role::Client), congestion).ok()
-}
-
-impl<C: Congestion + Drop> Pair<C> {
-    /// A client that has asked for its service, over a wire like this one, where there is a server of this service.
-    pub(crate) fn asking(
-        alloc: Global,
-        congestion: C,
-        to_server: Wire,
-        service: u32,
-    ) -> Option<Pair<C>> {
-        let Some(client) = client(alloc, congestion) else {
-            return None;
-        };
-        let to_client = to_server.other();
-        let mut pair = Pair {
-            alloc,
-            now: 5_000,
-            service,
-            client,
-            server: None,
-            to_server,
-            to_client,
-            client_ended: None,
-            server_ended: None,
-            got: Vec::new(alloc),
-        };
-        if !pair.asks() {
-            return None;
-        }
-        Some(pair)
-    }
 }
 
 fn wait_in(alarms: &Alarms, timer: Timer) -> Option<u64> {
@@ -89,7 +58,25 @@ fn wait_in(alarms: &Alarms, timer: Timer) -> Option<u64> {
 }
 
 impl<C: Congestion> Pair<C> {
-    fn asks(&mut self) -> bool {
+    /// This client, a wire like this one in each direction, and a server of this service, which has no session yet.
+    pub(crate) fn new(alloc: Global, client: Session<C>, to_server: Wire, service: u32) -> Pair<C> {
+        let to_client = to_server.other();
+        Pair {
+            alloc,
+            now: 5_000,
+            service,
+            client,
+            server: None,
+            to_server,
+            to_client,
+            client_ended: None,
+            server_ended: None,
+            got: Vec::new(alloc),
+        }
+    }
+
+    /// The client asks for its service.
+    pub(crate) fn asks(&mut self) -> bool {
         self.client.open(self.now, &mut self.to_server).is_ok()
     }
 
@@ -99,7 +86,7 @@ impl<C: Congestion> Pair<C> {
             if self.are(Phase::Open) {
                 return true;
             }
-            if !self.turn(TURN) {
+            if !self.pass(TURN) {
                 return false;
             }
         }
@@ -122,16 +109,11 @@ impl<C: Congestion> Pair<C> {
     /// So many turns go by.
     pub(crate) fn go_on(&mut self, turns: usize) -> bool {
         for _ in 0..turns {
-            if !self.turn(TURN) {
+            if !self.pass(TURN) {
                 return false;
             }
         }
         true
-    }
-
-    /// So many milliseconds go by in one turn.
-    pub(crate) fn pass(&mut self, time: u64) -> bool {
-        self.turn(time)
     }
 
     /// So many milliseconds go by, and nothing arrives.
@@ -140,8 +122,9 @@ impl<C: Congestion> Pair<C> {
         self.tick();
     }
 
-    // So many milliseconds go by, a frame arrives at each side, if there is one, and the timers get the time.
-    fn turn(&mut self, time: u64) -> bool {
+    /// So many milliseconds go by in one turn: a frame arrives at each side, if there is one, and the timers get the
+    /// time.
+    pub(crate) fn pass(&mut self, time: u64) -> bool {
         self.now = self.now.saturating_add(time);
         if !self.server_takes() {
             return false;
@@ -158,17 +141,21 @@ impl<C: Congestion> Pair<C> {
         }
     }
 
-    // The server's owner: a datagram belongs to the connection, or may open one.
     fn server_takes(&mut self) -> bool {
-        let Some(datagram) = self.to_server.take() else {
-            return true;
-        };
+        match self.to_server.take() {
+            Some(datagram) => self.server_hears(&datagram),
+            None => true,
+        }
+    }
+
+    // The server's owner: a datagram belongs to the connection, or may open one.
+    fn server_hears(&mut self, datagram: &[u8]) -> bool {
         if self.server.is_some() {
-            return self.serve(&datagram);
+            return self.serve(datagram);
         }
         let mut config = Config::usual(Role::Server);
         config.service = self.service;
-        self.server = accepted(self.alloc, config, &datagram, self.now, &mut self.to_client);
+        self.server = accepted(self.alloc, config, datagram, self.now, &mut self.to_client);
         true
     }
 
@@ -210,16 +197,6 @@ impl<C: Congestion> Pair<C> {
         }
     }
 
-    /// All frames that are on their way to the server are lost.
-    pub(crate) fn lose(&mut self) {
-        self.to_server.lose();
-    }
-
-    /// How many frames are on their way to the server.
-    pub(crate) fn sent(&self) -> usize {
-        self.to_server.len()
-    }
-
     /// How long it is until the client's first timer runs out.
     pub(crate) fn until_first(&self) -> Option<u64> {
         self.client.until_first(self.now)
@@ -237,11 +214,6 @@ impl<C: Congestion> Pair<C> {
     /// How many packets the client may send.
     pub(crate) fn room(&self) -> u32 {
         self.client.room()
-    }
-
-    /// The server has a connection.
-    pub(crate) fn is_served(&self) -> bool {
-        self.server.is_some()
     }
 
     pub(crate) fn close(&mut self, role: Role) -> bool {
@@ -270,19 +242,5 @@ impl<C: Congestion> Pair<C> {
             Some(server) => Some(server.end().held(feature, Place::There)),
             None => None,
         }
-    }
-
-    /// The code with which the client was told that the connection has ended.
-    pub(crate) fn client_ended(&self) -> Option<u8> {
-        self.client_ended
-    }
-
-    /// The code with which the server was.
-    pub(crate) fn server_ended(&self) -> Option<u8> {
-        self.server_ended
-    }
-
-    pub(crate) fn delivered(&self) -> &[u8] {
-        &self.got
     }
 }

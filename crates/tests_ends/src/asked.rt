@@ -2,14 +2,14 @@
 //! wish, at both roles (RFC 4340, section 6, and the table of this profile); each packet type at a client before
 //! `open`, and what a server that has asked for a Close answers to types that its peer may not send (RFC 4340, section
 //! 8.5).
-use crate::texts::tell_frame;
-use crate::vectors::ends::{Endpoint, closes, fires, meets, new_end, plain, prefers, tell_packet};
-use crate::vectors::tables::{Table, holds, pieces, tell_held, values};
+use crate::ends::{AtAnEnd, Endpoint, NewEnd, closes, fires, meets, prefers, tell_packet};
+use crate::words::{pieces, tell_held, values};
 use dccp_endpoint::{Role, Timer};
 use dccp_packets::Outbox;
 use feature_lists::{Feature, Place};
 use std::alloc::Global;
 use std::test::Fail;
+use tests_tables::{holds, tell_frame};
 
 // A row is what an end in OPEN has asked for, each wish as `here/8/1,2`, and `again` where its Change goes out again;
 // then a packet that arrives. Behind the colon stands the answer, what the end then holds for what it asked last (`*`
@@ -200,14 +200,20 @@ fn tell_asked(
     Ok(())
 }
 
+// An end in OPEN that asks.
 #[derive(Drop)]
 struct Asking(Role);
 
-impl Table for Asking {
-    fn tell(&self, alloc: Global, words: &str, told: &mut String) -> Result<(), Fail> {
-        let mut end = new_end(alloc, plain(self.0))?;
-        meets(alloc, &mut end, self.0)?;
-        tell_asked(alloc, &mut end, words, told)
+impl AtAnEnd for Asking {
+    fn tell(
+        &self,
+        alloc: Global,
+        end: &mut Endpoint,
+        words: &str,
+        told: &mut String,
+    ) -> Result<(), Fail> {
+        meets(alloc, end, self.0)?;
+        tell_asked(alloc, end, words, told)
     }
 }
 
@@ -225,49 +231,62 @@ fn tell_reply(
     tell_frame(alloc, &out, told)
 }
 
-struct NewClient;
+#[derive(Drop)]
+struct Replying;
 
-impl Table for NewClient {
-    fn tell(&self, alloc: Global, words: &str, told: &mut String) -> Result<(), Fail> {
-        let mut end = new_end(alloc, plain(Role::Client))?;
-        tell_reply(alloc, &mut end, words, told)
+impl AtAnEnd for Replying {
+    fn tell(
+        &self,
+        alloc: Global,
+        end: &mut Endpoint,
+        words: &str,
+        told: &mut String,
+    ) -> Result<(), Fail> {
+        tell_reply(alloc, end, words, told)
     }
 }
 
-fn tell_closing(
-    alloc: Global,
-    end: &mut Endpoint,
-    packet: &str,
-    told: &mut String,
-) -> Result<(), Fail> {
-    meets(alloc, end, Role::Server)?;
-    let _closed = closes(end, &mut Outbox::new());
-    tell_reply(alloc, end, packet, told)
-}
+// A server in OPEN that has asked for a Close.
+#[derive(Drop)]
+struct Closing;
 
-struct ClosingServer;
-
-impl Table for ClosingServer {
-    fn tell(&self, alloc: Global, words: &str, told: &mut String) -> Result<(), Fail> {
-        let mut end = new_end(alloc, plain(Role::Server))?;
-        tell_closing(alloc, &mut end, words, told)
+impl AtAnEnd for Closing {
+    fn tell(
+        &self,
+        alloc: Global,
+        end: &mut Endpoint,
+        words: &str,
+        told: &mut String,
+    ) -> Result<(), Fail> {
+        meets(alloc, end, Role::Server)?;
+        let _closed = closes(end, &mut Outbox::new());
+        tell_reply(alloc, end, words, told)
     }
 }
 
 #[test]
 fn what_meets_a_wish(rt: HostRuntime) -> Result<(), Fail> {
-    for (role, rows) in [(Role::Server, AT_A_SERVER), (Role::Client, AT_A_CLIENT)] {
-        holds(rt.alloc(), &Asking(role), rows)?;
-    }
-    Ok(())
+    let (server, client) = (Asking(Role::Server), Asking(Role::Client));
+    holds(
+        rt.alloc(),
+        &NewEnd::plain(Role::Server, server),
+        AT_A_SERVER,
+    )?;
+    holds(
+        rt.alloc(),
+        &NewEnd::plain(Role::Client, client),
+        AT_A_CLIENT,
+    )
 }
 
 #[test]
 fn packets_before_open(rt: HostRuntime) -> Result<(), Fail> {
-    holds(rt.alloc(), &NewClient, BEFORE_OPEN)
+    let client = NewEnd::plain(Role::Client, Replying);
+    holds(rt.alloc(), &client, BEFORE_OPEN)
 }
 
 #[test]
 fn unexpected_in_closereq(rt: HostRuntime) -> Result<(), Fail> {
-    holds(rt.alloc(), &ClosingServer, AFTER_CLOSE_REQ)
+    let server = NewEnd::plain(Role::Server, Closing);
+    holds(rt.alloc(), &server, AFTER_CLOSE_REQ)
 }

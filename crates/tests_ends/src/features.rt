@@ -1,8 +1,9 @@
 //! The features, what may be wished for them, and what two lists settle on.
-use crate::vectors::tables::{Table, holds, pieces, values};
+use crate::words::{pieces, values};
 use feature_lists::{Feature, Place, Wanted, initial, reconcile, usual, wish};
 use std::alloc::Global;
 use std::test::Fail;
+use tests_tables::{Table, holds};
 
 // A number, and its feature's: whether lists settle it, a value's bytes, whether every end has to understand it (RFC
 // 4340, section 6.4), and its value before any negotiation.

@@ -12,13 +12,14 @@
 //! | `change/here/8/0201`, `must_change/here/8/0201` | a Change for the row comes, plain and with Mandatory |
 //! | `confirm/here/8/010102@100` | a Confirm for the row comes on a packet that acknowledges a number, or `-` for none |
 //! | `held/here/8/`, `active/here/8/`, `due/` | what the row holds, the active wish, and the rows whose Change is due |
-use crate::vectors::features::tell_wish;
-use crate::vectors::tables::{Table, holds, named, numbered, pieces, tell_held, values};
+use crate::features::tell_wish;
+use crate::words::{numbered, pieces, tell_held, values};
 use feature_lists::{Feature, Place, PreferFault, wish};
 use feature_machine::{Answer, Lists, Negotiation, Opening, Role2, Settling, Stand};
 use seq_circle::Seq48;
 use std::alloc::Global;
 use std::test::Fail;
+use tests_tables::{Table, holds, named};
 
 // Two ends' stories stand in two rows, the client's first: what one sends comes to the other.
 const STORIES: &str = "\

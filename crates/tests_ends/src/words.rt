@@ -1,44 +1,8 @@
-//! Tables of text. A row has words, and behind a colon what comes of them; behind `#` stands what the rows below are.
-//!
-//! A row costs no proof. What is told goes behind a text that the caller owns, so that the proof of no function has a
-//! text to drop.
-use crate::texts::are_same;
+//! Pieces of the words of rows: features, their places and values.
 use feature_lists::{Feature, Place};
 use feature_machine::{Held, Stand};
 use std::alloc::Global;
 use std::test::Fail;
-
-pub(crate) trait Table {
-    // Writes what comes of a row's words.
-    fn tell(&self, alloc: Global, words: &str, told: &mut String) -> Result<(), Fail>;
-}
-
-fn row_holds<T: Table>(alloc: Global, table: &T, row: &str) -> Result<(), Fail> {
-    let (words, wanted) = row.split_once(": ").ok_or("a row has a colon")?;
-    let mut told = String::new(alloc);
-    table.tell(alloc, words, &mut told)?;
-    are_same(words, told.as_str().trim_start(), wanted)
-}
-
-// Fails at the first row of which something else comes, with that.
-pub(crate) fn holds<T: Table>(alloc: Global, table: &T, rows: &str) -> Result<(), Fail> {
-    for row in rows.lines() {
-        if !row.starts_with("#") {
-            row_holds(alloc, table, row)?;
-        }
-    }
-    Ok(())
-}
-
-// What stands under this name.
-pub(crate) fn named<T: Copy>(name: &str, table: &[(&str, T)]) -> Option<T> {
-    for (other, meaning) in table {
-        if name == *other {
-            return Some(*meaning);
-        }
-    }
-    None
-}
 
 fn place(text: &str) -> Option<Place> {
     match text {

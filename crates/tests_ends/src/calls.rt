@@ -4,12 +4,11 @@
 //! Each word makes one call. Behind the colon stand its answer and, where it may send one, the frame, or `-`. Data that
 //! are delivered are told by where they stand in their packet. `marks` shows GSS, GSR, OSR and GAR, and `windows` SWL,
 //! SWH, AWL and AWH; `floor` the floor and how many numbers were taken; `window` the window and what is in flight.
-use crate::texts::tell_frame;
-use crate::vectors::ends::{
-    Endpoint, aborts, closes, fires, new_end, opens, plain, prefers, sends, sends_early,
+use crate::ends::{
+    AtAnEnd, Endpoint, NewEnd, aborts, closes, fires, opens, plain, prefers, sends, sends_early,
     sends_soon, tell_packet,
 };
-use crate::vectors::tables::{Table, holds, named, pieces, tell_held, values};
+use crate::words::{pieces, tell_held, values};
 use dccp_endpoint::{Config, Ports, Pseudo, Role, Timer};
 use dccp_packets::Outbox;
 use feature_lists::{Feature, Place};
@@ -17,6 +16,7 @@ use seq_circle::Seq48;
 use std::alloc::Global;
 use std::fmt::Debug;
 use std::test::Fail;
+use tests_tables::{holds, named, tell_frame};
 
 const AT_A_CLIENT: &str = "\
     phase/ open/ open/ phase/: Closed ok 9c401389050031ec01000000000003e80000002a NotFresh - Request\n\
@@ -279,37 +279,34 @@ fn tell_call(
     }
 }
 
-fn tell_calls(
-    alloc: Global,
-    end: &mut Endpoint,
-    words: &str,
-    told: &mut String,
-) -> Result<(), Fail> {
-    let mut out = Outbox::new();
-    for word in words.split_whitespace() {
-        tell_call(alloc, end, word, &mut out, told)?;
-    }
-    Ok(())
-}
+// Calls, one after another.
+#[derive(Drop)]
+pub(crate) struct Calls;
 
-#[derive(Clone, Copy)]
-pub(crate) struct Calls(pub(crate) Config);
-
-impl Table for Calls {
-    fn tell(&self, alloc: Global, words: &str, told: &mut String) -> Result<(), Fail> {
-        let mut end = new_end(alloc, self.0)?;
-        tell_calls(alloc, &mut end, words, told)
+impl AtAnEnd for Calls {
+    fn tell(
+        &self,
+        alloc: Global,
+        end: &mut Endpoint,
+        words: &str,
+        told: &mut String,
+    ) -> Result<(), Fail> {
+        let mut out = Outbox::new();
+        for word in words.split_whitespace() {
+            tell_call(alloc, end, word, &mut out, told)?;
+        }
+        Ok(())
     }
 }
 
 #[test]
 fn at_a_client(rt: HostRuntime) -> Result<(), Fail> {
-    holds(rt.alloc(), &Calls(plain(Role::Client)), AT_A_CLIENT)
+    holds(rt.alloc(), &NewEnd::plain(Role::Client, Calls), AT_A_CLIENT)
 }
 
 #[test]
 fn at_a_server(rt: HostRuntime) -> Result<(), Fail> {
-    holds(rt.alloc(), &Calls(plain(Role::Server)), AT_A_SERVER)
+    holds(rt.alloc(), &NewEnd::plain(Role::Server, Calls), AT_A_SERVER)
 }
 
 fn offering() -> Option<Config> {
@@ -321,11 +318,11 @@ fn offering() -> Option<Config> {
 
 #[test]
 fn of_an_offer(rt: HostRuntime) -> Result<(), Fail> {
-    holds(
-        rt.alloc(),
-        &Calls(offering().ok_or("an offer")?),
-        OF_AN_OFFER,
-    )
+    let server = NewEnd {
+        config: offering().ok_or("an offer")?,
+        it: Calls,
+    };
+    holds(rt.alloc(), &server, OF_AN_OFFER)
 }
 
 fn agree(one: &Config, other: &Config) -> Result<(), Fail> {

@@ -2,25 +2,23 @@
 //! `stop`; behind the colon stand the answer and the frame that goes out, or `-`.
 ghost use Rattle.std.specs.Prelude.{◌≤◌};
 
-use crate::texts::{are_same, tell_frame};
 use ccid_two::Kinds;
 use data_dropped::{Arrival, BufferedEnd, Got};
 use dccp_endpoint::{Config, Frame, Outbox, Outcome, Role, seal_frame};
 use std::alloc::Global;
 use std::test::Fail;
+use tests_tables::{are_same, tell_frame};
 
 type Server = BufferedEnd<Kinds>;
 
 // The usual server without offers.
-fn server(alloc: Global, capacity: u16) -> Result<Server, Fail>
+fn server(alloc: Global, capacity: u16) -> Option<Server>
     requires least { 1 ≤ capacity }
     requires most { capacity ≤ 1024 }
 {
     let mut config = Config::usual(Role::Server);
     config.plain();
-    let congestion = Kinds::new(alloc).ok().ok_or("no memory")?;
-    let end = BufferedEnd::new(alloc, config, congestion, capacity);
-    Ok(end.ok().ok_or("no memory")?)
+    BufferedEnd::new(alloc, config, Kinds::new(alloc).ok()?, capacity).ok()
 }
 
 // The packet with its checksum.
@@ -34,23 +32,19 @@ fn sealed(alloc: Global, packet: &str) -> Result<Frame, Fail> {
     Ok(frame)
 }
 
-fn tell_got(got: &Got, told: &mut String) -> Result<(), Fail> {
-    match *got {
-        Got {
-            outcome: Outcome::Took { .. },
-            arrival: None,
-        } => told.push_str("took")?,
-        Got {
-            outcome: Outcome::Took { .. },
-            arrival: Some(Arrival::Kept),
-        } => told.push_str("kept")?,
-        Got {
-            outcome: Outcome::Took { .. },
-            arrival: Some(Arrival::Dropped(code)),
-        } => write!(told, "dropped {code}")?,
-        _ => return Err(Fail::from("another outcome")),
+fn tell_arrival(arrival: Option<Arrival>, told: &mut String) -> Result<(), Fail> {
+    match arrival {
+        None => Ok(told.push_str("took")?),
+        Some(Arrival::Kept) => Ok(told.push_str("kept")?),
+        Some(Arrival::Dropped(code)) => Ok(write!(told, "dropped {code}")?),
     }
-    Ok(())
+}
+
+fn tell_got(got: &Got, told: &mut String) -> Result<(), Fail> {
+    match got.outcome {
+        Outcome::Took { .. } => tell_arrival(got.arrival, told),
+        _ => Err(Fail::from("another outcome")),
+    }
 }
 
 fn tell_packet(
@@ -67,19 +61,21 @@ fn tell_packet(
     tell_frame(alloc, &out, told)
 }
 
+fn tell_data(alloc: Global, number: u64, data: &[u8], told: &mut String) -> Result<(), Fail> {
+    let text = hex::encode(alloc, data)?;
+    Ok(write!(told, "{number} {text}")?)
+}
+
 // What is read, as text.
 fn tell_item(alloc: Global, server: &mut Server, told: &mut String) -> Result<(), Fail> {
     let mut into = [0; 1024];
     match server.take(&mut into) {
         Some((number, count)) => {
-            let number = number.get();
             let data = into.get(..count).ok_or("no more than an item")?;
-            let text = hex::encode(alloc, data)?;
-            write!(told, "{number} {text}")?;
+            tell_data(alloc, number.get(), data, told)
         }
-        None => told.push_str("empty")?,
+        None => Ok(told.push_str("empty")?),
     }
-    Ok(())
 }
 
 fn tell(alloc: Global, server: &mut Server, word: &str, told: &mut String) -> Result<(), Fail> {
@@ -114,7 +110,7 @@ fn holds(alloc: Global, capacity: u16, lines: &str) -> Result<(), Fail>
     requires least { 1 ≤ capacity }
     requires most { capacity ≤ 1024 }
 {
-    let mut server = server(alloc, capacity)?;
+    let mut server = server(alloc, capacity).ok_or("no memory")?;
     hold_lines(alloc, &mut server, lines)
 }
 

@@ -2,11 +2,11 @@
 //!
 //! A word is `start`, `mark` or `raise` with a number. Behind the number may stand a step up or down and how many such
 //! calls there are: `mark=0+2*1024` marks every second number from 0 to 2,046.
-use crate::vectors::tables::{Table, holds};
 use run_list::{PlainRuns, RunCall, RunList, Runs, replay_runs};
 use seq_circle::Seq48;
 use std::alloc::Global;
 use std::test::Fail;
+use tests_tables::{Table, holds};
 
 // Each row is a list of calls, and behind a colon how many marks are New, and the floor in the end.
 const ROWS: &str = "\

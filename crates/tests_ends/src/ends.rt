@@ -1,27 +1,68 @@
 //! Ends, their calls, and what they answer, as text.
 //!
 //! Each of the calls stands in a function without clauses, so that its own are in one proof.
+ghost use Rattle.std.specs.Prelude.{◌≡◌};
+
 use ccid_two::Kinds;
 use dccp_endpoint::{
     AbortFault, CloseFault, Config, OpenFault, Outcome, PreferFault, Role, SendFault, Timer, Why,
 };
 use dccp_packets::Outbox;
 use feature_lists::{Feature, Place};
+use seq_circle::Seq48;
 use std::alloc::Global;
 use std::test::Fail;
+use tests_tables::Table;
 
 pub(crate) type Endpoint = dccp_endpoint::Endpoint<Kinds>;
 
 // An end that offers nothing.
-pub(crate) fn plain(role: Role) -> Config {
+pub(crate) fn plain(role: Role) -> Config
+    ensures { result.role ≡ role }
+{
     let mut config = Config::usual(role);
     config.plain();
     config
 }
 
-pub(crate) fn new_end(alloc: Global, config: Config) -> Result<Endpoint, Fail> {
+fn new_end(alloc: Global, config: Config) -> Result<Endpoint, Fail> {
     let congestion = Kinds::new(alloc)?;
     Ok(Endpoint::new(alloc, config, congestion)?)
+}
+
+// What comes of words at an end.
+pub(crate) trait AtAnEnd {
+    fn tell(
+        &self,
+        alloc: Global,
+        end: &mut Endpoint,
+        words: &str,
+        told: &mut String,
+    ) -> Result<(), Fail>;
+}
+
+// A table of what comes of its words at a new end of this configuration. It alone owns an end.
+#[derive(Drop)]
+pub(crate) struct NewEnd<T> {
+    pub(crate) config: Config,
+    pub(crate) it: T,
+}
+
+impl<T> NewEnd<T> {
+    // An end that offers nothing.
+    pub(crate) fn plain(role: Role, it: T) -> NewEnd<T> {
+        NewEnd {
+            config: plain(role),
+            it,
+        }
+    }
+}
+
+impl<T: AtAnEnd> Table for NewEnd<T> {
+    fn tell(&self, alloc: Global, words: &str, told: &mut String) -> Result<(), Fail> {
+        let mut end = new_end(alloc, self.config)?;
+        self.it.tell(alloc, &mut end, words, told)
+    }
 }
 
 pub(crate) fn opens(end: &mut Endpoint, out: &mut Outbox) -> Result<(), OpenFault> {
@@ -95,31 +136,38 @@ fn opening(role: Role) -> [&'static str; 2] {
 pub(crate) fn meets(alloc: Global, end: &mut Endpoint, role: Role) -> Result<(), Fail> {
     let mut out = Outbox::new();
     let _opened = opens(end, &mut out);
-    for packet in opening(role) {
+    for packet in &opening(role) {
         receives(end, &hex::decode(alloc, packet)?, &mut out);
     }
     Ok(())
 }
 
+fn tell_delivered(first: usize, past: usize, told: &mut String) -> Result<(), Fail> {
+    Ok(write!(told, " took {first}-{past}")?)
+}
+
+fn tell_reset(code: u8, detail: [u8; 3], told: &mut String) -> Result<(), Fail> {
+    let [first, second, third] = detail;
+    Ok(write!(told, " sent reset {code} {first} {second} {third}")?)
+}
+
+fn tell_synced(acknowledged: Seq48, told: &mut String) -> Result<(), Fail> {
+    let number = acknowledged.get();
+    Ok(write!(told, " synced {number}")?)
+}
+
 fn tell_outcome(outcome: &Outcome, told: &mut String) -> Result<(), Fail> {
     match *outcome {
-        Outcome::Took { delivered: None } => told.push_str(" took")?,
+        Outcome::Took { delivered: None } => Ok(told.push_str(" took")?),
         Outcome::Took {
             delivered: Some((first, past)),
-        } => write!(told, " took {first}-{past}")?,
-        Outcome::SentReset { code, detail } => {
-            let [first, second, third] = detail;
-            write!(told, " sent reset {code} {first} {second} {third}")?;
-        }
-        Outcome::Synced(acknowledged) => {
-            let number = acknowledged.get();
-            write!(told, " synced {number}")?;
-        }
-        Outcome::WasReset(code) => write!(told, " was reset {code}")?,
-        Outcome::Dropped(Why::StrayReset) => told.push_str(" dropped StrayReset")?,
-        _ => return Err(Fail::from("another outcome")),
+        } => tell_delivered(first, past, told),
+        Outcome::SentReset { code, detail } => tell_reset(code, detail, told),
+        Outcome::Synced(acknowledged) => tell_synced(acknowledged, told),
+        Outcome::WasReset(code) => Ok(write!(told, " was reset {code}")?),
+        Outcome::Dropped(Why::StrayReset) => Ok(told.push_str(" dropped StrayReset")?),
+        _ => Err(Fail::from("another outcome")),
     }
-    Ok(())
 }
 
 // What an end answers to a packet in hexadecimal.
