@@ -1,1 +1,2 @@
 pub mod CampaignText
+pub mod Forms

@@ -1,15 +1,10 @@
 //! The tool's one call: a form of its words over a source and a sink.
-ghost use Rattle.std.specs.Prelude.{◌≡◌, ◌⊎◌, drop, Some, None, true};
+ghost use Rattle.std.specs.Prelude.{◌≡◌, ◌≢◌, ◌⊎◌, ℕ, List, Some, None, true, false};
 ghost use Rattle.dccp_io.specs.Counts.{Rose};
-ghost use Rattle.capture_reader.specs.State.{Passed};
-ghost use Rattle.tool_run.specs.Transcript.{transcript, is_refused, accepted_bytes, SafeThroughout};
-ghost use Rattle.tool_replay.specs.Replay.{replay_text, replay_refused, replay_accepted};
-ghost use Rattle.tool_replay.specs.Buffered.{buffered_text, buffered_refused, buffered_accepted};
-ghost use Rattle.tool_listen.specs.Listen.{listen_text, listen_refused, listen_accepted};
+ghost use Rattle.tool_run.specs.Transcript.{SafeThroughout};
 ghost use Rattle.dccp_command.specs.CampaignText.{AnswersUnread, campaign_text};
-ghost use Rattle.tool_show.specs.CaptureText.{capture_text, is_faulty, records_end};
-ghost use Rattle.tool_ecn.specs.Play.{ecn_text, ecn_refused, ecn_accepted};
-ghost use Rattle.tool_forms.specs.Words.{OnRun, OnReplay, OnBuffered, OnShow, OnListen, OnEcn, form_of, has_settings, usage};
+ghost use Rattle.dccp_command.specs.Forms.{OnInput, OnRead, form_accepted, form_reads_past, form_text, is_form_refused, reads_input};
+ghost use Rattle.tool_forms.specs.Words.{IsFormWithinBounds, OnRun, form_of, has_settings, usage};
 ghost use Rattle.tool_output.specs.Ends.{SinkFails, IsWritten, IsAnswered, Answers, StopsWithin, EndsForCause};
 
 use crate::campaigning::run_campaign;
@@ -59,56 +54,60 @@ pub fn dccp<R: Threads + Sync, G: Gate + Sync, S: Source, K: Sink>(
         → IsWritten usage (K.taken output.old) (K.taken output.new) (SinkFails K.faults K.empty_takes output.old output.new) }
     ensures silent { form_of words.now ≡ None → result ≡ Status.Memory → output.new ≡ output.old }
 
-    // What the other forms write, how they end, how far a refused input was read, and what held of both ends of `run`.
-    ensures transcript { OnRun words.now (S.left input.old) (λ bytes.
-        Answers (transcript bytes) (is_refused bytes) result (S.left input.new) (K.taken output.old) (K.taken output.new)) }
+    // What each form that reads its input writes and how it ends, and how far it had read where it refuses it.
+    ensures answers { OnInput words.now (S.left input.old) (λ form bytes.
+        Answers (form_text form bytes) (is_form_refused form bytes) result (S.left input.new) (K.taken output.old) (K.taken output.new)) }
+    ensures past { OnInput words.now (S.left input.old) (λ form bytes.
+        StopsWithin (form_reads_past form) (form_accepted form bytes) bytes result (S.left input.new)) }
+
+    // What holds of both ends of `run`, what a campaign writes, and why any form ended.
     ensures safe { OnRun words.now (S.left input.old) (λ bytes. IsAnswered result → SafeThroughout bytes) }
-    ensures run_past { OnRun words.now (S.left input.old) (λ bytes. StopsWithin 16384 (accepted_bytes bytes) bytes result (S.left input.new)) }
-    ensures replayed { OnReplay words.now (S.left input.old) (λ side plain bytes.
-        Answers (replay_text side plain bytes) (replay_refused side plain bytes) result (S.left input.new) (K.taken output.old) (K.taken output.new)) }
-    ensures replay_past { OnReplay words.now (S.left input.old) (λ side plain bytes.
-        StopsWithin 16384 (replay_accepted side plain bytes) bytes result (S.left input.new)) }
-    ensures buffered { OnBuffered words.now (S.left input.old) (λ side plain capacity bytes.
-        Answers (buffered_text side plain capacity bytes) (buffered_refused side plain capacity bytes) result (S.left input.new) (K.taken output.old) (K.taken output.new)) }
-    ensures buffered_past { OnBuffered words.now (S.left input.old) (λ side plain capacity bytes.
-        StopsWithin 16384 (buffered_accepted side plain capacity bytes) bytes result (S.left input.new)) }
-    ensures shown { OnShow words.now (S.left input.old) (λ bytes.
-        Answers (capture_text bytes) (is_faulty bytes) result (S.left input.new) (K.taken output.old) (K.taken output.new)) }
-    ensures past { OnShow words.now (S.left input.old) (λ bytes. result ≡ Status.Input → Passed 524288 (Some (drop (records_end bytes) bytes)) (S.left input.new)) }
-    ensures listened { OnListen words.now (S.left input.old) (λ most bytes.
-        Answers (listen_text most bytes) (listen_refused most bytes) result (S.left input.new) (K.taken output.old) (K.taken output.new)) }
-    ensures listen_past { OnListen words.now (S.left input.old) (λ most bytes.
-        StopsWithin 16384 (listen_accepted most bytes) bytes result (S.left input.new)) }
-    ensures nonces { OnEcn words.now (S.left input.old) (λ bytes.
-        Answers (ecn_text bytes) (ecn_refused bytes) result (S.left input.new) (K.taken output.old) (K.taken output.new)) }
-    ensures nonces_past { OnEcn words.now (S.left input.old) (λ bytes. StopsWithin 16384 (ecn_accepted bytes) bytes result (S.left input.new)) }
-    ensures campaign_unread { (campaign : Campaign) → form_of words.now ≡ Some (Form.Campaign campaign)
-        → input.new ≡ input.old }
+    ensures campaign_unread { (campaign : Campaign) → form_of words.now ≡ Some (Form.Campaign campaign) → input.new ≡ input.old }
     ensures totals { (campaign : Campaign) → form_of words.now ≡ Some (Form.Campaign campaign)
         → AnswersUnread (campaign_text campaign) result (K.taken output.old) (K.taken output.new) (SinkFails K.faults K.empty_takes output.old output.new) }
-
-    // Why any form ended.
     ensures cause { (form : Form) → form_of words.now ≡ Some form
         → EndsForCause result (Rose (S.faults input.old) (S.faults input.new)) (SinkFails K.faults K.empty_takes output.old output.new) }
 {
-    let Ok(form) = form_of(alloc, words) else {
-        return Status::Memory;
-    };
+    match form_of(alloc, words) {
+        Ok(Some(form)) => perform(rt, alloc, gate, form, input, output),
+        Ok(None) => refuse_words(output),
+        Err(_) => Status::Memory,
+    }
+}
+
+// Does what a form asks for.
+fn perform<R: Threads + Sync, G: Gate + Sync, S: Source, K: Sink>(
+    rt: &R,
+    alloc: Global,
+    gate: &G,
+    form: Form,
+    input: &mut S,
+    output: &mut K,
+) -> Status
+    requires { IsFormWithinBounds form }
+    ensures words { result ≢ Status.Words }
+    ensures answers { OnRead form (S.left input.old) (λ bytes.
+        Answers (form_text form bytes) (is_form_refused form bytes) result (S.left input.new) (K.taken output.old) (K.taken output.new)) }
+    ensures past { OnRead form (S.left input.old) (λ bytes.
+        StopsWithin (form_reads_past form) (form_accepted form bytes) bytes result (S.left input.new)) }
+    ensures safe { form ≡ Form.Run → (bytes : List ℕ) → S.left input.old ≡ Some bytes → IsAnswered result → SafeThroughout bytes }
+    ensures unread { reads_input form ≡ false → input.new ≡ input.old }
+    ensures totals { (campaign : Campaign) → form ≡ Form.Campaign campaign
+        → AnswersUnread (campaign_text campaign) result (K.taken output.old) (K.taken output.new) (SinkFails K.faults K.empty_takes output.old output.new) }
+    ensures cause { EndsForCause result (Rose (S.faults input.old) (S.faults input.new)) (SinkFails K.faults K.empty_takes output.old output.new) }
+{
     match form {
-        Some(Form::Run) => run_schedule(alloc, input, output),
-        Some(Form::Replay { side, plain }) => replay_frames(alloc, side, plain, input, output),
-        Some(
-            Form::Buffered {
-                side,
-                plain,
-                capacity,
-            },
-        ) => replay_at_buffer(alloc, side, plain, capacity, input, output),
-        Some(Form::Campaign(campaign)) => run_campaign(rt, alloc, gate, campaign, output),
-        Some(Form::Show) => show_capture(alloc, input, output),
-        Some(Form::Listen { most }) => listen_to_peers(alloc, most, input, output),
-        Some(Form::Ecn) => play_nonces(alloc, input, output),
-        None => refuse_words(output),
+        Form::Run => run_schedule(alloc, input, output),
+        Form::Replay { side, plain } => replay_frames(alloc, side, plain, input, output),
+        Form::Buffered {
+            side,
+            plain,
+            capacity,
+        } => replay_at_buffer(alloc, side, plain, capacity, input, output),
+        Form::Campaign(campaign) => run_campaign(rt, alloc, gate, campaign, output),
+        Form::Show => show_capture(alloc, input, output),
+        Form::Listen { most } => listen_to_peers(alloc, most, input, output),
+        Form::Ecn => play_nonces(alloc, input, output),
     }
 }
 

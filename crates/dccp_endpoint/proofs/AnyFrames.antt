@@ -29,6 +29,7 @@ pub record IsSealed (h : Header) (pseudo : Pseudo) (area payload bytes : List �
   pub is_packet : decoded bytes ≡ Ok (record { header = record h { checksum = sum }; options = padded area; payload = payload })
   pub is_accepted : checked pseudo bytes ≡ Ok tt
 
+-- a packet that was sealed is read back in its widths
 pub sealed-read : (pseudo : Pseudo) (h : Header) (area payload : List ℕ) → h.cscov ≡ 0 → HasDetail h.kind → IsTrue (is_valid h)
     → header_length h + length (padded area) ≤ 1020 → IsSealed (in_widths h) pseudo area payload (sealed pseudo (spelling h area payload))
 sealed-read pseudo h area payload whole detail valid room =

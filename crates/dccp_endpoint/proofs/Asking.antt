@@ -25,6 +25,7 @@ line-changing : (row : Row) (s : Stand) (number : ℕ) (opened : Option ℕ) →
     → (row_line row s (Sending number opened)).row.stand ≡ stand.Changing
 line-changing row s number opened asks is = grind (arith, asks, is)
 
+-- a row whose Change goes out is in CHANGING
 pub sent-changing : (row : Row) (number : ℕ) → is_due row ≡ true → (row_step row (Sends number)).row.stand ≡ stand.Changing
 sent-changing row number due = line-changing row row.stand number row.opened due refl
 
@@ -98,9 +99,11 @@ tested-due rows (k ∷ keys) = by_due (is_due (row_at rows k.0 k.1)) refl (teste
     by_due true is later = (is, later)
     by_due false is later = later
 
+-- the rows that are due are due
 pub due_are_due : (rows : List Row) → IsNegotiation rows → AreDue rows (due_keys rows)
 due_are_due rows sound = subst (λ keys. AreDue rows keys) (sym (due_order rows sound)) (tested-due rows every_place)
 
+-- so are those that ask
 pub asking_are_due : (rows : List Row) (confirms : List Due) → IsNegotiation rows → AreDue rows (asking rows confirms)
 asking_are_due rows confirms sound = passing-due rows (λ k. not (is_confirmed confirms k)) (due_keys rows) (due_are_due rows sound)
 
@@ -116,6 +119,7 @@ line-preferred row stand.Stable wish opens = refl
 line-preferred row stand.Changing wish opens = cc opens
 line-preferred row stand.Unstable wish opens = cc opens
 
+-- a row that a preference opens asks
 pub preferred_asks : (rows : List Row) (feature : Feature) (place : Place) (wish : Wanted) → IsNegotiation rows
     → is_opening (row_step (row_at rows feature place) (Prefers wish)).answer ≡ true
     → AreDue (stepped rows feature place (Prefers wish)).rows ((feature, place) ∷ [])
@@ -127,14 +131,17 @@ preferred_asks rows feature place wish sound opens = (
 
 -- one turn more of those that are left
 
+-- the offers from one place on
 pub offered-on : (rows : List Row) (test : Key → Bool) (places : List Key) (i : ℕ) (d : Key) → i < length places
     → turned (stepped rows (get_or places i d).0 (get_or places i d).1 (Offers (test (get_or places i d)))).rows (offerings test (drop (i + 1) places))
     ≡ turned rows (offerings test (drop i places))
 offered-on rows test places i d inside =
     let next : i + 1 ≡ suc i = omega arith in
-    ap (λ (n : ℕ). turned (stepped rows (get_or places i d).0 (get_or places i d).1 (Offers (test (get_or places i d)))).rows (offerings test (drop n places))) next
+    ap (λ (n : ℕ). turned (stepped rows (get_or places i d).0 (get_or places i d).1 (Offers (test (get_or places i d)))).rows
+    (offerings test (drop n places))) next
     ∙ sym (ap (λ (ps : List Key). turned rows (offerings test ps)) (drop-cons places i d inside))
 
+-- the Changes from one row on
 pub sent-on : (rows : List Row) (number : ℕ) (keys : List Key) (i : ℕ) (d : Key) → i < length keys
     → turned (stepped rows (get_or keys i d).0 (get_or keys i d).1 (Sends number)).rows (sendings number (drop (i + 1) keys))
     ≡ turned rows (sendings number (drop i keys))
@@ -143,6 +150,7 @@ sent-on rows number keys i d inside =
     ap (λ (n : ℕ). turned (stepped rows (get_or keys i d).0 (get_or keys i d).1 (Sends number)).rows (sendings number (drop n keys))) next
     ∙ sym (ap (λ (ks : List Key). turned rows (sendings number ks)) (drop-cons keys i d inside))
 
+-- the other rows stay due where one Change goes out
 pub due-on : (rows : List Row) (number : ℕ) (keys : List Key) (i : ℕ) (d : Key) → i < length keys → length rows ≡ 18 → AreDue rows (drop i keys)
     → AreDue (stepped rows (get_or keys i d).0 (get_or keys i d).1 (Sends number)).rows (drop (i + 1) keys)
 due-on rows number keys i d inside size due =

@@ -88,7 +88,8 @@ preferring-now k values wish called is now =
       apart = none-for (k ∷ []);
     }
 
-abbrev preferring-later : {e : EndState} {given : Input} (k : Key) (values : List ℕ) (wish : Wanted) → given ≡ Prefers k values → wish_of k.0 k.1 values ≡ Ok wish
+abbrev preferring-later : {e : EndState} {given : Input} (k : Key) (values : List ℕ) (wish : Wanted) → given ≡ Prefers k values
+    → wish_of k.0 k.1 values ≡ Ok wish
     → is_asking_now e k wish ≡ false → AreTurns e given Unheard (turn_of k (event.Prefers wish) ∷ [])
 preferring-later k values wish called is later =
     record {
@@ -111,19 +112,22 @@ module _ (o : EndState) (given : Input) (proper : IsProper (wide o)) where
   apart : (ph : Phase) → is_live ph ≡ false → is_waiting ph ≡ false → is_phase_of ph e.config.role ≡ true
       → (e.phase ≡ phase.Closed → ph ≡ phase.Closed) → Ready e given Unheard None false ph false None
   apart ph dead heard its_role shut =
-      left ph dead its_role (λ is. absurd (false≢true (sym heard ∙ is))) (λ closed. inl (shut closed)) (Keeps (λ is. absurd (false≢true (sym dead ∙ is)))) LeavesIt NotNow
+      left ph dead its_role (λ is. absurd (false≢true (sym heard ∙ is))) (λ closed. inl (shut closed))
+      (Keeps (λ is. absurd (false≢true (sym dead ∙ is)))) LeavesIt NotNow
 
   idle-has : HasEffect e given e None []
   idle-has = has-by (silent-caused (rest proper) e.owed e.unacked quiet refl refl refl (λ is. is))
 
   plain-has : {ph : Phase} {called : Bool} → Ready e given Unheard None false ph called None → (k : Kind) → has_forms true k ≡ true → HasDetail k
       → is_acking (packet_type k) ≡ false → Acknowledges e given e.marks.gsr (ack_of k) → is_without_connection e.config.role k ≡ false
-      → HasEffect e given (end_after e (effect_of e Unheard None false ph called (Next (alone k)))) (frame_by e (effect_of e Unheard None false ph called (Next (alone k))) (Next (alone k))) []
+      → HasEffect e given (end_after e (effect_of e Unheard None false ph called (Next (alone k))))
+      (frame_by e (effect_of e Unheard None false ph called (Next (alone k))) (Next (alone k))) []
   plain-has ready k long detail other acknowledges numbered = has-by (plain-caused ready k long detail other acknowledges numbered)
 
   ack-has : is_connected e.phase ≡ true → Has e given (sends_ack e (alone (kind.Ack (Long e.marks.gsr))) true)
   ack-has connected = has-by (ack-caused (rest proper) quiet []
-      (front-confirming-sendable (kind.Ack (Long e.marks.gsr)) (front_of (rest {given = given} proper) []) [] refl tt refl (front-short (rest {given = given} proper) []) no-confirms)
+      (front-confirming-sendable (kind.Ack (Long e.marks.gsr)) (front_of (rest {given = given} proper) []) [] refl tt refl
+      (front-short (rest {given = given} proper) []) no-confirms)
       refl (inl refl) connected refl)
 
   -- A Request: all offers come up, and the Changes go out of all rows that ask then.
@@ -153,7 +157,8 @@ module _ (o : EndState) (given : Input) (proper : IsProper (wide o)) where
       subst (λ (ks : List Key). Has e given (asks_now e ks true)) is
       (has-by (ack-caused (rest proper) (repeating in_flight fired) (change_items rows (due_keys e.rows))
       (front-asking-sendable (kind.Ack (Long e.marks.gsr)) (front_of (rest {given = given} proper) (sendings (next_number e) (due_keys e.rows))) rows
-      (due_keys e.rows) refl tt refl (front-short (rest {given = given} proper) (sendings (next_number e) (due_keys e.rows))) kept.sound (due-few e.rows proper.rows.sound))
+      (due_keys e.rows) refl tt refl (front-short (rest {given = given} proper) (sendings (next_number e) (due_keys e.rows))) kept.sound
+      (due-few e.rows proper.rows.sound))
       refl (inl refl) connected refl))
 
   -- prefer
@@ -165,7 +170,8 @@ module _ (o : EndState) (given : Input) (proper : IsProper (wide o)) where
       has-by (ack-caused (rest proper) (preferring-now k values wish called is now) (change_items rows (k ∷ []))
       (front-asking-sendable (kind.Ack (Long e.marks.gsr))
       (front_of (rest {given = given} proper) (turn_of k (event.Prefers wish) ∷ sendings (next_number e) (k ∷ []))) rows (k ∷ []) refl tt refl
-      (front-short (rest {given = given} proper) (turn_of k (event.Prefers wish) ∷ sendings (next_number e) (k ∷ []))) kept.sound (omega arith)) refl (inl refl) connected refl)
+      (front-short (rest {given = given} proper) (turn_of k (event.Prefers wish) ∷ sendings (next_number e) (k ∷ []))) kept.sound (omega arith)) refl
+      (inl refl) connected refl)
   preferred-has k values called connected wish is false later =
       has-by (silent-caused (rest proper) e.owed e.unacked (preferring-later k values wish called is later) refl refl refl (λ so. so))
 
@@ -243,7 +249,8 @@ module _ (o : EndState) (given : Input) (proper : IsProper (wide o)) where
       → is_connected e.phase ≡ true → length payload ≤ 1024 → Has e given (with_calls (call.Sends (next_number e) ∷ []) (sends_data e payload true))
   acknowledging-has payload why connected fits =
       let packet : Kind = kind.DataAck (Long e.marks.gsr) in
-      let empty = front-confirming-sendable packet (front_of (rest {given = given} proper) []) [] refl tt refl (front-short (rest {given = given} proper) []) no-confirms in
+      let empty = front-confirming-sendable packet (front_of (rest {given = given} proper) []) [] refl tt refl
+      (front-short (rest {given = given} proper) []) no-confirms in
       has-by (calling-caused why
       (data-ack-caused (rest proper) payload
       (record { is_long = empty.is_long; detail = empty.detail; items = empty.items; on_data = empty.on_data; area = empty.area; data_fits = fits })
@@ -326,6 +333,7 @@ wide-has o (Prefers k values) is = prefers-has o (Prefers k values) is k values 
 wide-has o (input.Sends payload may_send) is = sends-has o (input.Sends payload may_send) is payload may_send refl
 wide-has o (input.SendsEarly payload may_send) is = early-has o (input.SendsEarly payload may_send) is payload may_send refl
 
+-- of calls, timers and packets alike
 pub every_step_has_an_effect : EveryStepHasOneEffect
 every_step_has_an_effect e given proper =
     subst (λ (x : EndState). Has x given (end_stepped x given)) (sym (widened e proper)) (wide-has e given (wide-proper e proper))

@@ -39,11 +39,13 @@ use Rattle.dccp_endpoint.proofs.Room.{IsFront, vector-front}
 abbrev pub wide : EndState → EndState
 wide o = with_rows o o.rows
 
+-- a proper end has the windows that its rows say
 pub widened : (o : EndState) → IsProper o → o ≡ wide o
 widened o proper =
     ap (λ (w : ℕ). record o { marks = record o.marks { own_w = w } }) proper.own_width
     ∙ ap (λ (w : ℕ). record o { marks = record (with_widths o.marks o.rows) { peer_w = w } }) proper.peer_width
 
+-- and stays proper with them
 pub wide-proper : (o : EndState) → IsProper o → IsProper (wide o)
 wide-proper o proper = subst IsProper (widened o proper) proper
 
@@ -133,6 +135,7 @@ not-so : (b : Bool) → not b ≡ true → b ≡ false
 not-so true is = cc is
 not-so false is = refl
 
+-- the rows that ask have no Confirm
 pub asking-apart : (confirms : List Due) (keys : List Key) → All (λ k. is_confirmed confirms k ≡ false) (filter (λ k. not (is_confirmed confirms k)) keys)
 asking-apart confirms keys = λ i d inside. not-so _ (filter_passes (λ k. not (is_confirmed confirms k)) keys i d inside)
 
@@ -171,7 +174,8 @@ effect_with turns h ack opens ph called looked owed unacked s =
 -- A packet that is no Ack and no DataAck has no Ack Vector.
 pub no-vector : (e : EndState) (f : Effect) (k : Kind) → is_acking (packet_type k) ≡ false → [] ≡ vector_of e f k
 no-vector e f k other =
-    ap (λ (acks : Bool). vector_items (acks && sends_vectors (rows_by e.rows f)) e.config.vectors (told_by e.received f).set (greatest_by e.marks.gsr f.hearing)) (sym other)
+    ap (λ (acks : Bool). vector_items (acks && sends_vectors (rows_by e.rows f)) e.config.vectors (told_by e.received f).set
+    (greatest_by e.marks.gsr f.hearing)) (sym other)
 
 module _ {e : EndState} {given : Input} {h : Hearing} {ack : Option ℕ} {opens : Bool} {ph : Phase} {called : Bool} {looked : Option ℕ}
     (ready : Ready e given h ack opens ph called looked) where
@@ -221,7 +225,8 @@ module _ {e : EndState} {given : Input} {h : Hearing} {ack : Option ℕ} {opens 
 
   -- the Ack Vector of what was received, and the Ack that goes out
   abbrev pub front_of : List Turn → List Item
-  front_of turns = vector_items (sends_vectors (turned e.rows turns)) e.config.vectors (looked_by (heard_by e.received h) looked).set (greatest_by e.marks.gsr h)
+  front_of turns = vector_items (sends_vectors (turned e.rows turns)) e.config.vectors (looked_by (heard_by e.received h) looked).set
+      (greatest_by e.marks.gsr h)
 
   abbrev pub front-short : (turns : List Turn) → IsFront (front_of turns)
   front-short turns =
@@ -262,13 +267,16 @@ plain-caused {e = e} {h = h} ready k long detail other acknowledges numbered =
 abbrev pub calling : List Call → Effect → Effect
 calling calls f = record f { calls = calls }
 
+-- what is said is the same whatever is called
 pub says-calling : {e : EndState} {f : Effect} {confirms : List Due} {keys : List Key} {s : Sending} (calls : List Call) → Says e f confirms keys s
     → Says e (calling calls f) confirms keys s
 says-calling calls (SaysNothing none unasked) = SaysNothing none unasked
 says-calling calls (SaysAll packet says answers) = SaysAll packet says answers
 says-calling calls (SaysApart number packet none unasked) = SaysApart number packet none unasked
 
-pub sends-calling : {e : EndState} {given : Input} {f : Effect} {s : Sending} (calls : List Call) → IsSending e given f s → IsSending e given (calling calls f) s
+-- so is what is sent
+pub sends-calling : {e : EndState} {given : Input} {f : Effect} {s : Sending} (calls : List Call) → IsSending e given f s
+    → IsSending e given (calling calls f) s
 sends-calling calls Rests = Rests
 sends-calling calls (Acks packet is acks connected owes counts) = Acks packet is acks connected owes counts
 sends-calling calls (Others packet other acknowledges numbered) = Others packet other acknowledges numbered
@@ -301,6 +309,7 @@ pub record Told (e : EndState) (bytes : List ℕ) (step : Step Outcome) : Type 0
 pub has-by : {e : EndState} {given : Input} {f : Effect} → IsCaused e given f → HasEffect e given (end_after e f) (frame_by e f f.sending) f.calls
 has-by {f = f} because = record { effect = f; after_is = refl; frame_is = refl; calls_are = refl; because = because }
 
+-- a step is told by its effect, its cause and its form
 pub told-by : {e : EndState} {bytes : List ℕ} {f : Effect} (outcome : Outcome) (because : IsCaused e (Arrives bytes) f) (cause : HasCause e bytes outcome)
     → HasForm e bytes outcome cause f because.turns
     → Told e bytes (record { after = end_after e f; frame = frame_by e f f.sending; calls = f.calls; answer = outcome })

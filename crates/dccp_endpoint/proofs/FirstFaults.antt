@@ -227,7 +227,8 @@ item-counts count ack h next entry step = by next (subst (Way count ack h (Ok en
       subst (λ (b : Bool). counted h.changes (is_change entry.kind) ≤ h.changes + once_if b) (sym (spoken-change count entry number list spoken))
       (counted-most h.changes (is_change entry.kind))
   by _ (Meets _ number list rows confirms change is spoken) =
-      subst (λ (b : Bool). counted h.changes change ≤ h.changes + once_if b) (sym (spoken-change count entry number list spoken ∙ is)) (counted-most h.changes change)
+      subst (λ (b : Bool). counted h.changes change ≤ h.changes + once_if b) (sym (spoken-change count entry number list spoken ∙ is))
+      (counted-most h.changes change)
 
 -- There are no more Changes than options.
 pub changes-few : (options : List ListItem) → changes_among options ≤ length options
@@ -249,7 +250,8 @@ place-fits true number fits = omega (arith, fits)
 place-fits false number fits = omega (arith, fits)
 
 -- two features, or two letters, have two places
-places-differ : (left other : Bool) (number its : ℕ) → ((its == number) && is_same_letter left other) ≡ false → place_in_used left number ≢ place_in_used other its
+places-differ : (left other : Bool) (number its : ℕ) → ((its == number) && is_same_letter left other) ≡ false
+    → place_in_used left number ≢ place_in_used other its
 places-differ true true number its apart same = false≢true (sym apart ∙ and_from (its == number) true (eq-eqb its number (omega (arith, same))) refl)
 places-differ false false number its apart same = false≢true (sym apart ∙ and_from (its == number) true (eq-eqb its number (omega (arith, same))) refl)
 places-differ true false number its apart same = omega (arith, same)
@@ -327,7 +329,8 @@ module _ (count : Bool) (ack : Option ℕ) (done : List ListItem) (h : Heeding) 
             λ on.
             subst (λ (n : ℕ). Counts n h.changes)
             (sym (changes-more done (Ok entry)
-            ∙ ap (λ (b : Bool). changes_among done + once_if b) (and_left (negotiates_by entry) (is_change entry.kind) (on-so count (negotiates_by entry) none on))))
+            ∙ ap (λ (b : Bool). changes_among done + once_if b)
+            (and_left (negotiates_by entry) (is_change entry.kind) (on-so count (negotiates_by entry) none on))))
             (counts-more (changes_among done) h.changes false (sums.changes on));
       }
   sums-more _ _ fits (Again entry number list spoken was) =
@@ -390,7 +393,8 @@ module _ (count : Bool) (ack : Option ℕ) (done : List ListItem) (h : Heeding) 
             ∙ or-true (list_any (speaks_for left other) done)
             ∙ ap (λ (b : Bool). list_any (speaks_for left other) done || b) (sym (its.speaks left other ∙ same))
         by false same =
-            get_or-set_other h.used (place_in_used (is_left entry.kind) number) (place_in_used left other) true false (places-differ left (is_left entry.kind) other number same)
+            get_or-set_other h.used (place_in_used (is_left entry.kind) number) (place_in_used left other) true false
+            (places-differ left (is_left entry.kind) other number same)
             ∙ sums.used on left other small
             ∙ or-false (list_any (speaks_for left other) done)
             ∙ ap (λ (b : Bool). list_any (speaks_for left other) done || b) (sym (its.speaks left other ∙ same))
@@ -442,7 +446,8 @@ heeds-append : (count : Bool) (ack : Option ℕ) (h : Heeding) (before items : L
     → heeds count ack h (before ++ items) ≡ heeds count ack read items
 heeds-append count ack h [] items read is = let same : h ≡ read = cc is in ap (λ (x : Heeding). heeds count ack x items) same
 heeds-append count ack h (item ∷ rest) items read is = joined (heeds_item count ack h item) (λ next so. heeds-append count ack next rest items read so) is where
-  joined : (r : Result Heeding Fault) → ((next : Heeding) → heeds count ack next rest ≡ Ok read → heeds count ack next (rest ++ items) ≡ heeds count ack read items)
+  joined : (r : Result Heeding Fault)
+      → ((next : Heeding) → heeds count ack next rest ≡ Ok read → heeds count ack next (rest ++ items) ≡ heeds count ack read items)
       → heeds_then r (λ next. heeds count ack next rest) ≡ Ok read → heeds_then r (λ next. heeds count ack next (rest ++ items)) ≡ heeds count ack read items
   joined (Ok next) more so = more next so
   joined (Err fault) more so = cc so
@@ -480,7 +485,8 @@ fits-back [] ys all = all
 fits-back (x ∷ xs) ys all = fits-back xs ys (All-tail ItemFits x (xs ++ ys) all)
 
 found : (count : Bool) (ack : Option ℕ) (rows : List Row) (fault : Fault) (done : List ListItem) (h : Heeding) (items : List ListItem) → Sums count done h
-    → All ItemFits items → heeds count ack (unheeded rows) done ≡ Ok h → heeds count ack h items ≡ Err fault → HasFirstFault count ack rows (done ++ items) fault
+    → All ItemFits items → heeds count ack (unheeded rows) done ≡ Ok h → heeds count ack h items ≡ Err fault
+    → HasFirstFault count ack rows (done ++ items) fault
 found count ack rows fault done h [] sums fits read is = cc is
 found count ack rows fault done h (item ∷ rest) sums fits read is =
     joined (heeds_item count ack h item) refl (item-way count ack h item)
@@ -511,7 +517,8 @@ answered-so : (count : Bool) (ack : Option ℕ) (rows : List Row) (options : Lis
 answered-so count ack rows options fault fits first =
     let all : All ItemFits (first.before ++ first.item ∷ first.behind) = subst (All ItemFits) first.in_order fits in
     let sums : Sums count first.before first.read =
-    sums-heeded count ack [] (unheeded rows) first.before first.read (sums-start count rows) (fits-front first.before (first.item ∷ first.behind) all) first.no_fault in
+    sums-heeded count ack [] (unheeded rows) first.before first.read (sums-start count rows)
+    (fits-front first.before (first.item ∷ first.behind) all) first.no_fault in
     ap (heeds count ack (unheeded rows)) first.in_order
     ∙ heeds-append count ack (unheeded rows) first.before (first.item ∷ first.behind) first.read first.no_fault
     ∙ ap (λ (r : Result Heeding Fault). heeds_then r (λ (x : Heeding). heeds count ack x first.behind))
@@ -522,10 +529,12 @@ fault-found : (count : Bool) (ack : Option ℕ) (rows : List Row) (options : Lis
     → heeds count ack (unheeded rows) options ≡ Err fault → HasFirstFault count ack rows options fault
 fault-found count ack rows options fault fits is = found count ack rows fault [] (unheeded rows) options (sums-start count rows) fits refl is
 
+-- for every list of items
 pub stops_at_the_first_fault : ReadingStopsAtTheFirstFault
 stops_at_the_first_fault count ack rows options fault fits =
     (fault-found count ack rows options fault fits, answered-so count ack rows options fault fits)
 
+-- and where no item goes wrong, all are read
 pub goes_through : ReadingGoesThrough
 goes_through count ack rows options fits = (whole (heeds count ack (unheeded rows) options) refl, faultless) where
   whole : (r : Result Heeding Fault) → heeds count ack (unheeded rows) options ≡ r → ((fault : Fault) → HasFirstFault count ack rows options fault → ⊥)

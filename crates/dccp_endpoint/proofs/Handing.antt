@@ -24,9 +24,11 @@ held_fits feature place held row is its =
     (subst (λ (there : Place). is_lawful feature there row.value ≡ true) its.place_is
     (subst (λ (its_own : Feature). is_lawful its_own row.place row.value ≡ true) its.feature_is its.sound.value)))
 
+-- a CCID is a byte
 pub ccid_fits : (held : Held) (row : Row) → held ≡ held_by row → IsRowOf Ccid Here row → held.value < 256
 ccid_fits held row is its = held_fits Ccid Here held row is its
 
+-- an Ack Ratio has two bytes
 pub ratio_fits : (held : Held) (row : Row) → held ≡ held_by row → IsRowOf AckRatio Here row → held.value < 65536
 ratio_fits held row is its = held_fits AckRatio Here held row is its
 

@@ -102,6 +102,7 @@ item-follows : (count : Bool) (ack : Option ℕ) (h : Heeding) (item : Result En
 item-follows count ack h (Ok entry) = entry-follows count ack h entry
 item-follows count ack h (Err _) = tt
 
+-- the rows are turned by what the options say
 pub heeds-turns : (count : Bool) (ack : Option ℕ) (h : Heeding) (items : List (Result Entry OptFault)) (read : Heeding) → heeds count ack h items ≡ Ok read
     → read.rows ≡ turned h.rows (heard_turns count ack h items)
 heeds-turns count ack h [] read is = let same : read ≡ h = cc is in ap (λ (x : Heeding). x.rows) same
@@ -130,6 +131,7 @@ item-stays ack h (Ok entry) = by (is_understood entry.kind (length entry.body)) 
   by false false = refl
   by true mandatory = refl
 
+-- where options do not count nothing changes
 pub uncounted : (ack : Option ℕ) (h : Heeding) (items : List (Result Entry OptFault)) (read : Heeding) → heeds false ack h items ≡ Ok read → read ≡ h
 uncounted ack h [] read is = cc is
 uncounted ack h (item ∷ rest) read is = joined (heeds_item false ack h item) (item-stays ack h item) (λ next so. uncounted ack next rest read so) is where

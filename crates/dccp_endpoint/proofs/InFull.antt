@@ -79,6 +79,7 @@ taken-if : (e : EndState) (short : Bool) (number read : ℕ) → read_number e (
 taken-if e true number read reads is = is-taken (takes_short e) (number % 2 ^ 24 % 2 ^ 24) e.marks.gsr read reads
 taken-if e false number read reads is = cc is
 
+-- for every draft
 pub read-in-full : FramesAreReadInFull
 read-in-full e given a came config short number draft sendable may bytes near =
     let read = own_frames_read_in_widths config short number draft sendable may in

@@ -47,10 +47,13 @@ key-so one other is =
     let places : one.1 ≡ other.1 = place-so one.1 other.1 parts.1 in
     ap (λ (feature : Feature). (feature, one.1)) features ∙ ap (λ (place : Place). (other.0, place)) places
 
+-- a key is itself
 pub key-itself : (k : Key) → is_key k k ≡ true
 key-itself k =
-    and_from (feature_number k.0 == feature_number k.0) (is_of_place (is_of_place true k.1) k.1) (eq-eqb (feature_number k.0) (feature_number k.0) refl) (place-itself k.1)
+    and_from (feature_number k.0 == feature_number k.0) (is_of_place (is_of_place true k.1) k.1) (eq-eqb (feature_number k.0) (feature_number k.0) refl)
+    (place-itself k.1)
 
+-- and no other
 pub key-differs : (one other : Key) → one ≢ other → is_key one other ≡ false
 key-differs one other differs = false_from_ne_true (is_key one other) (λ is. differs (key-so one other is))
 
@@ -70,6 +73,7 @@ turn-key k other = by (is_key k other) refl where
 pub has-contains : (k : Key) (keys : List Key) → has_key k keys ≡ true → Contains keys k
 has-contains k keys is = Contains-from_any key-so k keys is
 
+-- a key of the list is found in it
 pub contains-has : (k : Key) (keys : List Key) → Contains keys k → has_key k keys ≡ true
 contains-has k keys contains =
     list_any_at (is_key k) keys contains.0 k contains.1 (ap (is_key k) contains.2 ∙ key-itself k)
@@ -87,6 +91,7 @@ has-due rows k sound =
     agree-so (has_key k (due_keys rows)) (is_due (row_at rows k.0 k.1))
     (λ has. asks.0 (has-contains k (due_keys rows) has)) (λ due. contains-has k (due_keys rows) (asks.1 due))
 
+-- no key is due twice
 pub due-distinct : (rows : List Row) → IsNegotiation rows → AreDistinct (due_keys rows)
 due-distinct = due_distinct
 
@@ -125,10 +130,12 @@ pub has-unconfirmed : (confirms : List Due) (k : Key) (keys : List Key)
     → has_key k (unconfirmed confirms keys) ≡ (has_key k keys && not (is_confirmed confirms k))
 has-unconfirmed confirms k keys = has-filter (λ (k : Key). not (is_confirmed confirms k)) k keys
 
+-- nor twice without a Confirm
 pub unconfirmed-distinct : (confirms : List Due) (keys : List Key) → AreDistinct keys → AreDistinct (unconfirmed confirms keys)
 unconfirmed-distinct confirms keys distinct =
     AllPairs-filter (λ one other. one ≢ other) (λ (k : Key). not (is_confirmed confirms k)) keys distinct
 
+-- no more keys are without a Confirm than there are
 pub unconfirmed-few : (confirms : List Due) (keys : List Key) → length (unconfirmed confirms keys) ≤ length keys
 unconfirmed-few confirms keys = filter-few (λ (k : Key). not (is_confirmed confirms k)) keys
 
@@ -138,6 +145,7 @@ pub has-asking : (rows : List Row) (confirms : List Due) (k : Key) → IsNegotia
 has-asking rows confirms k sound =
     has-unconfirmed confirms k (due_keys rows) ∙ ap (λ (due : Bool). due && not (is_confirmed confirms k)) (has-due rows k sound)
 
+-- no key asks twice
 pub asking-distinct : (rows : List Row) (confirms : List Due) → IsNegotiation rows → AreDistinct (asking rows confirms)
 asking-distinct rows confirms sound = unconfirmed-distinct confirms (due_keys rows) (due_distinct rows sound)
 
@@ -148,6 +156,7 @@ confirm-none (due ∷ rest) k is =
     let parts = or_parts (is_for k due) (is_confirmed rest k) is in
     ap (λ (its : Bool). body_if its due.body (confirm_for k rest)) parts.0 ∙ confirm-none rest k parts.1
 
+-- a key without a Confirm has none
 pub none-confirmed : (confirms : List Due) (k : Key) → confirm_for k confirms ≡ None → is_confirmed confirms k ≡ false
 none-confirmed [] k is = refl
 none-confirmed (due ∷ rest) k is = by (is_for k due) is (λ later. none-confirmed rest k later) where
@@ -156,9 +165,11 @@ none-confirmed (due ∷ rest) k is = by (is_for k due) is (λ later. none-confir
   by true is later = cc is
   by false is later = later is
 
+-- and only such
 pub confirmed-so : (confirms : List Due) (k : Key) → (is_confirmed confirms k ≡ false) ↔ (confirm_for k confirms ≡ None)
 confirmed-so confirms k = (confirm-none confirms k, none-confirmed confirms k)
 
+-- a key with a Confirm has one
 pub confirmed-some : (confirms : List Due) (k : Key) (body : List ℕ) → confirm_for k confirms ≡ Some body → is_confirmed confirms k ≡ true
 confirmed-some confirms k body some = true_from_ne_false (is_confirmed confirms k) (λ is. cc (confirm-none confirms k is, some))
 
@@ -175,14 +186,17 @@ times-none (due ∷ rest) k is =
 pub rest-distinct : (first : Key) (rest : List Key) → AreDistinct (first ∷ rest) → AreDistinct rest
 rest-distinct first rest distinct = λ i j default earlier inside. distinct (suc i) (suc j) default (omega (arith, earlier)) (omega (arith, inside))
 
+-- the first of distinct keys is not among the others
 pub first-apart : (first : Key) (rest : List Key) → AreDistinct (first ∷ rest) → has_key first rest ≡ false
 first-apart first rest distinct =
     list_any_none (is_key first) rest (λ i default inside.
     key-differs first (get_or rest i default) (distinct 0 (suc i) default (omega arith) (omega (arith, inside))))
 
+-- no keys are distinct
 pub none-distinct : AreDistinct []
 none-distinct = λ i j default earlier inside. absurd (omega (arith, inside))
 
+-- one key is
 pub one-distinct : (k : Key) → AreDistinct (k ∷ [])
 one-distinct k = λ i j default earlier inside. absurd (omega (arith, earlier, inside))
 
@@ -226,6 +240,7 @@ events-each event k (first ∷ rest) distinct =
         let its : (index_of first.0 first.1 == index_of k.0 k.1) ≡ false = turn ∙ other in
         rw its later
 
+-- a row sends its Change once, if it is among the keys
 pub events-sendings : (number : ℕ) (k : Key) (keys : List Key) → AreDistinct keys
     → events_of k.0 k.1 (sendings number keys) ≡ (if has_key k keys then Sends number ∷ [] else [])
 events-sendings number k keys distinct = events-each (λ key. Sends number) k keys distinct

@@ -43,7 +43,8 @@ known-lawful (Some known) left ack entry false body = one-lawful _ tt
 entry-lawful : (count : Bool) (ack : Option ℕ) (h : Heeding) (entry : Entry) → AreLawful (entry_turns count ack h entry)
 entry-lawful count ack h entry = by (is_understood entry.kind (length entry.body)) (count && is_of_negotiation entry.kind) where
   spoken : (number : ℕ) (body : List ℕ) (used many : Bool)
-      → AreLawful (if used then [] else if many then [] else turn_known (feature_numbered number) (is_left entry.kind) (event_of ack entry (is_change entry.kind) body))
+      → AreLawful (if used then [] else if many then []
+      else turn_known (feature_numbered number) (is_left entry.kind) (event_of ack entry (is_change entry.kind) body))
   spoken number body true many = All-nil Fit
   spoken number body false true = All-nil Fit
   spoken number body false false = known-lawful (feature_numbered number) (is_left entry.kind) ack entry (is_change entry.kind) body
@@ -61,12 +62,14 @@ item-lawful : (count : Bool) (ack : Option ℕ) (h : Heeding) (item : Result Ent
 item-lawful count ack h (Ok entry) = entry-lawful count ack h entry
 item-lawful count ack h (Err _) = All-nil Fit
 
+-- what is heard
 pub heard-lawful : (count : Bool) (ack : Option ℕ) (h : Heeding) (items : List (Result Entry OptFault)) → AreLawful (heard_turns count ack h items)
 heard-lawful count ack h [] = All-nil Fit
 heard-lawful count ack h (item ∷ rest) =
     All-append Fit (item_turns count ack h item) (turns_then (heeds_item count ack h item) (λ next. heard_turns count ack next rest))
     (item-lawful count ack h item) (later (heeds_item count ack h item) (λ next. heard-lawful count ack next rest)) where
-      later : (r : Result Heeding Fault) → ((next : Heeding) → AreLawful (heard_turns count ack next rest)) → AreLawful (turns_then r (λ next. heard_turns count ack next rest))
+      later : (r : Result Heeding Fault) → ((next : Heeding) → AreLawful (heard_turns count ack next rest))
+          → AreLawful (turns_then r (λ next. heard_turns count ack next rest))
       later (Ok next) more = more next
       later (Err fault) more = All-nil Fit
 
@@ -77,14 +80,17 @@ heard_rows r count ack rows items h its is =
     subst (AreRowsOf r) (sym (heeds-turns count ack (unheeded rows) items h is))
     (turned-role r rows (heard_turns count ack (unheeded rows) items) its (heard-lawful count ack (unheeded rows) items))
 
+-- Changes that go out
 pub sendings-lawful : (number : ℕ) (keys : List Key) → AreLawful (sendings number keys)
 sendings-lawful number [] = All-nil Fit
 sendings-lawful number (k ∷ keys) = All-cons Fit _ (sendings number keys) tt (sendings-lawful number keys)
 
+-- offers
 pub offerings-lawful : (test : Key → Bool) (keys : List Key) → AreLawful (offerings test keys)
 offerings-lawful test [] = All-nil Fit
 offerings-lawful test (k ∷ keys) = All-cons Fit _ (offerings test keys) tt (offerings-lawful test keys)
 
+-- a preference that is not refused
 pub preferred-lawful : (k : Key) (values : List ℕ) (wish : Wanted) → wish_of k.0 k.1 values ≡ Ok wish → AreLawful (turn_of k (Prefers wish) ∷ [])
 preferred-lawful k values wish is = one-lawful (turn_of k (Prefers wish)) ((given k.0 k.1 wish).1 (values, is))
 
@@ -107,7 +113,8 @@ module _ {e : EndState} {input : Input} {hearing : Hearing} where
       → IsNegotiation (turned e.rows (turns ++ offerings (is_confirmed confirms) every_place))
   offered-sound {turns = turns} {confirms = confirms} proper hears =
       let offered : List Turn = offerings (is_confirmed confirms) every_place in
-      turned-sound e.rows (turns ++ offered) proper.rows.sound (All-append Fit turns offered (said-lawful hears) (offerings-lawful (is_confirmed confirms) every_place))
+      turned-sound e.rows (turns ++ offered) proper.rows.sound
+      (All-append Fit turns offered (said-lawful hears) (offerings-lawful (is_confirmed confirms) every_place))
 
   pub turns-lawful : {turns : List Turn} → AreTurns e input hearing turns → AreLawful turns
   turns-lawful at =

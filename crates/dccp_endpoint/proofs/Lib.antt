@@ -16,6 +16,7 @@ pub mod FirstFaults
 pub mod Keys
 pub mod OwnPackets
 pub mod Deriving
+pub mod Entered
 pub mod Walking
 pub mod Calling
 pub mod Exactly

@@ -58,6 +58,7 @@ ValidByTheTable =
     (w : Marks) (kind : PacketType) (n : ℕ) (ack : Option ℕ) → IsWhole w → InRange w → w.isr ≤ n → n < w.isr + 2 ^ 48 → IsAckOfTurn w.iss ack
     → (verdict (residues w) kind (residue n) (residue_of ack) ≡ Valid) ↔ HasValidNumbers w kind n ack
 
+-- by the table of windows
 pub valid-near : ValidByTheTable → ValidNumbersAreNear
 valid-near table w kind n ack whole range narrow may from within turn valid =
     in-window w n ack narrow (by-type w kind n ack may ((table w kind n ack whole range from within turn).0 valid))

@@ -241,7 +241,9 @@ module _ (k : Key) (ack : Option ℕ) (h next : Heeding) (entry : Entry) (body :
       let due : Due = record { left = not (letter_to k.1); number = feature_number k.0; body = its } in
       let same : met h (spot k) true rows (h.confirms ++ due ∷ []) ≡ next = cc is in
       let more = times-more k due h.confirms in
-      let own : is_for k due ≡ true = and_from (feature_number k.0 == feature_number k.0) (is_of_place (not (letter_to k.1)) k.1) (eq-eqb (feature_number k.0) (feature_number k.0) refl) (letter-answer k.1) in
+      let own : is_for k due ≡ true =
+      and_from (feature_number k.0 == feature_number k.0) (is_of_place (not (letter_to k.1)) k.1) (eq-eqb (feature_number k.0) (feature_number k.0) refl)
+      (letter-answer k.1) in
       let one : once_if (is_for k due) ≡ 1 = ap once_if own in
       subst (λ end. Tells k h end (event true) (own_turns true)) same (record {
         keeps = met-keeps h (spot k) true rows (h.confirms ++ due ∷ []) same_size;
@@ -283,7 +285,8 @@ module _ (k : Key) (ack : Option ℕ) (h next : Heeding) (entry : Entry) (body :
       (settles-silent (row_at h.rows k.0 k.1) (row_at h.rows k.0 k.1).stand (confirmation (row_at h.rows k.0 k.1) body ack)) (answer false)
       (subst (λ (step : RowsStep). by_settling h (spot k) step.rows entry (settling_of step.answer) ≡ Ok next) own is)
 
-  own-tells : (change : Bool) → is_too_many h change ≡ false → is_used k h ≡ false → heeds_feature ack h entry change (letter_to k.1) (feature_number k.0) body ≡ Ok next
+  own-tells : (change : Bool) → is_too_many h change ≡ false → is_used k h ≡ false
+      → heeds_feature ack h entry change (letter_to k.1) (feature_number k.0) body ≡ Ok next
       → Tells k h next (event change) (feature_turns ack h entry change (letter_to k.1) (feature_number k.0) body)
   own-tells change few unused is =
       rw (unused, few) (first-tells change few (sym (cond-false (is_used k h) _ _ unused) ∙ is))
@@ -342,7 +345,8 @@ mute-so k entry is = by entry.body is where
       and_left (is_of_negotiation entry.kind) (number == feature_number k.0 && its_place)
       (false_from_ne_true (is_of_negotiation entry.kind) (λ its. false≢true (sym is ∙ understood-so entry.kind (length body) its)))
 
-module _ (k : Key) (count : Bool) (ack : Option ℕ) (h next : Heeding) (entry : Entry) (few : is_change_item (Ok entry) ≡ true → h.changes < 64) (size : length h.used ≡ 512) where
+module _ (k : Key) (count : Bool) (ack : Option ℕ) (h next : Heeding) (entry : Entry) (few : is_change_item (Ok entry) ≡ true → h.changes < 64)
+    (size : length h.used ≡ 512) where
   abbrev Its : List Turn → Type 0
   Its turns = Way k count ack h next entry turns
 
@@ -357,11 +361,13 @@ module _ (k : Key) (count : Bool) (ack : Option ℕ) (h next : Heeding) (entry :
   speaks-so : (body : List ℕ) → entry.body ≡ body → (count && is_of_negotiation entry.kind) ≡ true
       → (count && speaks_to k entry) ≡ (begins_with_number (feature_number k.0) body && is_of_place (is_left entry.kind) (opposite k.1))
   speaks-so body is counts =
-      ap (λ (bytes : List ℕ). count && (is_of_negotiation entry.kind && (begins_with_number (feature_number k.0) bytes && is_of_place (is_left entry.kind) (opposite k.1)))) is
+      ap (λ (bytes : List ℕ). count
+      && (is_of_negotiation entry.kind && (begins_with_number (feature_number k.0) bytes && is_of_place (is_left entry.kind) (opposite k.1)))) is
       ∙ and-nested count (is_of_negotiation entry.kind) (begins_with_number (feature_number k.0) body && is_of_place (is_left entry.kind) (opposite k.1))
       ∙ ap (λ (its : Bool). its && (begins_with_number (feature_number k.0) body && is_of_place (is_left entry.kind) (opposite k.1))) counts
 
-  own-way : (number : ℕ) (body : List ℕ) → is_too_many h change ≡ false → entry.body ≡ number ∷ body → (count && speaks_to k entry) ≡ true → (was : Bool) → is_used k h ≡ was
+  own-way : (number : ℕ) (body : List ℕ) → is_too_many h change ≡ false → entry.body ≡ number ∷ body → (count && speaks_to k entry) ≡ true → (was : Bool)
+      → is_used k h ≡ was
       → heeds_feature ack h entry change (letter_to k.1) (feature_number k.0) body ≡ Ok next
       → Its (feature_turns ack h entry change (letter_to k.1) (feature_number k.0) body)
   own-way number body some is speaks true used so = Repeating used (own-passes k ack h next entry body size change used so)
@@ -381,7 +387,8 @@ module _ (k : Key) (count : Bool) (ack : Option ℕ) (h next : Heeding) (entry :
         (λ asks. few
         (and_from (negotiates_by entry) change
         (and_from (is_understood entry.kind (length entry.body)) (is_of_negotiation entry.kind && has_feature_number entry.body) known
-        (and_from (is_of_negotiation entry.kind) (has_feature_number entry.body) (and_parts count (is_of_negotiation entry.kind) counts).1 (ap has_feature_number is)))
+        (and_from (is_of_negotiation entry.kind) (has_feature_number entry.body) (and_parts count (is_of_negotiation entry.kind) counts).1
+        (ap has_feature_number is)))
         asks))
 
     by : (to : Bool) → is_to k (is_left entry.kind) number ≡ to → (count && speaks_to k entry) ≡ is_to k (is_left entry.kind) number
@@ -390,8 +397,10 @@ module _ (k : Key) (count : Bool) (ack : Option ℕ) (h next : Heeding) (entry :
         Passing (speaks ∙ to) (beside-passes k ack h next entry (is_left entry.kind) number body (beside-so k (is_left entry.kind) number to) change some so)
     by true to speaks =
         let its = to-so k (is_left entry.kind) number to in
-        subst (λ (left : Bool). heeds_feature ack h entry change left number body ≡ Ok next → Its (feature_turns ack h entry change left number body)) (sym its.left_is)
-        (subst (λ (n : ℕ). heeds_feature ack h entry change (letter_to k.1) n body ≡ Ok next → Its (feature_turns ack h entry change (letter_to k.1) n body)) (sym its.number_is)
+        subst (λ (left : Bool). heeds_feature ack h entry change left number body ≡ Ok next → Its (feature_turns ack h entry change left number body))
+        (sym its.left_is)
+        (subst (λ (n : ℕ). heeds_feature ack h entry change (letter_to k.1) n body ≡ Ok next → Its (feature_turns ack h entry change (letter_to k.1) n body))
+        (sym its.number_is)
         (own-way number body some is (speaks ∙ to) (is_used k h) refl)) so
 
   counting-way : is_understood entry.kind (length entry.body) ≡ true → (counts : Bool) → (count && is_of_negotiation entry.kind) ≡ counts
@@ -399,7 +408,8 @@ module _ (k : Key) (count : Bool) (ack : Option ℕ) (h next : Heeding) (entry :
       → Its (if counts then body_turns ack h entry entry.body else [])
   counting-way known true is so = body-way entry.body known refl is so
   counting-way known false is so =
-      let silent = and-nested count (is_of_negotiation entry.kind) (begins_with_number (feature_number k.0) entry.body && is_of_place (is_left entry.kind) (opposite k.1)) in
+      let silent = and-nested count (is_of_negotiation entry.kind)
+      (begins_with_number (feature_number k.0) entry.body && is_of_place (is_left entry.kind) (opposite k.1)) in
       nothing-way (silent ∙ and_left (count && is_of_negotiation entry.kind) _ is) so
 
   entry-way : heeds_entry count ack h entry ≡ Ok next → Its (entry_turns count ack h entry)
@@ -434,7 +444,8 @@ record HasRoom (h : Heeding) (items : List (Result Entry OptFault)) : Type 0 whe
   few : h.changes + changes_among items ≤ 64
   size : length h.used ≡ 512
 
-changes-first : (item : Result Entry OptFault) (rest : List (Result Entry OptFault)) → changes_among (item ∷ rest) ≡ once_if (is_change_item item) + changes_among rest
+changes-first : (item : Result Entry OptFault) (rest : List (Result Entry OptFault))
+    → changes_among (item ∷ rest) ≡ once_if (is_change_item item) + changes_among rest
 changes-first item rest = by (is_change_item item) where
   by : (change : Bool) → length (if change then item ∷ filter is_change_item rest else filter is_change_item rest) ≡ once_if change + changes_among rest
   by true = omega arith
@@ -466,7 +477,8 @@ module _ (k : Key) (count : Bool) (ack : Option ℕ) where
   stays-so (Err fault ∷ rest) h end used room is = cc is
   stays-so (Ok entry ∷ rest) h end used room is = by (heeds_entry count ack h entry) refl is (λ next its. stays-so rest next end its) where
     by : (step : Result Heeding Fault) → heeds_entry count ack h entry ≡ step → heeds_then step (λ next. heeds count ack next rest) ≡ Ok end
-        → ((next : Heeding) → is_used k next ≡ true → HasRoom next rest → heeds count ack next rest ≡ Ok end → Stays k next end (heard_turns count ack next rest))
+        → ((next : Heeding) → is_used k next ≡ true → HasRoom next rest → heeds count ack next rest ≡ Ok end
+        → Stays k next end (heard_turns count ack next rest))
         → Stays k h end (entry_turns count ack h entry ++ turns_then step (λ next. heard_turns count ack next rest))
     by (Err fault) step is later = cc is
     by (Ok next) step is later = way (entry-way k count ack h next entry (room-now h entry rest room) room.size step) where
@@ -496,7 +508,8 @@ module _ (k : Key) (count : Bool) (ack : Option ℕ) where
       → (count && speaks_to k entry) ≡ false → Passes k h next (entry_turns count ack h entry) → Hears k count ack next end rest
       → Hears k count ack h end (Ok entry ∷ rest)
   hears-later entry rest h next end step silent passes later =
-      let said : said_to count ack k (Ok entry ∷ rest) ≡ said_to count ack k rest = cond-false (count && speaks_to k entry) (event_in ack entry ∷ []) (said_to count ack k rest) silent in
+      let said : said_to count ack k (Ok entry ∷ rest) ≡ said_to count ack k rest =
+      cond-false (count && speaks_to k entry) (event_in ack entry ∷ []) (said_to count ack k rest) silent in
       let turns : heard_turns count ack h (Ok entry ∷ rest) ≡ entry_turns count ack h entry ++ heard_turns count ack next rest =
       ap (λ (step : Result Heeding Fault). entry_turns count ack h entry ++ turns_then step (λ next. heard_turns count ack next rest)) step in
       record {
@@ -515,7 +528,8 @@ module _ (k : Key) (count : Bool) (ack : Option ℕ) where
       → (count && speaks_to k entry) ≡ true → Tells k h next (event_in ack entry) (entry_turns count ack h entry)
       → Stays k next end (heard_turns count ack next rest) → Hears k count ack h end (Ok entry ∷ rest)
   hears-now entry rest h next end fresh step speaks tells stays =
-      let said : said_to count ack k (Ok entry ∷ rest) ≡ event_in ack entry ∷ [] = cond-true (count && speaks_to k entry) (event_in ack entry ∷ []) (said_to count ack k rest) speaks in
+      let said : said_to count ack k (Ok entry ∷ rest) ≡ event_in ack entry ∷ [] =
+      cond-true (count && speaks_to k entry) (event_in ack entry ∷ []) (said_to count ack k rest) speaks in
       let turns : heard_turns count ack h (Ok entry ∷ rest) ≡ entry_turns count ack h entry ++ heard_turns count ack next rest =
       ap (λ (step : Result Heeding Fault). entry_turns count ack h entry ++ turns_then step (λ next. heard_turns count ack next rest)) step in
       record {
@@ -567,5 +581,6 @@ pub rows_hear_the_packet : RowsHearThePacket
 rows_hear_the_packet = λ count ack rows options h k sound few is.
     let hears = whole-heard k count ack rows options h few is in (hears.events, hears.confirm)
 
+-- for every list of items
 pub confirms_are_single : ConfirmsAreSingle
 confirms_are_single = λ count ack rows options h k sound few is. (whole-heard k count ack rows options h few is).times

@@ -25,10 +25,12 @@ abbrev pub letter_to : Place → Bool
 letter_to Here = false
 letter_to There = true
 
+-- the letter says the place
 pub letter-place : (place : Place) → place_of (letter_to place) ≡ place
 letter-place Here = refl
 letter-place There = refl
 
+-- its answer has the other letter
 pub letter-answer : (place : Place) → is_of_place (not (letter_to place)) place ≡ true
 letter-answer Here = refl
 letter-answer There = refl
@@ -66,6 +68,7 @@ pub record IsTo (k : Key) (left : Bool) (number : ℕ) : Type 0 where
   pub number_is : number ≡ feature_number k.0
   pub left_is : left ≡ letter_to k.1
 
+-- an option that speaks to the row has its number and letter
 pub to-so : (k : Key) (left : Bool) (number : ℕ) → is_to k left number ≡ true → IsTo k left number
 to-so k left number is =
     let parts = and_parts (number == feature_number k.0) (is_of_place left (opposite k.1)) is in
@@ -90,6 +93,7 @@ number-below f.SendNdpCount = omega arith
 number-below f.MinCsCov = omega arith
 number-below f.CheckDataChecksum = omega arith
 
+-- a row's spot is below 512
 pub spot-below : (k : Key) → spot k < 512
 spot-below k = by k.1 (number-below k.0) where
   by : (place : Place) → feature_number k.0 < 10 → place_in_used (letter_to place) (feature_number k.0) < 512
@@ -129,6 +133,7 @@ pub record IsBeside (k : Key) (left : Bool) (number : ℕ) : Type 0 where
   pub due : (number == feature_number k.0 && is_of_place (not left) k.1) ≡ false
   pub turn : (feature : Feature) → feature_numbered number ≡ Some feature → index_of feature (place_of left) ≢ index_of k.0 k.1
 
+-- else it has another number or letter
 pub beside-so : (k : Key) (left : Bool) (number : ℕ) → is_to k left number ≡ false → IsBeside k left number
 beside-so k left number is = record {
   spots = λ same. let parts = spot-so (letter_to k.1) left (feature_number k.0) number same in not_both (sym parts.1) (sym parts.0);
@@ -157,12 +162,15 @@ events-beside k left number event beside = by (feature_numbered number) refl whe
   by : (feature : Option Feature) → feature_numbered number ≡ feature → events_of k.0 k.1 (turn_known feature left event) ≡ []
   by None is = refl
   by (Some feature) is =
-      let differs : (index_of feature (place_of left) == index_of k.0 k.1) ≡ false = ne_eqb (index_of feature (place_of left)) (index_of k.0 k.1) (beside.turn feature is) in
+      let differs : (index_of feature (place_of left) == index_of k.0 k.1) ≡ false =
+      ne_eqb (index_of feature (place_of left)) (index_of k.0 k.1) (beside.turn feature is) in
       rw differs refl
 
+-- what is said to a row is its event
 pub events-own : (k : Key) (event : RowEvent) → events_of k.0 k.1 (turn_known (Some k.0) (letter_to k.1) event) ≡ event ∷ []
 events-own k event =
-    let same : (index_of k.0 (place_of (letter_to k.1)) == index_of k.0 k.1) ≡ true = eq-eqb (index_of k.0 (place_of (letter_to k.1))) (index_of k.0 k.1) (ap (λ place. index_of k.0 place) (letter-place k.1)) in
+    let same : (index_of k.0 (place_of (letter_to k.1)) == index_of k.0 k.1) ≡ true =
+    eq-eqb (index_of k.0 (place_of (letter_to k.1))) (index_of k.0 k.1) (ap (λ place. index_of k.0 place) (letter-place k.1)) in
     rw same refl
 
 -- What a step of another row leaves.
@@ -177,6 +185,7 @@ stepped-leaves k rows feature place event differs = record {
   size = length-set rows (index_of feature place) (row_step (row_at rows feature place) event).row;
 }
 
+-- a Change for another row leaves it
 pub changes-leaves : (k : Key) (rows : List Row) (left : Bool) (number : ℕ) (body : List ℕ) (mandatory : Bool) → IsBeside k left number
     → Leaves k rows (changes rows left number body mandatory)
 changes-leaves k rows left number body mandatory beside = by (feature_numbered number) refl where
@@ -184,6 +193,7 @@ changes-leaves k rows left number body mandatory beside = by (feature_numbered n
   by None is = rw is (record { row = refl; size = refl })
   by (Some feature) is = rw is (stepped-leaves k rows feature (place_of left) (Change body mandatory) (beside.turn feature is))
 
+-- so does a Confirm
 pub confirmed-leaves : (k : Key) (rows : List Row) (left : Bool) (number : ℕ) (body : List ℕ) (ack : Option ℕ) → IsBeside k left number
     → Leaves k rows (confirmed rows left number body ack)
 confirmed-leaves k rows left number body ack beside = by (feature_numbered number) refl where

@@ -28,6 +28,7 @@ listed false items none is = is
 listed true items none is =
     subst (λ (xs : List Item). options_of (padded (written xs)) true ≡ map Ok (entries_at 0 xs)) (sym (none refl)) refl
 
+-- widths change no type
 pub type-kept : (k : Kind) → packet_type (kind_in_widths k) ≡ packet_type k
 type-kept kind.Data = refl
 type-kept _ = refl
@@ -39,6 +40,7 @@ has_room config short number k area room =
     let less : header_length (own_header config short number k) ≤ fixed_length true (packet_type k) = no_longer short number k in
     omega (arith, less, room)
 
+-- in the widths of its form
 pub own_frames_read_in_widths : (config : Config) (short : Bool) (number : ℕ) (draft : Draft) → IsSendable draft
     → (short ≡ true → may_be_short (packet_type draft.kind) ≡ true)
     → ReadsAs (in_widths (own_header config short number draft.kind)) config.pseudo_out draft (frame_of config short number draft)
@@ -57,6 +59,7 @@ own_frames_read_in_widths config short number draft sendable may =
       is_accepted = read.is_accepted;
     }
 
+-- and as it is, where all fits
 pub own_frames_read : (config : Config) (short : Bool) (number : ℕ) (draft : Draft) → Fits config → number < 2 ^ 48 → KindFits draft.kind → IsSendable draft
     → (short ≡ true → may_be_short (packet_type draft.kind) ≡ true)
     → ReadsAs (own_header config short number draft.kind) config.pseudo_out draft (frame_of config short number draft)

@@ -154,6 +154,7 @@ vector_parts false vectors set greatest = []
 abbrev behind_vector : Bool → Vectors → MarkedSet → ℕ → ℕ
 behind_vector has_vector vectors set greatest = behind_parts 0 (vector_parts has_vector vectors set greatest)
 
+-- the items of a vector are its parts
 pub parts-are : (has_vector : Bool) (vectors : Vectors) (set : MarkedSet) (greatest : ℕ)
     → vector_items has_vector vectors set greatest ≡ map vector_item (vector_parts has_vector vectors set greatest)
 parts-are true vectors set greatest = refl
@@ -165,7 +166,8 @@ parts-say-nothing : (ack : Option ℕ) (place : ℕ) (parts : List (List ℕ)) (
 parts-say-nothing ack place [] items k = refl
 parts-say-nothing ack place (part ∷ parts) items k = parts-say-nothing ack (behind place (vector_item part)) parts items k
 
-vector-says-nothing : (ack : Option ℕ) (has_vector : Bool) (vectors : Vectors) (set : MarkedSet) (greatest : ℕ) (confirms : List Due) (rows : List Row) (keys : List Key) (k : Key)
+vector-says-nothing : (ack : Option ℕ) (has_vector : Bool) (vectors : Vectors) (set : MarkedSet) (greatest : ℕ) (confirms : List Due) (rows : List Row)
+    (keys : List Key) (k : Key)
     → said_to true ack (theirs k) (as_read 0 (own_options has_vector vectors set greatest confirms rows keys))
     ≡ said_to true ack (theirs k) (as_read (behind_vector has_vector vectors set greatest) (confirm_items confirms ++ change_items rows keys))
 vector-says-nothing ack has_vector vectors set greatest confirms rows keys k =
@@ -176,7 +178,8 @@ vector-says-nothing ack has_vector vectors set greatest confirms rows keys k =
 -- the law on what own packets say
 pub own_packets_say : OwnPacketsSayOfARow
 own_packets_say = λ ack has_vector vectors set greatest confirms rows keys k.
-    vector-says-nothing ack has_vector vectors set greatest confirms rows keys k ∙ all-said ack rows k confirms keys (behind_vector has_vector vectors set greatest)
+    vector-says-nothing ack has_vector vectors set greatest confirms rows keys k
+    ∙ all-said ack rows k confirms keys (behind_vector has_vector vectors set greatest)
 
 module _ (rows : List Row) (k : Key) where
   changes-times : (keys : List Key) (place : ℕ) → AreDistinct keys
@@ -218,7 +221,8 @@ parts-never-speak : (place : ℕ) (parts : List (List ℕ)) (items : List Item) 
 parts-never-speak place [] items k = refl
 parts-never-speak place (part ∷ parts) items k = let rest = parts-never-speak (behind place (vector_item part)) parts items k in omega (arith, rest)
 
-vector-never-speaks : (has_vector : Bool) (vectors : Vectors) (set : MarkedSet) (greatest : ℕ) (confirms : List Due) (rows : List Row) (keys : List Key) (k : Key)
+vector-never-speaks : (has_vector : Bool) (vectors : Vectors) (set : MarkedSet) (greatest : ℕ) (confirms : List Due) (rows : List Row) (keys : List Key)
+    (k : Key)
     → times_said_to (theirs k) (as_read 0 (own_options has_vector vectors set greatest confirms rows keys))
     ≡ times_said_to (theirs k) (as_read (behind_vector has_vector vectors set greatest) (confirm_items confirms ++ change_items rows keys))
 vector-never-speaks has_vector vectors set greatest confirms rows keys k =
@@ -269,6 +273,7 @@ pub spoken-once : (e : EndState) (given : Input) (hearing : Hearing) (turns : Li
     → (has_vector : Bool) (vectors : Vectors) (set : MarkedSet) (greatest : ℕ) (rows : List Row) (k : Key)
     → times_said_to (k.0, opposite k.1) (map Ok (entries_at 0 (own_options has_vector vectors set greatest its.confirms rows its.keys))) ≤ 1
 spoken-once e given hearing turns its sound later few has_vector vectors set greatest rows k =
-    own_packets_speak has_vector vectors set greatest its.confirms rows its.keys k (confirms-single e given hearing its.heard its.confirms k sound few its.hears)
+    own_packets_speak has_vector vectors set greatest its.confirms rows its.keys k
+    (confirms-single e given hearing its.heard its.confirms k sound few its.hears)
     (keys-distinct e given its.heard its.offered its.preferred its.confirms its.keys sound later its.occasion)
     (apart-so its.confirms its.keys k its.apart)

@@ -23,6 +23,7 @@ pub record Begins (r : Role) : Type 0 where
   pub not_live : is_live (first_phase r) ≡ false
   pub not_begun : is_begun (first_phase r) ≡ false
 
+-- for each role
 pub begins : (r : Role) → Begins r
 begins role.Client = record { in_role = refl; not_live = refl; not_begun = refl }
 begins role.Server = record { in_role = refl; not_live = refl; not_begun = refl }
@@ -55,6 +56,7 @@ pub requests-client : (r : Role) (ph : Phase) → ph ≡ phase.Request → is_ph
 requests-client role.Client ph asks fits = refl
 requests-client role.Server ph asks fits = cc (ap (λ (p : Phase). is_phase_of p role.Server) asks, fits)
 
+-- an end that accepts a Request may be in RESPOND
 pub accept_fits : (ph : Phase) (t : PacketType) (r : Role) → gate ph t ≡ entrance.Accept → is_phase_of ph r ≡ true → is_phase_of phase.Respond r ≡ true
 accept_fits ph t r is fits = ap (is_phase_of phase.Respond) (listens-server r ph (accept-so ph t is).0 fits)
 
@@ -76,6 +78,7 @@ row-fits phase.Closed types.Request = refl
 row-fits _ types.Reset = refl
 row-fits _ _ = refl
 
+-- a reply fits the phase to which the packet leads
 pub fits-reply : (ph : Phase) (t : PacketType) (to : Phase) (r : Reply) → after ph t ≡ (to, r) → FitsReply to r
 fits-reply ph t to r is = subst (λ (row : Phase × Reply). FitsReply row.0 row.1) is (row-fits ph t)
 
@@ -86,6 +89,7 @@ closes-row _ types.Close is = refl
 closes-row _ types.Reset is = cc is
 closes-row _ _ is = cc is
 
+-- only a Close is answered with Reset Closed
 pub answers-close : (ph : Phase) (t : PacketType) (to : Phase) → after ph t ≡ (to, reply.ResetClosed) → t ≡ types.Close
 answers-close ph t to is = closes-row ph t (ap (λ (row : Phase × Reply). row.1) is)
 
@@ -95,14 +99,17 @@ live-begun phase.Closed is = cc is
 live-begun phase.Listen is = cc is
 live-begun _ is = refl
 
+-- a live end has entered
 pub live-entered : (ph : Phase) → is_live ph ≡ true → phase_entered ph ≡ ph
 live-entered phase.Listen is = cc is
 live-entered _ is = refl
 
+-- OPEN is the one open phase
 pub open-is : (ph : Phase) → is_open ph ≡ true → ph ≡ phase.Open
 open-is phase.Open is = refl
 open-is _ is = cc is
 
+-- PARTOPEN is the one that is called so
 pub part-open-is : (ph : Phase) → is_part_open ph ≡ true → ph ≡ phase.PartOpen
 part-open-is phase.PartOpen is = refl
 part-open-is _ is = cc is
@@ -114,6 +121,7 @@ live-heard phase.Listen is = cc is
 live-heard phase.Request is = cc is
 live-heard _ is = refl
 
+-- no packet leads a live end to wait
 pub after-heard : (ph : Phase) (t : PacketType) → is_live ph ≡ true → is_waiting (after ph t).0 ≡ false
 after-heard phase.Closed t is = cc is
 after-heard phase.Listen t is = cc is
@@ -121,6 +129,7 @@ after-heard phase.Request t is = cc is
 after-heard _ types.Reset is = refl
 after-heard _ _ is = refl
 
+-- an end that has begun is not CLOSED
 pub begun-not-closed : (ph : Phase) → is_begun ph ≡ true → ph ≢ phase.Closed
 begun-not-closed phase.Closed is = λ same. cc is
 begun-not-closed _ is = λ same. cc same
@@ -164,6 +173,7 @@ may-say-row r phase.Open types.Ack later fits is out = refl
 may-say-row r phase.Open types.SyncAck later fits is out = refl
 may-say-row r phase.Open _ later fits is out = cc
 
+-- a packet whose options count has a reply that may say something, or a phase that acknowledges
 pub may-say : (r : Role) (ph : Phase) (t : PacketType) (later : Bool) (to : Phase) (answer : Reply) → is_phase_of ph r ≡ true → counts ph t ≡ true
     → unexpected r ph t later ≡ false → after ph t ≡ (to, answer) → MaySay to answer
 may-say r ph t later to answer fits is out row = subst (λ (x : Phase × Reply). MaySay x.0 x.1) row (may-say-row r ph t later fits is out)

@@ -54,7 +54,8 @@ usual-handshake :
     × (shown usual_requesting ≡ row f.EcnIncapable Here 0 Changing (row f.SendAckVector There 0 Changing initial_rows))
     × (seen (arrives usual_listening usual_request) ≡ (Took None, sent usual_response, phase.Respond))
     × (shown usual_responding
-    ≡ row f.EcnIncapable Here 0 Changing (row f.EcnIncapable There 1 Stable (row f.SendAckVector Here 1 Stable (row f.SendAckVector There 0 Changing initial_rows))))
+    ≡ row f.EcnIncapable Here 0 Changing
+    (row f.EcnIncapable There 1 Stable (row f.SendAckVector Here 1 Stable (row f.SendAckVector There 0 Changing initial_rows))))
     × (seen (arrives usual_requesting usual_response) ≡ (Took None, sent usual_ack, phase.PartOpen))
     × (shown usual_part_open ≡ usual_rows)
     × (seen (arrives usual_responding usual_ack) ≡ (Took None, sent usual_vector, phase.Open))
@@ -66,9 +67,11 @@ usual-handshake = (refl, refl, refl, refl, refl, refl, refl, refl, refl, refl)
 
 -- Only the client offers: the Response carries Confirms alone.
 only-client-offers :
-    (seen (arrives listening usual_request) ≡ (Took None, sent "13899c400a00d2f903000000000007d000000000000003e80000002a230604010100210606010100", phase.Respond))
+    (seen (arrives listening usual_request)
+    ≡ (Took None, sent "13899c400a00d2f903000000000007d000000000000003e80000002a230604010100210606010100", phase.Respond))
     × (shown (arrives listening usual_request).after ≡ row f.EcnIncapable There 1 Stable (row f.SendAckVector Here 1 Stable initial_rows))
-    × (seen (arrives usual_requesting "13899c400a00d2f903000000000007d000000000000003e80000002a230604010100210606010100") ≡ (Took None, sent client_ack, phase.PartOpen))
+    × (seen (arrives usual_requesting "13899c400a00d2f903000000000007d000000000000003e80000002a230604010100210606010100")
+    ≡ (Took None, sent client_ack, phase.PartOpen))
     × (shown (arrives usual_requesting "13899c400a00d2f903000000000007d000000000000003e80000002a230604010100210606010100").after
     ≡ row f.EcnIncapable Here 1 Stable (row f.SendAckVector There 1 Stable initial_rows))
 unfolding receives opens framed
@@ -76,8 +79,10 @@ only-client-offers = (refl, refl, refl, refl)
 
 -- Only the server offers: the Response carries Changes alone.
 only-server-offers :
-    (seen (arrives usual_listening request) ≡ (Took None, sent "13899c400a00f4dd03000000000007d000000000000003e80000002a012004040101220406010000", phase.Respond))
-    × (seen (arrives requesting "13899c400a00f4dd03000000000007d000000000000003e80000002a012004040101220406010000") ≡ (Took None, sent usual_ack, phase.PartOpen))
+    (seen (arrives usual_listening request)
+    ≡ (Took None, sent "13899c400a00f4dd03000000000007d000000000000003e80000002a012004040101220406010000", phase.Respond))
+    × (seen (arrives requesting "13899c400a00f4dd03000000000007d000000000000003e80000002a012004040101220406010000")
+    ≡ (Took None, sent usual_ack, phase.PartOpen))
     × (shown (arrives requesting "13899c400a00f4dd03000000000007d000000000000003e80000002a012004040101220406010000").after
     ≡ row f.EcnIncapable There 1 Stable (row f.SendAckVector Here 1 Stable initial_rows))
     × (seen (arrives (responds_as (usual Server)) usual_ack) ≡ (Took None, sent server_ack, phase.Open))
@@ -100,7 +105,8 @@ offers-go-out-again :
     ≡ (Took None, sent "13899c400d00a1c103000000000007d100000000000003e90000002a230604010100210606010100012004040101220406010000", phase.Respond))
     × (seen (arrives again_requesting "13899c400d00a1c103000000000007d100000000000003e90000002a230604010100210606010100012004040101220406010000")
     ≡ (Took None, sent "9c4013890a00eadb07000000000003ea00000000000007d126030023060401010021060601010000", phase.PartOpen))
-    × (seen (arrives again_requesting usual_response) ≡ (Took None, sent "9c4013890a00eadc07000000000003ea00000000000007d026030023060401010021060601010000", phase.PartOpen))
+    × (seen (arrives again_requesting usual_response)
+    ≡ (Took None, sent "9c4013890a00eadc07000000000003ea00000000000007d026030023060401010021060601010000", phase.PartOpen))
     × (shown (arrives again_requesting usual_response).after ≡ usual_rows)
     × (seen (arrives again_responding "9c4013890a00eadc07000000000003ea00000000000007d026030023060401010021060601010000")
     ≡ (Took None, sent "13899c400700fa3607000000000007d200000000000003ea26030200", phase.Open))
@@ -119,8 +125,10 @@ request-twice :
     × (seen (arrives usual_requesting "13899c400a00f4dc03000000000007d100000000000003e80000002a012004040101220406010000")
     ≡ (Took None, sent "9c4013890a00eadc07000000000003e900000000000007d126030023060401010021060601010000", phase.PartOpen))
     × (shown half_open
-    ≡ row f.EcnIncapable Here 0 Changing (row f.EcnIncapable There 1 Stable (row f.SendAckVector Here 1 Stable (row f.SendAckVector There 0 Changing initial_rows))))
-    × (seen (fires half_open timers.Negotiate false) ≡ (true, sent "9c4013890a00cefd07000000000003ea00000000000007d126030001200404010122040601000000", phase.PartOpen))
+    ≡ row f.EcnIncapable Here 0 Changing
+    (row f.EcnIncapable There 1 Stable (row f.SendAckVector Here 1 Stable (row f.SendAckVector There 0 Changing initial_rows))))
+    × (seen (fires half_open timers.Negotiate false)
+    ≡ (true, sent "9c4013890a00cefd07000000000003ea00000000000007d126030001200404010122040601000000", phase.PartOpen))
     × (seen (arrives usual_part_open "13899c400a00f4dc03000000000007d100000000000003e80000002a012004040101220406010000")
     ≡ (Took None, sent "9c4013890a00e9db07000000000003ea00000000000007d126030123060401010021060601010000", phase.PartOpen))
     × (shown (arrives usual_part_open "13899c400a00f4dc03000000000007d100000000000003e80000002a012004040101220406010000").after ≡ usual_rows)
@@ -143,12 +151,14 @@ dropped-offers :
     ≡ (Took None, sent "13899c400800010d03000000000007d000000000000003e80000002a23030100", phase.Respond))
     × (seen (arrives (arrives (new_end offering_there) "9c40138906000fe501000000000003e80000002a20030100").after "9c401389050031eb01000000000003e90000002a")
     ≡ (Took None, sent "13899c400700261203000000000007d100000000000003e90000002a", phase.Respond))
-    × (seen (arrives (new_end offering_there) request) ≡ (Took None, sent "13899c400900090403000000000007d000000000000003e80000002a22050102f8000000", phase.Respond))
+    × (seen (arrives (new_end offering_there) request)
+    ≡ (Took None, sent "13899c400900090403000000000007d000000000000003e80000002a22050102f8000000", phase.Respond))
     × (seen (arrives (new_end offering_here) "9c40138906000de201000000000003e80000002a22040102")
     ≡ (Took None, sent "13899c400900ff0b03000000000007d000000000000003e80000002a2106010202f80000", phase.Respond))
     × (seen (arrives (arrives (new_end offering_here) "9c40138906000de201000000000003e80000002a22040102").after "9c401389050031eb01000000000003e90000002a")
     ≡ (Took None, sent "13899c400700261203000000000007d100000000000003e90000002a", phase.Respond))
-    × (seen (arrives (new_end offering_here) request) ≡ (Took None, sent "13899c4009000b0403000000000007d000000000000003e80000002a20050102f8000000", phase.Respond))
+    × (seen (arrives (new_end offering_here) request)
+    ≡ (Took None, sent "13899c4009000b0403000000000007d000000000000003e80000002a20050102f8000000", phase.Respond))
 unfolding receives framed
 dropped-offers = (refl, refl, refl, refl, refl, refl, refl, refl)
 
@@ -160,7 +170,8 @@ asking-row-is-confirmed :
     (seen (arrives (responds_as offering_there) "9c40138906000fe101000000000003e90000002a20040102")
     ≡ (Took None, sent "13899c400900fd0903000000000007d100000000000003e90000002a2306010202f80000", phase.Respond))
     × (shown asked_server ≡ row f.Ccid There 2 Changing initial_rows)
-    × (seen (arrives asked_server "9c401389050031ea01000000000003ea0000002a") ≡ (Took None, sent "13899c400900090003000000000007d200000000000003ea0000002a22050102f8000000", phase.Respond))
+    × (seen (arrives asked_server "9c401389050031ea01000000000003ea0000002a")
+    ≡ (Took None, sent "13899c400900090003000000000007d200000000000003ea0000002a22050102f8000000", phase.Respond))
 unfolding receives framed
 asking-row-is-confirmed = (refl, refl, refl)
 
@@ -176,7 +187,8 @@ abbrev pub offering_248 : EndState
 offering_248 = requests_as (offering (wishing (plain Client) f.Ccid Here (wanted.List (248 ∷ 2 ∷ []))) f.Ccid Here false)
 
 server-order-wins :
-    (seen (opens (new_end (offering (plain Client) f.Ccid Here false))) ≡ (Ok tt, sent "9c401389070016dc01000000000003e80000002a20050102f8000000", phase.Request))
+    (seen (opens (new_end (offering (plain Client) f.Ccid Here false)))
+    ≡ (Ok tt, sent "9c401389070016dc01000000000003e80000002a20050102f8000000", phase.Request))
     × (seen (arrives choosing_248 "9c401389070016dc01000000000003e80000002a20050102f8000000")
     ≡ (Took None, sent "13899c400900070b03000000000007d000000000000003e80000002a230601f8f8020000", phase.Respond))
     × (shown (arrives choosing_248 "9c401389070016dc01000000000003e80000002a20050102f8000000").after ≡ row f.Ccid There 248 Stable initial_rows)
@@ -203,7 +215,8 @@ server-asks-in-its-order :
     ≡ (Took None, sent "9c4013890800f94207000000000003e900000000000007d0230601f802f80000", phase.PartOpen))
     × (shown (arrives requesting "13899c400900000f03000000000007d000000000000003e80000002a200501f802000000").after ≡ row f.Ccid There 248 Stable initial_rows)
     × (seen (arrives (responds_as asking_248) "9c4013890800f94207000000000003e900000000000007d0230601f802f80000") ≡ (Took None, sent server_ack, phase.Open))
-    × (shown (arrives (responds_as asking_248) "9c4013890800f94207000000000003e900000000000007d0230601f802f80000").after ≡ row f.Ccid Here 248 Stable initial_rows)
+    × (shown (arrives (responds_as asking_248) "9c4013890800f94207000000000003e900000000000007d0230601f802f80000").after
+    ≡ row f.Ccid Here 248 Stable initial_rows)
 unfolding receives opens framed
 server-asks-in-its-order = (refl, refl, refl, refl, refl, refl)
 
@@ -233,7 +246,8 @@ abbrev server_demanding : Config
 server_demanding = offering (plain Server) f.SendAckVector There true
 
 nothing-shared-mandatory-at-client :
-    (seen (arrives (new_end server_demanding) request) ≡ (Took None, sent "13899c4009001de403000000000007d000000000000003e80000002a0122040601000000", phase.Respond))
+    (seen (arrives (new_end server_demanding) request)
+    ≡ (Took None, sent "13899c4009001de403000000000007d000000000000003e80000002a0122040601000000", phase.Respond))
     × (seen (arrives client_sends_none "13899c4009001de403000000000007d000000000000003e80000002a0122040601000000")
     ≡ (SentReset 6 (34 ∷ 6 ∷ 1 ∷ []), sent "9c40138907000e1a0f000000000003e900000000000007d006220601", phase.Closed))
     × (shown (arrives client_sends_none "13899c4009001de403000000000007d000000000000003e80000002a0122040601000000").after ≡ initial_rows)
@@ -245,13 +259,16 @@ nothing-shared-mandatory-at-client = (refl, refl, refl, refl, refl)
 
 -- Nothing is shared, without Mandatory: the Confirm names the value that holds, and it stays.
 nothing-shared :
-    (seen (opens (new_end (offering (plain Client) f.SendAckVector There false))) ≡ (Ok tt, sent "9c401389060008e301000000000003e80000002a22040601", phase.Request))
+    (seen (opens (new_end (offering (plain Client) f.SendAckVector There false)))
+    ≡ (Ok tt, sent "9c401389060008e301000000000003e80000002a22040601", phase.Request))
     × (seen (arrives sends_none "9c401389060008e301000000000003e80000002a22040601")
     ≡ (Took None, sent "13899c400900fd0603000000000007d000000000000003e80000002a2105060000000000", phase.Respond))
     × (shown (arrives sends_none "9c401389060008e301000000000003e80000002a22040601").after ≡ initial_rows)
-    × (seen (arrives (requests_as (offering (plain Client) f.SendAckVector There false)) "13899c400900fd0603000000000007d000000000000003e80000002a2105060000000000")
+    × (seen (arrives (requests_as
+    (offering (plain Client) f.SendAckVector There false)) "13899c400900fd0603000000000007d000000000000003e80000002a2105060000000000")
     ≡ (Took None, sent client_ack, phase.PartOpen))
-    × (shown (arrives (requests_as (offering (plain Client) f.SendAckVector There false)) "13899c400900fd0603000000000007d000000000000003e80000002a2105060000000000").after
+    × (shown (arrives (requests_as
+    (offering (plain Client) f.SendAckVector There false)) "13899c400900fd0603000000000007d000000000000003e80000002a2105060000000000").after
     ≡ initial_rows)
     × (seen (arrives (new_end (offering (plain Server) f.SendAckVector There false)) request)
     ≡ (Took None, sent "13899c400800fd0a03000000000007d000000000000003e80000002a22040601", phase.Respond))
@@ -260,7 +277,8 @@ nothing-shared :
     × (shown (arrives client_sends_none "13899c400800fd0a03000000000007d000000000000003e80000002a22040601").after ≡ initial_rows)
     × (seen (arrives (responds_as (offering (plain Server) f.SendAckVector There false)) "9c4013890800fa3307000000000003e900000000000007d02105060000000000")
     ≡ (Took None, sent server_ack, phase.Open))
-    × (shown (arrives (responds_as (offering (plain Server) f.SendAckVector There false)) "9c4013890800fa3307000000000003e900000000000007d02105060000000000").after
+    × (shown (arrives (responds_as
+    (offering (plain Server) f.SendAckVector There false)) "9c4013890800fa3307000000000003e900000000000007d02105060000000000").after
     ≡ initial_rows)
 unfolding receives opens framed
 nothing-shared = (refl, refl, refl, refl, refl, refl, refl, refl, refl, refl)

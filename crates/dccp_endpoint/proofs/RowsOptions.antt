@@ -40,7 +40,8 @@ sequence-window-values-at-client :
     × (shown (arrives requesting "13899c400a00e0fe03000000000007d000000000000003e80000002a20090300000000001f000000").after ≡ initial_rows)
     × (seen (arrives requesting "13899c400a00dffe03000000000007d000000000000003e80000002a200903000000000020000000")
     ≡ (Took None, sent "9c4013890900da2b07000000000003e900000000000007d0230903000000000020000000", phase.PartOpen))
-    × (shown (arrives requesting "13899c400a00dffe03000000000007d000000000000003e80000002a200903000000000020000000").after ≡ row f.SequenceWindow There 32 Stable initial_rows)
+    × (shown (arrives requesting "13899c400a00dffe03000000000007d000000000000003e80000002a200903000000000020000000").after
+    ≡ row f.SequenceWindow There 32 Stable initial_rows)
     × (seen (arrives requesting "13899c400a0000bf03000000000007d000000000000003e80000002a2009033fffffffffff000000")
     ≡ (Took None, sent "9c4013890900faeb07000000000003e900000000000007d02309033fffffffffff000000", phase.PartOpen))
     × (seen (arrives requesting "13899c400a00ffbe03000000000007d000000000000003e80000002a200903400000000000000000")
@@ -56,9 +57,12 @@ other-values :
     ≡ (Took None, sent "13899c400800ff0c03000000000007d000000000000003e80000002a23030300", phase.Respond))
     × (seen (arrives listening "9c4013890800e9d601000000000003e80000002a220903000000000020000000")
     ≡ (Took None, sent "13899c400800010d03000000000007d000000000000003e80000002a21030300", phase.Respond))
-    × (seen (arrives listening "9c40138906000fe501000000000003e80000002a20030100") ≡ (Took None, sent "13899c400800010d03000000000007d000000000000003e80000002a23030100", phase.Respond))
-    × (seen (arrives listening "9c401389060006e301000000000003e80000002a20040a01") ≡ (Took None, sent "13899c400800f80c03000000000007d000000000000003e80000002a23030a00", phase.Respond))
-    × (seen (arrives listening "9c40138906000ee501000000000003e80000002a22030000") ≡ (Took None, sent "13899c400800040d03000000000007d000000000000003e80000002a21030000", phase.Respond))
+    × (seen (arrives listening "9c40138906000fe501000000000003e80000002a20030100")
+    ≡ (Took None, sent "13899c400800010d03000000000007d000000000000003e80000002a23030100", phase.Respond))
+    × (seen (arrives listening "9c401389060006e301000000000003e80000002a20040a01")
+    ≡ (Took None, sent "13899c400800f80c03000000000007d000000000000003e80000002a23030a00", phase.Respond))
+    × (seen (arrives listening "9c40138906000ee501000000000003e80000002a22030000")
+    ≡ (Took None, sent "13899c400800040d03000000000007d000000000000003e80000002a21030000", phase.Respond))
     × (seen (arrives listening "9c40138907000adf01000000000003e80000002a2005050000000000")
     ≡ (Took None, sent "13899c400900fc0603000000000007d000000000000003e80000002a2305050000000000", phase.Respond))
     × (shown (arrives listening "9c40138907000adf01000000000003e80000002a2005050000000000").after ≡ row f.AckRatio There 0 Stable initial_rows)
@@ -128,10 +132,13 @@ mandatory-before-one-byte = (refl, refl, refl, refl)
 mandatory-before-ignored :
     (seen (arrives later_server "9c40138908001b0d07000000000003ea00000000000007d10120040a01000000") ≡ (Took None, None, phase.Open))
     × (seen (arrives later_client "13899c4008001b0d07000000000007d200000000000003e90120040a01000000") ≡ (Took None, None, phase.Open))
-    × (seen (arrives open_server "9c4013890800150d0d000000000003ea00000000000007d10120040a01000000") ≡ (SentReset 1 (0 ∷ 0 ∷ 0 ∷ []), sent closed, phase.Closed))
-    × (seen (arrives open_client "13899c400800170d0b000000000007d200000000000003e90120040a01000000") ≡ (Took None, sent "9c40138906001d3e0d000000000003ea00000000000007d2", phase.Closing))
+    × (seen (arrives open_server "9c4013890800150d0d000000000003ea00000000000007d10120040a01000000")
+    ≡ (SentReset 1 (0 ∷ 0 ∷ 0 ∷ []), sent closed, phase.Closed))
+    × (seen (arrives open_client "13899c400800170d0b000000000007d200000000000003e90120040a01000000")
+    ≡ (Took None, sent "9c40138906001d3e0d000000000003ea00000000000007d2", phase.Closing))
     × (seen (arrives listening "9c40138906002cc601000000000003e80000002a01210301") ≡ (Took None, sent response, phase.Respond))
-    × (seen (arrives requesting "13899c400a0003d503000000000007d000000000000003e80000002a01230a010203040506070800") ≡ (Took None, sent client_ack, phase.PartOpen))
+    × (seen (arrives requesting "13899c400a0003d503000000000007d000000000000003e80000002a01230a010203040506070800")
+    ≡ (Took None, sent client_ack, phase.PartOpen))
     × (seen (arrives listening "9c4013890900e2b801000000000003e80000002a200401f8200401020120040103000000")
     ≡ (Took None, sent "13899c400900fc1503000000000007d000000000000003e80000002a230601f802f80000", phase.Respond))
     × (seen (arrives requesting "13899c400b00d6e003000000000007d000000000000003e80000002a200401f8200401020120040103000000")
@@ -201,9 +208,11 @@ confirms-at-server = (refl, refl, refl, refl, refl, refl, refl, refl, refl, refl
 
 -- An empty Confirm for a feature that is not required leaves the value and ends the asking.
 empty-confirms :
-    (seen (arrives (requests_as (usual Client)) "13899c400900f9e103000000000007d000000000000003e80000002a2303042103060000") ≡ (Took None, sent client_ack, phase.PartOpen))
+    (seen (arrives (requests_as (usual Client)) "13899c400900f9e103000000000007d000000000000003e80000002a2303042103060000")
+    ≡ (Took None, sent client_ack, phase.PartOpen))
     × (shown (arrives (requests_as (usual Client)) "13899c400900f9e103000000000007d000000000000003e80000002a2303042103060000").after ≡ initial_rows)
-    × (seen (arrives (responds_as (usual Server)) "9c4013890800f70e07000000000003e900000000000007d02303042103060000") ≡ (Took None, sent server_ack, phase.Open))
+    × (seen (arrives (responds_as (usual Server)) "9c4013890800f70e07000000000003e900000000000007d02303042103060000")
+    ≡ (Took None, sent server_ack, phase.Open))
     × (shown (arrives (responds_as (usual Server)) "9c4013890800f70e07000000000003e900000000000007d02303042103060000").after ≡ initial_rows)
 unfolding receives opens framed
 empty-confirms = (refl, refl, refl, refl)
@@ -224,8 +233,10 @@ abbrev narrow_server : EndState
 narrow_server = responds_as (offering (wishing (plain Server) f.SequenceWindow Here (wanted.Number 32)) f.SequenceWindow Here false)
 
 confirms-of-numbers :
-    (seen (arrives narrow_client "13899c400a00dcfe03000000000007d000000000000003e80000002a230903000000000020000000") ≡ (Took None, sent client_ack, phase.PartOpen))
-    × (shown (arrives narrow_client "13899c400a00dcfe03000000000007d000000000000003e80000002a230903000000000020000000").after ≡ row f.SequenceWindow Here 32 Stable initial_rows)
+    (seen (arrives narrow_client "13899c400a00dcfe03000000000007d000000000000003e80000002a230903000000000020000000")
+    ≡ (Took None, sent client_ack, phase.PartOpen))
+    × (shown (arrives narrow_client "13899c400a00dcfe03000000000007d000000000000003e80000002a230903000000000020000000").after
+    ≡ row f.SequenceWindow Here 32 Stable initial_rows)
     × (seen (arrives narrow_client "13899c400a00dbfe03000000000007d000000000000003e80000002a230903000000000021000000")
     ≡ (SentReset 5 (35 ∷ 3 ∷ 0 ∷ []), sent "9c4013890700121a0f000000000003e900000000000007d005230300", phase.Closed))
     × (seen (arrives narrow_client "13899c400900fde303000000000007d000000000000003e80000002a2308030000000020")
@@ -233,7 +244,8 @@ confirms-of-numbers :
     × (seen (arrives narrow_client "13899c400800ff0c03000000000007d000000000000003e80000002a23030300")
     ≡ (SentReset 5 (35 ∷ 3 ∷ 0 ∷ []), sent "9c4013890700121a0f000000000003e900000000000007d005230300", phase.Closed))
     × (seen (arrives narrow_server "9c4013890900da2b07000000000003e900000000000007d0230903000000000020000000") ≡ (Took None, sent server_ack, phase.Open))
-    × (shown (arrives narrow_server "9c4013890900da2b07000000000003e900000000000007d0230903000000000020000000").after ≡ row f.SequenceWindow Here 32 Stable initial_rows)
+    × (shown (arrives narrow_server "9c4013890900da2b07000000000003e900000000000007d0230903000000000020000000").after
+    ≡ row f.SequenceWindow Here 32 Stable initial_rows)
     × (seen (arrives narrow_server "9c4013890900d92b07000000000003e900000000000007d0230903000000000021000000")
     ≡ (SentReset 5 (35 ∷ 3 ∷ 0 ∷ []), sent "13899c40070012190f000000000007d100000000000003e905230300", phase.Closed))
 unfolding receives opens framed

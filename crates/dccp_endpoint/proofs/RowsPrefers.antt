@@ -42,7 +42,8 @@ unstable = prefers_here changing (2 ∷ 1 ∷ [])
 
 prefer-at-client :
     (seen (fires open_client timers.Negotiate false) ≡ (false, None, phase.Open))
-    × (seen (prefers open_client (f.MinCsCov, Here) (1 ∷ 2 ∷ [])) ≡ (Ok tt, sent "9c4013890800f73007000000000003ea00000000000007d12005080102000000", phase.Open))
+    × (seen (prefers open_client (f.MinCsCov, Here) (1 ∷ 2 ∷ []))
+    ≡ (Ok tt, sent "9c4013890800f73007000000000003ea00000000000007d12005080102000000", phase.Open))
     × (shown changing ≡ row f.MinCsCov Here 0 Changing initial_rows)
     × (seen (fires changing timers.Negotiate false) ≡ (true, sent "9c4013890800f72f07000000000003eb00000000000007d12005080102000000", phase.Open))
     × (shown (asks_again changing) ≡ row f.MinCsCov Here 0 Changing initial_rows)
@@ -51,7 +52,8 @@ prefer-at-client :
     × (seen (prefers unstable (f.MinCsCov, Here) (2 ∷ [])) ≡ (Ok tt, None, phase.Open))
     × (shown (prefers_here unstable (2 ∷ [])) ≡ row f.MinCsCov Here 0 Unstable initial_rows)
     × (seen (fires unstable timers.Negotiate false) ≡ (true, sent "9c4013890800f82e07000000000003eb00000000000007d12005080201000000", phase.Open))
-    × (seen (fires (prefers_here unstable (2 ∷ [])) timers.Negotiate false) ≡ (true, sent "9c4013890700fa3307000000000003eb00000000000007d120040802", phase.Open))
+    × (seen (fires (prefers_here unstable (2 ∷ [])) timers.Negotiate false)
+    ≡ (true, sent "9c4013890700fa3307000000000003eb00000000000007d120040802", phase.Open))
     × (shown (asks_again unstable) ≡ row f.MinCsCov Here 0 Changing initial_rows)
     × (seen (fires (asks_again unstable) timers.Negotiate false) ≡ (true, sent "9c4013890800f82d07000000000003ec00000000000007d12005080201000000", phase.Open))
 unfolding receives opens prefers fires framed
@@ -114,12 +116,14 @@ in-unstable :
     × (seen (arrives unstable "13899c400800190d07000000000007d200000000000003e90122040803000000") ≡ (Took None, None, phase.Open))
     × (seen (arrives unstable "13899c400800f52c07000000000007d200000000000003ea2306080101020000") ≡ (Took None, None, phase.Open))
     × (shown (arrives unstable "13899c400800f52c07000000000007d200000000000003ea2306080101020000").after ≡ row f.MinCsCov Here 0 Unstable initial_rows)
-    × (seen (arrives unstable "13899c400700f83707000000000007d200000000000003e922030800") ≡ (Took None, sent "9c4013890700f93507000000000003eb00000000000007d221030800", phase.Open))
+    × (seen (arrives unstable "13899c400700f83707000000000007d200000000000003e922030800")
+    ≡ (Took None, sent "9c4013890700f93507000000000003eb00000000000007d221030800", phase.Open))
     × (seen (arrives unstable "13899c4007001e1107000000000007d200000000000003e901220308")
     ≡ (SentReset 6 (34 ∷ 8 ∷ 0 ∷ []), sent "9c40138907000c170f000000000003eb00000000000007d206220800", phase.Closed))
     × (seen (arrives server_unstable "9c4013890800180f07000000000003ea00000000000007d10120040804000000") ≡ (Took None, None, phase.Open))
     × (seen (arrives server_unstable "9c4013890800f72b07000000000003ea00000000000007d22106080201020000") ≡ (Took None, None, phase.Open))
-    × (seen (arrives server_unstable "9c4013890700fa3707000000000003ea00000000000007d120030800") ≡ (Took None, sent "13899c400700f73507000000000007d300000000000003ea23030800", phase.Open))
+    × (seen (arrives server_unstable "9c4013890700fa3707000000000003ea00000000000007d120030800")
+    ≡ (Took None, sent "13899c400700f73507000000000007d300000000000003ea23030800", phase.Open))
 unfolding receives opens prefers framed
 in-unstable = (refl, refl, refl, refl, refl, refl, refl, refl, refl)
 
@@ -128,9 +132,12 @@ first-number-of-asking :
     (seen (arrives changing "13899c400800f52d07000000000007d200000000000003e92306080101020000") ≡ (Took None, None, phase.Open))
     × (shown (arrives changing "13899c400800f52d07000000000007d200000000000003e92306080101020000").after ≡ row f.MinCsCov Here 0 Changing initial_rows)
     × (shown (arrives changing "13899c400800f52c07000000000007d200000000000003ea2306080101020000").after ≡ row f.MinCsCov Here 1 Stable initial_rows)
-    × (shown (arrives (asks_again changing) "13899c400800f52c07000000000007d200000000000003ea2306080101020000").after ≡ row f.MinCsCov Here 1 Stable initial_rows)
-    × (shown (arrives (asks_again unstable) "13899c400800f52b07000000000007d200000000000003ea2306080201020000").after ≡ row f.MinCsCov Here 0 Changing initial_rows)
-    × (shown (arrives (asks_again unstable) "13899c400800f42b07000000000007d200000000000003eb2306080202010000").after ≡ row f.MinCsCov Here 2 Stable initial_rows)
+    × (shown (arrives (asks_again changing) "13899c400800f52c07000000000007d200000000000003ea2306080101020000").after
+    ≡ row f.MinCsCov Here 1 Stable initial_rows)
+    × (shown (arrives (asks_again unstable) "13899c400800f52b07000000000007d200000000000003ea2306080201020000").after
+    ≡ row f.MinCsCov Here 0 Changing initial_rows)
+    × (shown (arrives (asks_again unstable) "13899c400800f42b07000000000007d200000000000003eb2306080202010000").after
+    ≡ row f.MinCsCov Here 2 Stable initial_rows)
     × (shown (arrives server_changing "9c4013890800f72c07000000000003ea00000000000007d12106080201020000").after ≡ row f.MinCsCov There 0 Changing initial_rows)
     × (shown (arrives server_changing "9c4013890800f72b07000000000003ea00000000000007d22106080201020000").after ≡ row f.MinCsCov There 2 Stable initial_rows)
 unfolding receives opens prefers fires framed
@@ -147,7 +154,8 @@ crossing-changes :
     (seen (arrives server_changing "9c4013890800f73007000000000003ea00000000000007d12005080102000000")
     ≡ (Took None, sent "13899c400800f42b07000000000007d300000000000003ea2306080202010000", phase.Open))
     × (shown crossed_server ≡ row f.MinCsCov There 2 Changing initial_rows)
-    × (seen (arrives changing "13899c400800f62f07000000000007d200000000000003e92205080201000000") ≡ (Took None, sent "9c4013890800f72a07000000000003eb00000000000007d22106080201020000", phase.Open))
+    × (seen (arrives changing "13899c400800f62f07000000000007d200000000000003e92205080201000000")
+    ≡ (Took None, sent "9c4013890800f72a07000000000003eb00000000000007d22106080201020000", phase.Open))
     × (shown crossed_client ≡ row f.MinCsCov Here 2 Changing initial_rows)
     × (seen (arrives crossed_server "9c4013890800f72a07000000000003eb00000000000007d22106080201020000") ≡ (Took None, None, phase.Open))
     × (shown (arrives crossed_server "9c4013890800f72a07000000000003eb00000000000007d22106080201020000").after ≡ row f.MinCsCov There 2 Stable initial_rows)
@@ -174,14 +182,18 @@ abbrev taking_2 : EndState
 taking_2 = (arrives holding_1 "13899c400800f62a07000000000007d500000000000003eb2205080201000000").after
 
 lost-change :
-    (seen (arrives server "9c4013890800f73007000000000003ea00000000000007d12005080102000000") ≡ (Took None, sent "13899c400800f52c07000000000007d200000000000003ea2306080101020000", phase.Open))
-    × (seen (prefers confirming_1 (f.MinCsCov, There) (2 ∷ 1 ∷ [])) ≡ (Ok tt, sent "13899c400800f62d07000000000007d300000000000003ea2205080201000000", phase.Open))
-    × (seen (arrives losing "9c4013890800f72f07000000000003eb00000000000007d12005080102000000") ≡ (Took None, sent "13899c400800f42907000000000007d400000000000003eb2306080202010000", phase.Open))
+    (seen (arrives server "9c4013890800f73007000000000003ea00000000000007d12005080102000000")
+    ≡ (Took None, sent "13899c400800f52c07000000000007d200000000000003ea2306080101020000", phase.Open))
+    × (seen (prefers confirming_1 (f.MinCsCov, There) (2 ∷ 1 ∷ []))
+    ≡ (Ok tt, sent "13899c400800f62d07000000000007d300000000000003ea2205080201000000", phase.Open))
+    × (seen (arrives losing "9c4013890800f72f07000000000003eb00000000000007d12005080102000000")
+    ≡ (Took None, sent "13899c400800f42907000000000007d400000000000003eb2306080202010000", phase.Open))
     × (shown confirming_2 ≡ row f.MinCsCov There 2 Changing initial_rows)
     × (seen (arrives (asks_again changing) "13899c400800f52c07000000000007d200000000000003ea2306080101020000") ≡ (Took None, None, phase.Open))
     × (shown holding_1 ≡ row f.MinCsCov Here 1 Stable initial_rows)
     × (seen (fires confirming_2 timers.Negotiate false) ≡ (true, sent "13899c400800f62a07000000000007d500000000000003eb2205080201000000", phase.Open))
-    × (seen (arrives holding_1 "13899c400800f62a07000000000007d500000000000003eb2205080201000000") ≡ (Took None, sent "9c4013890800f72607000000000003ec00000000000007d52106080201020000", phase.Open))
+    × (seen (arrives holding_1 "13899c400800f62a07000000000007d500000000000003eb2205080201000000")
+    ≡ (Took None, sent "9c4013890800f72607000000000003ec00000000000007d52106080201020000", phase.Open))
     × (shown taking_2 ≡ row f.MinCsCov Here 2 Stable initial_rows)
     × (seen (arrives (asks_again confirming_2) "9c4013890800f72607000000000003ec00000000000007d52106080201020000") ≡ (Took None, None, phase.Open))
     × (shown (arrives (asks_again confirming_2) "9c4013890800f72607000000000003ec00000000000007d52106080201020000").after
@@ -200,11 +212,14 @@ third_first = (arrives server "9c4013890700fa3207000000000003ec00000000000007d12
 late-changes :
     (seen (fires (prefers_here (asks_again unstable) (2 ∷ [])) timers.Negotiate false)
     ≡ (true, sent "9c4013890700fa3207000000000003ec00000000000007d120040802", phase.Open))
-    × (seen (arrives server "9c4013890700fa3207000000000003ec00000000000007d120040802") ≡ (Took None, sent "13899c400800f52907000000000007d200000000000003ec2306080201020000", phase.Open))
+    × (seen (arrives server "9c4013890700fa3207000000000003ec00000000000007d120040802")
+    ≡ (Took None, sent "13899c400800f52907000000000007d200000000000003ec2306080201020000", phase.Open))
     × (seen (arrives third_first "9c4013890800f73007000000000003ea00000000000007d12005080102000000") ≡ (Took None, None, phase.Open))
-    × (seen (arrives (arrives third_first "9c4013890800f73007000000000003ea00000000000007d12005080102000000").after "9c4013890800f82e07000000000003eb00000000000007d12005080201000000")
+    × (seen (arrives (arrives third_first "9c4013890800f73007000000000003ea00000000000007d12005080102000000").after
+    "9c4013890800f82e07000000000003eb00000000000007d12005080201000000")
     ≡ (Took None, None, phase.Open))
-    × (shown (arrives (arrives third_first "9c4013890800f73007000000000003ea00000000000007d12005080102000000").after "9c4013890800f82e07000000000003eb00000000000007d12005080201000000").after
+    × (shown (arrives (arrives third_first "9c4013890800f73007000000000003ea00000000000007d12005080102000000").after
+    "9c4013890800f82e07000000000003eb00000000000007d12005080201000000").after
     ≡ row f.MinCsCov There 2 Stable initial_rows)
     × (seen (arrives third_list "13899c400800f52907000000000007d200000000000003ec2306080201020000") ≡ (Took None, None, phase.Open))
     × (shown (arrives third_list "13899c400800f52907000000000007d200000000000003ec2306080201020000").after ≡ row f.MinCsCov Here 2 Stable initial_rows)
@@ -229,9 +244,11 @@ late-changes-of-server :
     × (seen (arrives answering_client "13899c400700fa3207000000000007d400000000000003e920040802")
     ≡ (Took None, sent "9c4013890800f52907000000000003ea00000000000007d42306080201020000", phase.Open))
     × (seen (arrives third_at_client "13899c400800f73007000000000007d200000000000003e92005080102000000") ≡ (Took None, None, phase.Open))
-    × (seen (arrives (arrives third_at_client "13899c400800f73007000000000007d200000000000003e92005080102000000").after "13899c400800f82e07000000000007d300000000000003e92005080201000000")
+    × (seen (arrives (arrives third_at_client "13899c400800f73007000000000007d200000000000003e92005080102000000").after
+    "13899c400800f82e07000000000007d300000000000003e92005080201000000")
     ≡ (Took None, None, phase.Open))
-    × (shown (arrives (arrives third_at_client "13899c400800f73007000000000007d200000000000003e92005080102000000").after "13899c400800f82e07000000000007d300000000000003e92005080201000000").after
+    × (shown (arrives (arrives third_at_client "13899c400800f73007000000000007d200000000000003e92005080102000000").after
+    "13899c400800f82e07000000000007d300000000000003e92005080201000000").after
     ≡ row f.MinCsCov There 2 Stable initial_rows)
     × (seen (arrives third_of_server "9c4013890800f52907000000000003ea00000000000007d42306080201020000") ≡ (Took None, None, phase.Open))
     × (shown (arrives third_of_server "9c4013890800f52907000000000003ea00000000000007d42306080201020000").after ≡ row f.MinCsCov Here 2 Stable initial_rows)
@@ -249,13 +266,16 @@ unsharing = prefers_there confirming_1 (3 ∷ [])
 
 nothing-shared-while-open :
     (seen (prefers confirming_1 (f.MinCsCov, There) (3 ∷ [])) ≡ (Ok tt, sent "13899c400700f83107000000000007d300000000000003ea22040803", phase.Open))
-    × (seen (arrives changing "13899c400700f83107000000000007d300000000000003ea22040803") ≡ (Took None, sent "9c4013890800f72b07000000000003eb00000000000007d32106080001020000", phase.Open))
+    × (seen (arrives changing "13899c400700f83107000000000007d300000000000003ea22040803")
+    ≡ (Took None, sent "9c4013890800f72b07000000000003eb00000000000007d32106080001020000", phase.Open))
     × (seen (arrives unsharing "9c4013890800f72b07000000000003eb00000000000007d32106080001020000")
     ≡ (SentReset 5 (33 ∷ 8 ∷ 0 ∷ []), sent "13899c4007000d160f000000000007d400000000000003eb05210800", phase.Closed))
     × (shown (arrives unsharing "9c4013890800f72b07000000000003eb00000000000007d32106080001020000").after ≡ row f.MinCsCov There 1 Changing initial_rows)
-    × (seen (arrives (arrives changing "13899c400700f83107000000000007d300000000000003ea22040803").after "13899c4007000d160f000000000007d400000000000003eb05210800")
+    × (seen (arrives (arrives changing "13899c400700f83107000000000007d300000000000003ea22040803").after
+    "13899c4007000d160f000000000007d400000000000003eb05210800")
     ≡ (WasReset 5, None, phase.TimeWait))
-    × (shown (arrives (arrives changing "13899c400700f83107000000000007d300000000000003ea22040803").after "13899c4007000d160f000000000007d400000000000003eb05210800").after
+    × (shown (arrives (arrives changing "13899c400700f83107000000000007d300000000000003ea22040803").after
+    "13899c4007000d160f000000000007d400000000000003eb05210800").after
     ≡ row f.MinCsCov Here 0 Changing initial_rows)
 unfolding receives opens prefers framed
 nothing-shared-while-open = (refl, refl, refl, refl, refl, refl)
@@ -275,11 +295,14 @@ window-of-client :
     ≡ (Took None, sent "13899c400900da2807000000000007d200000000000003ea230903000000000020000000", phase.Open))
     × (shown narrowed_server ≡ row f.SequenceWindow There 32 Stable initial_rows)
     × (seen (arrives open_server "9c401389060022f5070000000000043400000000000007d1") ≡ (Took None, None, phase.Open))
-    × (seen (arrives open_server "9c401389060022f4070000000000043500000000000007d1") ≡ (Synced 1077, sent "13899c40060018f311000000000007d20000000000000435", phase.Open))
+    × (seen (arrives open_server "9c401389060022f4070000000000043500000000000007d1")
+    ≡ (Synced 1077, sent "13899c40060018f311000000000007d20000000000000435", phase.Open))
     × (seen (arrives narrowed_server "9c40138906002327070000000000040200000000000007d1") ≡ (Took None, None, phase.Open))
-    × (seen (arrives narrowed_server "9c40138906002326070000000000040300000000000007d1") ≡ (Synced 1027, sent "13899c400600192411000000000007d30000000000000403", phase.Open))
+    × (seen (arrives narrowed_server "9c40138906002326070000000000040300000000000007d1")
+    ≡ (Synced 1027, sent "13899c400600192411000000000007d30000000000000403", phase.Open))
     × (seen (arrives ahead_server "9c4013890600232e07000000000003fb00000000000007d1") ≡ (Took None, None, phase.Open))
-    × (seen (arrives ahead_server "9c4013890600232f07000000000003fa00000000000007d1") ≡ (Synced 1018, sent "13899c400600192d11000000000007d300000000000003fa", phase.Open))
+    × (seen (arrives ahead_server "9c4013890600232f07000000000003fa00000000000007d1")
+    ≡ (Synced 1018, sent "13899c400600192d11000000000007d300000000000003fa", phase.Open))
 unfolding receives opens prefers framed
 window-of-client = (refl, refl, refl, refl, refl, refl, refl, refl, refl)
 
@@ -297,11 +320,14 @@ window-of-server :
     ≡ (Took None, sent "9c4013890900da2807000000000003ea00000000000007d2230903000000000020000000", phase.Open))
     × (shown narrowed_client ≡ row f.SequenceWindow There 32 Stable initial_rows)
     × (seen (arrives open_client "13899c40060022f5070000000000081c00000000000003e9") ≡ (Took None, None, phase.Open))
-    × (seen (arrives open_client "13899c40060022f4070000000000081d00000000000003e9") ≡ (Synced 2077, sent "9c401389060018f311000000000003ea000000000000081d", phase.Open))
+    × (seen (arrives open_client "13899c40060022f4070000000000081d00000000000003e9")
+    ≡ (Synced 2077, sent "9c401389060018f311000000000003ea000000000000081d", phase.Open))
     × (seen (arrives narrowed_client "13899c400600232707000000000007ea00000000000003e9") ≡ (Took None, None, phase.Open))
-    × (seen (arrives narrowed_client "13899c400600232607000000000007eb00000000000003e9") ≡ (Synced 2027, sent "9c4013890600192411000000000003eb00000000000007eb", phase.Open))
+    × (seen (arrives narrowed_client "13899c400600232607000000000007eb00000000000003e9")
+    ≡ (Synced 2027, sent "9c4013890600192411000000000003eb00000000000007eb", phase.Open))
     × (seen (arrives ahead_client "13899c400600232e07000000000007e300000000000003e9") ≡ (Took None, None, phase.Open))
-    × (seen (arrives ahead_client "13899c400600232f07000000000007e200000000000003e9") ≡ (Synced 2018, sent "9c4013890600192d11000000000003eb00000000000007e2", phase.Open))
+    × (seen (arrives ahead_client "13899c400600232f07000000000007e200000000000003e9")
+    ≡ (Synced 2018, sent "9c4013890600192d11000000000003eb00000000000007e2", phase.Open))
 unfolding receives opens prefers framed
 window-of-server = (refl, refl, refl, refl, refl, refl, refl, refl, refl)
 
@@ -317,15 +343,18 @@ abbrev settled_client : EndState
 settled_client = acks 40 (arrives asking_client "13899c400900da2807000000000007d200000000000003ea230903000000000020000000").after
 
 abbrev settled_server : EndState
-settled_server = acks 40 (arrives (prefers open_server (f.SequenceWindow, Here) (32 ∷ [])).after "9c4013890900da2807000000000003ea00000000000007d2230903000000000020000000").after
+settled_server = acks 40
+    (arrives (prefers open_server (f.SequenceWindow, Here) (32 ∷ [])).after "9c4013890900da2807000000000003ea00000000000007d2230903000000000020000000").after
 
 acknowledgement-windows :
     (seen (arrives (acks 40 asking_client) "13899c400600233d07000000000007d200000000000003eb") ≡ (Took None, None, phase.Open))
     × (shown settled_client ≡ row f.SequenceWindow Here 32 Stable initial_rows)
     × (seen (arrives settled_client "13899c400600233407000000000007d300000000000003f3") ≡ (Took None, None, phase.Open))
-    × (seen (arrives settled_client "13899c400600233507000000000007d300000000000003f2") ≡ (Synced 2003, sent "9c40138906001914110000000000041300000000000007d3", phase.Open))
+    × (seen (arrives settled_client "13899c400600233507000000000007d300000000000003f2")
+    ≡ (Synced 2003, sent "9c40138906001914110000000000041300000000000007d3", phase.Open))
     × (shown settled_server ≡ row f.SequenceWindow Here 32 Stable initial_rows)
     × (seen (arrives settled_server "9c4013890600233407000000000003eb00000000000007db") ≡ (Took None, None, phase.Open))
-    × (seen (arrives settled_server "9c4013890600233507000000000003eb00000000000007da") ≡ (Synced 1003, sent "13899c400600191411000000000007fb00000000000003eb", phase.Open))
+    × (seen (arrives settled_server "9c4013890600233507000000000003eb00000000000007da")
+    ≡ (Synced 1003, sent "13899c400600191411000000000007fb00000000000003eb", phase.Open))
 unfolding receives opens prefers fires framed
 acknowledgement-windows = (refl, refl, refl, refl, refl, refl, refl)

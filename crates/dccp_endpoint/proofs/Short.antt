@@ -66,9 +66,11 @@ and_true false = refl
 pub short_data : (e : EndState) (payload : List ℕ) → goes_short e (carrying kind.Data payload) ≡ allows_short e
 short_data e payload = and_true (allows_short e)
 
+-- a DataAck goes short where the end allows it
 pub short_data_ack : (e : EndState) (ack : Number) (payload : List ℕ) → goes_short e (reporting e (carrying (kind.DataAck ack) payload)) ≡ allows_short e
 short_data_ack e ack payload =
-    ap (λ (b : Bool). allows_short e && not b) (front_is_silent (sends_vectors e.rows) e.config.vectors e.received.set e.marks.gsr []) ∙ and_true (allows_short e)
+    ap (λ (b : Bool). allows_short e && not b) (front_is_silent (sends_vectors e.rows) e.config.vectors e.received.set e.marks.gsr [])
+    ∙ and_true (allows_short e)
 
 -- the numbers of a header in the form have a form of the type
 pub is_formed : (short : Bool) (number : ℕ) (k : Kind) → has_forms true k ≡ true → (short ≡ true → may_be_short (packet_type k) ≡ true)

@@ -51,6 +51,7 @@ pub refitted : (e : EndState) (marks : Marks) (rows : List Row) → IsProper e �
     → IsProper (record e { marks = marks; rows = rows })
 refitted e marks rows proper its is = subst (λ (m : Marks). IsProper (record e { marks = m; rows = rows })) (sym is) (proper-with e rows proper its)
 
+-- windows that are as wide as the rows say
 pub refit_is : (e old : EndState) (marks : Marks) (rows new : List Row) → e ≡ old → marks ≡ with_widths e.marks rows → rows ≡ new
     → record e { marks = marks; rows = rows } ≡ with_rows old new
 refit_is e old marks rows new same widths is =
@@ -69,11 +70,13 @@ proper-after {e = e} {f = f} proper because =
     }
 
 -- at first each row has its feature's initial value
-first-value : (role : Role2) (config : Config) (place : Place) → IsLists config.lists → value_in (first_rows role config.lists) SequenceWindow place ≡ initial_of SequenceWindow
+first-value : (role : Role2) (config : Config) (place : Place) → IsLists config.lists
+    → value_in (first_rows role config.lists) SequenceWindow place ≡ initial_of SequenceWindow
 first-value role config place lists =
     ap (λ (row : Row). row.value) (first-fresh role config.lists lists SequenceWindow place)
     ∙ ap initial_of (lists.each SequenceWindow place).feature_is
 
+-- a new end is proper
 pub first-proper : (config : Config) → IsLists config.lists → IsProper (new_end config)
 first-proper config lists =
     record {

@@ -19,6 +19,7 @@ use Rattle.dccp_endpoint.specs.Reporting.{is_acking}
 use Rattle.dccp_endpoint.specs.Effects.{gar_by, raising}
 use Rattle.dccp_endpoint.specs.Receiving.{is_other_service}
 
+-- GAR by what a packet acknowledges
 pub gar-by : (gar : ℕ) (t : PacketType) (ack : Option ℕ) → gar_after gar t ack ≡ gar_by gar (raising t ack)
 gar-by gar types.Sync ack = refl
 gar-by gar _ None = refl
@@ -41,7 +42,9 @@ not-valid : (valid : Bool) (other : Verdict) (n : ℕ) → (if valid then verdic
 not-valid true other n is = cc is
 not-valid false other n is = is
 
-pub sync-acknowledges : (m : Marks) (t : PacketType) (number : ℕ) (ack : Option ℕ) (n : ℕ) → verdict m t number ack ≡ verdicts.SyncFor n → (n ≡ number) ⊎ (n ≡ m.gsr)
+-- a Sync acknowledges the packet's number, or GSR
+pub sync-acknowledges : (m : Marks) (t : PacketType) (number : ℕ) (ack : Option ℕ) (n : ℕ) → verdict m t number ack ≡ verdicts.SyncFor n → (n ≡ number)
+    ⊎ (n ≡ m.gsr)
 sync-acknowledges m types.Sync number ack n is = absurd (cc (not-valid _ verdicts.Drop n is))
 sync-acknowledges m types.SyncAck number ack n is = absurd (cc (not-valid _ verdicts.Drop n is))
 sync-acknowledges m types.Reset number ack n is = inr (cc (not-valid _ (verdicts.SyncFor m.gsr) n is))

@@ -2,6 +2,7 @@
 use Rattle.std.proofs.Common.{◌≡◌, ℕ, List, [], ◌∷◌, ◌++◌, refl, sym, ap, ◌∙◌, append_assoc, append-nil}
 use Rattle.dccp_options.specs.Written.{Item, spelled, written}
 
+-- options of two lists
 pub written-append : (one other : List Item) → written (one ++ other) ≡ written one ++ written other
 written-append [] other = refl
 written-append (item ∷ one) other =

@@ -19,7 +19,7 @@ use Rattle.feature_machine.specs.declared.stands.Stand.TheVariants.{Changing}
 use Rattle.dccp_endpoint.specs.Drafts.{Draft}
 use Rattle.dccp_endpoint.specs.End.{EndState, with_rows}
 use Rattle.dccp_endpoint.specs.Heeding.{Due}
-use Rattle.dccp_endpoint.specs.Steps.{next_number}
+use Rattle.dccp_endpoint.specs.Steps.{next_frame, next_number}
 use Rattle.dccp_endpoint.specs.Turns.{Key, offerings, sendings}
 
 -- Change L speaks of a feature here, Change R of one at the peer (section 6.1).
@@ -104,6 +104,10 @@ has_confirms (due ∷ rest) = true
 -- A packet that says all that is due: the Confirms and the Changes of these rows, as they are once they went out.
 abbrev pub saying : Kind → List Due → List Row → List Key → Draft
 saying kind confirms rows keys = record { kind = kind; options = confirm_items confirms ++ change_items rows keys; payload = [] }
+
+-- The next frame of an end whose rows ask: it says all that is due, once the Changes of these rows went out.
+abbrev pub asking_frame : EndState → Kind → List Due → List Key → List ℕ
+asking_frame e kind confirms keys = next_frame (asks e keys) (saying kind confirms (asks e keys).rows keys)
 
 -- a packet with Confirms alone
 abbrev pub confirming : Kind → List Due → Draft

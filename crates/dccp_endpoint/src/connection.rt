@@ -14,13 +14,14 @@ use std::marker::Model;
 use validity_windows::Marks;
 
 mod calling;
+mod classes;
 mod early;
 mod handing;
 mod receiving;
 mod replying;
 mod sending;
 
-pub(crate) use receiving::is_open;
+pub(crate) use classes::is_open;
 
 // Whose end the rows of the negotiation are of.
 fn end_of(role: Role) -> Role2

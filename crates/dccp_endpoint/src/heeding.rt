@@ -3,7 +3,8 @@ ghost use Rattle.std.specs.Prelude.{◌≡◌, ◌<◌, ◌≤◌, ℕ, Option, 
 ghost use Rattle.dccp_options.specs.Grammar.{options_of};
 ghost use Rattle.dccp_options.specs.Left.{entry_of_option, item_of};
 ghost use Rattle.dccp_endpoint.specs.Receiving.{fault_if, reads_request};
-ghost use Rattle.dccp_endpoint.specs.Heeding.{Heeding, counted, due_of, heeding_or, heeds, heeds_body, heeds_change, heeds_confirm, heeds_entry, heeds_feature, heeds_first, heeds_item, is_change, is_left, is_of_negotiation, met, misunderstood, place_in_used, unheeded};
+ghost use Rattle.dccp_endpoint.specs.Heeding.{Heeding, counted, due_of, heeding_or, heeds, heeds_body, heeds_change, heeds_confirm, heeds_entry};
+ghost use Rattle.dccp_endpoint.specs.Heeding.{heeds_feature, heeds_first, heeds_item, is_change, is_left, is_of_negotiation, met, misunderstood, place_in_used, unheeded};
 
 use crate::faults::{fault_of, mandatory_fault};
 use crate::{Fault, Lists};

@@ -1,5 +1,5 @@
 //! The calls and timers of an end (RFC 4340, sections 8.1 to 8.3). Each call empties the Outbox first.
-use super::receiving::{is_connected, is_open};
+use super::classes::{is_connected, is_open};
 use super::{Connection, fit};
 use crate::speaking::asking;
 use crate::{AbortFault, CloseFault, OpenFault, SendFault, Timer};
@@ -14,7 +14,8 @@ const MOST_DATA: usize = 1024;
 impl Connection {
     ghost use Rattle.std.specs.Prelude.{◌≡◌, ◌≢◌, ◌↔◌, ◌⊎◌, ◌≤◌, ◌<◌, Bool, [], None, Ok, Err, OnErr, true, false, length};
     ghost use Rattle.dccp_states.specs.declared.phase.Role.TheVariants as role;
-    ghost use Rattle.dccp_endpoint.specs.Calling.{aborts, aborts_now, applies, asks_all, asks_now, closes, closes_now, fault_where, fires, has_keys, lacks_vectors, opens, opens_as, preferring, prefers, prefers_wish, requests, send_fault};
+    ghost use Rattle.dccp_endpoint.specs.Calling.{aborts, aborts_now, applies, asks_all, asks_now, closes, closes_now, fault_where, fires};
+    ghost use Rattle.dccp_endpoint.specs.Calling.{has_keys, lacks_vectors, opens, opens_as, preferring, prefers, prefers_wish, requests, send_fault};
     ghost use Rattle.dccp_endpoint.specs.End.{is_connected};
     ghost use Rattle.dccp_endpoint.specs.Speaking.{AreDue};
     ghost use Rattle.feature_lists.specs.Wishes.{is_wish, wish_of};

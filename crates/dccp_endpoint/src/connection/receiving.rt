@@ -1,13 +1,8 @@
 //! What an end does with a packet that arrives: the sixteen steps of RFC 4340, section 8.5. `take_bytes`, `take`,
 //! `take_steps`, `take_options`, `negotiate` and `process` list them, and each has a function of its own, below or in
 //! `replying`.
-ghost use Rattle.std.specs.Prelude.{◌≡◌, length, map};
-ghost use Rattle.dccp_endpoint.specs.End.{is_connected, is_live, is_open};
-ghost use Rattle.dccp_endpoint.specs.Reporting.{carries_data, is_acking};
-ghost use Rattle.dccp_endpoint.specs.Steps.{without_detail};
-ghost use Rattle.dccp_packets.specs.ResetCodes.{number_of_code};
-
 use super::Connection;
+use super::classes::{carries_data, is_acking, is_live, is_open, without_detail};
 use super::handing::hand_over;
 use crate::faults::counts;
 use crate::heeding::{Reading, are_silent, heed};
@@ -22,56 +17,6 @@ use feature_machine::ConfirmOut;
 use run_list::Marked;
 use seq_circle::{Seq48, extend};
 use validity_windows::Verdict;
-
-// The phase is OPEN.
-pub(crate) fn is_open(phase: Phase) -> bool
-    ensures { result ≡ is_open phase }
-{
-    matches!(phase, Phase::Open)
-}
-
-// The phases in which a first number was received.
-fn is_live(phase: Phase) -> bool
-    ensures { result ≡ is_live phase }
-{
-    matches!(
-        phase,
-        Phase::Respond | Phase::PartOpen | Phase::Open | Phase::CloseReq | Phase::Closing
-    )
-}
-
-// The phases in which the handshake has got through to this end.
-pub(crate) fn is_connected(phase: Phase) -> bool
-    ensures { result ≡ is_connected phase }
-{
-    matches!(phase, Phase::PartOpen | Phase::Open)
-}
-
-// A Reset code without details.
-pub(crate) fn without_detail(code: ResetCode) -> Fault
-    ensures { result ≡ without_detail (number_of_code code) }
-{
-    Fault {
-        code: code.number(),
-        first: 0,
-        second: 0,
-        third: 0,
-    }
-}
-
-// Ack and DataAck.
-fn is_acking(kind: PacketType) -> bool
-    ensures { result ≡ is_acking kind }
-{
-    matches!(kind, PacketType::Ack | PacketType::DataAck)
-}
-
-// Data and DataAck.
-fn carries_data(kind: PacketType) -> bool
-    ensures { result ≡ carries_data kind }
-{
-    matches!(kind, PacketType::Data | PacketType::DataAck)
-}
 
 impl Connection {
     ghost use Rattle.std.specs.Prelude.{◌≡◌, ◌≤◌, ◌&&◌, [], None, Ok, true, length, map};
@@ -169,7 +114,8 @@ impl Connection {
         congestion: &mut C,
     ) -> Outcome
         requires { out.old ≡ None }
-        ensures { record { after = record { state = self.new; congestion = congestion.new }; frame = out.new; answer = result } ≡ with_control C.control congestion.old (heeded self.old packet.now (reads_options self.old packet.now)) }
+        ensures { record { after = record { state = self.new; congestion = congestion.new }; frame = out.new; answer = result }
+            ≡ with_control C.control congestion.old (heeded self.old packet.now (reads_options self.old packet.now)) }
     {
         if !self.is_silent(packet) {
             return self.negotiate(packet, out, congestion);
@@ -189,7 +135,8 @@ impl Connection {
         congestion: &mut C,
     ) -> Outcome
         requires { out.old ≡ None }
-        ensures { record { after = record { state = self.new; congestion = congestion.new }; frame = out.new; answer = result } ≡ with_control C.control congestion.old (heeded self.old packet.now (reads_options self.old packet.now)) }
+        ensures { record { after = record { state = self.new; congestion = congestion.new }; frame = out.new; answer = result }
+            ≡ with_control C.control congestion.old (heeded self.old packet.now (reads_options self.old packet.now)) }
     {
         let mut reading = Reading::new(self.rows());
         match self.read_options(packet, &mut reading) {

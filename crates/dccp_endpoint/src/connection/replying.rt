@@ -4,7 +4,7 @@ ghost use Rattle.std.specs.Prelude.{◌≡◌};
 ghost use Rattle.dccp_endpoint.specs.Receiving.{packet_fault};
 
 use super::Connection;
-use super::receiving::{is_connected, is_open, without_detail};
+use super::classes::{is_connected, is_open, without_detail};
 use crate::config::number as seq48;
 use crate::incoming::IncomingPacket;
 use crate::{Exit, Fault, Outcome};
@@ -91,7 +91,9 @@ impl Connection {
     ) -> Outcome
         requires empty { out.old ≡ None }
         requires room { HaveRoom (map due_of confirms.now) }
-        ensures { record { after = self.new; frame = out.new; calls = []; answer = result } ≡ (if needs_ack self.old.phase (map due_of confirms.now) self.old.rows self.old.unacked then acknowledges self.old (map due_of confirms.now) (Took delivered) else idle self.old (Took delivered)) }
+        ensures { record { after = self.new; frame = out.new; calls = []; answer = result }
+            ≡ (if needs_ack self.old.phase (map due_of confirms.now) self.old.rows self.old.unacked
+            then acknowledges self.old (map due_of confirms.now) (Took delivered) else idle self.old (Took delivered)) }
     {
         if self.needs_ack(confirms) {
             return self.acknowledge(confirms, delivered, out);

@@ -9,7 +9,7 @@ ghost use Rattle.dccp_endpoint.specs.Heeding.{due_of};
 ghost use Rattle.dccp_endpoint.specs.ShortForm.{is_settled_on_one};
 ghost use Rattle.dccp_endpoint.specs.Speaking.{has_confirms};
 
-use super::receiving::is_open;
+use super::classes::is_open;
 use super::{Connection, fit};
 use crate::sealing::seal_frame;
 use crate::speaking::{asking, open_offers, put_changes, put_confirms, send_all};
@@ -93,7 +93,7 @@ impl Connection {
     ghost use Rattle.dccp_packets.specs.declared.header.Kind.TheVariants as kind;
     ghost use Rattle.dccp_packets.specs.declared.header.Number.TheVariants.{Long};
     ghost use Rattle.dccp_endpoint.specs.Heeding.{due_of};
-    ghost use Rattle.dccp_endpoint.specs.Speaking.{HaveRoom, AreChanging, AreDue, asking, asks, confirming, offers, saying};
+    ghost use Rattle.dccp_endpoint.specs.Speaking.{HaveRoom, AreChanging, AreDue, asking, asking_frame, asks, confirming, offers, saying};
     ghost use Rattle.dccp_endpoint.specs.Steps.{next_frame, next_number, with_next_number};
 
     // Sends a packet without options and data under the next number; its type has long numbers alone.
@@ -332,7 +332,7 @@ impl Connection {
         requires rows { length keys.now ≤ 18 }
         requires due { AreDue self.old.rows keys.now }
         ensures counted { self.new ≡ with_next_number (asks self.old keys.now) }
-        ensures sent { out.new ≡ Some (next_frame (asks self.old keys.now) (saying kind (map due_of confirms.now) (asks self.old keys.now).rows keys.now)) }
+        ensures sent { out.new ≡ Some (asking_frame self.old kind (map due_of confirms.now) keys.now) }
     {
         self.ask(keys);
         self.send_saying(kind, confirms, keys, out);
@@ -352,9 +352,8 @@ impl Connection {
         requires form { may_be_short (packet_type kind) ≡ false }
         requires room { HaveRoom (map due_of confirms.now) }
         ensures counted { self.new ≡ with_next_number (asks (offers self.old (map due_of confirms.now)) (asking (offers self.old (map due_of confirms.now)).rows (map due_of confirms.now))) }
-        ensures sent { out.new ≡ Some (next_frame (asks (offers self.old (map due_of confirms.now)) (asking (offers self.old (map due_of confirms.now)).rows (map due_of confirms.now))) (saying kind (map due_of confirms.now)
-            (asks (offers self.old (map due_of confirms.now)) (asking (offers self.old (map due_of confirms.now)).rows (map due_of confirms.now))).rows
-            (asking (offers self.old (map due_of confirms.now)).rows (map due_of confirms.now)))) }
+        ensures sent { out.new ≡ Some (asking_frame (offers self.old (map due_of confirms.now)) kind (map due_of confirms.now)
+            (asking (offers self.old (map due_of confirms.now)).rows (map due_of confirms.now))) }
     {
         self.offer(confirms);
         let keys = asking(self.rows(), confirms);

@@ -11,7 +11,8 @@ use Rattle.dccp_endpoint.proofs.speaking.asking.Goals as goal
 pub loop-feature-init : goal.loop-feature-init
 loop-feature-init c =
     let none : c.none-keys.result ≡ [] = c.none-keys.ensures in
-    let all : c.into_iter-feature-iterator.result ≡ due_keys c.args.rows.now = c.into_iter-feature-iterator.ensures.into_iter_gives ∙ c.due-feature-items.ensures in
+    let all : c.into_iter-feature-iterator.result ≡ due_keys c.args.rows.now = c.into_iter-feature-iterator.ensures.into_iter_gives
+    ∙ c.due-feature-items.ensures in
     let few = due-few c.args.rows.now c.requires in
     let is : length c.into_iter-feature-iterator.result ≡ length (due_keys c.args.rows.now) = ap length all in
     let empty : length c.none-keys.result ≡ 0 = ap length none in

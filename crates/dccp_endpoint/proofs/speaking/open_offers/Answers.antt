@@ -17,8 +17,12 @@ loop-feature-preserved c =
     let i : ℕ = c.loop-feature.feature-index in
     let test : Key → Bool = is_confirmed (map due_of c.args.confirms.now) in
     ap (λ (r : List Row). turned r (offerings test (drop (i + 1) every_place))) c.open_offer.ensures
-    ∙ ap (λ (b : Bool). turned (stepped rows (get_or c.every_place-places.result i (Ccid, Here)).0 (get_or c.every_place-places.result i (Ccid, Here)).1 (Offers b)).rows (offerings test (drop (i + 1) every_place)))
+    ∙ ap (λ (b : Bool). turned
+    (stepped rows (get_or c.every_place-places.result i (Ccid, Here)).0 (get_or c.every_place-places.result i (Ccid, Here)).1 (Offers b)).rows
+    (offerings test (drop (i + 1) every_place)))
     c.is_confirmed-confirmed.ensures
-    ∙ ap (λ (places : List Key). turned (stepped rows (get_or places i (Ccid, Here)).0 (get_or places i (Ccid, Here)).1 (Offers (test (get_or places i (Ccid, Here))))).rows (offerings test (drop (i + 1) every_place)))
+    ∙ ap (λ (places : List Key). turned
+    (stepped rows (get_or places i (Ccid, Here)).0 (get_or places i (Ccid, Here)).1 (Offers (test (get_or places i (Ccid, Here))))).rows
+    (offerings test (drop (i + 1) every_place)))
     c.every_place-places.ensures
     ∙ offered-on rows test every_place i (Ccid, Here) c.loop-feature-test.true ∙ c.loop-feature.invariant

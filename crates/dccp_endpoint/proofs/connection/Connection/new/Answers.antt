@@ -17,10 +17,21 @@ invariant_of-result c =
     let marks : c.new-marks.result ≡ (new_end config).marks = c.new-marks.ensures ∙ ap (new_marks config.iss) c.initial.ensures in
     let rows : c.new-rows.result ≡ (new_end config).rows = c.new-rows.ensures.rows ∙ ap (λ (role : Role2). first_rows role config.lists) c.end_of.ensures in
     let end : Phase → Marks → List Row → EndState =
-    λ phase m r. record { config = config; phase = phase; opened = false; marks = m; rows = r; received = c.in_ok-received.received; marked = 0; owed = false; unacked = 0 } in
+    λ phase m r. record {
+      config = config;
+      phase = phase;
+      opened = false;
+      marks = m;
+      rows = r;
+      received = c.in_ok-received.received;
+      marked = 0;
+      owed = false;
+      unacked = 0;
+    } in
     let is : end c.first_phase-phase.result c.new-marks.result c.new-rows.result ≡ end (new_end config).phase (new_end config).marks (new_end config).rows =
     ap (λ (phase : Phase). end phase c.new-marks.result c.new-rows.result) c.first_phase-phase.ensures
-    ∙ ap (λ (m : Marks). end (new_end config).phase m c.new-rows.result) marks ∙ ap (λ (r : List Row). end (new_end config).phase (new_end config).marks r) rows in
+    ∙ ap (λ (m : Marks). end (new_end config).phase m c.new-rows.result) marks
+    ∙ ap (λ (r : List Row). end (new_end config).phase (new_end config).marks r) rows in
     let proper = first-proper config c.shows_lists.ensures in
     subst IsProper (sym is)
     (record { phase_fits = proper.phase_fits; rows = proper.rows; own_width = proper.own_width; peer_width = proper.peer_width; widths = proper.widths })

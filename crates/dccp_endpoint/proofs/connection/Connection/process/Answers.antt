@@ -33,7 +33,8 @@ returns c =
     ∙ ap (λ (x : EndState). moved_to x row.0 a.number) taken in
     c.reply.ensures
     ∙ ap (λ (x : EndState). replies x a confirms (Took c.deliver-delivered.result) row.1) c.deliver-delivered.ensures.counts
-    ∙ ap (λ (place : Option (ℕ × ℕ)). replies (counts_data moved (delivers a.kind moved.phase mark)) a confirms (Took place) row.1) c.deliver-delivered.ensures.place
+    ∙ ap (λ (place : Option (ℕ × ℕ)). replies (counts_data moved (delivers a.kind moved.phase mark)) a confirms
+    (Took place) row.1) c.deliver-delivered.ensures.place
     ∙ ap (λ (x : EndState). delivering x a confirms (delivers a.kind x.phase mark) row.1) goes
     ∙ ap (λ (m : Marked). moves (accounted e a) a confirms m row) marked
     ∙ ap (λ (r : Phase × Reply). moves (accounted e a) a confirms (answer_to e.received.set a.number) r) to

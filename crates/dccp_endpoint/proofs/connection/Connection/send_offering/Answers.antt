@@ -16,4 +16,5 @@ returns-clause-sent c =
     let keys : c.as_slice.result.now ≡ asking (offers e confirms).rows confirms =
     c.as_slice.ensures.keys ∙ c.asking-keys.ensures.keys ∙ ap (λ (r : List Row). asking r confirms) c.rows.ensures.value
     ∙ ap (λ (x : EndState). asking x.rows confirms) c.offer.ensures in
-    c.send_asking.ensures.sent ∙ ap (λ (x : EndState). frame x c.as_slice.result.now) c.offer.ensures ∙ ap (λ (ks : List Key). frame (offers e confirms) ks) keys
+    c.send_asking.ensures.sent ∙ ap (λ (x : EndState). frame x c.as_slice.result.now) c.offer.ensures
+    ∙ ap (λ (ks : List Key). frame (offers e confirms) ks) keys

@@ -13,9 +13,12 @@ returns-in-Ok-check_header g c =
     c.take.ensures
     ∙ ap (with_control g.C.Congestion.control c.args.congestion.now)
     (ap (takes c.args.self.now) c.of-packet.ensures
-    ∙ ap (λ (newest : Bool). takes c.args.self.now (incoming_of (parts_of_packet c.in-Ok.packet) c.in-Ok-check_header.number c.ack_near-ack.result (length c.args.bytes.now) newest))
+    ∙ ap (λ (newest : Bool). takes c.args.self.now
+    (incoming_of (parts_of_packet c.in-Ok.packet) c.in-Ok-check_header.number c.ack_near-ack.result (length c.args.bytes.now) newest))
     c.is_newest-newest.ensures
-    ∙ ap (λ (ack : Option ℕ). takes c.args.self.now (incoming_of (parts_of_packet c.in-Ok.packet) c.in-Ok-check_header.number ack (length c.args.bytes.now) (is_newest c.args.self.now c.in-Ok-check_header.number)))
+    ∙ ap (λ (ack : Option ℕ). takes c.args.self.now
+    (incoming_of (parts_of_packet c.in-Ok.packet) c.in-Ok-check_header.number ack (length c.args.bytes.now)
+    (is_newest c.args.self.now c.in-Ok-check_header.number)))
     (c.ack_near-ack.ensures.value ∙ ap (λ (x : EndState). ack_near x.marks.gss c.in-Ok.packet.header.kind) c.self.view_is)
     ∙ arrived_step c.args.self.now c.args.bytes.now (parts_of_packet c.in-Ok.packet) c.in-Ok-check_header.number c.in-Ok.ensures.exact
     (sym c.check_header.ensures ∙ c.in-Ok-check_header.is))

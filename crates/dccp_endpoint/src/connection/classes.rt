@@ -1,0 +1,61 @@
+//! Which phases and packet types go together in the steps of an end (RFC 4340, sections 8.1 and 8.5), and a Reset code
+//! alone.
+ghost use Rattle.std.specs.Prelude.{◌≡◌};
+ghost use Rattle.dccp_endpoint.specs.End.{is_connected, is_live, is_open};
+ghost use Rattle.dccp_endpoint.specs.Reporting.{carries_data, is_acking};
+ghost use Rattle.dccp_endpoint.specs.Steps.{without_detail};
+ghost use Rattle.dccp_packets.specs.ResetCodes.{number_of_code};
+
+use crate::Fault;
+use dccp_packets::{PacketType, ResetCode};
+use dccp_states::Phase;
+
+// The phase is OPEN.
+pub(crate) fn is_open(phase: Phase) -> bool
+    ensures { result ≡ is_open phase }
+{
+    matches!(phase, Phase::Open)
+}
+
+// The phases in which a first number was received.
+pub(super) fn is_live(phase: Phase) -> bool
+    ensures { result ≡ is_live phase }
+{
+    matches!(
+        phase,
+        Phase::Respond | Phase::PartOpen | Phase::Open | Phase::CloseReq | Phase::Closing
+    )
+}
+
+// The phases in which the handshake has got through to this end.
+pub(super) fn is_connected(phase: Phase) -> bool
+    ensures { result ≡ is_connected phase }
+{
+    matches!(phase, Phase::PartOpen | Phase::Open)
+}
+
+// A Reset code without details.
+pub(super) fn without_detail(code: ResetCode) -> Fault
+    ensures { result ≡ without_detail (number_of_code code) }
+{
+    Fault {
+        code: code.number(),
+        first: 0,
+        second: 0,
+        third: 0,
+    }
+}
+
+// Ack and DataAck.
+pub(super) fn is_acking(kind: PacketType) -> bool
+    ensures { result ≡ is_acking kind }
+{
+    matches!(kind, PacketType::Ack | PacketType::DataAck)
+}
+
+// Data and DataAck.
+pub(super) fn carries_data(kind: PacketType) -> bool
+    ensures { result ≡ carries_data kind }
+{
+    matches!(kind, PacketType::Data | PacketType::DataAck)
+}
