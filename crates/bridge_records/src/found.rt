@@ -1,9 +1,9 @@
 //! What a piece of a capture holds.
 use capture_writer::RecordHeader;
 
-/// What a piece of a capture holds.
+/// What a piece of a capture holds (own).
 #[derive(Clone, Copy, Debug, PartialEq, Eq)]
-pub(crate) enum Found {
+pub enum Found {
     /// The capture begins; the fractions of its records are nanoseconds, or microseconds.
     Begins(bool),
     /// A record of this link type: what its header says, the captured bytes at most 262,144, and where in the piece

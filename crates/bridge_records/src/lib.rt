@@ -14,4 +14,5 @@ mod packets;
 mod reading;
 mod recording;
 
+pub use crate::found::Found;
 pub use crate::recording::{RecordJob, run_records};
