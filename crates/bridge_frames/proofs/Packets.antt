@@ -9,18 +9,18 @@ use Rattle.dccp_packets.specs.Kinds.{has_ack}
 use Rattle.dccp_packets.specs.declared.header.Header.{Header}
 use Rattle.dccp_packets.specs.declared.reading.Malformed.{Malformed}
 use Rattle.capture_reader.specs.Records.{RecordParts}
-use Rattle.capture_writer.specs.declared.headers.RecordHeader.{RecordHeader}
 use Rattle.packet_show.specs.Flows.{AddressAndPort, Flow, flow_number, flow_of, from_end, same_end, with_flow}
 use Rattle.packet_show.specs.Network.{DatagramParts, behind_v4, behind_v6, in_ip, in_v4, in_v6, is_v4, is_v6, v4_header, v4_total, v6_payload}
-use Rattle.bridge_pieces.specs.Pieces.{Goes, Judgement, Piece, PieceNext, PieceWrong, Stops, Taken, by_next_piece, most_piece_bytes, next_piece, pieces_from, taken_by}
+use Rattle.bridge_pieces.specs.Pieces.{Goes, Judgement, Piece, PieceNext, PieceWork, PieceWrong, Stops, Taken, by_next_piece, most_piece_bytes, next_piece, pieces_from, taken_by}
 use Rattle.bridge_pieces.specs.declared.fault.PieceFault.TheVariants as why
 use Rattle.bridge_records.specs.Reading.{FileState, bytes_held, file_judged, next_length}
+use Rattle.bridge_records.specs.Recording.{RecordStep, RecordsState, by_judged, first_reading, numbered_entry, records_work}
 use Rattle.bridge_records.specs.declared.found.Found.{Found}
 use Rattle.bridge_records.specs.declared.found.Found.TheVariants as found
 use Rattle.bridge_unwrap.specs.Links.{bytes_at_start, ip_bytes, ip_start}
 use Rattle.dccp_io.specs.Counts.{one_more}
 use Rattle.world_events.specs.declared.event.Side.{Side}
-use Rattle.bridge_frames.specs.Framing.{FlowPacket, IsReadBack, PassedRecord, by_carried, by_decoded, by_direction, by_number, by_sender, first_framing, flow_packet, frame_said, framed_by_judged, framed_record, frames_pieces, frames_work, goes_to, met_by, passed_over, record_behind}
+use Rattle.bridge_frames.specs.Framing.{FlowPacket, IsReadBack, by_carried, by_decoded, by_direction, by_number, by_sender, first_framing, flow_packet, frame_said, framed_record, frames_pieces, frames_work, goes_to, met_by, passed_over, record_behind}
 use Rattle.bridge_frames.specs.Lines.{comment_line, packet_frame_words}
 use Rattle.bridge_frames.specs.Mapping.{frame_for, moved_frame, moved_header}
 use Rattle.bridge_frames.specs.declared.framing.Framing.{Framing}
@@ -77,7 +77,7 @@ abbrev IsDoneBack : Option FlowPacket → Type 0
 IsDoneBack None = Unit {0}
 IsDoneBack (Some packet) = IsReadBack packet
 
-abbrev IsPassedBack : PassedRecord → Type 0
+abbrev IsPassedBack : RecordStep FlowPacket Framing → Type 0
 IsPassedBack passed = IsDoneBack passed.deed
 
 direction-reads : (s : Framing) (met : Met) (entry : RecordParts) (there : DatagramParts) (packet : Parts) (goes : Bool) → HasByteAddresses there.pseudo → IsOfBytes packet
@@ -132,52 +132,56 @@ start-are (Some start) bytes are = bytes-drop start bytes are
 start-are None bytes are = refl
 
 -- a record of bytes, behind its link's header
-record-reads : (s : Framing) (number : ℕ) (nanos : Bool) (link : ℕ) (head : RecordHeader) (bytes : List ℕ) → AreBytes bytes
-    → IsPassedBack (framed_record s (record_behind number nanos link head bytes))
+record-reads : (s : Framing) (entry : RecordParts) → AreBytes entry.bytes → IsPassedBack (framed_record s (record_behind entry))
 unfolding framed_record
-record-reads s number nanos link head bytes are =
-    carried-reads s (record_behind number nanos link head bytes) (in_ip (ip_bytes link bytes))
-    (ip-carried (ip_bytes link bytes) (start-are (ip_start link bytes) bytes are))
+record-reads s entry are =
+    carried-reads s (record_behind entry) (in_ip (ip_bytes entry.link entry.bytes))
+    (ip-carried (ip_bytes entry.link entry.bytes) (start-are (ip_start entry.link entry.bytes) entry.bytes are))
 
 -- Pieces
 
-abbrev IsJudgedBack : Judgement FlowPacket Framing → Type 0
+abbrev Reading : Type 0
+Reading = RecordsState Framing
+
+abbrev job : PieceWork FlowPacket Reading
+job = records_work frames_work
+
+abbrev IsJudgedBack : Judgement FlowPacket Reading → Type 0
 IsJudgedBack (Goes deed next) = IsDoneBack deed
 IsJudgedBack (Stops reason) = Unit {0}
 
-judged-reads : (s : Framing) (piece : List ℕ) (judged : Judgement Found FileState) → AreBytes piece → IsJudgedBack (framed_by_judged s piece judged)
+judged-reads : (s : Reading) (piece : List ℕ) (judged : Judgement Found FileState) → AreBytes piece → IsJudgedBack (by_judged frames_work s piece judged)
 judged-reads s piece (Stops reason) are = tt
 judged-reads s piece (Goes None next) are = tt
 judged-reads s piece (Goes (Some (found.Begins nanos)) next) are = tt
 judged-reads s piece (Goes (Some (found.Holds link head start)) next) are =
-    record-reads (record s { file = next; records = one_more s.records }) (one_more s.records) s.nanos link head (bytes_held head start piece)
-    (bytes-part head.captured start piece are)
+    record-reads s.job (numbered_entry (one_more s.records) s.nanos link head (bytes_held head start piece)) (bytes-part head.captured start piece are)
 
-next-reads : (s : Framing) (given : ℕ) (byte : ℕ) (bytes : List ℕ) → AreBytes (byte ∷ bytes)
-    → IsJudgedBack (by_next_piece frames_work s (next_piece frames_work s given (byte ∷ bytes)))
+next-reads : (s : Reading) (given : ℕ) (byte : ℕ) (bytes : List ℕ) → AreBytes (byte ∷ bytes)
+    → IsJudgedBack (by_next_piece job s (next_piece job s given (byte ∷ bytes)))
 next-reads s given byte bytes are =
     let wanted : ℕ = next_length s.file.place in
     let piece : List ℕ = take wanted (byte ∷ bytes) in
     let whole : PieceNext = if nat_lt (length (byte ∷ bytes)) wanted then PieceWrong why.CutShort else Piece piece in
-    let judged : IsJudgedBack (framed_by_judged s piece (file_judged s.file piece)) =
+    let judged : IsJudgedBack (by_judged frames_work s piece (file_judged s.file piece)) =
     judged-reads s piece (file_judged s.file piece) (bytes-part wanted 0 (byte ∷ bytes) are) in
-    either (λ (next : PieceNext). IsJudgedBack (by_next_piece frames_work s next)) (nat_lt most_piece_bytes (given + wanted)) (PieceWrong why.TooLarge) whole tt
-    (either (λ (next : PieceNext). IsJudgedBack (by_next_piece frames_work s next)) (nat_lt (length (byte ∷ bytes)) wanted) (PieceWrong why.CutShort) (Piece piece) tt judged)
+    either (λ (next : PieceNext). IsJudgedBack (by_next_piece job s next)) (nat_lt most_piece_bytes (given + wanted)) (PieceWrong why.TooLarge) whole tt
+    (either (λ (next : PieceNext). IsJudgedBack (by_next_piece job s next)) (nat_lt (length (byte ∷ bytes)) wanted) (PieceWrong why.CutShort) (Piece piece) tt judged)
 
-taken-reads : (s : Framing) (given : ℕ) (judged : Judgement FlowPacket Framing) (rest : Framing → Taken FlowPacket Framing) → IsJudgedBack judged
-    → ((next : Framing) → All IsReadBack (rest next).deeds) → All IsReadBack (taken_by s given judged rest).deeds
+taken-reads : (s : Reading) (given : ℕ) (judged : Judgement FlowPacket Reading) (rest : Reading → Taken FlowPacket Reading) → IsJudgedBack judged
+    → ((next : Reading) → All IsReadBack (rest next).deeds) → All IsReadBack (taken_by s given judged rest).deeds
 taken-reads s given (Goes None next) rest back more = more next
 taken-reads s given (Goes (Some packet) next) rest back more = All-cons IsReadBack packet (rest next).deeds back (more next)
 taken-reads s given (Stops reason) rest back more = All-nil IsReadBack
 
-pieces-read : (skip : ℕ) (s : Framing) (given : ℕ) (bytes : List ℕ) → AreBytes bytes → All IsReadBack (pieces_from frames_work skip s given bytes).deeds
+pieces-read : (skip : ℕ) (s : Reading) (given : ℕ) (bytes : List ℕ) → AreBytes bytes → All IsReadBack (pieces_from job skip s given bytes).deeds
 pieces-read skip s given [] are = All-nil IsReadBack
 pieces-read (suc skip) s given (byte ∷ bytes) are = pieces-read skip s given bytes (other-bytes byte bytes are)
 pieces-read zero s given (byte ∷ bytes) are =
     let wanted : ℕ = next_length s.file.place in
-    taken-reads s given (by_next_piece frames_work s (next_piece frames_work s given (byte ∷ bytes)))
-    (λ next. pieces_from frames_work (wanted - 1) next (given + wanted) bytes) (next-reads s given byte bytes are)
+    taken-reads s given (by_next_piece job s (next_piece job s given (byte ∷ bytes)))
+    (λ next. pieces_from job (wanted - 1) next (given + wanted) bytes) (next-reads s given byte bytes are)
     (λ next. pieces-read (wanted - 1) next (given + wanted) bytes (other-bytes byte bytes are))
 
 pub packets-read : (flow : ℕ) (side : Side) (input : List ℕ) → IsBytes input → All IsReadBack (frames_pieces flow side input).deeds
-packets-read flow side input are = pieces-read 0 (first_framing flow side) 0 input (all-bytes input are)
+packets-read flow side input are = pieces-read 0 (first_reading (first_framing flow side)) 0 input (all-bytes input are)

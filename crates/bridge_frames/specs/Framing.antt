@@ -2,7 +2,6 @@
 -- its sides (own).
 use Rattle.std.specs.Prelude.{◌≡◌, ℕ, ◌==◌, ◌++◌, Bool, false, true, not, is_some, if◌then◌else◌, List, [], codes, Option, Some, None, Result, Ok, Err}
 use Rattle.capture_reader.specs.Records.{RecordParts}
-use Rattle.capture_writer.specs.declared.headers.RecordHeader.{RecordHeader}
 use Rattle.dccp_packets.specs.Grammar.{Parts, decoded}
 use Rattle.dccp_packets.specs.declared.header.Number.{Number}
 use Rattle.dccp_packets.specs.declared.header.Number.TheVariants.{Long, Short}
@@ -10,13 +9,10 @@ use Rattle.dccp_packets.specs.declared.reading.Malformed.{Malformed}
 use Rattle.packet_show.specs.Flows.{AddressAndPort, Flow, flow_number, flow_of, from_end, same_end, with_flow}
 use Rattle.packet_show.specs.Lines.{packet_line}
 use Rattle.packet_show.specs.Network.{DatagramParts, carried}
-use Rattle.bridge_pieces.specs.Pieces.{Goes, Judgement, PieceWork, Stops, Taken, pieces_of, text_of_pieces}
-use Rattle.bridge_records.specs.Reading.{FileState, bytes_held, file_judged, first_file, is_between, next_length}
-use Rattle.bridge_records.specs.declared.found.Found.{Found}
-use Rattle.bridge_records.specs.declared.found.Found.TheVariants as found
+use Rattle.bridge_pieces.specs.Pieces.{Taken, text_of_pieces}
+use Rattle.bridge_records.specs.Recording.{RecordStep, RecordWork, RecordsState, records_of, records_work}
 use Rattle.bridge_unwrap.specs.Links.{ip_bytes}
 use Rattle.bridge_unwrap.specs.Unwrapping.{unwrap_closing}
-use Rattle.dccp_io.specs.Counts.{one_more}
 use Rattle.schedule_text.specs.Frames.{frame_line, read_frame}
 use Rattle.schedule_text.specs.declared.line.FrameLine.{FrameLine}
 use Rattle.world_events.specs.declared.event.Side.{Side}
@@ -48,22 +44,14 @@ pub record IsReadBack (p : FlowPacket) : Type 0 where
   pub nothing : read_frame comment ≡ Ok None
   pub frame : read_frame (packet_frame_words p.frame) ≡ Ok (frame_said p.frame)
 
--- before the first piece, where this flow is asked for
+-- before the first record, where this flow is asked for
 abbrev pub first_framing : ℕ → Side → Framing
 first_framing flow side =
-    record { flow = flow; side = side; end = usual_end side; file = first_file; nanos = false; records = 0; flows = []; met = None }
+    record { flow = flow; side = side; end = usual_end side; flows = []; met = None }
 
--- a record as `show` finds it behind `unwrap`: raw IP, under its number
-abbrev pub record_behind : ℕ → Bool → ℕ → RecordHeader → List ℕ → RecordParts
-record_behind number nanos link head bytes = record {
-  number = number;
-  seconds = head.seconds;
-  fraction = head.fraction;
-  nanos = nanos;
-  link = 101;
-  original = head.original;
-  bytes = ip_bytes link bytes;
-}
+-- a record as `show` finds it behind `unwrap`: raw IP
+abbrev pub record_behind : RecordParts → RecordParts
+record_behind e = record e { link = 101; bytes = ip_bytes e.link e.bytes }
 
 -- what is known of the flow at a packet that this end sent: whose packet comes first is the client
 abbrev pub met_by : Option Met → AddressAndPort → Met
@@ -94,88 +82,61 @@ abbrev pub flow_packet : Framing → Met → RecordParts → DatagramParts → P
 flow_packet s met entry there packet =
     record { line = packet_line entry there packet s.flow; frame = frame_for s.end met.initial packet }
 
--- What a record comes to: the packet that has lines, if it is one, and the state behind it.
-pub record PassedRecord : Type 0 where
-  pub deed : Option FlowPacket
-  pub next : Framing
-
--- nothing is written of it
-abbrev pub passed_over : Framing → PassedRecord
+-- nothing is written of a record
+abbrev pub passed_over : Framing → RecordStep FlowPacket Framing
 passed_over s = record { deed = None; next = s }
 
 -- a packet that goes to the side has its lines, and of one that the captured end sent the number is noted
-abbrev pub by_direction : Framing → Met → RecordParts → DatagramParts → Parts → Bool → PassedRecord
+abbrev pub by_direction : Framing → Met → RecordParts → DatagramParts → Parts → Bool → RecordStep FlowPacket Framing
 by_direction s met entry there packet goes =
     if goes then record { deed = Some (flow_packet s met entry there packet); next = with_met s met }
     else passed_over (with_met s (met_number met packet.header.number))
 
 -- the same by who sent it
-abbrev pub by_sender : Framing → RecordParts → DatagramParts → Parts → AddressAndPort → PassedRecord
+abbrev pub by_sender : Framing → RecordParts → DatagramParts → Parts → AddressAndPort → RecordStep FlowPacket Framing
 by_sender s entry there packet from =
     by_direction s (met_by s.met from) entry there packet (goes_to s.side (same_end from (met_by s.met from).client))
 
 -- a packet of the flow that is asked for is looked at, and one of another flow isn't
-abbrev pub by_number : Framing → ℕ → RecordParts → DatagramParts → Parts → PassedRecord
+abbrev pub by_number : Framing → ℕ → RecordParts → DatagramParts → Parts → RecordStep FlowPacket Framing
 by_number s number entry there packet =
     if number == s.flow then by_sender s entry there packet (from_end there.pseudo packet.header.from) else passed_over s
 
 -- a packet's flow is numbered as `show` numbers it
-abbrev pub by_flow : Framing → RecordParts → DatagramParts → Parts → Flow → PassedRecord
+abbrev pub by_flow : Framing → RecordParts → DatagramParts → Parts → Flow → RecordStep FlowPacket Framing
 by_flow s entry there packet flow =
     by_number (record s { flows = with_flow flow s.flows }) (flow_number flow s.flows) entry there packet
 
 -- DCCP bytes that are no packet are passed over
-abbrev pub by_decoded : Framing → RecordParts → DatagramParts → Result Parts Malformed → PassedRecord
+abbrev pub by_decoded : Framing → RecordParts → DatagramParts → Result Parts Malformed → RecordStep FlowPacket Framing
 by_decoded s entry there (Ok packet) = by_flow s entry there packet (flow_of there.pseudo packet.header.from packet.header.to)
 by_decoded s entry there (Err why) = passed_over s
 
 -- so is a record that carries no DCCP
-abbrev pub by_carried : Framing → RecordParts → Option DatagramParts → PassedRecord
+abbrev pub by_carried : Framing → RecordParts → Option DatagramParts → RecordStep FlowPacket Framing
 by_carried s entry None = passed_over s
 by_carried s entry (Some there) = by_decoded s entry there (decoded there.bytes)
 
 -- what a record comes to
-unfoldable pub framed_record : Framing → RecordParts → PassedRecord
+unfoldable pub framed_record : Framing → RecordParts → RecordStep FlowPacket Framing
 framed_record s entry = by_carried s entry (carried entry.link entry.bytes)
 
--- the job goes on behind a record
-abbrev pub goes_behind : PassedRecord → Judgement FlowPacket Framing
-goes_behind passed = Goes passed.deed passed.next
-
--- a record whose bytes begin there in this piece, which is one more
-abbrev pub held_record : Framing → ℕ → RecordHeader → ℕ → List ℕ → PassedRecord
-held_record s link head start piece =
-    framed_record (record s { records = one_more s.records }) (record_behind (one_more s.records) s.nanos link head (bytes_held head start piece))
-
--- what a piece holds
-abbrev pub framed_by_found : Framing → List ℕ → FileState → Option Found → Judgement FlowPacket Framing
-framed_by_found s piece next None = Goes None (record s { file = next })
-framed_by_found s piece next (Some (found.Begins nanos)) = Goes None (record s { file = next; nanos = nanos })
-framed_by_found s piece next (Some (found.Holds link head start)) =
-    goes_behind (held_record (record s { file = next }) link head start piece)
-
--- what a piece comes to, by what it is in the capture that is read
-abbrev pub framed_by_judged : Framing → List ℕ → Judgement Found FileState → Judgement FlowPacket Framing
-framed_by_judged s piece (Stops fault) = Stops fault
-framed_by_judged s piece (Goes deed next) = framed_by_found s piece next deed
-
--- What `frames` makes of the pieces of a capture. Behind the last record stands nothing, or the line of the fault.
-abbrev pub frames_work : PieceWork FlowPacket Framing
+-- What `frames` makes of the records of a capture. Behind the last stands nothing, or the line of the fault.
+abbrev pub frames_work : RecordWork FlowPacket Framing
 frames_work = record {
-  wanted = λ s. next_length s.file.place;
-  may_end = λ s. is_between s.file.place;
-  judged = λ s piece. framed_by_judged s piece (file_judged s.file piece);
+  begun = λ s nanos. passed_over s;
+  passed = λ s e. framed_record s (record_behind e);
   told = flow_packet_text;
-  closing = λ s end. unwrap_closing false s.records end;
+  closing = λ untold records end. unwrap_closing false records end;
 }
 
 -- what the pieces of an input come to, for this flow and side
-abbrev pub frames_pieces : ℕ → Side → List ℕ → Taken FlowPacket Framing
-frames_pieces flow side input = pieces_of frames_work (first_framing flow side) input
+abbrev pub frames_pieces : ℕ → Side → List ℕ → Taken FlowPacket (RecordsState Framing)
+frames_pieces flow side input = records_of frames_work (first_framing flow side) input
 
 -- What `frames` writes of an input.
 abbrev pub frames_text : ℕ → Side → List ℕ → List ℕ
-frames_text flow side input = text_of_pieces frames_work (frames_pieces flow side input)
+frames_text flow side input = text_of_pieces (records_work frames_work) (frames_pieces flow side input)
 
 -- The capture has a fault.
 abbrev pub is_frames_faulty : ℕ → Side → List ℕ → Bool

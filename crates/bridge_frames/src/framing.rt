@@ -1,8 +1,7 @@
-//! `frames`: a job over the pieces of a capture.
-ghost use Rattle.std.specs.Prelude.{◌≡◌, ◌≢◌, ◌+◌, ◌≤◌, ◌++◌, ℕ, List, length, IsTrue, OnOk, Some};
+//! `frames`: a job over the records of a capture.
+ghost use Rattle.std.specs.Prelude.{◌≡◌, ◌≢◌, ◌≤◌, ◌++◌, ℕ, List, length, IsTrue, OnOk, Some};
 ghost use Rattle.bridge_pieces.specs.Pieces.{piece_text};
-ghost use Rattle.bridge_records.specs.Reading.{bytes_held};
-ghost use Rattle.bridge_unwrap.specs.Links.{ip_bytes};
+ghost use Rattle.bridge_records.specs.Recording.{records_work};
 ghost use Rattle.capture_reader.specs.Records.{entry_of};
 ghost use Rattle.dccp_io.specs.Counts.{Rose};
 ghost use Rattle.dccp_packets.specs.Grammar.{is_valid};
@@ -11,15 +10,14 @@ ghost use Rattle.packet_show.specs.Lines.{parts_by};
 ghost use Rattle.packet_show.specs.Network.{carried_by};
 ghost use Rattle.tool_output.specs.Ends.{Answers, EndsForCause, SinkFails, StopsWithin};
 ghost use Rattle.bridge_frames.specs.Framing as spec;
-ghost use Rattle.bridge_frames.specs.Framing.{first_framing, flow_packet_text, framed_record, frames_pieces, frames_text, frames_work, held_record, is_frames_faulty};
+ghost use Rattle.bridge_frames.specs.Framing.{first_framing, flow_packet_text, framed_record, frames_pieces, frames_text, frames_work, is_frames_faulty};
 
 use crate::lines::{put_comment, put_frame};
 use crate::mapping::{UsualEnd, usual_end};
-use bridge_pieces::{PieceFault, PieceJob, run_pieces};
-use bridge_records::{CaptureFile, Found};
-use bridge_unwrap::{ip_start, put_fault};
+use bridge_pieces::PieceFault;
+use bridge_records::{RecordJob, run_records};
+use bridge_unwrap::{RAW_IP, ip_bytes, put_fault};
 use capture_reader::Record;
-use capture_writer::RecordHeader;
 use dccp_io::{Sink, Source};
 use dccp_packets::{Number, Packet, decode};
 use packet_show::{Datagram, FlowEnd, Flows, carried, from_end};
@@ -27,8 +25,6 @@ use seq_circle::{NoMemory, Seq48};
 use std::alloc::Global;
 use tool_output::Status;
 use world_events::Side;
-
-const RAW_IP: u32 = 101;
 
 /// What is known of the flow, once a packet of it came.
 #[derive(Clone, Copy)]
@@ -48,34 +44,10 @@ pub(crate) struct Framing {
     pub(crate) side: Side,
     /// The usual end of that side.
     pub(crate) end: UsualEnd,
-    /// Where reading stands.
-    pub(crate) file: CaptureFile,
-    /// Whether the fractions of records are nanoseconds.
-    pub(crate) nanos: bool,
-    /// How many records came.
-    pub(crate) records: u64,
     /// The flows that were seen.
     pub(crate) flows: Flows,
     /// What is known of the flow.
     pub(crate) met: Option<Met>,
-}
-
-// The bytes of a record in its piece.
-fn bytes_of<'a>(head: &RecordHeader, start: usize, piece: &'a [u8]) -> &'a [u8]
-    requires { start + head.now.captured ≤ length piece.now }
-    ensures { result.now ≡ bytes_held head.now start piece.now }
-{
-    &piece[start..start + head.captured as usize]
-}
-
-// The IP packet in a record, or no bytes.
-fn ip_bytes(link: u32, bytes: &[u8]) -> &[u8]
-    ensures { result.now ≡ ip_bytes link bytes.now }
-{
-    match ip_start(link, bytes) {
-        Some(start) => &bytes[start..],
-        None => &[],
-    }
 }
 
 // The captured end's initial number, once it sent this one.
@@ -127,28 +99,18 @@ fn met_number(met: &Met, number: Number) -> Met
 }
 
 // A record as `show` finds it behind `unwrap`.
-fn record_behind<'a>(
-    number: u64,
-    nanos: bool,
-    link: u32,
-    head: &RecordHeader,
-    bytes: &'a [u8],
-) -> Record<'a>
-    ensures { entry_of result ≡ spec.record_behind number nanos link head.now bytes.now }
+fn record_behind<'a>(record: &Record<'a>) -> Record<'a>
+    ensures { entry_of result ≡ spec.record_behind (entry_of record.now) }
 {
     Record {
-        number,
-        seconds: head.seconds,
-        fraction: head.fraction,
-        nanos,
         link: RAW_IP,
-        original: head.original,
-        bytes: ip_bytes(link, bytes),
+        bytes: ip_bytes(record.link, record.bytes),
+        ..*record
     }
 }
 
 impl Framing {
-    // Before the first piece.
+    // Before the first record.
     fn new(alloc: Global, flow: u64, side: Side) -> Framing
         ensures { result ≡ first_framing flow side }
     {
@@ -156,9 +118,6 @@ impl Framing {
             flow,
             side,
             end: usual_end(side),
-            file: CaptureFile::new(alloc),
-            nanos: false,
-            records: 0,
             flows: Flows::new(alloc),
             met: None,
         }
@@ -196,7 +155,7 @@ impl Framing {
         requires high { length there.now.bytes.now ≤ 65535 }
         requires options { length packet.now.options.now ≤ 1008 }
         requires valid { IsTrue (is_valid packet.now.header) }
-        ensures text { OnOk result (text.new.items ≡ text.old.items ++ piece_text frames_work
+        ensures text { OnOk result (text.new.items ≡ text.old.items ++ piece_text (records_work frames_work)
             (spec.by_sender self.old (entry_of record.now) (carried_by there.now) (parts_by packet.now) (from_end there.now.pseudo packet.now.header.from)).deed) }
         ensures next { OnOk result (self.new
             ≡ (spec.by_sender self.old (entry_of record.now) (carried_by there.now) (parts_by packet.now) (from_end there.now.pseudo packet.now.header.from)).next) }
@@ -224,7 +183,7 @@ impl Framing {
         requires high { length there.now.bytes.now ≤ 65535 }
         requires options { length packet.now.options.now ≤ 1008 }
         requires valid { IsTrue (is_valid packet.now.header) }
-        ensures text { OnOk result (text.new.items ≡ text.old.items ++ piece_text frames_work
+        ensures text { OnOk result (text.new.items ≡ text.old.items ++ piece_text (records_work frames_work)
             (spec.by_flow self.old (entry_of record.now) (carried_by there.now) (parts_by packet.now) (flow_of there.now.pseudo packet.now.header.from packet.now.header.to)).deed) }
         ensures next { OnOk result (self.new
             ≡ (spec.by_flow self.old (entry_of record.now) (carried_by there.now) (parts_by packet.now) (flow_of there.now.pseudo packet.now.header.from packet.now.header.to)).next) }
@@ -237,10 +196,10 @@ impl Framing {
         Ok(())
     }
 
-    // A record.
+    // A record of raw IP.
     #[tactic(auto, unfolding(crate::specs::Framing::framed_record))]
-    fn pass(&mut self, record: &Record<'_>, text: &mut Vec<u8>) -> Result<(), NoMemory>
-        ensures text { OnOk result (text.new.items ≡ text.old.items ++ piece_text frames_work (framed_record self.old (entry_of record.now)).deed) }
+    fn pass_ip(&mut self, record: &Record<'_>, text: &mut Vec<u8>) -> Result<(), NoMemory>
+        ensures text { OnOk result (text.new.items ≡ text.old.items ++ piece_text (records_work frames_work) (framed_record self.old (entry_of record.now)).deed) }
         ensures next { OnOk result (self.new ≡ (framed_record self.old (entry_of record.now)).next) }
     {
         let Some(there) = carried(record.link, record.bytes) else {
@@ -251,65 +210,33 @@ impl Framing {
             Err(_) => Ok(()),
         }
     }
-
-    // A record whose bytes begin there in this piece.
-    fn pass_held(
-        &mut self,
-        link: u32,
-        head: &RecordHeader,
-        start: usize,
-        piece: &[u8],
-        text: &mut Vec<u8>,
-    ) -> Result<(), NoMemory>
-        requires { start + head.now.captured ≤ length piece.now }
-        ensures text { OnOk result (text.new.items ≡ text.old.items ++ piece_text frames_work (held_record self.old link head.now start piece.now).deed) }
-        ensures next { OnOk result (self.new ≡ (held_record self.old link head.now start piece.now).next) }
-    {
-        self.records = self.records.saturating_add(1);
-        let bytes = bytes_of(head, start, piece);
-        let record = record_behind(self.records, self.nanos, link, head, bytes);
-        self.pass(&record, text)
-    }
 }
 
-impl PieceJob for Framing {
+impl RecordJob for Framing {
     ghost use Rattle.bridge_frames.specs.Framing.{FlowPacket, frames_work};
 
     ghost Deed = { FlowPacket };
 
-    ghost job = { frames_work };
+    ghost work = { frames_work };
 
-    fn wanted(&self) -> usize {
-        self.file.wanted()
+    fn begin(&mut self, _nanos: bool, _text: &mut Vec<u8>) -> Result<(), NoMemory> {
+        Ok(())
     }
 
-    fn may_end(&self) -> bool {
-        self.file.may_end()
+    fn pass(&mut self, record: &Record<'_>, text: &mut Vec<u8>) -> Result<(), NoMemory> {
+        self.pass_ip(&record_behind(record), text)
     }
 
-    fn judge(
-        &mut self,
-        piece: &[u8],
+    fn finish(
+        &self,
+        _untold: bool,
+        records: u64,
+        end: Option<PieceFault>,
         text: &mut Vec<u8>,
-    ) -> Result<Result<(), PieceFault>, NoMemory> {
-        match self.file.read(piece)? {
-            Err(fault) => Ok(Err(fault)),
-            Ok(None) => Ok(Ok(())),
-            Ok(Some(Found::Begins(nanos))) => {
-                self.nanos = nanos;
-                Ok(Ok(()))
-            }
-            Ok(Some(Found::Holds(link, head, start))) => {
-                self.pass_held(link, &head, start, piece, text)?;
-                Ok(Ok(()))
-            }
-        }
-    }
-
-    fn finish(&self, end: Option<PieceFault>, text: &mut Vec<u8>) -> Result<(), NoMemory> {
+    ) -> Result<(), NoMemory> {
         match end {
             None => Ok(()),
-            Some(fault) => put_fault(text, self.records, fault),
+            Some(fault) => put_fault(text, records, fault),
         }
     }
 }
@@ -342,6 +269,6 @@ pub fn frame_flow<S: Source, K: Sink>(
         → StopsWithin 524288 (frames_pieces flow side bytes).accepted bytes result (S.left input.new) }
     ensures cause { EndsForCause result (Rose (S.faults input.old) (S.faults input.new)) (SinkFails K.faults K.empty_takes output.old output.new) }
 {
-    let mut job = Framing::new(alloc, flow, side);
-    run_pieces(alloc, &mut job, input, output)
+    let job = Framing::new(alloc, flow, side);
+    run_records(alloc, job, input, output)
 }

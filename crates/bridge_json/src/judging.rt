@@ -1,7 +1,6 @@
 //! What a record holds, as members of its object.
 ghost use Rattle.std.specs.Prelude.{◌≡◌, ◌++◌, IfOk, OnOk};
 ghost use Rattle.capture_reader.specs.Records.{entry_of};
-ghost use Rattle.bridge_unwrap.specs.Links.{ip_bytes};
 ghost use Rattle.bridge_json.specs.Judging.{HoldsNone, judged_fault, judged_ip};
 ghost use Rattle.bridge_json.specs.Members.{members_seen};
 ghost use Rattle.bridge_json.specs.Objects.{nanoseconds_of, record_line, record_members, with_judged, with_stamp};
@@ -9,15 +8,13 @@ ghost use Rattle.bridge_json.specs.Objects.{nanoseconds_of, record_line, record_
 use crate::objects::Object;
 use crate::packets::put_packet;
 use crate::skips::{Skip, ip_skip, skip_name};
-use bridge_unwrap::ip_start;
+use bridge_unwrap::{RAW_IP, ip_bytes};
 use capture_reader::Record;
 use dccp_packets::{Malformed, decode};
 use packet_show::carried;
 use seq_circle::NoMemory;
 use std::alloc::Global;
 use tool_text::malformed_name;
-
-const RAW_IP: u32 = 101;
 
 // The fraction of a time in nanoseconds.
 fn nanoseconds_of(nanos: bool, fraction: u32) -> u64
@@ -39,16 +36,6 @@ fn put_stamp(object: &mut Object, item: &Record<'_>) -> Result<(), NoMemory>
     object.number("nanoseconds", nanoseconds_of(item.nanos, item.fraction))?;
     object.number("link", u64::from(item.link))?;
     object.number("length", u64::from(item.original))
-}
-
-// The IP packet in a record, or no bytes where it has none.
-fn ip_bytes<'a>(link: u32, bytes: &'a [u8]) -> &'a [u8]
-    ensures { result.now ≡ ip_bytes link bytes.now }
-{
-    match ip_start(link, bytes) {
-        Some(start) => &bytes[start..],
-        None => &bytes[..0],
-    }
 }
 
 fn put_skip(object: &mut Object, skip: Skip) -> Result<(), NoMemory>

@@ -1,70 +1,32 @@
-//! `json`: a job over the pieces of a capture.
-ghost use Rattle.std.specs.Prelude.{◌≡◌, ◌≢◌, ◌+◌, ◌≤◌, ◌++◌, ℕ, List, false, length, IfOk, OnOk, Some};
-ghost use Rattle.bridge_records.specs.Reading.{bytes_held};
-ghost use Rattle.capture_reader.specs.Records.{entry_of};
-ghost use Rattle.dccp_io.specs.Counts.{Rose, one_more};
+//! `json`: a job over the records of a capture.
+ghost use Rattle.std.specs.Prelude.{◌≡◌, ◌≢◌, ◌++◌, ℕ, List, IfOk, OnOk, Some};
+ghost use Rattle.dccp_io.specs.Counts.{Rose};
 ghost use Rattle.tool_output.specs.Ends.{Answers, EndsForCause, SinkFails, StopsWithin};
 ghost use Rattle.bridge_json.specs.Members.{members_seen};
-ghost use Rattle.bridge_json.specs.Objects.{record_line};
-ghost use Rattle.bridge_json.specs.Telling.{fault_members, first_telling, is_json_faulty, json_closing, json_pieces, json_text, numbered_entry, telling_at};
+ghost use Rattle.bridge_json.specs.Telling.{fault_members, is_json_faulty, json_closing, json_pieces, json_text};
 
 use crate::judging::put_record;
 use crate::objects::Object;
-use bridge_pieces::{PieceFault, PieceJob, run_pieces};
-use bridge_records::{CaptureFile, Found};
+use bridge_pieces::PieceFault;
+use bridge_records::{RecordJob, run_records};
 use bridge_unwrap::fault_name;
 use capture_reader::Record;
-use capture_writer::RecordHeader;
 use dccp_io::{Sink, Source};
 use seq_circle::NoMemory;
 use std::alloc::Global;
 use std::marker::Model;
 use tool_output::Status;
 
-/// A capture while its records are told, whether their fractions are nanoseconds, and how many there were.
+/// Tells each record. Contracts see nothing of it.
 #[derive(Drop)]
 pub(crate) struct Telling {
     alloc: Global,
-    file: CaptureFile,
-    nanos: bool,
-    records: u64,
 }
 
 impl Model for Telling {
-    ghost use Rattle.bridge_json.specs.Telling.{JsonState};
+    ghost Value = { Unit {0} };
 
-    ghost Value = { JsonState };
-
-    ghost view = { λ t. record { file = t.file; nanos = t.nanos; records = t.records } };
-}
-
-// The bytes of a record in its piece.
-fn bytes_of<'a>(head: &RecordHeader, start: usize, piece: &'a [u8]) -> &'a [u8]
-    requires { start + head.now.captured ≤ length piece.now }
-    ensures { result.now ≡ bytes_held head.now start piece.now }
-{
-    &piece[start..start + head.captured as usize]
-}
-
-// A record of this number.
-fn numbered<'a>(
-    number: u64,
-    nanos: bool,
-    link: u32,
-    head: &RecordHeader,
-    bytes: &'a [u8],
-) -> Record<'a>
-    ensures { entry_of result ≡ numbered_entry number nanos link head.now bytes.now }
-{
-    Record {
-        number,
-        seconds: head.seconds,
-        fraction: head.fraction,
-        nanos,
-        link,
-        original: head.original,
-        bytes,
-    }
+    ghost view = { λ _. tt };
 }
 
 // The object of a fault, behind so many records.
@@ -90,86 +52,32 @@ fn put_fault(
     fault_object(alloc, records, fault)?.put_line(text)
 }
 
-impl Telling {
-    // Before the first piece.
-    fn new(alloc: Global) -> Telling
-        ensures { result ≡ first_telling }
-    {
-        Telling {
-            alloc,
-            file: CaptureFile::new(alloc),
-            nanos: false,
-            records: 0,
-        }
-    }
-
-    // Fractions are nanoseconds, or microseconds.
-    fn begin(&mut self, nanos: bool)
-        ensures { self.new ≡ telling_at self.old.file nanos self.old.records }
-    {
-        self.nanos = nanos;
-    }
-
-    // Tells one record more, whose bytes begin there in this piece.
-    fn tell(
-        &mut self,
-        link: u32,
-        head: &RecordHeader,
-        start: usize,
-        piece: &[u8],
-        text: &mut Vec<u8>,
-    ) -> Result<(), NoMemory>
-        requires { start + head.now.captured ≤ length piece.now }
-        ensures state { OnOk result (self.new ≡ telling_at self.old.file self.old.nanos (one_more self.old.records)) }
-        ensures text { OnOk result (text.new.items ≡ text.old.items
-            ++ record_line (numbered_entry (one_more self.old.records) self.old.nanos link head.now (bytes_held head.now start piece.now))) }
-    {
-        self.records = self.records.saturating_add(1);
-        let bytes = bytes_of(head, start, piece);
-        let item = numbered(self.records, self.nanos, link, head, bytes);
-        put_record(self.alloc, text, &item)
-    }
-}
-
-impl PieceJob for Telling {
+impl RecordJob for Telling {
     ghost use Rattle.capture_reader.specs.Records.{RecordParts};
     ghost use Rattle.bridge_json.specs.Telling.{json_work};
 
     ghost Deed = { RecordParts };
 
-    ghost job = { json_work };
+    ghost work = { json_work };
 
-    fn wanted(&self) -> usize {
-        self.file.wanted()
+    fn begin(&mut self, _nanos: bool, _text: &mut Vec<u8>) -> Result<(), NoMemory> {
+        Ok(())
     }
 
-    fn may_end(&self) -> bool {
-        self.file.may_end()
+    fn pass(&mut self, record: &Record<'_>, text: &mut Vec<u8>) -> Result<(), NoMemory> {
+        put_record(self.alloc, text, record)
     }
 
-    fn judge(
-        &mut self,
-        piece: &[u8],
+    fn finish(
+        &self,
+        _untold: bool,
+        records: u64,
+        end: Option<PieceFault>,
         text: &mut Vec<u8>,
-    ) -> Result<Result<(), PieceFault>, NoMemory> {
-        match self.file.read(piece)? {
-            Err(fault) => Ok(Err(fault)),
-            Ok(None) => Ok(Ok(())),
-            Ok(Some(Found::Begins(nanos))) => {
-                self.begin(nanos);
-                Ok(Ok(()))
-            }
-            Ok(Some(Found::Holds(link, head, start))) => {
-                self.tell(link, &head, start, piece, text)?;
-                Ok(Ok(()))
-            }
-        }
-    }
-
-    fn finish(&self, end: Option<PieceFault>, text: &mut Vec<u8>) -> Result<(), NoMemory> {
+    ) -> Result<(), NoMemory> {
         match end {
             None => Ok(()),
-            Some(fault) => put_fault(self.alloc, text, self.records, fault),
+            Some(fault) => put_fault(self.alloc, text, records, fault),
         }
     }
 }
@@ -196,6 +104,5 @@ pub fn json_records<S: Source, K: Sink>(alloc: Global, input: &mut S, output: &m
         → StopsWithin 524288 (json_pieces bytes).accepted bytes result (S.left input.new) }
     ensures cause { EndsForCause result (Rose (S.faults input.old) (S.faults input.new)) (SinkFails K.faults K.empty_takes output.old output.new) }
 {
-    let mut job = Telling::new(alloc);
-    run_pieces(alloc, &mut job, input, output)
+    run_records(alloc, Telling { alloc }, input, output)
 }

@@ -1,2 +1,4 @@
 pub mod Options
 pub mod Times
+pub mod Opening
+pub mod Passing

@@ -3,3 +3,4 @@ pub mod Blocks
 pub mod Interfaces
 pub mod Packets
 pub mod Reading
+pub mod Recording

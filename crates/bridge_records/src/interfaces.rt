@@ -123,43 +123,14 @@ pub(crate) fn needs_nanos(resolution: u8) -> bool
     }
 }
 
-// A power of ten that has at most 64 bits.
-fn power_of_ten(power: u8) -> u64
-    requires { power < 20 }
-    ensures value { result ≡ 10 ^ power }
-    ensures some { 0 < result }
-{
-    match power {
-        0 => 1,
-        1 => 10,
-        2 => 100,
-        3 => 1_000,
-        4 => 10_000,
-        5 => 100_000,
-        6 => 1_000_000,
-        7 => 10_000_000,
-        8 => 100_000_000,
-        9 => 1_000_000_000,
-        10 => 10_000_000_000,
-        11 => 100_000_000_000,
-        12 => 1_000_000_000_000,
-        13 => 10_000_000_000_000,
-        14 => 100_000_000_000_000,
-        15 => 1_000_000_000_000_000,
-        16 => 10_000_000_000_000_000,
-        17 => 100_000_000_000_000_000,
-        18 => 1_000_000_000_000_000_000,
-        _ => 10_000_000_000_000_000_000,
-    }
-}
-
 /// How many units a second has, if their number has at most 64 bits.
+#[tactic(auto, using(crate::proofs::Times::ten_fits))]
 pub(crate) fn units_of(resolution: u8) -> Option<u64>
     ensures value { result ≡ units_of resolution }
     ensures some { IfSome result (λ n. 0 < n) }
 {
     if resolution < 20 {
-        return Some(power_of_ten(resolution));
+        return Some(10_u64.pow(u32::from(resolution)));
     }
     if 128 <= resolution && resolution < 192 {
         return Some(1 << (resolution - 128));

@@ -44,10 +44,10 @@ pub(crate) enum Place {
     Rest(Order, BlockHead),
 }
 
-/// A capture while it is read, piece by piece (own). Contracts see which piece stands next, the interfaces of the
+/// A capture while it is read, piece by piece. Contracts see which piece stands next, the interfaces of the
 /// section, and what is known of fractions.
 #[derive(Drop)]
-pub struct CaptureFile {
+pub(crate) struct CaptureFile {
     place: Place,
     interfaces: Vec<Interface>,
     nanos: Option<bool>,
@@ -64,11 +64,11 @@ impl Model for CaptureFile {
 }
 
 /// What a piece holds, if anything, or why the capture is refused at it.
-pub type Answer = Result<Option<Found>, PieceFault>;
+pub(crate) type Answer = Result<Option<Found>, PieceFault>;
 
 impl CaptureFile {
     /// Before the first piece. It takes no memory.
-    pub fn new(alloc: Global) -> CaptureFile
+    pub(crate) fn new(alloc: Global) -> CaptureFile
         ensures { result ≡ first_file }
     {
         CaptureFile {
@@ -79,7 +79,7 @@ impl CaptureFile {
     }
 
     /// How many bytes the next piece has.
-    pub fn wanted(&self) -> usize
+    pub(crate) fn wanted(&self) -> usize
         ensures value { result ≡ spec.next_length self.now.place }
         ensures some { 1 ≤ result }
         ensures fits { result ≤ 524288 }
@@ -95,14 +95,14 @@ impl CaptureFile {
     }
 
     /// Tells whether the capture may end before the next piece.
-    pub fn may_end(&self) -> bool
+    pub(crate) fn may_end(&self) -> bool
         ensures { result ≡ spec.is_between self.now.place }
     {
         matches!(self.place, Place::Header(_) | Place::Block(_))
     }
 
     /// Tells whether blocks were read, and no interface among them, which would tell whether fractions are nanoseconds.
-    pub fn is_untold(&self) -> bool
+    pub(crate) fn is_untold(&self) -> bool
         ensures { result ≡ spec.is_untold self.now }
     {
         matches!(self.place, Place::Block(_)) && self.nanos.is_none()
@@ -110,7 +110,7 @@ impl CaptureFile {
 
     /// Reads the next piece. What it holds is answered, if it holds anything. A piece that is refused changes nothing.
     /// NoMemory comes where no memory was left for an interface.
-    pub fn read(&mut self, piece: &[u8]) -> Result<Answer, NoMemory>
+    pub(crate) fn read(&mut self, piece: &[u8]) -> Result<Answer, NoMemory>
         requires { length piece.now ≡ spec.next_length self.old.place }
         ensures { IfOk result (λ answer. ReadsPiece (file_judged self.old piece.now) piece.now self.old self.new answer) }
     {

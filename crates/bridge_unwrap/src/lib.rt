@@ -10,5 +10,5 @@ mod links;
 mod unwrapping;
 
 pub use crate::laws::{each_record_is_unwrapped, what_show_shows_stays};
-pub use crate::links::ip_start;
+pub use crate::links::{RAW_IP, ip_bytes};
 pub use crate::unwrapping::{fault_name, put_fault, unwrap_capture};

@@ -5,6 +5,9 @@ ghost use Rattle.bridge_unwrap.specs.Links as spec;
 
 use byteorder::{BigEndian, ByteOrder, LittleEndian};
 
+/// The link type of raw IP, which `unwrap` writes (the link-layer header types of libpcap).
+pub const RAW_IP: u32 = 101;
+
 // The types of Ethernet.
 const IPV4: u16 = 0x0800;
 
@@ -142,9 +145,8 @@ fn ip_in_null(bytes: &[u8]) -> Option<usize>
     }
 }
 
-/// Where the IP packet begins in a record of this link type, or None where it has none (the link-layer header types of
-/// libpcap; IEEE 802.1Q). Link types that are not known are taken for raw IP.
-pub fn ip_start(link: u32, bytes: &[u8]) -> Option<usize>
+/// Where the IP packet begins in a record of this link type, or None where it has none.
+pub(crate) fn ip_start(link: u32, bytes: &[u8]) -> Option<usize>
     ensures value { result ≡ spec.ip_start link bytes.now }
     ensures within { IfSome result (λ n. n < length bytes.now) }
 {
@@ -157,5 +159,16 @@ pub fn ip_start(link: u32, bytes: &[u8]) -> Option<usize>
         229 => ip_at(6, 0, bytes),
         276 => ip_by_type(0, 20, bytes),
         _ => ip_at_first(bytes),
+    }
+}
+
+/// The IP packet in a record of this link type, or no bytes where it has none (the link-layer header types of libpcap;
+/// IEEE 802.1Q). Link types that are not known are taken for raw IP.
+pub fn ip_bytes(link: u32, bytes: &[u8]) -> &[u8]
+    ensures { result.now ≡ spec.ip_bytes link bytes.now }
+{
+    match ip_start(link, bytes) {
+        Some(start) => &bytes[start..],
+        None => &[],
     }
 }

@@ -1,16 +1,16 @@
-//! `unwrap`: a job over the pieces of a capture.
-ghost use Rattle.std.specs.Prelude.{◌≡◌, ◌≢◌, ◌+◌, ◌≤◌, ◌++◌, ℕ, List, length, false, OnOk, Some};
-ghost use Rattle.bridge_records.specs.Reading.{bytes_held};
+//! `unwrap`: a job over the records of a capture.
+ghost use Rattle.std.specs.Prelude.{◌≡◌, ◌≢◌, ◌≤◌, ◌++◌, ℕ, List, length, false, OnOk, Some};
+ghost use Rattle.capture_reader.specs.Records.{entry_of};
 ghost use Rattle.capture_writer.specs.Writing.{header_for, raw_record};
-ghost use Rattle.dccp_io.specs.Counts.{Rose, one_more};
+ghost use Rattle.dccp_io.specs.Counts.{Rose};
 ghost use Rattle.tool_output.specs.Ends.{Answers, EndsForCause, SinkFails, StopsWithin};
 ghost use Rattle.bridge_unwrap.specs.Unwrapping as spec;
-ghost use Rattle.bridge_unwrap.specs.Unwrapping.{first_unwrapping, is_unwrapped_faulty, piece_fault_name, unwrap_closing, unwrap_work, unwrapped, unwrapped_pieces, unwrapped_text, unwrapping_at, untold_header};
+ghost use Rattle.bridge_unwrap.specs.Unwrapping.{is_unwrapped_faulty, piece_fault_name, unwrap_closing, unwrap_work, unwrapped_entry, unwrapped_pieces, unwrapped_text, untold_header};
 
 use crate::links::ip_start;
-use bridge_pieces::{PieceFault, PieceJob, run_pieces};
-use bridge_records::{CaptureFile, Found};
-use capture_reader::behind;
+use bridge_pieces::PieceFault;
+use bridge_records::{RecordJob, run_records};
+use capture_reader::{Record, behind};
 use capture_writer::{RecordHeader, put_file_header, put_record_header};
 use dccp_io::{Sink, Source};
 use seq_circle::NoMemory;
@@ -19,56 +19,48 @@ use std::marker::Model;
 use tool_output::Status;
 use tool_text::{put, put_counted};
 
-/// A capture while it is unwrapped, and how many records were made.
+/// Makes of each record one of raw IP.
 #[derive(Drop)]
-pub(crate) struct Unwrapping {
-    file: CaptureFile,
-    records: u64,
-}
+pub(crate) struct Unwrapping;
 
 impl Model for Unwrapping {
-    ghost use Rattle.bridge_unwrap.specs.Unwrapping.{UnwrapState};
+    ghost Value = { Unit {0} };
 
-    ghost Value = { UnwrapState };
-
-    ghost view = { λ u. record { file = u.file; records = u.records } };
+    ghost view = { λ _. tt };
 }
 
 // The header of the record that is made of one, whose packet begins there.
-fn header_behind(head: &RecordHeader, start: usize, bytes: &[u8]) -> RecordHeader
-    requires inside { start ≤ length bytes.now }
-    requires short { length bytes.now ≤ 262144 }
-    ensures { result ≡ header_for (spec.unwrapped_at head.now bytes.now (Some start)) }
+fn header_behind(record: &Record<'_>, start: usize) -> RecordHeader
+    requires inside { start ≤ length record.now.bytes.now }
+    requires short { length record.now.bytes.now ≤ 262144 }
+    ensures { result ≡ header_for (spec.unwrapped_at (entry_of record.now) (Some start)) }
 {
     RecordHeader {
-        captured: (bytes.len() - start) as u32,
-        original: head.original.saturating_sub(start as u32),
-        ..*head
+        seconds: record.seconds,
+        fraction: record.fraction,
+        captured: (record.bytes.len() - start) as u32,
+        original: record.original.saturating_sub(start as u32),
     }
 }
 
-// Puts the record that is made of one of this link type, with the bytes that were captured of it.
-#[tactic(auto, unfolding(crate::specs::Unwrapping::unwrapped))]
-fn put_unwrapped(
-    text: &mut Vec<u8>,
-    link: u32,
-    head: &RecordHeader,
-    bytes: &[u8],
-) -> Result<(), NoMemory>
-    requires { length bytes.now ≤ 262144 }
-    ensures { OnOk result (text.new.items ≡ text.old.items ++ raw_record (unwrapped link head.now bytes.now)) }
+// Puts the record that is made of one.
+#[tactic(auto, unfolding(crate::specs::Unwrapping::unwrapped_entry))]
+fn put_unwrapped(text: &mut Vec<u8>, record: &Record<'_>) -> Result<(), NoMemory>
+    requires { length record.now.bytes.now ≤ 262144 }
+    ensures { OnOk result (text.new.items ≡ text.old.items ++ raw_record (unwrapped_entry (entry_of record.now))) }
 {
-    let Some(start) = ip_start(link, bytes) else {
+    let Some(start) = ip_start(record.link, record.bytes) else {
         let empty = RecordHeader {
+            seconds: record.seconds,
+            fraction: record.fraction,
             captured: 0,
             original: 0,
-            ..*head
         };
         return put_record_header(text, &empty);
     };
-    let header = header_behind(head, start, bytes);
+    let header = header_behind(record, start);
     put_record_header(text, &header)?;
-    put(text, behind(bytes, start))?;
+    put(text, behind(record.bytes, start))?;
     Ok(())
 }
 
@@ -109,88 +101,31 @@ fn put_untold(text: &mut Vec<u8>, untold: bool) -> Result<(), NoMemory>
     Ok(())
 }
 
-// The bytes of a record in its piece.
-fn bytes_of<'a>(head: &RecordHeader, start: usize, piece: &'a [u8]) -> &'a [u8]
-    requires inside { start + head.now.captured ≤ length piece.now }
-    ensures value { result.now ≡ bytes_held head.now start piece.now }
-    ensures size { length result.now ≡ head.now.captured }
-{
-    &piece[start..start + head.captured as usize]
-}
-
-// Puts the record that is made of one whose bytes begin there in this piece.
-fn put_held(
-    text: &mut Vec<u8>,
-    link: u32,
-    head: &RecordHeader,
-    start: usize,
-    piece: &[u8],
-) -> Result<(), NoMemory>
-    requires inside { start + head.now.captured ≤ length piece.now }
-    requires short { head.now.captured ≤ 262144 }
-    ensures { OnOk result (text.new.items ≡ text.old.items ++ raw_record (unwrapped link head.now (bytes_held head.now start piece.now))) }
-{
-    put_unwrapped(text, link, head, bytes_of(head, start, piece))
-}
-
-impl Unwrapping {
-    // Before the first piece.
-    fn new(alloc: Global) -> Unwrapping
-        ensures { result ≡ first_unwrapping }
-    {
-        Unwrapping {
-            file: CaptureFile::new(alloc),
-            records: 0,
-        }
-    }
-
-    // One record more.
-    fn pass_record(&mut self)
-        ensures { self.new ≡ unwrapping_at self.old.file (one_more self.old.records) }
-    {
-        self.records = self.records.saturating_add(1);
-    }
-}
-
-impl PieceJob for Unwrapping {
+impl RecordJob for Unwrapping {
     ghost use Rattle.bridge_unwrap.specs.Unwrapping.{CapturePart, unwrap_work};
 
     ghost Deed = { CapturePart };
 
-    ghost job = { unwrap_work };
+    ghost work = { unwrap_work };
 
-    fn wanted(&self) -> usize {
-        self.file.wanted()
+    fn begin(&mut self, nanos: bool, text: &mut Vec<u8>) -> Result<(), NoMemory> {
+        put_file_header(text, nanos)
     }
 
-    fn may_end(&self) -> bool {
-        self.file.may_end()
+    fn pass(&mut self, record: &Record<'_>, text: &mut Vec<u8>) -> Result<(), NoMemory> {
+        put_unwrapped(text, record)
     }
 
-    fn judge(
-        &mut self,
-        piece: &[u8],
+    fn finish(
+        &self,
+        untold: bool,
+        records: u64,
+        end: Option<PieceFault>,
         text: &mut Vec<u8>,
-    ) -> Result<Result<(), PieceFault>, NoMemory> {
-        match self.file.read(piece)? {
-            Err(fault) => Ok(Err(fault)),
-            Ok(None) => Ok(Ok(())),
-            Ok(Some(Found::Begins(nanos))) => {
-                put_file_header(text, nanos)?;
-                Ok(Ok(()))
-            }
-            Ok(Some(Found::Holds(link, head, start))) => {
-                put_held(text, link, &head, start, piece)?;
-                self.pass_record();
-                Ok(Ok(()))
-            }
-        }
-    }
-
-    fn finish(&self, end: Option<PieceFault>, text: &mut Vec<u8>) -> Result<(), NoMemory> {
+    ) -> Result<(), NoMemory> {
         match end {
-            None => put_untold(text, self.file.is_untold()),
-            Some(fault) => put_fault(text, self.records, fault),
+            None => put_untold(text, untold),
+            Some(fault) => put_fault(text, records, fault),
         }
     }
 }
@@ -213,6 +148,5 @@ pub fn unwrap_capture<S: Source, K: Sink>(alloc: Global, input: &mut S, output: 
         → StopsWithin 524288 (unwrapped_pieces bytes).accepted bytes result (S.left input.new) }
     ensures cause { EndsForCause result (Rose (S.faults input.old) (S.faults input.new)) (SinkFails K.faults K.empty_takes output.old output.new) }
 {
-    let mut job = Unwrapping::new(alloc);
-    run_pieces(alloc, &mut job, input, output)
+    run_records(alloc, Unwrapping, input, output)
 }

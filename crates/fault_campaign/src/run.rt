@@ -71,7 +71,7 @@ impl Run {
     }
 
     /// Lets an event happen, and counts it (own); one that cannot happen changes nothing. NoMemory comes where there
-    /// was none for a frame. The counts have room for 2^61 events.
+    /// was none for a frame, and then nothing is said of the run. The counts have room for 2^61 events.
     #[tactic(auto, unfolding(crate::specs::Seeded::played))]
     pub fn play(&mut self, event: &Event) -> Result<(), NoMemory>
         requires { size self.old.report < 2 ^ 62 }

@@ -237,7 +237,5 @@ refusals! {
         NotNegotiated = NOT_NEGOTIATED, "the peer sends no Ack Vectors yet";
         /// As many packets are in flight as may be: offer the data again, or drop them.
         WindowFull = WINDOW_FULL, "as many packets are in flight as may be";
-        /// Does not come: no call of a flow takes memory.
-        NoMemory = NO_MEMORY, "no memory";
     }
 }

@@ -1,0 +1,89 @@
+-- What a job makes of the records of a capture, classic or pcapng (own).
+use Rattle.std.specs.Prelude.{ℕ, Bool, false, List, [], ◌∷◌, ◌++◌, Option, Some, None}
+use Rattle.capture_reader.specs.Records.{RecordParts}
+use Rattle.capture_writer.specs.declared.headers.RecordHeader.{RecordHeader}
+use Rattle.bridge_pieces.specs.Pieces.{Goes, Judgement, PieceWork, Stops, Taken, done_by, pieces_of}
+use Rattle.bridge_pieces.specs.declared.fault.PieceFault.{PieceFault}
+use Rattle.bridge_records.specs.Reading.{FileState, bytes_held, file_judged, first_file, is_between, is_untold, next_length}
+use Rattle.bridge_records.specs.declared.found.Found.{Found}
+use Rattle.bridge_records.specs.declared.found.Found.TheVariants as found
+use Rattle.dccp_io.specs.Counts.{one_more}
+
+-- What the beginning of a capture or a record comes to: what a job does of it, if it does anything, and its state
+-- behind it.
+pub record RecordStep (P V : Type 0) : Type 0 where
+  pub deed : Option P
+  pub next : V
+
+-- A job over the records of a capture: what it does where the capture begins, whose fractions are nanoseconds or
+-- microseconds, and what with a record; the text of what it does; and the text behind the last of so many records, at
+-- the end of a capture that told of its fractions or did not, or for a fault.
+pub record RecordWork (P V : Type 0) : Type 0 where
+  pub begun : V → Bool → RecordStep P V
+  pub passed : V → RecordParts → RecordStep P V
+  pub told : P → List ℕ
+  pub closing : Bool → ℕ → Option PieceFault → List ℕ
+
+-- Where reading stands, whether fractions are nanoseconds, how many records came, and the job's state. (No capture has
+-- so many that their count would stay at its end.)
+pub record RecordsState (V : Type 0) : Type 0 where
+  pub file : FileState
+  pub nanos : Bool
+  pub records : ℕ
+  pub job : V
+
+-- where reading stands then, behind so many records
+abbrev pub reading_at : {V : Type 0} → FileState → Bool → ℕ → V → RecordsState V
+reading_at file nanos records job = record { file = file; nanos = nanos; records = records; job = job }
+
+-- before the first piece
+abbrev pub first_reading : {V : Type 0} → V → RecordsState V
+first_reading job = reading_at first_file false 0 job
+
+-- a record of this number and link type, with its bytes
+abbrev pub numbered_entry : ℕ → Bool → ℕ → RecordHeader → List ℕ → RecordParts
+numbered_entry number nanos link head bytes =
+    record { number = number; seconds = head.seconds; fraction = head.fraction; nanos = nanos; link = link; original = head.original; bytes = bytes }
+
+-- what a job makes of a record whose bytes begin there in this piece, which is one more
+abbrev pub held_passed : {P V : Type 0} → RecordWork P V → RecordsState V → ℕ → RecordHeader → ℕ → List ℕ → RecordStep P V
+held_passed work s link head start piece =
+    work.passed s.job (numbered_entry (one_more s.records) s.nanos link head (bytes_held head start piece))
+
+-- the job goes on from there
+abbrev pub goes_from : {P V : Type 0} → FileState → Bool → ℕ → RecordStep P V → Judgement P (RecordsState V)
+goes_from file nanos records passed = Goes passed.deed (reading_at file nanos records passed.next)
+
+-- what a piece holds is handed to the job
+abbrev pub by_found : {P V : Type 0} → RecordWork P V → RecordsState V → List ℕ → FileState → Option Found → Judgement P (RecordsState V)
+by_found work s piece next None = Goes None (reading_at next s.nanos s.records s.job)
+by_found work s piece next (Some (found.Begins nanos)) = goes_from next nanos s.records (work.begun s.job nanos)
+by_found work s piece next (Some (found.Holds link head start)) = goes_from next s.nanos (one_more s.records) (held_passed work s link head start piece)
+
+-- what a piece comes to, by what it is in the capture that is read
+abbrev pub by_judged : {P V : Type 0} → RecordWork P V → RecordsState V → List ℕ → Judgement Found FileState → Judgement P (RecordsState V)
+by_judged work s piece (Stops fault) = Stops fault
+by_judged work s piece (Goes deed next) = by_found work s piece next deed
+
+-- A job over records as one over the pieces that hold them.
+abbrev pub records_work : {P V : Type 0} → RecordWork P V → PieceWork P (RecordsState V)
+records_work work = record {
+  wanted = λ s. next_length s.file.place;
+  may_end = λ s. is_between s.file.place;
+  judged = λ s piece. by_judged work s piece (file_judged s.file piece);
+  told = work.told;
+  closing = λ s end. work.closing (is_untold s.file) s.records end;
+}
+
+-- What the records of an input come to, from the job's first state.
+abbrev pub records_of : {P V : Type 0} → RecordWork P V → V → List ℕ → Taken P (RecordsState V)
+records_of work first input = pieces_of (records_work work) (first_reading first) input
+
+-- what a job does with these records, one behind the other
+abbrev pub deeds_along : {P V : Type 0} → RecordWork P V → V → List RecordParts → List P
+deeds_along work job [] = []
+deeds_along work job (entry ∷ entries) = done_by (work.passed job entry).deed ++ deeds_along work (work.passed job entry).next entries
+
+-- what it does with a capture of them, whose fractions are nanoseconds or microseconds
+abbrev pub deeds_from : {P V : Type 0} → RecordWork P V → V → Bool → List RecordParts → List P
+deeds_from work first nanos entries = done_by (work.begun first nanos).deed ++ deeds_along work (work.begun first nanos).next entries
