@@ -33,6 +33,16 @@ impl Streams {
             taken: most,
         }
     }
+
+    /// Of seven bytes a call, of which the read or the write with this number fails.
+    pub(crate) fn failing(read: Option<u64>, write: Option<u64>) -> Streams {
+        Streams {
+            failing_read: read,
+            failing_write: write,
+            given: 7,
+            taken: 7,
+        }
+    }
 }
 
 /// How a call ended, all that it wrote, and how many of its reads and writes failed.
@@ -72,7 +82,8 @@ pub(crate) fn parts_of(case: &str) -> Option<(&str, &str, Status, &str)> {
     Some((words, input, status_of(status)?, text))
 }
 
-fn words_in(alloc: Global, line: &str) -> Result<Vec<String>, Fail> {
+/// Words that are parted by commas.
+pub(crate) fn words_in(alloc: Global, line: &str) -> Result<Vec<String>, Fail> {
     let mut words = Vec::new(alloc);
     if line.is_empty() {
         return Ok(words);
@@ -91,13 +102,13 @@ fn none_or_one(alloc: Global, number: Option<u64>) -> Result<Vec<u64>, Fail> {
     Ok(numbers)
 }
 
-fn source(alloc: Global, streams: &Streams, bytes: &[u8]) -> Result<MemorySource, Fail> {
+pub(crate) fn source(alloc: Global, streams: &Streams, bytes: &[u8]) -> Result<MemorySource, Fail> {
     let bytes = bytes.to_vec(alloc)?;
     let failing = none_or_one(alloc, streams.failing_read)?;
     Ok(MemorySource::new(bytes, failing, streams.given.max(1)))
 }
 
-fn sink(alloc: Global, streams: &Streams) -> Result<MemorySink, Fail> {
+pub(crate) fn sink(alloc: Global, streams: &Streams) -> Result<MemorySink, Fail> {
     let failing = none_or_one(alloc, streams.failing_write)?;
     let sink = MemorySink::new(alloc, failing, streams.taken, ROOM);
     Ok(sink.ok().ok_or("no memory")?)
@@ -196,8 +207,8 @@ pub(crate) fn cases_come_in_pieces<R: Threads + Sync>(
     alloc: Global,
     cases: &str,
 ) -> Result<(), Fail> {
-    for most in [1, 7, 4096] {
-        cases_come(rt, alloc, most, cases)?;
+    for most in &[1, 7, 4096] {
+        cases_come(rt, alloc, *most, cases)?;
     }
     Ok(())
 }

@@ -137,16 +137,6 @@ fn input_of(alloc: Global, words: &str, input: &str) -> Result<Vec<u8>, Fail> {
     }
 }
 
-// Seven bytes a call, of which the read or the write with this number fails.
-fn failing(read: Option<u64>, write: Option<u64>) -> Streams {
-    Streams {
-        failing_read: read,
-        failing_write: write,
-        given: 7,
-        taken: 7,
-    }
-}
-
 // Whether a call ends as it has to over these streams, and whether one of their calls failed.
 fn holds_over<R: Threads + Sync>(
     rt: &R,
@@ -169,9 +159,9 @@ fn holds_in_turn<R: Threads + Sync>(
 ) -> Result<bool, Fail> {
     for number in 1..MOST_CALLS {
         let streams = if of_reads {
-            failing(Some(number), None)
+            Streams::failing(Some(number), None)
         } else {
-            failing(None, Some(number))
+            Streams::failing(None, Some(number))
         };
         let (holds, failed) = holds_over(rt, alloc, form, &streams)?;
         if !holds || !failed {

@@ -1,7 +1,9 @@
-//! The tests of campaign_claims, fault_campaign and dccp_command, on their public calls. They stand in a crate of their
-//! own since a crate with tests is proved twice, with them and without.
+//! The tests of campaign_claims, fault_campaign, dccp_command and bridge_command, on their public calls. They stand in
+//! a crate of their own since a crate with tests is proved twice, with them and without.
 #![tactic(auto)]
 
+#[cfg(test)]
+mod bridge;
 #[cfg(test)]
 mod calls;
 #[cfg(test)]

@@ -318,12 +318,10 @@ fn is_shown<R: Threads + Sync>(
 
 #[test]
 fn capture_of_one_packet(rt: HostRuntime) -> Result<(), Fail> {
-    for most in [1, 7, 4096] {
+    for most in &[1, 7, 4096] {
         let whole = (Status::Done, ONE_RECORD);
-        assert!(rt;
-            is_shown(&rt, rt.alloc(), &Streams::of(most), 1, whole)?,
-            "{most} bytes a call"
-        );
+        let shown = is_shown(&rt, rt.alloc(), &Streams::of(*most), 1, whole)?;
+        assert!(rt; shown, "{most} bytes a call");
     }
     Ok(())
 }

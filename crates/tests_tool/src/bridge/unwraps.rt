@@ -1,7 +1,6 @@
 //! A capture of the "any" device of Linux, unwrapped in pieces of any length and over streams that fail; and what is
 //! refused.
-use crate::calls::{Streams, comes, is_cut_off, is_refused};
-use bridge_command::Status;
+use crate::bridge::calls::{Cut, comes_in_pieces, cuts_are_refused, failures_are_told};
 use std::test::Fail;
 
 // Link type 276, the least significant byte first: IPv4 behind the header of the device, ARP, IPv6 behind a VLAN tag,
@@ -26,16 +25,10 @@ const RAW: &[u8] =
 
 #[test]
 fn records_of_the_any_device(rt: HostRuntime) -> Result<(), Fail> {
-    for most in [1, 7, 4096] {
-        let done = (Status::Done, RAW);
-        let unwraps = comes(rt.alloc(), &Streams::of(most), ("unwrap", ANY), done)?;
-        assert!(rt; unwraps, "{most} bytes a call");
-    }
-    Ok(())
+    comes_in_pieces(rt.alloc(), ("unwrap", ANY), RAW)
 }
 
-// Where the input is cut, the records that are written before, and the line behind them.
-const CUT: [(usize, usize, &str); 5] = [
+const CUT: [Cut; 5] = [
     (0, 0, "capture CutShort after record 0\n"),
     (23, 0, "capture CutShort after record 0\n"),
     (39, 24, "capture CutShort after record 0\n"),
@@ -45,40 +38,10 @@ const CUT: [(usize, usize, &str); 5] = [
 
 #[test]
 fn captures_that_are_cut(rt: HostRuntime) -> Result<(), Fail> {
-    for (size, written, line) in CUT {
-        let refused = is_refused(
-            rt.alloc(),
-            7,
-            ("unwrap", &ANY[..size]),
-            (RAW, written),
-            line,
-        )?;
-        assert!(rt; refused, "{size} bytes");
-    }
-    Ok(())
+    cuts_are_refused(rt.alloc(), ("unwrap", ANY), RAW, &CUT)
 }
 
 #[test]
 fn failing_streams_of_unwrap(rt: HostRuntime) -> Result<(), Fail> {
-    let read = (Status::Read, RAW);
-    assert!(rt;
-        is_cut_off(
-            rt.alloc(),
-            &Streams::failing_read(12),
-            ("unwrap", ANY),
-            read
-        )?,
-        "a read"
-    );
-    let write = (Status::Write, RAW);
-    assert!(rt;
-        is_cut_off(
-            rt.alloc(),
-            &Streams::failing_write(2),
-            ("unwrap", ANY),
-            write
-        )?,
-        "a write"
-    );
-    Ok(())
+    failures_are_told(rt.alloc(), ("unwrap", ANY), RAW, (&[12], &[2]))
 }

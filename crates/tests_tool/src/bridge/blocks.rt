@@ -1,5 +1,6 @@
 //! A pcapng file of two sections, unwrapped in pieces of any length, and what is refused in one.
-use crate::calls::{Streams, comes, is_refused};
+use crate::bridge::calls::{Wanted, comes, comes_in_pieces};
+use crate::calls::Streams;
 use bridge_command::Status;
 use std::alloc::Global;
 use std::test::Fail;
@@ -37,22 +38,11 @@ const SECTION: usize = 32;
 
 const FILE_HEADER: usize = 24;
 
-fn unwraps(alloc: Global, most: usize, input: &[u8], records: &[u8]) -> Result<bool, Fail> {
-    let done = (Status::Done, records);
-    comes(alloc, &Streams::of(most), ("unwrap", input), done)
-}
-
 #[test]
 fn blocks_of_two_sections(rt: HostRuntime) -> Result<(), Fail> {
-    for most in [1, 7, 4096] {
-        assert!(rt;
-            unwraps(rt.alloc(), most, BLOCKS, RECORDS)?,
-            "{most} bytes a call"
-        );
-    }
-    let none = unwraps(rt.alloc(), 7, &BLOCKS[..SECTION], &RECORDS[..FILE_HEADER])?;
-    assert!(rt; none, "no interface");
-    Ok(())
+    comes_in_pieces(rt.alloc(), ("unwrap", BLOCKS), RECORDS)?;
+    let no_interface = ("unwrap", &BLOCKS[..SECTION]);
+    comes_in_pieces(rt.alloc(), no_interface, &RECORDS[..FILE_HEADER])
 }
 
 // A place in the blocks, the byte that stands there instead, how much is written before it is refused, and the line
@@ -86,22 +76,20 @@ fn changed(alloc: Global, bytes: &[u8], place: usize, byte: u8) -> Result<Vec<u8
 
 fn refuses(
     alloc: Global,
-    place: usize,
-    byte: u8,
+    (place, byte): (usize, u8),
     written: usize,
-    line: &str,
+    line: &'static str,
 ) -> Result<bool, Fail> {
     let input = changed(alloc, BLOCKS, place, byte)?;
-    is_refused(alloc, 4096, ("unwrap", &input), (RECORDS, written), line)
+    let wanted = Wanted::Refusal(RECORDS, written, line);
+    comes(alloc, &Streams::of(4096), ("unwrap", &input), &wanted)
 }
 
 #[test]
 fn refused_blocks(rt: HostRuntime) -> Result<(), Fail> {
-    for (place, byte, written, line) in REFUSED {
-        assert!(rt;
-            refuses(rt.alloc(), place, byte, written, line)?,
-            "{place}: {line}"
-        );
+    for (place, byte, written, line) in &REFUSED {
+        let refused = refuses(rt.alloc(), (*place, *byte), *written, *line)?;
+        assert!(rt; refused, "{place}: {line}");
     }
     Ok(())
 }

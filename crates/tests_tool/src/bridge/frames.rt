@@ -1,6 +1,9 @@
 //! A captured connection as the lines of replays, in pieces of any length and over streams that fail; and what is
 //! refused.
-use crate::calls::{Streams, comes, is_cut_off, is_refused};
+use crate::bridge::calls::{
+    Cut, Wanted, all_come, comes, comes_in_pieces, cuts_are_refused, failures_are_told,
+};
+use crate::calls::Streams;
 use bridge_command::Status;
 use std::alloc::Global;
 use std::test::Fail;
@@ -66,16 +69,8 @@ const CLIENT: &str = "frames,--side,client,--flow,1";
 
 #[test]
 fn frames_of_a_capture(rt: HostRuntime) -> Result<(), Fail> {
-    for most in [1, 7, 4096] {
-        let streams = Streams::of(most);
-        let server = (Status::Done, TO_SERVER);
-        let frames = comes(rt.alloc(), &streams, (SERVER, CAPTURE), server)?;
-        assert!(rt; frames, "the server, {most} bytes a call");
-        let client = (Status::Done, TO_CLIENT);
-        let frames = comes(rt.alloc(), &streams, (CLIENT, CAPTURE), client)?;
-        assert!(rt; frames, "the client, {most} bytes a call");
-    }
-    Ok(())
+    comes_in_pieces(rt.alloc(), (SERVER, CAPTURE), TO_SERVER)?;
+    comes_in_pieces(rt.alloc(), (CLIENT, CAPTURE), TO_CLIENT)
 }
 
 // Of the other flow nothing goes to the client, and a third one isn't there.
@@ -86,16 +81,11 @@ const NOTHING: [&str; 2] = [
 
 #[test]
 fn flows_without_frames(rt: HostRuntime) -> Result<(), Fail> {
-    for words in NOTHING {
-        let nothing = (Status::Done, b"".as_slice());
-        let none = comes(rt.alloc(), &Streams::of(7), (words, CAPTURE), nothing)?;
-        assert!(rt; none, "{words}");
-    }
-    Ok(())
+    let nothing = Wanted::Whole(Status::Done, b"");
+    all_come(rt.alloc(), &Streams::of(7), (&NOTHING, CAPTURE), &nothing)
 }
 
-// Where the input is cut, how much of the server's lines is written before, and the line behind that.
-const CUT: [(usize, usize, &str); 4] = [
+const CUT: [Cut; 4] = [
     (0, 0, "capture CutShort after record 0\n"),
     (39, 0, "capture CutShort after record 0\n"),
     (81, 134, "capture CutShort after record 1\n"),
@@ -104,25 +94,12 @@ const CUT: [(usize, usize, &str); 4] = [
 
 #[test]
 fn cut_captures_of_frames(rt: HostRuntime) -> Result<(), Fail> {
-    for (size, written, line) in CUT {
-        let input = &CAPTURE[..size];
-        let refused = is_refused(rt.alloc(), 7, (SERVER, input), (TO_SERVER, written), line)?;
-        assert!(rt; refused, "{size} bytes");
-    }
-    Ok(())
+    cuts_are_refused(rt.alloc(), (SERVER, CAPTURE), TO_SERVER, &CUT)
 }
 
 #[test]
 fn failing_streams_of_frames(rt: HostRuntime) -> Result<(), Fail> {
-    let read = (Status::Read, TO_SERVER);
-    let streams = Streams::failing_read(40);
-    let cut = is_cut_off(rt.alloc(), &streams, (SERVER, CAPTURE), read)?;
-    assert!(rt; cut, "a read");
-    let write = (Status::Write, TO_SERVER);
-    let streams = Streams::failing_write(2);
-    let cut = is_cut_off(rt.alloc(), &streams, (SERVER, CAPTURE), write)?;
-    assert!(rt; cut, "a write");
-    Ok(())
+    failures_are_told(rt.alloc(), (SERVER, CAPTURE), TO_SERVER, (&[40], &[2]))
 }
 
 // The file header, and a Data packet of the size that its IP header says, all but the zeros of its data.
@@ -143,13 +120,14 @@ fn with_zeros(alloc: Global, bytes: &[u8], count: usize) -> Result<Vec<u8>, Fail
     Ok(input)
 }
 
+const NO_FRAME: &[u8] =
+    b"# 1 1.000000 flow 1 192.0.2.1 7000 > 192.0.2.2 33 Data seq 7 data 2029 sum wrong\n# no frame: FrameTooLong\n";
+
 #[test]
 fn a_packet_too_long_for_a_frame(rt: HostRuntime) -> Result<(), Fail> {
     let input = with_zeros(rt.alloc(), LONG, ZEROS)?;
-    let lines =
-        b"# 1 1.000000 flow 1 192.0.2.1 7000 > 192.0.2.2 33 Data seq 7 data 2029 sum wrong\n# no frame: FrameTooLong\n";
-    let refused = (Status::Done, lines.as_slice());
-    let none = comes(rt.alloc(), &Streams::of(4096), (SERVER, &input), refused)?;
-    assert!(rt; none);
+    let refused = Wanted::Whole(Status::Done, NO_FRAME);
+    let told = comes(rt.alloc(), &Streams::of(4096), (SERVER, &input), &refused)?;
+    assert!(rt; told);
     Ok(())
 }

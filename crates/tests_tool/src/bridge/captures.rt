@@ -1,5 +1,6 @@
 //! Transcripts as captures: worked bytes, streams in pieces and streams that fail, and what is refused.
-use crate::calls::{Streams, USAGE, comes, is_cut_off, is_refused};
+use crate::bridge::calls::{USAGE, Wanted, all_come, comes, comes_in_pieces, failures_are_told};
+use crate::calls::Streams;
 use bridge_command::Status;
 use std::alloc::Global;
 use std::test::Fail;
@@ -35,17 +36,7 @@ const FILE_HEADER: usize = 24;
 
 #[test]
 fn frames_of_a_transcript(rt: HostRuntime) -> Result<(), Fail> {
-    for most in [1, 7, 4096] {
-        let done = (Status::Done, CAPTURE);
-        let told = comes(
-            rt.alloc(),
-            &Streams::of(most),
-            ("capture", TRANSCRIPT),
-            done,
-        )?;
-        assert!(rt; told, "{most} bytes a call");
-    }
-    Ok(())
+    comes_in_pieces(rt.alloc(), ("capture", TRANSCRIPT), CAPTURE)
 }
 
 // Lines, and the refusal of each behind the file header.
@@ -65,40 +56,35 @@ const REFUSED: [(&str, &str); 13] = [
     (" 1 open: ok", "line 1 column 1: Missing\n"),
 ];
 
-fn refuses(alloc: Global, line: &str, refusal: &str) -> Result<bool, Fail> {
-    let header = (CAPTURE, FILE_HEADER);
-    is_refused(alloc, 4096, ("capture", line.as_bytes()), header, refusal)
+fn refuses(alloc: Global, line: &str, refusal: &'static str) -> Result<bool, Fail> {
+    let call = ("capture", line.as_bytes());
+    let wanted = Wanted::Refusal(CAPTURE, FILE_HEADER, refusal);
+    comes(alloc, &Streams::of(4096), call, &wanted)
 }
 
 #[test]
 fn refused_lines_of_transcripts(rt: HostRuntime) -> Result<(), Fail> {
-    for (line, refusal) in REFUSED {
-        assert!(rt; refuses(rt.alloc(), line, refusal)?, "{line}");
+    for (line, refusal) in &REFUSED {
+        assert!(rt; refuses(rt.alloc(), line, *refusal)?, "{line}");
     }
     Ok(())
 }
+
+const OTHER_WORDS: [&str; 5] = ["", "walk", "Capture", "capture,capture", "show"];
 
 #[test]
 fn other_words_of_the_bridge(rt: HostRuntime) -> Result<(), Fail> {
-    for words in ["", "walk", "Capture", "capture,capture", "show"] {
-        let usage = (Status::Words, USAGE);
-        let told = comes(rt.alloc(), &Streams::of(7), (words, TRANSCRIPT), usage)?;
-        assert!(rt; told, "{words}");
-    }
-    Ok(())
-}
-
-fn fails(alloc: Global, streams: &Streams, status: Status) -> Result<bool, Fail> {
-    is_cut_off(alloc, streams, ("capture", TRANSCRIPT), (status, CAPTURE))
+    let usage = Wanted::Whole(Status::Words, USAGE);
+    all_come(
+        rt.alloc(),
+        &Streams::of(7),
+        (&OTHER_WORDS, TRANSCRIPT),
+        &usage,
+    )
 }
 
 #[test]
 fn failing_streams_of_the_bridge(rt: HostRuntime) -> Result<(), Fail> {
-    for number in [1, 2, 30] {
-        let read = fails(rt.alloc(), &Streams::failing_read(number), Status::Read)?;
-        assert!(rt; read, "read {number}");
-        let write = fails(rt.alloc(), &Streams::failing_write(number), Status::Write)?;
-        assert!(rt; write, "write {number}");
-    }
-    Ok(())
+    let call = ("capture", TRANSCRIPT);
+    failures_are_told(rt.alloc(), call, CAPTURE, (&[1, 2, 30], &[1, 2, 30]))
 }

@@ -1,8 +1,16 @@
 //! Schedules of seeds: worked texts, a sink that fails, and what is refused.
-use crate::calls::{Streams, USAGE, comes, is_cut_off};
+use crate::bridge::calls::{USAGE, Wanted, all_come, failures_are_told};
+use crate::calls::Streams;
 use bridge_command::Status;
-use std::alloc::Global;
 use std::test::Fail;
+
+// The first read would fail.
+const UNREAD: Streams = Streams {
+    failing_read: Some(1),
+    failing_write: None,
+    given: 4096,
+    taken: 4096,
+};
 
 // Words, and the schedule that a model apart draws: of one event; with data and a list for each end; with frames of
 // both ends and a timer; of the greatest seed, with its words in other orders.
@@ -31,16 +39,11 @@ prefer client here 1 2,248\ndeliver c0\ndeliver s0\ndeliver s0\ndeliver s0\n",
     ),
 ];
 
-// Nothing is read of the input.
-fn answers(alloc: Global, words: &str, answer: (Status, &[u8])) -> Result<bool, Fail> {
-    comes(alloc, &Streams::of(4096), (words, b"unread"), answer)
-}
-
 #[test]
 fn schedules_of_seeds(rt: HostRuntime) -> Result<(), Fail> {
-    for (words, schedule) in SCHEDULES {
-        let told = answers(rt.alloc(), words, (Status::Done, schedule.as_bytes()))?;
-        assert!(rt; told, "{words}");
+    for (words, schedule) in &SCHEDULES {
+        let wanted = Wanted::Whole(Status::Done, schedule.as_bytes());
+        all_come(rt.alloc(), &UNREAD, (&[*words], b"unread"), &wanted)?;
     }
     Ok(())
 }
@@ -64,21 +67,17 @@ const REFUSED: [&str; 14] = [
 
 #[test]
 fn refused_words_of_seeds(rt: HostRuntime) -> Result<(), Fail> {
-    for words in REFUSED {
-        let told = answers(rt.alloc(), words, (Status::Words, USAGE))?;
-        assert!(rt; told, "{words}");
-    }
-    Ok(())
+    let usage = Wanted::Whole(Status::Words, USAGE);
+    all_come(rt.alloc(), &UNREAD, (&REFUSED, b"unread"), &usage)
 }
 
 #[test]
 fn schedule_for_a_sink_that_fails(rt: HostRuntime) -> Result<(), Fail> {
     let (words, schedule) = SCHEDULES[2];
-    for number in [1, 9] {
-        let sink = Streams::failing_write(number);
-        let whole = (Status::Write, schedule.as_bytes());
-        let cut = is_cut_off(rt.alloc(), &sink, (words, b""), whole)?;
-        assert!(rt; cut, "write {number}");
-    }
-    Ok(())
+    failures_are_told(
+        rt.alloc(),
+        (words, b""),
+        schedule.as_bytes(),
+        (&[], &[1, 9]),
+    )
 }

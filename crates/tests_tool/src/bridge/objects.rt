@@ -1,7 +1,6 @@
 //! The records of a capture as objects, in pieces of any length and over a source that fails; and a capture that is
 //! cut.
-use crate::calls::{Streams, comes, is_cut_off, is_refused};
-use bridge_command::Status;
+use crate::bridge::calls::{Cut, comes_in_pieces, cuts_are_refused, failures_are_told};
 use std::test::Fail;
 
 // Ethernet: a DataAck of short numbers with an option, over IPv4; a Reset over IPv6 behind a VLAN tag, whose checksum
@@ -42,16 +41,10 @@ const OBJECTS: &[u8] =
 
 #[test]
 fn objects_of_records(rt: HostRuntime) -> Result<(), Fail> {
-    for most in [1, 7, 4096] {
-        let done = (Status::Done, OBJECTS);
-        let told = comes(rt.alloc(), &Streams::of(most), ("json", RECORDS), done)?;
-        assert!(rt; told, "{most} bytes a call");
-    }
-    Ok(())
+    comes_in_pieces(rt.alloc(), ("json", RECORDS), OBJECTS)
 }
 
-// Where the input is cut, how much is told before that, and the object behind it.
-const CUT: [(usize, usize, &str); 3] = [
+const CUT: [Cut; 3] = [
     (0, 0, "{\"fault\":\"CutShort\",\"records\":0}\n"),
     (98, 0, "{\"fault\":\"CutShort\",\"records\":0}\n"),
     (360, 849, "{\"fault\":\"CutShort\",\"records\":4}\n"),
@@ -59,22 +52,10 @@ const CUT: [(usize, usize, &str); 3] = [
 
 #[test]
 fn captures_that_are_cut_as_objects(rt: HostRuntime) -> Result<(), Fail> {
-    for (size, told, last) in CUT {
-        let input = RECORDS.get(..size).unwrap_or(RECORDS);
-        let refused = is_refused(rt.alloc(), 7, ("json", input), (OBJECTS, told), last)?;
-        assert!(rt; refused, "{size} bytes");
-    }
-    Ok(())
+    cuts_are_refused(rt.alloc(), ("json", RECORDS), OBJECTS, &CUT)
 }
 
 #[test]
 fn failing_streams_of_json(rt: HostRuntime) -> Result<(), Fail> {
-    let call = ("json", RECORDS);
-    let read = (Status::Read, OBJECTS);
-    let fails = is_cut_off(rt.alloc(), &Streams::failing_read(20), call, read)?;
-    assert!(rt; fails, "a read");
-    let write = (Status::Write, OBJECTS);
-    let fails = is_cut_off(rt.alloc(), &Streams::failing_write(2), call, write)?;
-    assert!(rt; fails, "a write");
-    Ok(())
+    failures_are_told(rt.alloc(), ("json", RECORDS), OBJECTS, (&[20], &[2]))
 }

@@ -1,0 +1,8 @@
+//! The second tool: its forms over streams in memory.
+mod blocks;
+mod calls;
+mod captures;
+mod frames;
+mod objects;
+mod seeds;
+mod unwraps;
