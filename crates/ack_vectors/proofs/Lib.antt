@@ -1,5 +1,6 @@
 pub mod ByRuns
 pub mod Coded
+pub mod Near
 pub mod Options
 pub mod Pieces
 pub mod ReadBack

@@ -1,4 +1,5 @@
 pub mod ByRuns
 pub mod Coding
 pub mod Kept
+pub mod Near
 pub mod Vector

@@ -1,9 +1,10 @@
 //! What was received, and the records of sent vectors.
-ghost use Rattle.std.specs.Prelude.{◌≡◌, ◌≢◌, ◌≤◌, IfOk, IsTrue, ◌↔◌, is_some, length};
+ghost use Rattle.std.specs.Prelude.{◌≡◌, ◌≢◌, ◌≤◌, ◌<◌, ◌+◌, ◌^◌, ℕ, [], ◌∷◌, ◌++◌, IfOk, IsTrue, ◌↔◌, is_some, length};
 ghost use Rattle.std.specs.Bool.{OnFalse};
 ghost use Rattle.std.specs.List.{list_any};
 ghost use Rattle.run_list.specs.MarkedSet.{has, answer_to, IsFrom, IsSound};
 ghost use Rattle.ack_vectors.specs.Kept.{Kept, fresh, marked_by, recorded, acked, is_whole_at, newest_whole};
+ghost use Rattle.ack_vectors.specs.Near.{record_numbers, AreNear};
 ghost use Rattle.ack_vectors.specs.Vector.{vector_under, is_whole_under, room_of};
 
 use crate::room::{VectorBytes, Vectors, room_of};
@@ -38,17 +39,19 @@ pub struct Record {
 pub struct Received {
     set: RunList,
     records: HeapCircularBuffer<Record>,
+    // Below 2^48, no record's number is more steps up from that of an earlier one.
+    span: u64,
 }
 
 impl Model for Received {
-    ghost use Rattle.std.specs.Prelude.{◌≡◌};
     ghost use Rattle.ack_vectors.specs.Kept.{Kept};
+    ghost use Rattle.ack_vectors.specs.Near.{KeptInvariant};
 
     ghost Value = { Kept };
 
     ghost view = { λ r. record { set = r.set; records = r.records.items } };
 
-    ghost invariant = { λ r. r.records.capacity ≡ 64 };
+    ghost invariant = { λ r. KeptInvariant r.records.items r.records.capacity r.span };
 }
 
 // The record is of a whole vector under the number.
@@ -58,8 +61,10 @@ fn is_whole_at(sent: &Record, n: Seq48) -> bool
     sent.number == n && sent.whole
 }
 
-// The newest record of a whole vector under the number. What the peer acknowledges is mostly one of the last.
-fn newest_whole(records: &HeapCircularBuffer<Record>, n: Seq48) -> Option<Record>
+// The newest record of a whole vector under the number. What the peer acknowledges is mostly the last of them, or data
+// that were sent after it. So the search ends at a record that the number is further below than any earlier one can be.
+fn newest_whole(records: &HeapCircularBuffer<Record>, span: u64, n: Seq48) -> Option<Record>
+    requires { span < 2 ^ 48 → AreNear span (record_numbers records.now.items) }
     ensures { result ≡ newest_whole n records.now.items }
 {
     for index in (0..records.len()).rev() {
@@ -67,9 +72,32 @@ fn newest_whole(records: &HeapCircularBuffer<Record>, n: Seq48) -> Option<Record
             if is_whole_at(record, n) {
                 return Some(*record);
             }
+            if span < n.distance(record.number) {
+                return None;
+            }
         }
     }
     None
+}
+
+// How many steps up a number is from the newest record's.
+fn step_from_newest(records: &HeapCircularBuffer<Record>, number: Seq48) -> u64
+    ensures near { (span : ℕ) → AreNear span (record_numbers records.now.items)
+        → AreNear (span + result) (record_numbers records.now.items ++ number ∷ []) }
+{
+    // Gives the prover that the number is below 2^48.
+    let _number = number.get();
+    match records.back() {
+        Some(newest) => newest.number.distance(number),
+        None => 0,
+    }
+}
+
+// The sum, where that is below 2^48.
+fn with_step(span: u64, step: u64) -> u64
+    ensures { result < 2 ^ 48 → result ≡ span + step }
+{
+    span.saturating_add(step)
 }
 
 impl Received {
@@ -81,7 +109,11 @@ impl Received {
         let Ok(records) = HeapCircularBuffer::with_capacity(alloc, RECORDS) else {
             return Err(NoMemory);
         };
-        Ok(Received { set, records })
+        Ok(Received {
+            set,
+            records,
+            span: 0,
+        })
     }
 
     /// Forgets all that was received and every record, and sets the floor to `first`.
@@ -90,6 +122,7 @@ impl Received {
     {
         self.set.start(first);
         self.records.clear();
+        self.span = 0;
     }
 
     /// Marks `n` as received: `BelowFloor`, `Again` or `New` as `RunList::mark` answers. Only New changes anything.
@@ -134,7 +167,9 @@ impl Received {
     pub fn sent(&mut self, number: Seq48, ack: Seq48, whole: bool)
         ensures { self.new ≡ recorded self.old number ack whole }
     {
+        let step = step_from_newest(&self.records, number);
         self.records.push_back(Record { number, ack, whole });
+        self.span = with_step(self.span, step);
     }
 
     /// Tells whether a whole vector was recorded under the number `n`, which the peer acknowledged by an Ack or a
@@ -151,7 +186,7 @@ impl Received {
         ensures cause { result ≡ list_any (is_whole_at n) self.old.records }
         ensures unchanged { OnFalse result (self.new ≡ self.old) }
     {
-        let newest = newest_whole(&self.records, n);
+        let newest = newest_whole(&self.records, self.span, n);
         let Some(record) = newest else {
             return false;
         };
