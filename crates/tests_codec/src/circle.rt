@@ -1,8 +1,8 @@
 //! Numbers on their circles of 48 and 24 bits: what the short ones mean, and which of two is before the other.
-use crate::tables::{Table, holds};
 use seq_circle::{Seq24, Seq48, extend};
 use std::alloc::Global;
 use std::test::Fail;
+use tests_tables::{Table, holds, named};
 
 const NUMBERS: &str = "\
     # A short number near a reference, and the number that it stands for there\n\
@@ -62,7 +62,7 @@ const NUMBERS: &str = "\
     far 16777216 0: true false\n\
     far 140737488355328 0: true false\n";
 
-fn number_of(text: &str) -> Option<Seq48> {
+pub(crate) fn number_of(text: &str) -> Option<Seq48> {
     Seq48::new(text.parse().ok()?)
 }
 
@@ -76,66 +76,89 @@ fn tell_extended(short: &str, reference: &str, told: &mut String) -> Result<(), 
     Ok(write!(told, "{number}")?)
 }
 
-fn tell_steps(number: Seq48, steps: &str, told: &mut String) -> Result<(), Fail> {
+fn tell_steps(number: &str, steps: &str, told: &mut String) -> Result<(), Fail> {
+    let number = number_of(number).ok_or("a number")?;
     let steps = steps.parse().ok().ok_or("steps")?;
     let (up, down) = (number.add(steps).get(), number.sub(steps).get());
     let next = number.next().get();
     Ok(write!(told, "{up} {down} {next}")?)
 }
 
-fn is_within(number: Seq48, ends: &str) -> Option<bool> {
+fn is_within(number: &str, ends: &str) -> Option<bool> {
     let (low, high) = ends.split_once(" ")?;
-    Some(number.within(number_of(low)?, number_of(high)?))
+    Some(number_of(number)?.within(number_of(low)?, number_of(high)?))
 }
 
-fn tell_within(number: Seq48, ends: &str, told: &mut String) -> Result<(), Fail> {
-    let within = is_within(number, ends).ok_or("two ends")?;
+fn tell_within(number: &str, ends: &str, told: &mut String) -> Result<(), Fail> {
+    let within = is_within(number, ends).ok_or("a number and two ends")?;
     Ok(write!(told, "{within}")?)
 }
 
-fn tell_order(a: Seq48, b: Seq48, told: &mut String) -> Result<(), Fail> {
+fn pair_of(first: &str, second: &str) -> Option<(Seq48, Seq48)> {
+    Some((number_of(first)?, number_of(second)?))
+}
+
+fn tell_order(first: &str, second: &str, told: &mut String) -> Result<(), Fail> {
+    let (a, b) = pair_of(first, second).ok_or("two numbers")?;
     let (distance, is_before, later) = (a.distance(b), a.before(b), a.max_of(b).get());
     Ok(write!(told, "{distance} {is_before} {later}")?)
 }
 
-fn tell_from(number: Seq48, low: Seq48, told: &mut String) -> Result<(), Fail> {
+fn tell_from(number: &str, low: &str, told: &mut String) -> Result<(), Fail> {
+    let (number, low) = pair_of(number, low).ok_or("two numbers")?;
     let (is_from, end) = (number.is_from(low), low.open_end().get());
     Ok(write!(told, "{is_from} {end}")?)
 }
 
-fn tell_far(number: Seq48, reference: Seq48, told: &mut String) -> Result<(), Fail> {
+fn tell_far(number: &str, reference: &str, told: &mut String) -> Result<(), Fail> {
+    let (number, reference) = pair_of(number, reference).ok_or("two numbers")?;
     let is_far = number.is_far(reference);
     let is_found = extend(number.low(), reference) == number;
     Ok(write!(told, "{is_far} {is_found}")?)
 }
 
-fn tell_pair(verb: &str, a: Seq48, b: &str, told: &mut String) -> Result<(), Fail> {
-    let b = number_of(b).ok_or("a number")?;
+#[derive(Clone, Copy)]
+enum Verb {
+    Extend,
+    Steps,
+    Within,
+    Order,
+    From,
+    Far,
+}
+
+const VERBS: [(&str, Verb); 6] = [
+    ("extend", Verb::Extend),
+    ("steps", Verb::Steps),
+    ("within", Verb::Within),
+    ("order", Verb::Order),
+    ("from", Verb::From),
+    ("far", Verb::Far),
+];
+
+fn tell_numbers(verb: Verb, first: &str, rest: &str, told: &mut String) -> Result<(), Fail> {
     match verb {
-        "order" => tell_order(a, b, told),
-        "from" => tell_from(a, b, told),
-        _ => tell_far(a, b, told),
+        Verb::Extend => tell_extended(first, rest, told),
+        Verb::Steps => tell_steps(first, rest, told),
+        Verb::Within => tell_within(first, rest, told),
+        Verb::Order => tell_order(first, rest, told),
+        Verb::From => tell_from(first, rest, told),
+        Verb::Far => tell_far(first, rest, told),
     }
 }
 
-fn tell_numbers(verb: &str, first: &str, rest: &str, told: &mut String) -> Result<(), Fail> {
-    if verb == "extend" {
-        return tell_extended(first, rest, told);
-    }
-    let number = number_of(first).ok_or("a number")?;
-    match verb {
-        "steps" => tell_steps(number, rest, told),
-        "within" => tell_within(number, rest, told),
-        _ => tell_pair(verb, number, rest, told),
-    }
+// A verb, a number, and what stands behind it.
+fn parts_of(words: &str) -> Option<(Verb, &str, &str)> {
+    let (verb, numbers) = words.split_once(" ")?;
+    let (first, rest) = numbers.split_once(" ")?;
+    Some((named(verb, &VERBS)?, first, rest))
 }
 
 struct Numbers;
 
 impl Table for Numbers {
     fn tell(&self, _alloc: Global, words: &str, told: &mut String) -> Result<(), Fail> {
-        let (verb, numbers) = words.split_once(" ").ok_or("a verb")?;
-        let (first, rest) = numbers.split_once(" ").ok_or("two numbers")?;
+        let (verb, first, rest) = parts_of(words).ok_or("a verb and two numbers")?;
         tell_numbers(verb, first, rest, told)
     }
 }

@@ -13,6 +13,4 @@ mod phases;
 #[cfg(test)]
 mod sums;
 #[cfg(test)]
-mod tables;
-#[cfg(test)]
 mod windows;

@@ -2,12 +2,12 @@
 //! value that a function holds through each of its steps.
 ghost use Rattle.std.specs.Prelude.{◌≤◌, length};
 
-use crate::tables::{Table, holds};
 use dccp_options::kinds::{ACK_VECTOR_0, CHANGE_L};
 use dccp_options::{AckReport, Opt, OptFault, OptFull, OptWriter, Run, options};
 use seq_circle::Seq48;
 use std::alloc::Global;
 use std::test::Fail;
+use tests_tables::{Table, holds};
 
 const REPORTS: &str = "\
     # The numbers and states of a report by the Ack Vectors in options, run by run, and at numbers so far below the acknowledgement\n\
@@ -160,9 +160,9 @@ const TYPES: [(u8, u8, bool); 13] = [
 ];
 
 fn is_read_on_data(kind: u8) -> bool {
-    for (first, last, read) in TYPES {
-        if first <= kind && kind <= last {
-            return read;
+    for (first, last, read) in &TYPES {
+        if *first <= kind && kind <= *last {
+            return *read;
         }
     }
     true
@@ -275,9 +275,9 @@ const LENGTHS: [(u8, u8, usize, usize, bool); 10] = [
 
 // Whether an option of this type and length is understood.
 fn is_in_table(kind: u8, length: usize) -> bool {
-    for (first, last, shortest, longest, even) in LENGTHS {
-        if first <= kind && kind <= last {
-            return shortest <= length && length <= longest && (!even || length % 2 == 0);
+    for (first, last, shortest, longest, even) in &LENGTHS {
+        if *first <= kind && kind <= *last {
+            return *shortest <= length && length <= *longest && (!*even || length % 2 == 0);
         }
     }
     false

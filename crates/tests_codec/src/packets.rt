@@ -1,7 +1,7 @@
 //! Packets, their headers and the frames that hold them. What a test tries stands in a helper that answers whether it
 //! holds: a proof follows each value that a function holds through each of its steps.
-use crate::tables::{Table, holds};
-use crate::windows::type_of;
+use crate::circle::number_of;
+use crate::windows::TYPES;
 use dccp_packets::{
     Frame, Header, Kind, MOST_FRAME_BYTES, Malformed, Number, OptionsTooLong, Outbox, Packet,
     PacketType, ResetCode, decode, encode,
@@ -9,6 +9,7 @@ use dccp_packets::{
 use seq_circle::Seq48;
 use std::alloc::Global;
 use std::test::Fail;
+use tests_tables::{Table, holds, named};
 
 // A Request from port 40000 to 5001 with number 1000 and service 42.
 const REQUEST: &str = "9c401389050031ec01000000000003e80000002a";
@@ -360,7 +361,7 @@ const FORMS: &str = "\
 
 fn kind_of(word: &str, ack: Seq48) -> Option<Kind> {
     let long = Number::Long(ack);
-    match type_of(word)? {
+    match named(word, &TYPES)? {
         PacketType::Request => Some(Kind::Request { service: 42 }),
         PacketType::Data => Some(Kind::Data),
         PacketType::Ack => Some(Kind::Ack { ack: long }),
@@ -384,19 +385,19 @@ fn tell_forms(kind: &Kind, reference: Seq48, told: &mut String) -> Result<(), Fa
     Ok(write!(told, "{may} {ack:?} {long:?} {near:?}")?)
 }
 
-fn number_of(text: &str) -> Option<Seq48> {
-    Seq48::new(text.parse().ok()?)
+// What a type carries that acknowledges the first number, and the other number.
+fn form_of(words: &str) -> Option<(Kind, Seq48)> {
+    let (word, numbers) = words.split_once(" ")?;
+    let (ack, reference) = numbers.split_once(" ")?;
+    Some((kind_of(word, number_of(ack)?)?, number_of(reference)?))
 }
 
 struct Forms;
 
 impl Table for Forms {
     fn tell(&self, _alloc: Global, words: &str, told: &mut String) -> Result<(), Fail> {
-        let (word, numbers) = words.split_once(" ").ok_or("a type")?;
-        let (ack, reference) = numbers.split_once(" ").ok_or("two numbers")?;
-        let ack = number_of(ack).ok_or("a number")?;
-        let kind = kind_of(word, ack).ok_or("a type")?;
-        tell_forms(&kind, number_of(reference).ok_or("a number")?, told)
+        let (kind, reference) = form_of(words).ok_or("a type and two numbers")?;
+        tell_forms(&kind, reference, told)
     }
 }
 
@@ -411,18 +412,19 @@ fn in_form(number: u64, short: bool, reference: u64) -> Option<(u64, u64)> {
     Some((form.value().get(), form.near(Seq48::new(reference)?).get()))
 }
 
+// Whether the form is the short one, a number near the number, and what stands in the form.
+const BY_A_FORM: [(bool, u64, u64); 3] = [
+    (true, 1_108_168_934_661, 8_652_038),
+    (true, 1_108_152_157_447, 8_652_038),
+    (false, 2_207_672_173_830, 1_108_160_546_054),
+];
+
 // Up to half a turn of the short form away, and 2^40 away.
 #[test]
 fn forms_of_a_number(rt: HostRuntime) {
     let number = 1_108_160_546_054;
-    for (short, reference, value) in [
-        (true, 1_108_168_934_661, 8_652_038),
-        (true, 1_108_152_157_447, 8_652_038),
-        (false, 2_207_672_173_830, number),
-    ] {
-        assert!(rt;
-            in_form(number, short, reference) == Some((value, number)),
-            "near {reference}"
-        );
+    for (short, reference, value) in &BY_A_FORM {
+        let told = in_form(number, *short, *reference);
+        assert!(rt; told == Some((*value, number)), "near {reference}");
     }
 }

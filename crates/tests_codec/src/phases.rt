@@ -1,9 +1,9 @@
 //! The tables of the phases.
-use crate::tables::{Table, holds};
 use dccp_packets::PacketType;
 use dccp_states::{Entrance, Phase, Reply, Role, after, gate, unexpected};
 use std::alloc::Global;
 use std::test::Fail;
+use tests_tables::{Table, holds, named};
 
 // What is told of a phase, by a letter for each type of packet.
 const PHASES: &str = "\
@@ -131,15 +131,6 @@ const NAMES: [(&str, Phase); 9] = [
     ("TimeWait", Phase::TimeWait),
 ];
 
-fn phase_of(name: &str) -> Option<Phase> {
-    for (other, phase) in NAMES {
-        if name == other {
-            return Some(phase);
-        }
-    }
-    None
-}
-
 fn letter(table: &str, phase: Phase, kind: PacketType) -> char {
     match table {
         "entrances" => entrance_letter(gate(phase, kind)),
@@ -155,9 +146,9 @@ struct Phases;
 impl Table for Phases {
     fn tell(&self, _alloc: Global, words: &str, told: &mut String) -> Result<(), Fail> {
         let (table, name) = words.split_once(" ").ok_or("a table and a phase")?;
-        let phase = phase_of(name).ok_or("a phase")?;
-        for kind in KINDS {
-            told.push(letter(table, phase, kind))?;
+        let phase = named(name, &NAMES).ok_or("a phase")?;
+        for kind in &KINDS {
+            told.push(letter(table, phase, *kind))?;
         }
         Ok(())
     }

@@ -1,8 +1,8 @@
 //! Checksums of whole packets and of their parts, over IPv4 and IPv6.
-use crate::tables::{Table, holds};
 use dccp_sum::{Pseudo, check, checksum, covered, seal};
 use std::alloc::Global;
 use std::test::Fail;
+use tests_tables::{Table, holds};
 
 // A packet by its way and its bytes. Behind the colon stand how many bytes its checksum covers, and that checksum; what
 // the check of the packet answers; and whether it is sealed, with its bytes 6 and 7 then.

@@ -2,11 +2,12 @@
 ghost use Rattle.std.specs.Prelude.{true, ◌≡◌};
 ghost use Rattle.validity_windows.specs.Windows.{InRange};
 
-use crate::tables::{Table, holds};
+use crate::circle::number_of;
 use dccp_packets::PacketType;
 use seq_circle::Seq48;
 use std::alloc::Global;
 use std::test::Fail;
+use tests_tables::{Table, holds, named};
 use validity_windows::{Marks, Verdict};
 
 // Marks by a name, and what is asked of them. A packet is its type, its number and its acknowledgement number.
@@ -119,14 +120,17 @@ fn are_in_range(marks: &Marks) -> bool
     true
 }
 
-fn named(name: &str) -> Option<Marks> {
-    match name {
-        "later" => marks_of(&LATER),
-        "wrapped" => marks_of(&AT_THE_WRAP),
-        "uneven" => marks_of(&UNEVEN),
-        "new" => Some(Marks::new(Seq48::new(0)?, 100)),
-        _ => None,
+const MARKS: [(&str, Numbers); 3] = [
+    ("later", LATER),
+    ("wrapped", AT_THE_WRAP),
+    ("uneven", UNEVEN),
+];
+
+fn marks_by(name: &str) -> Option<Marks> {
+    if name == "new" {
+        return Some(Marks::new(Seq48::new(0)?, 100));
     }
+    marks_of(&named(name, &MARKS)?)
 }
 
 fn tell_ends(marks: &Marks, told: &mut String) -> Result<(), Fail> {
@@ -151,7 +155,7 @@ fn tell_verdict(verdict: Verdict, told: &mut String) -> Result<(), Fail> {
     Ok(())
 }
 
-const TYPES: [(&str, PacketType); 10] = [
+pub(crate) const TYPES: [(&str, PacketType); 10] = [
     ("Request", PacketType::Request),
     ("Response", PacketType::Response),
     ("Data", PacketType::Data),
@@ -164,15 +168,6 @@ const TYPES: [(&str, PacketType); 10] = [
     ("SyncAck", PacketType::SyncAck),
 ];
 
-pub(crate) fn type_of(name: &str) -> Option<PacketType> {
-    for (other, kind) in TYPES {
-        if name == other {
-            return Some(kind);
-        }
-    }
-    None
-}
-
 // A type, a number, and the acknowledgement number that stands there exactly where the type has one.
 fn packet_of(word: &str) -> Option<(PacketType, Seq48, Option<Seq48>)> {
     let (name, numbers) = word.split_once("/")?;
@@ -180,9 +175,9 @@ fn packet_of(word: &str) -> Option<(PacketType, Seq48, Option<Seq48>)> {
     let ack = if ack.is_empty() {
         None
     } else {
-        Some(Seq48::new(ack.parse().ok()?)?)
+        Some(number_of(ack)?)
     };
-    Some((type_of(name)?, Seq48::new(number.parse().ok()?)?, ack))
+    Some((named(name, &TYPES)?, number_of(number)?, ack))
 }
 
 // The verdict, if the type has an acknowledgement number exactly where one is given.
@@ -229,7 +224,7 @@ fn is_acknowledged(marks: &Marks, ack: &str) -> Option<bool> {
     if ack.is_empty() {
         return Some(marks.acknowledges(None));
     }
-    Some(marks.acknowledges(Some(Seq48::new(ack.parse().ok()?)?)))
+    Some(marks.acknowledges(Some(number_of(ack)?)))
 }
 
 fn tell_acknowledged(marks: &Marks, ack: &str, told: &mut String) -> Result<(), Fail> {
@@ -247,21 +242,39 @@ fn begins(marks: &mut Marks, word: &str) -> Result<(), Fail> {
 }
 
 fn tell_marks(marks: &Marks, told: &mut String) -> Result<(), Fail> {
-    for number in numbers_of(marks) {
+    for number in &numbers_of(marks) {
         write!(told, " {number}")?;
     }
     Ok(())
 }
 
+#[derive(Clone, Copy)]
+enum Verb {
+    Ends,
+    Marks,
+    Take,
+    Acks,
+    Begin,
+}
+
+const VERBS: [(&str, Verb); 5] = [
+    ("ends", Verb::Ends),
+    ("marks", Verb::Marks),
+    ("take", Verb::Take),
+    ("acks", Verb::Acks),
+    ("begin", Verb::Begin),
+];
+
+// A word that begins with no verb is a packet, of which a verdict is asked.
 fn tell_word(marks: &mut Marks, word: &str, told: &mut String) -> Result<(), Fail> {
     let (verb, rest) = word.split_once("/").unwrap_or((word, ""));
-    match verb {
-        "ends" => tell_ends(marks, told),
-        "marks" => tell_marks(marks, told),
-        "take" => tell_taken(marks, rest, told),
-        "acks" => tell_acknowledged(marks, rest, told),
-        "begin" => begins(marks, rest),
-        _ => tell_judged(marks, word, told),
+    match named(verb, &VERBS) {
+        Some(Verb::Ends) => tell_ends(marks, told),
+        Some(Verb::Marks) => tell_marks(marks, told),
+        Some(Verb::Take) => tell_taken(marks, rest, told),
+        Some(Verb::Acks) => tell_acknowledged(marks, rest, told),
+        Some(Verb::Begin) => begins(marks, rest),
+        None => tell_judged(marks, word, told),
     }
 }
 
@@ -270,7 +283,7 @@ struct Stories;
 impl Table for Stories {
     fn tell(&self, _alloc: Global, words: &str, told: &mut String) -> Result<(), Fail> {
         let (name, rest) = words.split_once(" ").ok_or("marks")?;
-        let mut marks = named(name).ok_or("a name")?;
+        let mut marks = marks_by(name).ok_or("a name")?;
         for word in rest.split_whitespace() {
             tell_word(&mut marks, word, told)?;
         }
