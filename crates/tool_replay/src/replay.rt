@@ -125,7 +125,7 @@ impl LineJob for Replay {
             Err(fault) => Ok(Err(fault)),
             Ok(None) => Ok(Ok(())),
             Ok(Some(said)) => {
-                let frame = arriving(&addresses(self.side), said);
+                let frame = arriving(&addresses(self.side), &said);
                 self.take(number, &frame, text)
             }
         }
@@ -205,11 +205,11 @@ pub(crate) fn addresses(side: Side) -> Pseudo
 }
 
 /// The frame that arrives (own): its checksum is set for these addresses where the line says so.
-pub fn arriving(addresses: &Pseudo, said: FrameLine) -> Frame
-    requires { said.seal ≡ true → 8 ≤ length said.bytes }
-    ensures { result ≡ arriving addresses.now said }
+pub fn arriving(addresses: &Pseudo, said: &FrameLine<'_>) -> Frame
+    requires { said.now.seal ≡ true → 8 ≤ length said.now.bytes }
+    ensures { result ≡ arriving addresses.now said.now }
 {
-    let mut frame = said.bytes;
+    let mut frame = said.bytes.frame();
     if said.seal {
         seal_frame(addresses, &mut frame);
     }
