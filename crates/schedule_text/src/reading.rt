@@ -16,9 +16,6 @@ use feature_lists::{Feature, Place, PreferFault, usual, wish};
 use tool_words::{Digits, HexOrDash, MaybeFlag, Row, Words, clean, read_word, says_nothing};
 use world_events::Side;
 
-// A line has at most 4,096 bytes, two for each byte that it tells.
-const MOST_BYTES: usize = 2048;
-
 fn wish_fault(fault: PreferFault) -> LineWhy
     ensures { result ≡ spec.wish_fault fault }
 {
@@ -168,17 +165,22 @@ fn deliver(words: &mut Words<'_>, said: &mut Line) -> Result<(), LineFault>
     Ok(())
 }
 
+// Decodes the bytes where the payload stands.
+fn put_payload(payload: &mut Payload, digits: &Digits<'_>)
+    ensures { payload.new ≡ digits.now }
+{
+    payload.resize(digits.len());
+    let bytes = payload.bytes_mut();
+    digits.put(bytes);
+}
+
 /// The bytes as a payload, which has room for as many as one line has digits for (own).
 pub fn payload_of(digits: &Digits<'_>) -> Payload
     ensures { result ≡ digits.now }
 {
-    let mut bytes = [0; MOST_BYTES];
-    let room = &mut bytes[..digits.len()];
-    digits.put(room);
-    match Payload::of(room) {
-        Some(payload) => payload,
-        None => unreachable!(),
-    }
+    let mut payload = Payload::new();
+    put_payload(&mut payload, digits);
+    payload
 }
 
 // Making an event clears its room for data, so one that sends is changed where it stands.
@@ -187,7 +189,7 @@ fn be_sending(event: &mut Event, whose: Side, digits: &Digits<'_>)
 {
     if let Event::Send { side, payload } = event {
         *side = whose;
-        *payload = payload_of(digits);
+        put_payload(payload, digits);
     } else {
         *event = Event::Send {
             side: whose,
