@@ -1,5 +1,5 @@
 //! What a line says, and what is wrong with one.
-ghost use Rattle.std.specs.Prelude.{◌≡◌};
+ghost use Rattle.std.specs.Prelude.{◌≡◌, ◌≤◌, length};
 
 use crate::{Event, Values};
 use dccp_packets::Frame;
@@ -43,8 +43,8 @@ pub enum Line {
     Event(Event),
 }
 
-/// The bytes of a frame, at most 2,044 of them, as the digits of a line (own): the frame is made of them where it is
-/// wanted, so that no frame is moved. Contracts see the list of bytes.
+/// The bytes of a frame, at most 2,044 of them, as the digits of a line (own): they are decoded where they are wanted,
+/// so that no frame is moved. Contracts see the list of bytes.
 #[derive(Drop)]
 pub struct FrameDigits<'a> {
     pub(crate) digits: Digits<'a>,
@@ -61,6 +61,22 @@ impl<'a> Model for FrameDigits<'a> {
 }
 
 impl<'a> FrameDigits<'a> {
+    /// How many bytes there are (own).
+    pub fn len(&self) -> usize
+        ensures value { result ≡ length self.now }
+        ensures fits { result ≤ 2044 }
+    {
+        self.digits.len()
+    }
+
+    /// Puts the bytes into the room for them (own).
+    pub fn put(&self, room: &mut [u8])
+        requires { length room.old ≡ length self.now }
+        ensures { room.new ≡ self.now }
+    {
+        self.digits.put(room);
+    }
+
     /// The frame of the bytes (own).
     pub fn frame(&self) -> Frame
         ensures { result ≡ self.now }
