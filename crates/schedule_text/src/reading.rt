@@ -220,43 +220,7 @@ fn send(words: &mut Words<'_>, said: &mut Line) -> Result<(), LineFault>
     Ok(())
 }
 
-// Makes an event a wish. It clears the event's room, so an event that is a wish does not come here; and it puts the
-// values there last, so that they are moved alone.
-fn begin_wish(event: &mut Event, whose: Side, about: Feature, located: Place, wished: Values)
-    ensures { event.new ≡ Event.Prefer whose about located wished }
-{
-    *event = Event::Prefer {
-        side: whose,
-        feature: about,
-        place: located,
-        values: Values::new(),
-    };
-    if let Event::Prefer { values, .. } = event {
-        *values = wished;
-    }
-}
-
-// An event that is a wish is changed where it stands, as one that sends.
-fn be_wish(event: &mut Event, whose: Side, about: Feature, located: Place, wished: Values)
-    ensures { event.new ≡ Event.Prefer whose about located wished }
-{
-    if let Event::Prefer {
-        side,
-        feature,
-        place,
-        values,
-    } = event
-    {
-        *side = whose;
-        *feature = about;
-        *place = located;
-        *values = wished;
-    } else {
-        begin_wish(event, whose, about, located, wished);
-    }
-}
-
-// Makes a line that says no event a wish, apart from `say_wish` for the same reason.
+// Makes a line that says no event a wish. It clears the event's room, so it stands apart from `say_wish`.
 fn begin_with_wish(said: &mut Line, side: Side, feature: Feature, place: Place, values: Values)
     ensures { said.new ≡ Line.Event (Event.Prefer side feature place values) }
 {
@@ -272,7 +236,7 @@ fn say_wish(said: &mut Line, side: Side, feature: Feature, place: Place, values:
     ensures { said.new ≡ Line.Event (Event.Prefer side feature place values) }
 {
     if let Line::Event(event) = said {
-        be_wish(event, side, feature, place, values);
+        event.become_wish(side, feature, place, values);
     } else {
         begin_with_wish(said, side, feature, place, values);
     }

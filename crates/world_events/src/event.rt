@@ -241,4 +241,59 @@ impl Event {
             *self = Event::Timer { side, timer };
         }
     }
+
+    /// Makes it the sending of these data by this side (own), at most 2,048 bytes, in the same way.
+    pub fn become_sending(&mut self, side: Side, data: &[u8])
+        requires { length data.now ≤ 2048 }
+        ensures { self.new ≡ Event.Send side data.now }
+    {
+        if let Event::Send {
+            side: sender,
+            payload,
+        } = self
+        {
+            *sender = side;
+            payload.set(data);
+        } else {
+            *self = Event::Send {
+                side,
+                payload: Payload::within(data),
+            };
+        }
+    }
+
+    /// Makes it this side's wish for these values of a feature, best first (own), in the same way.
+    pub fn become_wish(&mut self, side: Side, feature: Feature, place: Place, values: Values)
+        ensures { self.new ≡ Event.Prefer side feature place values }
+    {
+        if let Event::Prefer {
+            side: wisher,
+            feature: about,
+            place: located,
+            values: wished,
+        } = self
+        {
+            *wisher = side;
+            *about = feature;
+            *located = place;
+            *wished = values;
+        } else {
+            self.begin_wish(side, feature, place, values);
+        }
+    }
+
+    // Makes one of another kind a wish. The values are put there last, so that they are moved alone.
+    fn begin_wish(&mut self, side: Side, feature: Feature, place: Place, values: Values)
+        ensures { self.new ≡ Event.Prefer side feature place values }
+    {
+        *self = Event::Prefer {
+            side,
+            feature,
+            place,
+            values: Values::new(),
+        };
+        if let Event::Prefer { values: wished, .. } = self {
+            *wished = values;
+        }
+    }
 }

@@ -48,13 +48,22 @@ impl Payload {
     }
 
     // These bytes, which are not too many.
-    fn within(bytes: &[u8]) -> Payload
+    pub(crate) fn within(bytes: &[u8]) -> Payload
         requires { length bytes.now ≤ 2048 }
         ensures { result ≡ bytes.now }
     {
         let mut payload = Payload::new();
-        let _ = payload.bytes.try_extend_from_slice(bytes);
+        payload.set(bytes);
         payload
+    }
+
+    /// Makes it these bytes, at most 2,048, where it stands.
+    pub fn set(&mut self, bytes: &[u8])
+        requires { length bytes.now ≤ 2048 }
+        ensures { self.new ≡ bytes.now }
+    {
+        self.bytes.clear();
+        let _ = self.bytes.try_extend_from_slice(bytes);
     }
 
     /// The bytes, at most 2,048.
