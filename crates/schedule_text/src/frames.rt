@@ -4,6 +4,7 @@ ghost use Rattle.tool_words.specs.Left.{left_of};
 ghost use Rattle.schedule_text.specs.Frames as spec;
 
 use crate::{FrameDigits, FrameLine, LineFault, LineWhy};
+use tool_text::is_text;
 use tool_words::{Hex, Row, Words, read_line};
 
 // A packet that is too long for this has no frame.
@@ -55,7 +56,7 @@ impl<'a> Row<'a> for AFrame {
     fn read(words: &mut Words<'a>) -> Result<FrameLine<'a>, LineFault> {
         let mut all = *words;
         let first = words.next_word();
-        if first.text == b"seal".as_slice() {
+        if is_text(first.text, b"seal") {
             frame(true, words)
         } else {
             frame(false, &mut all)
