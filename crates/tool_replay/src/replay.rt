@@ -142,24 +142,6 @@ impl Player {
             out: Outbox::new(),
         })
     }
-
-    // The frame arrives that the line of this number says, and the lines of that are put.
-    fn take(
-        &mut self,
-        number: u64,
-        said: &FrameLine<'_>,
-        text: &mut Vec<u8>,
-    ) -> Result<Result<(), LineFault>, NoMemory>
-        requires seals { said.now.seal ≡ true → 8 ≤ length said.now.bytes }
-        requires sent { self.old.sent ≤ number }
-        requires number { number ≤ 16777217 }
-        ensures verdict { IfOk result (λ answer. Judges replay_job (by_frame self.old number (arriving (usual (role_of self.old.side)).pseudo_in said.now)) text.old.items text.new.items self.new answer) }
-        ensures sent { IfOk result (λ _. self.new.sent ≤ number + 1) }
-    {
-        let bytes = &mut self.room[..said.bytes.len()];
-        put_arriving(bytes, &addresses(self.replay.side), said);
-        self.replay.take(number, bytes, &mut self.out, text)
-    }
 }
 
 impl LineJob for Player {
@@ -180,7 +162,14 @@ impl LineJob for Player {
         match read_frame(line) {
             Err(fault) => Ok(Err(fault)),
             Ok(None) => Ok(Ok(())),
-            Ok(Some(said)) => self.take(number, &said, text),
+            Ok(Some(said)) => take_said(
+                &mut self.replay,
+                &mut self.room,
+                &mut self.out,
+                number,
+                &said,
+                text,
+            ),
         }
     }
 
@@ -267,6 +256,27 @@ pub fn arriving(addresses: &Pseudo, said: &FrameLine<'_>) -> Frame
         seal_frame(addresses, &mut frame);
     }
     frame
+}
+
+// The frame arrives that the line of this number says, and the lines of that are put.
+fn take_said(
+    replay: &mut Replay,
+    room: &mut [u8; MOST_FRAME_BYTES],
+    out: &mut Outbox,
+    number: u64,
+    said: &FrameLine<'_>,
+    text: &mut Vec<u8>,
+) -> Result<Result<(), LineFault>, NoMemory>
+    requires seals { said.now.seal ≡ true → 8 ≤ length said.now.bytes }
+    requires sent { replay.old.sent ≤ number }
+    requires number { number ≤ 16777217 }
+    ensures verdict { IfOk result (λ answer. Judges replay_job (by_frame replay.old number (arriving (usual (role_of replay.old.side)).pseudo_in said.now)) text.old.items text.new.items replay.new answer) }
+    ensures sent { IfOk result (λ _. replay.new.sent ≤ number + 1) }
+{
+    let addresses = addresses(replay.side);
+    let bytes = &mut room[..said.bytes.len()];
+    put_arriving(bytes, &addresses, said);
+    replay.take(number, bytes, out, text)
 }
 
 // Puts the bytes of the frame that arrives into the room for them: its checksum is set for these addresses where the
