@@ -49,12 +49,7 @@ impl Replay {
     }
 
     // Where a replay stands before its first line; a client has opened then, and the lines of that were put.
-    fn begin(
-        alloc: Global,
-        side: Side,
-        plain: bool,
-        text: &mut Vec<u8>,
-    ) -> Result<Replay, NoMemory>
+    fn begin(alloc: Global, side: Side, plain: bool, text: &mut Vec<u8>) -> Result<Replay, NoMemory>
         ensures value { IfOk result (λ replay. replay ≡ (begun_replay side plain).replay) }
         ensures text { OnOk result (text.new.items ≡ text.old.items ++ (begun_replay side plain).text) }
     {
