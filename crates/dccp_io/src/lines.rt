@@ -63,10 +63,7 @@ enum Stands {
     TooMuch,
 }
 
-// How many bytes are judged at a time, so that they can be judged side by side.
-const SIDE_BY_SIDE: usize = 32;
-
-// Whether a block has no newline; none of its bytes ends the search.
+// Whether a block has no newline; none of its bytes ends the search, so that they can be judged side by side.
 fn lacks_newline(block: &[u8]) -> bool
     ensures { result ≡ list_all (λ byte. not (byte == newline)) block.now }
 {
@@ -79,15 +76,16 @@ fn lacks_newline(block: &[u8]) -> bool
 
 // How many bytes stand before the first newline at least: the first `seen`, and those of whole blocks behind them.
 #[tactic(auto, using(crate::proofs::NextLine::block_seen))]
-fn blocks_seen(bytes: &[u8], seen: usize) -> usize
+fn blocks_seen<const BLOCK: usize>(bytes: &[u8], seen: usize) -> usize
+    requires some { 0 < BLOCK }
     requires inside { seen ≤ length bytes.now }
     requires before { text_length bytes.now ≡ seen + text_length (drop seen bytes.now) }
     ensures inside { result ≤ length bytes.now }
     ensures before { text_length bytes.now ≡ result + text_length (drop result bytes.now) }
 {
     let mut done = seen;
-    while SIDE_BY_SIDE <= bytes.len() - done && lacks_newline(&bytes[done..done + SIDE_BY_SIDE]) {
-        done += SIDE_BY_SIDE;
+    while BLOCK <= bytes.len() - done && lacks_newline(&bytes[done..done + BLOCK]) {
+        done += BLOCK;
     }
     done
 }
@@ -99,7 +97,11 @@ fn text_length(bytes: &[u8], seen: usize) -> usize
     ensures value { result ≡ text_length bytes.now }
     ensures fits { result ≤ length bytes.now }
 {
-    let front = blocks_seen(bytes, seen);
+    if seen < bytes.len() && bytes[seen] == b'\n' {
+        return seen;
+    }
+    let large = blocks_seen::<64>(bytes, seen);
+    let front = blocks_seen::<16>(bytes, large);
     for index in front..bytes.len() {
         if bytes[index] == b'\n' {
             return index;

@@ -9,7 +9,7 @@ use rand_core::SeedableRng;
 use rand_core::utils::NextWord;
 use rand_pcg::Pcg32;
 use seq_circle::Seq48;
-use two_ends::{Event, Payload, Side, Values};
+use two_ends::{Event, Side, Values};
 
 /// The generator of a seed.
 #[tactic(auto, unfolding(crate::specs::Draws::generator))]
@@ -69,52 +69,61 @@ fn delivery(from: Side, frames: u64, b: u32) -> Event
     }
 }
 
-/// A side sends the bytes of a word.
-pub(crate) fn sending(side: Side, b: u32) -> Event
-    ensures { result ≡ sending side b }
+/// Makes it the sending of the bytes of a word by a side.
+pub(crate) fn become_sending(event: &mut Event, side: Side, b: u32)
+    ensures { event.new ≡ sending side b }
 {
-    match Payload::of(&b.to_be_bytes()) {
-        Some(payload) => Event::Send { side, payload },
-        None => unreachable!(),
-    }
+    event.become_sending(side, &b.to_be_bytes());
 }
 
-/// A side prefers this, by a number below 8; numbers that are not negotiated are drawn by the rest of the word.
-pub(crate) fn preference(side: Side, which: u32, rest: u32) -> Event
-    ensures { result ≡ preference side which rest }
+fn sending(side: Side, b: u32) -> Event
+    ensures { result ≡ sending side b }
+{
+    let mut event = Event::Open;
+    become_sending(&mut event, side, b);
+    event
+}
+
+/// Makes it what a side prefers, by a number below 8; numbers that are not negotiated are drawn by the rest of the
+/// word.
+pub(crate) fn become_preference(event: &mut Event, side: Side, which: u32, rest: u32)
+    ensures { event.new ≡ preference side which rest }
 {
     match which {
-        0 => prefer(side, Feature::Ccid, Place::Here, &[2, 248]),
-        1 => prefer(side, Feature::Ccid, Place::Here, &[248, 2]),
-        2 => prefer(side, Feature::Ccid, Place::There, &[248]),
-        3 => prefer(side, Feature::MinCsCov, Place::Here, &[1, 2, 3]),
-        4 => prefer(side, Feature::MinCsCov, Place::There, &[3, 1]),
-        5 => prefer(side, Feature::MinCsCov, Place::There, &[2]),
+        0 => prefer(event, side, Feature::Ccid, Place::Here, &[2, 248]),
+        1 => prefer(event, side, Feature::Ccid, Place::Here, &[248, 2]),
+        2 => prefer(event, side, Feature::Ccid, Place::There, &[248]),
+        3 => prefer(event, side, Feature::MinCsCov, Place::Here, &[1, 2, 3]),
+        4 => prefer(event, side, Feature::MinCsCov, Place::There, &[3, 1]),
+        5 => prefer(event, side, Feature::MinCsCov, Place::There, &[2]),
         6 => {
             let window = 100 + u64::from(rest % 1000);
-            prefer(side, Feature::SequenceWindow, Place::Here, &[window])
+            prefer(event, side, Feature::SequenceWindow, Place::Here, &[window]);
         }
         _ => {
             let ratio = 1 + u64::from(rest % 4);
-            prefer(side, Feature::AckRatio, Place::Here, &[ratio])
+            prefer(event, side, Feature::AckRatio, Place::Here, &[ratio]);
         }
     }
 }
 
-fn prefer(side: Side, feature: Feature, place: Place, numbers: &[u64]) -> Event
+fn prefer(event: &mut Event, side: Side, feature: Feature, place: Place, numbers: &[u64])
     requires { length numbers.now ≤ 9 }
-    ensures { result ≡ Event.Prefer side feature place numbers.now }
+    ensures { event.new ≡ Event.Prefer side feature place numbers.now }
 {
     let mut values = Values::new();
     for number in numbers {
         let _ = values.push(*number);
     }
-    Event::Prefer {
-        side,
-        feature,
-        place,
-        values,
-    }
+    event.become_wish(side, feature, place, values);
+}
+
+fn preference(side: Side, which: u32, rest: u32) -> Event
+    ensures { result ≡ preference side which rest }
+{
+    let mut event = Event::Open;
+    become_preference(&mut event, side, which, rest);
+    event
 }
 
 /// A timer, by a number below 6.

@@ -8,8 +8,8 @@ ghost use Rattle.two_ends.specs.Pairs.{place_at};
 
 use crate::Report;
 use crate::draws::{
-    drawn, drawn_index, drawn_timer, ending, generator, initial_number, next_word, preference,
-    sending,
+    become_preference, become_sending, drawn, drawn_index, drawn_timer, ending, generator,
+    initial_number, next_word,
 };
 use ccid_two::Kinds;
 use dccp_endpoint::{Config, Feature, Place, Role, Stand, Timer};
@@ -126,6 +126,8 @@ impl Run {
         let mut again = Again {
             delivery: Event::Open,
             timer: Event::Open,
+            sending: Event::Open,
+            preference: Event::Open,
         };
         self.go_on_with(&mut again, more)
     }
@@ -137,8 +139,7 @@ impl Run {
         self.play(&Event::Open)
     }
 
-    // Plays the event of two words. Each kind of event is made where it is played, since it would move with its room
-    // for data.
+    // Plays the event of two words. An event is changed where it is played, since it would move with its room for data.
     #[tactic(auto, unfolding(crate::specs::Draws::drawn))]
     fn play_drawn(&mut self, again: &mut Again, a: u32, b: u32) -> Result<(), NoMemory>
         requires { size self.old.report < 2 ^ 62 }
@@ -147,13 +148,13 @@ impl Run {
         match a % 32 {
             0..=11 => self.deliver(again, Side::Client, b),
             12..=23 => self.deliver(again, Side::Server, b),
-            24 => self.send(Side::Client, b),
-            25 => self.send(Side::Server, b),
-            26 => self.prefer(Side::Client, b % 8, b / 8),
-            27 => self.prefer(Side::Server, b % 8, b / 8),
+            24 => self.send(again, Side::Client, b),
+            25 => self.send(again, Side::Server, b),
+            26 => self.prefer(again, Side::Client, b % 8, b / 8),
+            27 => self.prefer(again, Side::Server, b % 8, b / 8),
             28 => self.fire(again, Side::Client, drawn_timer(b % 6)),
             29 => self.fire(again, Side::Server, drawn_timer(b % 6)),
-            30 => self.end(b % 512),
+            30 => self.end(again, b % 512),
             _ => self.fire(again, Side::Server, Timer::Negotiate),
         }
     }
@@ -172,18 +173,26 @@ impl Run {
         self.play(&again.delivery)
     }
 
-    fn send(&mut self, side: Side, b: u32) -> Result<(), NoMemory>
+    fn send(&mut self, again: &mut Again, side: Side, b: u32) -> Result<(), NoMemory>
         requires { size self.old.report < 2 ^ 62 }
         ensures { OnOk result (self.new ≡ played self.old (sending side b)) }
     {
-        self.play(&sending(side, b))
+        become_sending(&mut again.sending, side, b);
+        self.play(&again.sending)
     }
 
-    fn prefer(&mut self, side: Side, which: u32, rest: u32) -> Result<(), NoMemory>
+    fn prefer(
+        &mut self,
+        again: &mut Again,
+        side: Side,
+        which: u32,
+        rest: u32,
+    ) -> Result<(), NoMemory>
         requires { size self.old.report < 2 ^ 62 }
         ensures { OnOk result (self.new ≡ played self.old (preference side which rest)) }
     {
-        self.play(&preference(side, which, rest))
+        become_preference(&mut again.preference, side, which, rest);
+        self.play(&again.preference)
     }
 
     fn fire(&mut self, again: &mut Again, side: Side, timer: Timer) -> Result<(), NoMemory>
@@ -194,11 +203,15 @@ impl Run {
         self.play(&again.timer)
     }
 
-    fn end(&mut self, which: u32) -> Result<(), NoMemory>
+    // An end of the connection is seldom, so its event is not kept.
+    fn end(&mut self, again: &mut Again, which: u32) -> Result<(), NoMemory>
         requires { size self.old.report < 2 ^ 62 }
         ensures { OnOk result (self.new ≡ played self.old (ending which)) }
     {
-        self.play(&ending(which))
+        match which {
+            0..=3 => self.play(&ending(which)),
+            _ => self.fire(again, Side::Client, Timer::Negotiate),
+        }
     }
 
     // All events of a run that has just begun.
@@ -227,12 +240,14 @@ impl Run {
     }
 }
 
-// Two events that are played again and again, with other parts. An event is large, for it has room for data: making one
-// anew clears that room.
+// An event of each kind, played again and again with other parts. An event is large, for it has room for data: making
+// one anew clears that room.
 #[derive(Drop)]
 struct Again {
     delivery: Event,
     timer: Event,
+    sending: Event,
+    preference: Event,
 }
 
 // The usual end with another initial number.

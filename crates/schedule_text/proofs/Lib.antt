@@ -1,6 +1,7 @@
 pub mod FaultsSame
 pub mod FrameForms
 pub mod LineForms
+pub mod Lent
 pub mod RowsAre
 pub mod ValueLists
 pub mod ValueTexts

@@ -3,7 +3,8 @@ ghost use Rattle.std.specs.Prelude.{◌≡◌, ◌≤◌, length, true, IfOk, If
 ghost use Rattle.tool_words.specs.Left.{left_of};
 ghost use Rattle.schedule_text.specs.Frames as spec;
 
-use crate::{FrameLine, LineFault, LineWhy};
+use crate::{FrameDigits, FrameLine, LineFault, LineWhy};
+use tool_text::is_text;
 use tool_words::{Hex, Row, Words, read_line};
 
 // A packet that is too long for this has no frame.
@@ -26,7 +27,7 @@ fn size_cause(seal: bool, length: usize) -> Option<LineWhy>
 }
 
 // The digits of a frame, and nothing behind them.
-fn frame(seal: bool, words: &mut Words<'_>) -> Result<FrameLine, LineFault>
+fn frame<'a>(seal: bool, words: &mut Words<'a>) -> Result<FrameLine<'a>, LineFault>
     ensures { result ≡ (spec.frame_row seal).said (left_of words.old) }
 {
     let all = *words;
@@ -39,7 +40,7 @@ fn frame(seal: bool, words: &mut Words<'_>) -> Result<FrameLine, LineFault>
     }
     Ok(FrameLine {
         seal,
-        bytes: digits.frame(),
+        bytes: FrameDigits { digits },
     })
 }
 
@@ -48,14 +49,14 @@ fn frame(seal: bool, words: &mut Words<'_>) -> Result<FrameLine, LineFault>
 pub struct AFrame;
 
 impl<'a> Row<'a> for AFrame {
-    type Said = FrameLine;
+    type Said = FrameLine<'a>;
 
     ghost said = { spec.replay_row.said };
 
-    fn read(words: &mut Words<'a>) -> Result<FrameLine, LineFault> {
+    fn read(words: &mut Words<'a>) -> Result<FrameLine<'a>, LineFault> {
         let mut all = *words;
         let first = words.next_word();
-        if first.text == b"seal".as_slice() {
+        if is_text(first.text, b"seal") {
             frame(true, words)
         } else {
             frame(false, &mut all)
@@ -67,7 +68,7 @@ impl<'a> Row<'a> for AFrame {
 /// line's faults in the order of `LineWhy`, with its column (own). The line comes without its newline.
 ///
 /// A frame stands as digits of its bytes, one to 2,044 of them; behind the word `seal` at least eight.
-pub fn read_frame(line: &[u8]) -> Result<Option<FrameLine>, LineFault>
+pub fn read_frame(line: &[u8]) -> Result<Option<FrameLine<'_>>, LineFault>
     ensures value { result ≡ spec.read_frame line.now }
     ensures seals { IfOk result (λ said. IfSome said (λ frame. frame.seal ≡ true → 8 ≤ length frame.bytes)) }
 {

@@ -20,7 +20,7 @@ pub use crate::laws::{
     frames_are_their_forms, lines_are_their_forms, printed_events_are_read,
     the_first_fault_is_answered, the_first_fault_of_a_frame_is_answered,
 };
-pub use crate::line::{FrameLine, Line};
+pub use crate::line::{FrameDigits, FrameLine, Line};
 pub use crate::printing::{print_event, print_result, print_seen, put_result, side_name};
 pub use crate::reading::{payload_of, read_line, read_line_into};
 pub use end_answers::Timer;

@@ -4,6 +4,7 @@ ghost use Rattle.schedule_text.specs.Names.{form_named, side_named, place_named,
 
 use crate::Timer;
 use feature_lists::Place;
+use tool_text::is_text;
 use world_events::Side;
 
 /// A line's form, by its first word (own).
@@ -27,29 +28,29 @@ pub(crate) enum Form {
 pub(crate) fn form_named(word: &[u8]) -> Option<Form>
     ensures { result ≡ form_named word.now }
 {
-    if word == b"version".as_slice() {
+    if is_text(word, b"version") {
         Some(Form::Version)
-    } else if word == b"plain".as_slice() {
+    } else if is_text(word, b"plain") {
         Some(Form::Plain)
-    } else if word == b"iss".as_slice() {
+    } else if is_text(word, b"iss") {
         Some(Form::Iss)
-    } else if word == b"set".as_slice() {
+    } else if is_text(word, b"set") {
         Some(Form::Set)
-    } else if word == b"offer".as_slice() {
+    } else if is_text(word, b"offer") {
         Some(Form::Offer)
-    } else if word == b"open".as_slice() {
+    } else if is_text(word, b"open") {
         Some(Form::Open)
-    } else if word == b"deliver".as_slice() {
+    } else if is_text(word, b"deliver") {
         Some(Form::Deliver)
-    } else if word == b"send".as_slice() {
+    } else if is_text(word, b"send") {
         Some(Form::Send)
-    } else if word == b"prefer".as_slice() {
+    } else if is_text(word, b"prefer") {
         Some(Form::Prefer)
-    } else if word == b"timer".as_slice() {
+    } else if is_text(word, b"timer") {
         Some(Form::Timer)
-    } else if word == b"close".as_slice() {
+    } else if is_text(word, b"close") {
         Some(Form::Close)
-    } else if word == b"abort".as_slice() {
+    } else if is_text(word, b"abort") {
         Some(Form::Abort)
     } else {
         None
@@ -60,9 +61,9 @@ pub(crate) fn form_named(word: &[u8]) -> Option<Form>
 pub(crate) fn side_named(word: &[u8]) -> Option<Side>
     ensures { result ≡ side_named word.now }
 {
-    if word == b"client".as_slice() {
+    if is_text(word, b"client") {
         Some(Side::Client)
-    } else if word == b"server".as_slice() {
+    } else if is_text(word, b"server") {
         Some(Side::Server)
     } else {
         None
@@ -73,9 +74,9 @@ pub(crate) fn side_named(word: &[u8]) -> Option<Side>
 pub(crate) fn place_named(word: &[u8]) -> Option<Place>
     ensures { result ≡ place_named word.now }
 {
-    if word == b"here".as_slice() {
+    if is_text(word, b"here") {
         Some(Place::Here)
-    } else if word == b"there".as_slice() {
+    } else if is_text(word, b"there") {
         Some(Place::There)
     } else {
         None
@@ -86,17 +87,17 @@ pub(crate) fn place_named(word: &[u8]) -> Option<Place>
 pub(crate) fn timer_of(word: &[u8]) -> Option<Timer>
     ensures { result ≡ timer_of word.now }
 {
-    if word == b"request".as_slice() {
+    if is_text(word, b"request") {
         Some(Timer::Request)
-    } else if word == b"ack".as_slice() {
+    } else if is_text(word, b"ack") {
         Some(Timer::Ack)
-    } else if word == b"negotiate".as_slice() {
+    } else if is_text(word, b"negotiate") {
         Some(Timer::Negotiate)
-    } else if word == b"rto".as_slice() {
+    } else if is_text(word, b"rto") {
         Some(Timer::Rto)
-    } else if word == b"close".as_slice() {
+    } else if is_text(word, b"close") {
         Some(Timer::Close)
-    } else if word == b"timewait".as_slice() {
+    } else if is_text(word, b"timewait") {
         Some(Timer::TimeWait)
     } else {
         None

@@ -16,9 +16,6 @@ use feature_lists::{Feature, Place, PreferFault, usual, wish};
 use tool_words::{Digits, HexOrDash, MaybeFlag, Row, Words, clean, read_word, says_nothing};
 use world_events::Side;
 
-// A line has at most 4,096 bytes, two for each byte that it tells.
-const MOST_BYTES: usize = 2048;
-
 fn wish_fault(fault: PreferFault) -> LineWhy
     ensures { result ≡ spec.wish_fault fault }
 {
@@ -168,17 +165,22 @@ fn deliver(words: &mut Words<'_>, said: &mut Line) -> Result<(), LineFault>
     Ok(())
 }
 
+// Decodes the bytes where the payload stands.
+fn put_payload(payload: &mut Payload, digits: &Digits<'_>)
+    ensures { payload.new ≡ digits.now }
+{
+    payload.resize(digits.len());
+    let bytes = payload.bytes_mut();
+    digits.put(bytes);
+}
+
 /// The bytes as a payload, which has room for as many as one line has digits for (own).
 pub fn payload_of(digits: &Digits<'_>) -> Payload
     ensures { result ≡ digits.now }
 {
-    let mut bytes = [0; MOST_BYTES];
-    let room = &mut bytes[..digits.len()];
-    digits.put(room);
-    match Payload::of(room) {
-        Some(payload) => payload,
-        None => unreachable!(),
-    }
+    let mut payload = Payload::new();
+    put_payload(&mut payload, digits);
+    payload
 }
 
 // Making an event clears its room for data, so one that sends is changed where it stands.
@@ -187,7 +189,7 @@ fn be_sending(event: &mut Event, whose: Side, digits: &Digits<'_>)
 {
     if let Event::Send { side, payload } = event {
         *side = whose;
-        *payload = payload_of(digits);
+        put_payload(payload, digits);
     } else {
         *event = Event::Send {
             side: whose,
@@ -218,43 +220,7 @@ fn send(words: &mut Words<'_>, said: &mut Line) -> Result<(), LineFault>
     Ok(())
 }
 
-// Makes an event a wish. It clears the event's room, so an event that is a wish does not come here; and it puts the
-// values there last, so that they are moved alone.
-fn begin_wish(event: &mut Event, whose: Side, about: Feature, located: Place, wished: Values)
-    ensures { event.new ≡ Event.Prefer whose about located wished }
-{
-    *event = Event::Prefer {
-        side: whose,
-        feature: about,
-        place: located,
-        values: Values::new(),
-    };
-    if let Event::Prefer { values, .. } = event {
-        *values = wished;
-    }
-}
-
-// An event that is a wish is changed where it stands, as one that sends.
-fn be_wish(event: &mut Event, whose: Side, about: Feature, located: Place, wished: Values)
-    ensures { event.new ≡ Event.Prefer whose about located wished }
-{
-    if let Event::Prefer {
-        side,
-        feature,
-        place,
-        values,
-    } = event
-    {
-        *side = whose;
-        *feature = about;
-        *place = located;
-        *values = wished;
-    } else {
-        begin_wish(event, whose, about, located, wished);
-    }
-}
-
-// Makes a line that says no event a wish, apart from `say_wish` for the same reason.
+// Makes a line that says no event a wish. It clears the event's room, so it stands apart from `say_wish`.
 fn begin_with_wish(said: &mut Line, side: Side, feature: Feature, place: Place, values: Values)
     ensures { said.new ≡ Line.Event (Event.Prefer side feature place values) }
 {
@@ -270,7 +236,7 @@ fn say_wish(said: &mut Line, side: Side, feature: Feature, place: Place, values:
     ensures { said.new ≡ Line.Event (Event.Prefer side feature place values) }
 {
     if let Line::Event(event) = said {
-        be_wish(event, side, feature, place, values);
+        event.become_wish(side, feature, place, values);
     } else {
         begin_with_wish(said, side, feature, place, values);
     }

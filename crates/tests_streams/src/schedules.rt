@@ -110,7 +110,10 @@ fn what_is_printed(rt: HostRuntime) -> Result<(), Fail> {
 // The bytes of a frame, and whether its checksum is to be set.
 fn is_frame(line: &[u8], seal: bool, bytes: &[u8]) -> bool {
     match read_frame(line) {
-        Ok(Some(frame)) => frame.seal == seal && frame.bytes.bytes() == bytes,
+        Ok(Some(said)) => {
+            let frame = said.bytes.frame();
+            said.seal == seal && frame.bytes() == bytes
+        }
         _ => false,
     }
 }

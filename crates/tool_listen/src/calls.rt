@@ -5,16 +5,16 @@ ghost use Rattle.tool_listen.specs.Calls as spec;
 
 use crate::peers::APeer;
 use dccp_listener::Peer;
-use schedule_text::{AFrame, ATimer, FrameLine, LineFault, Payload, Timer, payload_of};
-use tool_words::{HexOrDash, Row, Words, read_line};
+use schedule_text::{AFrame, ATimer, FrameLine, LineFault, Timer};
+use tool_words::{Digits, HexOrDash, Row, Words, read_line};
 
-/// What happens to a peer.
+/// What happens to a peer. A frame's bytes and data are decoded where they are wanted.
 #[derive(Drop)]
-pub(crate) enum PeerCall {
+pub(crate) enum PeerCall<'a> {
     /// A frame of it arrives.
-    Frame(FrameLine),
+    Frame(FrameLine<'a>),
     /// These data are to go to it.
-    Send(Payload),
+    Send(Digits<'a>),
     /// A timer of its end has run out.
     Timer(Timer),
     /// The connection is to end in order.
@@ -23,35 +23,35 @@ pub(crate) enum PeerCall {
     Abort,
 }
 
-fn send(words: &mut Words<'_>) -> Result<PeerCall, LineFault>
+fn send<'a>(words: &mut Words<'a>) -> Result<PeerCall<'a>, LineFault>
     ensures { result ≡ spec.send_row.said (left_of words.old) }
 {
     let (digits, ()) = <(HexOrDash, ())>::read(words)?;
-    Ok(PeerCall::Send(payload_of(&digits)))
+    Ok(PeerCall::Send(digits))
 }
 
-fn timer(words: &mut Words<'_>) -> Result<PeerCall, LineFault>
+fn timer<'a>(words: &mut Words<'a>) -> Result<PeerCall<'a>, LineFault>
     ensures { result ≡ spec.timer_row.said (left_of words.old) }
 {
     let (timer, ()) = <(ATimer, ())>::read(words)?;
     Ok(PeerCall::Timer(timer))
 }
 
-fn close(words: &mut Words<'_>) -> Result<PeerCall, LineFault>
+fn close<'a>(words: &mut Words<'a>) -> Result<PeerCall<'a>, LineFault>
     ensures { result ≡ spec.close_row.said (left_of words.old) }
 {
     <() as Row>::read(words)?;
     Ok(PeerCall::Close)
 }
 
-fn abort(words: &mut Words<'_>) -> Result<PeerCall, LineFault>
+fn abort<'a>(words: &mut Words<'a>) -> Result<PeerCall<'a>, LineFault>
     ensures { result ≡ spec.abort_row.said (left_of words.old) }
 {
     <() as Row>::read(words)?;
     Ok(PeerCall::Abort)
 }
 
-fn arrival(words: &mut Words<'_>) -> Result<PeerCall, LineFault>
+fn arrival<'a>(words: &mut Words<'a>) -> Result<PeerCall<'a>, LineFault>
     ensures { result ≡ spec.arrival_row.said (left_of words.old) }
 {
     let frame = AFrame::read(words)?;
@@ -62,11 +62,11 @@ fn arrival(words: &mut Words<'_>) -> Result<PeerCall, LineFault>
 struct ACall;
 
 impl<'a> Row<'a> for ACall {
-    type Said = PeerCall;
+    type Said = PeerCall<'a>;
 
     ghost said = { spec.call_row.said };
 
-    fn read(words: &mut Words<'a>) -> Result<PeerCall, LineFault> {
+    fn read(words: &mut Words<'a>) -> Result<PeerCall<'a>, LineFault> {
         let mut all = *words;
         let first = words.next_word();
         if first.text == b"send".as_slice() {
@@ -85,7 +85,7 @@ impl<'a> Row<'a> for ACall {
 
 /// The peer of a line and what happens to it, or None exactly where the line is empty or a comment; or the first of the
 /// line's faults, with its column. The line comes without its newline.
-pub(crate) fn read_call(line: &[u8]) -> Result<Option<(Peer, PeerCall)>, LineFault>
+pub(crate) fn read_call(line: &[u8]) -> Result<Option<(Peer, PeerCall<'_>)>, LineFault>
     ensures value { result ≡ spec.read_call line.now }
     ensures seals { IfOk result (λ said. IfSome said (λ s. spec.SealsInFull s.1)) }
 {

@@ -13,6 +13,7 @@ use crate::telling::{put_answer, put_frame, put_heard, put_whom};
 use dccp_listener::{Act, Heard, Listener, NoFlow, Peer, Seen};
 use dccp_packets::{Frame, Outbox};
 use dccp_sum::Pseudo;
+use schedule_text::payload_of;
 use seq_circle::{NoMemory, Seq48};
 use tool_replay::arriving;
 
@@ -112,20 +113,23 @@ pub(crate) fn exchange(
     listener: &mut Listener,
     number: u64,
     peer: Peer,
-    said: PeerCall,
+    said: &PeerCall<'_>,
     text: &mut Vec<u8>,
 ) -> Result<(), NoMemory>
-    requires { SealsInFull said }
-    ensures after { OnOk result (listener.new ≡ listening_after listener.old peer (deed_of peer said)) }
-    ensures told { OnOk result (text.new.items ≡ text.old.items ++ exchange_text (exchange_at listener.old number peer (deed_of peer said))) }
+    requires { SealsInFull said.now }
+    ensures after { OnOk result (listener.new ≡ listening_after listener.old peer (deed_of peer said.now)) }
+    ensures told { OnOk result (text.new.items ≡ text.old.items ++ exchange_text (exchange_at listener.old number peer (deed_of peer said.now))) }
 {
     match said {
         PeerCall::Frame(said) => {
             let frame = arriving(&peer_addresses(peer), said);
             arrive(listener, number, peer, &frame, text)
         }
-        PeerCall::Send(payload) => call(listener, number, peer, Act::Send(payload.bytes()), text),
-        PeerCall::Timer(timer) => call(listener, number, peer, Act::Timer(timer), text),
+        PeerCall::Send(digits) => {
+            let payload = payload_of(digits);
+            call(listener, number, peer, Act::Send(payload.bytes()), text)
+        }
+        PeerCall::Timer(timer) => call(listener, number, peer, Act::Timer(*timer), text),
         PeerCall::Close => call(listener, number, peer, Act::Close, text),
         PeerCall::Abort => call(listener, number, peer, Act::Abort, text),
     }

@@ -66,12 +66,12 @@ impl Serving {
         &mut self,
         number: u64,
         peer: Peer,
-        said: PeerCall,
+        said: &PeerCall<'_>,
         text: &mut Vec<u8>,
     ) -> Result<Result<(), LineFault>, NoMemory>
-        requires seals { SealsInFull said }
+        requires seals { SealsInFull said.now }
         requires few { self.old.events ≤ most_events }
-        ensures verdict { IfOk result (λ answer. Judges listen_job (by_call self.old number peer said) text.old.items text.new.items self.new answer) }
+        ensures verdict { IfOk result (λ answer. Judges listen_job (by_call self.old number peer said.now) text.old.items text.new.items self.new answer) }
         ensures few { IfOk result (λ answer. answer ≡ Ok tt → self.new.events ≤ most_events) }
     {
         if MOST_EVENTS <= self.events {
@@ -101,7 +101,7 @@ impl LineJob for Serving {
         match read_call(line) {
             Err(fault) => Ok(Err(fault)),
             Ok(None) => Ok(Ok(())),
-            Ok(Some((peer, said))) => self.say(number, peer, said, text),
+            Ok(Some((peer, said))) => self.say(number, peer, &said, text),
         }
     }
 

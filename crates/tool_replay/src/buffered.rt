@@ -159,7 +159,7 @@ impl LineJob for BufferedReplay {
             Err(fault) => Ok(Err(fault)),
             Ok(None) => Ok(Ok(())),
             Ok(Some(said)) => {
-                let frame = arriving(&addresses(self.side), said);
+                let frame = arriving(&addresses(self.side), &said);
                 self.receive(number, &frame, text)
             }
         }

@@ -12,11 +12,12 @@ ghost use Rattle.tool_replay.specs.Replay.{role_of, replay_config, first_replay,
 use crate::end_lines::{put_end_line, put_frame_line};
 use ccid_two::Kinds;
 use dccp_endpoint::{Config, Endpoint, OpenFault, Outcome, Role, seal_frame};
-use dccp_packets::{Frame, Outbox};
-use dccp_sum::Pseudo;
+use dccp_packets::{Frame, MOST_FRAME_BYTES, Outbox};
+use dccp_sum::{Pseudo, seal};
 use schedule_text::{FrameLine, print_result, read_frame};
 use seq_circle::NoMemory;
 use std::alloc::Global;
+use std::marker::Model;
 use tool_lines::LineJob;
 use tool_text::put;
 use tool_words::LineFault;
@@ -47,13 +48,8 @@ impl Replay {
         Ok(Replay { sent: 0, side, end })
     }
 
-    /// Where a replay stands before its first line; a client has opened then, and the lines of that were put.
-    pub(crate) fn begin(
-        alloc: Global,
-        side: Side,
-        plain: bool,
-        text: &mut Vec<u8>,
-    ) -> Result<Replay, NoMemory>
+    // Where a replay stands before its first line; a client has opened then, and the lines of that were put.
+    fn begin(alloc: Global, side: Side, plain: bool, text: &mut Vec<u8>) -> Result<Replay, NoMemory>
         ensures value { IfOk result (λ replay. replay ≡ (begun_replay side plain).replay) }
         ensures text { OnOk result (text.new.items ≡ text.old.items ++ (begun_replay side plain).text) }
     {
@@ -85,28 +81,65 @@ impl Replay {
         Ok(())
     }
 
-    // The frame arrives that the line of this number made, and the lines of that are put.
+    // The frame of these bytes arrives, which the line of this number made, and the lines of that are put.
     fn take(
         &mut self,
         number: u64,
-        frame: &Frame,
+        bytes: &[u8],
+        out: &mut Outbox,
         text: &mut Vec<u8>,
     ) -> Result<Result<(), LineFault>, NoMemory>
+        requires short { length bytes.now ≤ 2044 }
         requires sent { self.old.sent ≤ number }
         requires number { number ≤ 16777217 }
-        ensures verdict { IfOk result (λ answer. Judges replay_job (by_frame self.old number frame.now) text.old.items text.new.items self.new answer) }
+        ensures verdict { IfOk result (λ answer. Judges replay_job (by_frame self.old number bytes.now) text.old.items text.new.items self.new answer) }
         ensures sent { IfOk result (λ _. self.new.sent ≤ number + 1) }
     {
-        let mut out = Outbox::new();
-        let bytes = frame.bytes();
-        let seen = Seen::Received(arrive(&mut self.end, bytes, &mut out));
+        let seen = Seen::Received(arrive(&mut self.end, bytes, out));
         print_result(number, &seen, bytes, text)?;
-        self.put_sent(&out, text)?;
+        self.put_sent(out, text)?;
         Ok(Ok(()))
     }
 }
 
-impl LineJob for Replay {
+/// A replay while it is played, with room that is made once for all frames: for the one that arrives, and for the one
+/// that the end sends. Contracts see the replay alone.
+#[derive(Drop)]
+pub(crate) struct Player {
+    replay: Replay,
+    room: [u8; MOST_FRAME_BYTES],
+    out: Outbox,
+}
+
+impl Model for Player {
+    ghost use Rattle.tool_replay.specs.declared.replay.Replay.{Replay};
+
+    ghost Value = { Replay };
+
+    ghost view = { λ p. p.replay };
+}
+
+impl Player {
+    /// Where a replay stands before its first line; a client has opened then, and the lines of that were put.
+    pub(crate) fn begin(
+        alloc: Global,
+        side: Side,
+        plain: bool,
+        text: &mut Vec<u8>,
+    ) -> Result<Player, NoMemory>
+        ensures value { IfOk result (λ player. player ≡ (begun_replay side plain).replay) }
+        ensures text { OnOk result (text.new.items ≡ text.old.items ++ (begun_replay side plain).text) }
+    {
+        let replay = Replay::begin(alloc, side, plain, text)?;
+        Ok(Player {
+            replay,
+            room: [0; MOST_FRAME_BYTES],
+            out: Outbox::new(),
+        })
+    }
+}
+
+impl LineJob for Player {
     ghost Deed = { List ℕ };
 
     ghost job = { replay_job };
@@ -124,15 +157,19 @@ impl LineJob for Replay {
         match read_frame(line) {
             Err(fault) => Ok(Err(fault)),
             Ok(None) => Ok(Ok(())),
-            Ok(Some(said)) => {
-                let frame = arriving(&addresses(self.side), said);
-                self.take(number, &frame, text)
-            }
+            Ok(Some(said)) => take_said(
+                &mut self.replay,
+                &mut self.room,
+                &mut self.out,
+                number,
+                &said,
+                text,
+            ),
         }
     }
 
     fn finish(&mut self, _alloc: Global, text: &mut Vec<u8>) -> Result<(), NoMemory> {
-        put_end_line(text, self.side, &self.end)
+        put_end_line(text, self.replay.side, &self.replay.end)
     }
 }
 
@@ -205,15 +242,50 @@ pub(crate) fn addresses(side: Side) -> Pseudo
 }
 
 /// The frame that arrives (own): its checksum is set for these addresses where the line says so.
-pub fn arriving(addresses: &Pseudo, said: FrameLine) -> Frame
-    requires { said.seal ≡ true → 8 ≤ length said.bytes }
-    ensures { result ≡ arriving addresses.now said }
+pub fn arriving(addresses: &Pseudo, said: &FrameLine<'_>) -> Frame
+    requires { said.now.seal ≡ true → 8 ≤ length said.now.bytes }
+    ensures { result ≡ arriving addresses.now said.now }
 {
-    let mut frame = said.bytes;
+    let mut frame = said.bytes.frame();
     if said.seal {
         seal_frame(addresses, &mut frame);
     }
     frame
+}
+
+// The frame arrives that the line of this number says, and the lines of that are put.
+fn take_said(
+    replay: &mut Replay,
+    room: &mut [u8; MOST_FRAME_BYTES],
+    out: &mut Outbox,
+    number: u64,
+    said: &FrameLine<'_>,
+    text: &mut Vec<u8>,
+) -> Result<Result<(), LineFault>, NoMemory>
+    requires seals { said.now.seal ≡ true → 8 ≤ length said.now.bytes }
+    requires sent { replay.old.sent ≤ number }
+    requires number { number ≤ 16777217 }
+    ensures verdict { IfOk result (λ answer. Judges replay_job (by_frame replay.old number (arriving (usual (role_of replay.old.side)).pseudo_in said.now)) text.old.items text.new.items replay.new answer) }
+    ensures sent { IfOk result (λ _. replay.new.sent ≤ number + 1) }
+{
+    let addresses = addresses(replay.side);
+    let bytes = &mut room[..said.bytes.len()];
+    put_arriving(bytes, &addresses, said);
+    replay.take(number, bytes, out, text)
+}
+
+// Puts the bytes of the frame that arrives into the room for them: its checksum is set for these addresses where the
+// line says so.
+fn put_arriving(room: &mut [u8], addresses: &Pseudo, said: &FrameLine<'_>)
+    requires room { length room.old ≡ length said.now.bytes }
+    requires short { length room.old ≤ 2044 }
+    requires seals { said.now.seal ≡ true → 8 ≤ length said.now.bytes }
+    ensures { room.new ≡ arriving addresses.now said.now }
+{
+    said.bytes.put(room);
+    if said.seal {
+        let _ = seal(addresses, room);
+    }
 }
 
 // The step of the end alone. Data that it delivers stand within the bytes.

@@ -6,7 +6,7 @@ ghost use Rattle.tool_replay.specs.Buffered.{buffered_accepted, buffered_refused
 ghost use Rattle.tool_output.specs.Ends.{Answers, SinkFails, StopsWithin, EndsForCause};
 
 use crate::buffered::BufferedReplay;
-use crate::replay::Replay;
+use crate::replay::Player;
 use dccp_io::{Sink, Source};
 use std::alloc::Global;
 use tool_lines::run_lines;
@@ -33,7 +33,7 @@ pub fn replay_frames<S: Source, K: Sink>(
     ensures cause { EndsForCause result (Rose (S.faults input.old) (S.faults input.new)) (SinkFails K.faults K.empty_takes output.old output.new) }
 {
     let mut text = Vec::new(alloc);
-    let Ok(mut replay) = Replay::begin(alloc, side, plain, &mut text) else {
+    let Ok(mut replay) = Player::begin(alloc, side, plain, &mut text) else {
         return Status::Memory;
     };
     run_lines(alloc, &mut replay, &mut text, input, output)

@@ -1,7 +1,8 @@
 //! What may happen to two ends, and what is seen of it.
-ghost use Rattle.std.specs.Prelude.{◌≡◌, ◌<◌, ◌≤◌, ◌↔◌, [], ◌∷◌, ◌++◌, true, false, length, IsSome, IfSome};
+ghost use Rattle.std.specs.Prelude.{◌≡◌, ◌<◌, ◌≤◌, [], ◌∷◌, ◌++◌, true, false, length};
 ghost use Rattle.world_events.specs.Actors.{actor, other};
 
+use crate::payload::Payload;
 use arrayvec::ArrayVec;
 use end_answers::{Outcome, SendFault, Timer};
 use feature_lists::{Feature, Place, PreferFault};
@@ -9,9 +10,6 @@ use std::marker::Model;
 
 // The most numbers of a list: one more than an end takes.
 const MOST_VALUES: usize = 9;
-
-// The most bytes of data: twice as many as an end takes.
-const MOST_BYTES: usize = 2048;
 
 /// One of the two ends.
 #[derive(Clone, Copy, Debug, PartialEq, Eq)]
@@ -59,53 +57,6 @@ impl Values {
         ensures fits { length result.now ≤ 9 }
     {
         self.numbers.as_slice()
-    }
-}
-
-/// The data that an end is asked to send: at most 2,048 bytes, in the value itself. Contracts see the list of bytes.
-#[derive(Debug, Drop)]
-pub struct Payload {
-    bytes: ArrayVec<u8, MOST_BYTES>,
-}
-
-impl Model for Payload {
-    ghost use Rattle.std.specs.Prelude.{List, ℕ};
-
-    ghost Value = { List ℕ };
-
-    ghost view = { λ p. p.bytes.items };
-}
-
-impl Payload {
-    /// These bytes, or None exactly where there are more than 2,048.
-    pub fn of(bytes: &[u8]) -> Option<Payload>
-        ensures made { IsSome result ↔ (length bytes.now ≤ 2048) }
-        ensures value { IfSome result (λ p. p ≡ bytes.now) }
-    {
-        if MOST_BYTES < bytes.len() {
-            return None;
-        }
-        Some(Payload::within(bytes))
-    }
-
-    // These bytes, which are not too many.
-    fn within(bytes: &[u8]) -> Payload
-        requires { length bytes.now ≤ 2048 }
-        ensures { result ≡ bytes.now }
-    {
-        let mut payload = Payload {
-            bytes: ArrayVec::new(),
-        };
-        let _ = payload.bytes.try_extend_from_slice(bytes);
-        payload
-    }
-
-    /// The bytes, at most 2,048.
-    pub fn bytes(&self) -> &[u8]
-        ensures value { result.now ≡ self.now }
-        ensures fits { length result.now ≤ 2048 }
-    {
-        self.bytes.as_slice()
     }
 }
 
@@ -288,6 +239,61 @@ impl Event {
             *fired = timer;
         } else {
             *self = Event::Timer { side, timer };
+        }
+    }
+
+    /// Makes it the sending of these data by this side (own), at most 2,048 bytes, in the same way.
+    pub fn become_sending(&mut self, side: Side, data: &[u8])
+        requires { length data.now ≤ 2048 }
+        ensures { self.new ≡ Event.Send side data.now }
+    {
+        if let Event::Send {
+            side: sender,
+            payload,
+        } = self
+        {
+            *sender = side;
+            payload.set(data);
+        } else {
+            *self = Event::Send {
+                side,
+                payload: Payload::within(data),
+            };
+        }
+    }
+
+    /// Makes it this side's wish for these values of a feature, best first (own), in the same way.
+    pub fn become_wish(&mut self, side: Side, feature: Feature, place: Place, values: Values)
+        ensures { self.new ≡ Event.Prefer side feature place values }
+    {
+        if let Event::Prefer {
+            side: wisher,
+            feature: about,
+            place: located,
+            values: wished,
+        } = self
+        {
+            *wisher = side;
+            *about = feature;
+            *located = place;
+            *wished = values;
+        } else {
+            self.begin_wish(side, feature, place, values);
+        }
+    }
+
+    // Makes one of another kind a wish. The values are put there last, so that they are moved alone.
+    fn begin_wish(&mut self, side: Side, feature: Feature, place: Place, values: Values)
+        ensures { self.new ≡ Event.Prefer side feature place values }
+    {
+        *self = Event::Prefer {
+            side,
+            feature,
+            place,
+            values: Values::new(),
+        };
+        if let Event::Prefer { values: wished, .. } = self {
+            *wished = values;
         }
     }
 }

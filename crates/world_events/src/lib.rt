@@ -3,5 +3,7 @@
 #![tactic(auto)]
 
 mod event;
+mod payload;
 
-pub use crate::event::{Event, Payload, Refusal, Seen, Side, Values, WorldFault};
+pub use crate::event::{Event, Refusal, Seen, Side, Values, WorldFault};
+pub use crate::payload::Payload;
