@@ -26,8 +26,10 @@ pub(crate) enum Load {
     End,
     /// Requests with options at one end.
     EndOptions,
-    /// As many Acks at one end, which is in LISTEN.
+    /// As many Acks at one end, which has answered a Request.
     EndAcks,
+    /// As many Acks at one end in LISTEN, which refuses them.
+    EndRefusals,
     /// Datagrams that nobody hears: what making them takes alone.
     Frames,
 }
@@ -198,20 +200,27 @@ fn hear_alone(end: &mut Endpoint<Kinds>, frame: &mut Frame, number: u32, out: &m
     out.frame().is_some()
 }
 
-// So many packets at one end.
-fn at_end(alloc: Global, packet: &[u8], count: u32, first: Seq48) -> u32 {
-    let Some(mut end) = end(alloc, first) else {
-        return 0;
-    };
+// So many packets at an end, numbered from 1. Gives how many were answered.
+fn hear_all_alone(end: &mut Endpoint<Kinds>, packet: &[u8], count: u32, out: &mut Outbox) -> u32 {
     let mut frame = frame_of(packet);
-    let mut out = Outbox::new();
     let mut answered = 0u32;
     for number in 0..count {
-        if hear_alone(&mut end, &mut frame, number, &mut out) {
+        if hear_alone(end, &mut frame, number.wrapping_add(1), out) {
             answered = answered.wrapping_add(1);
         }
     }
     answered
+}
+
+// So many at one end, which has heard another packet before.
+fn at_end(alloc: Global, before: &[u8], packet: &[u8], count: u32, first: Seq48) -> u32 {
+    let Some(mut end) = end(alloc, first) else {
+        return 0;
+    };
+    let mut out = Outbox::new();
+    let mut frame = frame_of(before);
+    let _ = hear_alone(&mut end, &mut frame, 0, &mut out);
+    hear_all_alone(&mut end, packet, count, &mut out)
 }
 
 // So many datagrams that nobody hears. Gives how many have a number of their own.
@@ -236,9 +245,10 @@ fn answered(alloc: Global, load: Load, count: u32, first: Seq48) -> u32 {
         Load::Options => at_listener(alloc, &REQUEST_WITH_OPTIONS, count, first),
         Load::Faults => at_listener(alloc, &REQUEST_WITH_FAULT, count, first),
         Load::Acks => at_listener(alloc, &ACK, count, first),
-        Load::End => at_end(alloc, &REQUEST, count, first),
-        Load::EndOptions => at_end(alloc, &REQUEST_WITH_OPTIONS, count, first),
-        Load::EndAcks => at_end(alloc, &ACK, count, first),
+        Load::End => at_end(alloc, &REQUEST, &REQUEST, count, first),
+        Load::EndOptions => at_end(alloc, &REQUEST, &REQUEST_WITH_OPTIONS, count, first),
+        Load::EndAcks => at_end(alloc, &REQUEST, &ACK, count, first),
+        Load::EndRefusals => at_end(alloc, &ACK, &ACK, count, first),
         Load::Frames => nowhere(count),
     }
 }

@@ -9,7 +9,8 @@
 //! copying its bytes, `inboxes` the calls of a bounded inbox.
 //!
 //! `requests`, `options`, `faults` and `acks` and a number of datagrams has them come at a listener, `end`,
-//! `end-options` and `end-acks` the same at one end, and `frames` makes them alone.
+//! `end-options` and `end-acks` the same at one end, `end-refusals` Acks at one that refuses them, and `frames` makes
+//! datagrams alone.
 //!
 //! Nothing is claimed of what it prints.
 #![tactic(auto)]
@@ -44,7 +45,7 @@ enum Form {
     Arrivals(Load),
 }
 
-const FORMS: [(&str, Form); 15] = [
+const FORMS: [(&str, Form); 16] = [
     ("marks", Form::Marks),
     ("ratios", Form::Ratios),
     ("nonces", Form::Nonces),
@@ -59,6 +60,7 @@ const FORMS: [(&str, Form); 15] = [
     ("end", Form::Arrivals(Load::End)),
     ("end-options", Form::Arrivals(Load::EndOptions)),
     ("end-acks", Form::Arrivals(Load::EndAcks)),
+    ("end-refusals", Form::Arrivals(Load::EndRefusals)),
     ("frames", Form::Arrivals(Load::Frames)),
 ];
 
