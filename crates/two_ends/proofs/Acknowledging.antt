@@ -95,16 +95,19 @@ module _ (act : Act) (own : IsOrdered act.side) (peer : IsOrdered act.peer) (k :
   ack-small : (a : Incoming) (ack : ℕ) → Came (end_of act.side) act.given a → a.kind ≢ types.Reset → a.ack ≡ Some ack → ack < 2 ^ 48
   ack-small a ack came other is = subst FitsAck is (from-log-fits (config_of act.peer).iss act.peer.log a (came-logged act peer a came other))
 
-  raised-by : (acknowledged : Option ℕ) → IsAcknowledging (end_of act.side) act.given acknowledged → IsOwn act.side (gar_by (end_of act.side).marks.gar acknowledged)
+  raised-by : (acknowledged : Option ℕ) → IsAcknowledging (end_of act.side) act.given acknowledged
+      → IsOwn act.side (gar_by (end_of act.side).marks.gar acknowledged)
   raised-by _ LeavesIt = k.gar
   raised-by _ (ByWindow ack a came other is asked within) =
       let some : 1 ≤ length act.side.log = k.begun (ap is_begun (answer-so (end_of act.side).phase a.kind asked).0) in
       later-sent act.side own k some ack _
-      (window-sent act.side own k some ack (ack-small a ack came other is) (ap (is_ack_within (ack_low (end_of act.side).marks) (ack_high (end_of act.side).marks)) (sym is) ∙ within))
+      (window-sent act.side own k some ack (ack-small a ack came other is)
+      (ap (is_ack_within (ack_low (end_of act.side).marks) (ack_high (end_of act.side).marks)) (sym is) ∙ within))
   raised-by _ (ByVerdict ack a came other is asked valid) =
       let some : 1 ≤ length act.side.log = k.begun (live-begun (end_of act.side).phase (check-live (end_of act.side).phase a.kind asked)) in
       later-sent act.side own k some ack _
-      (valid-sent act.side own k some a.kind a.number ack (ack-small a ack came other is) (ap (verdict (end_of act.side).marks a.kind a.number) (sym is) ∙ valid))
+      (valid-sent act.side own k some a.kind a.number ack (ack-small a ack came other is)
+      (ap (verdict (end_of act.side).marks a.kind a.number) (sym is) ∙ valid))
 
   acting : KnowsAcknowledged (acted act)
   acting =
@@ -115,6 +118,7 @@ module _ (act : Act) (own : IsOrdered act.side) (peer : IsOrdered act.peer) (k :
         begun = λ begun. elim (act.because.moves.begun begun) [ inl before ↦ omega (arith, more, k.begun before) | inr next ↦ omega (arith, more, sent next) ];
       }
 
+-- a fact of both sides after every schedule
 pub acknowledging : Keeps (λ x y. IsOrdered x) (λ x y. KnowsAcknowledged x)
 acknowledging =
     record {

@@ -72,6 +72,7 @@ pub record Act : Type 0 where
 abbrev pub acted : Act → Party
 acted act = record { half = half_after act.side.half act.arrived act.effect; log = act.side.log ++ drafted_by act.side.half act.arrived act.effect }
 
+-- an act takes nothing from the log
 pub longer : (act : Act) → length act.side.log ≤ length (acted act).log
 longer act = omega (arith, length-append act.side.log (drafted_by act.side.half act.arrived act.effect))
 
@@ -120,6 +121,7 @@ moved-after half arrived step f after frame =
     ap (λ (e : EndState). half_with half.frames e (half.processed ++ newly_processed half.end arrived e) step.frame) after
     ∙ ap (half_with half.frames (end_after half.end f) (processed_by half arrived f)) frame
 
+-- a side that is not full has room for a frame
 pub not-full : (half : Half) → is_full half ≡ false → length half.frames < 2 ^ 47 - 1
 not-full half room = grind arith
 
@@ -181,6 +183,7 @@ acting-actor : (e : Event) (said : Said) → acting_side (happening_of e said) �
 acting-actor (event.Deliver from index) said = refl
 acting-actor _ said = refl
 
+-- an event comes to what was made of the side that acts
 pub event-taken : (w : WorldState) (e : Event) (said : Said) → Takes w (actor e) (happens w e said)
 event-taken w e said =
     subst (λ (side : Side). Takes w side (happens w e said)) (acting-actor e said) (taken w (happening_of e said) (is-call e said))
@@ -222,7 +225,8 @@ module _ (This : Party → Party → Type 0) (keeps : Keeps NoFact This) (proper
       } in
       record {
         held =
-            subst (λ (half : Half). IsHeld This (with_half w side half)) (sym (moved-after x.half arrived (end_stepped x.half.end given) has.effect has.after_is has.frame_is))
+            subst (λ (half : Half). IsHeld This (with_half w side half))
+            (sym (moved-after x.half arrived (end_stepped x.half.end given) has.effect has.after_is has.frame_is))
             (held-with This w h.logs side (acted act) (keeps.acts act (tt, tt) now));
         configs = config-with w side (half_steps (half_of w side) arrived given).half (ap (λ (e : EndState). e.config) has.after_is);
       }
@@ -243,7 +247,8 @@ module _ (This : Party → Party → Type 0) (keeps : Keeps NoFact This) (proper
   kept-from : (client server : Config) (events : List Occurrence) → Fits client → Fits server
       → IsKept This (at_start client server) (world_after_all (at_start client server) events)
   kept-from client server events client_fits server_fits =
-      let holds : Both This (at_beginning client) (at_beginning server) = (keeps.starts client server client_fits server_fits, keeps.starts server client server_fits client_fits) in
+      let holds : Both This (at_beginning client) (at_beginning server) =
+      (keeps.starts client server client_fits server_fits, keeps.starts server client server_fits client_fits) in
       held-from (at_start client server) events (record { logs = λ s. []; holds = holds })
 
   -- What the start has and each step keeps, holds after every schedule.

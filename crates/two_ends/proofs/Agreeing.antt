@@ -66,6 +66,7 @@ location-is Client Server = refl
 location-is Server Client = refl
 location-is Server Server = refl
 
+-- a side's row and the other's are the rows of one pair
 pub row-pair : (side : Side) (rows : List Row) (pair : FeatureAt) → AreRowsOf (end_at side) rows
     → row_pair (row_at rows pair.feature (place_at side pair.location)) ≡ pair_of pair.feature (end_at pair.location)
 row-pair side rows pair are =
@@ -77,6 +78,7 @@ row-pair side rows pair are =
     ∙ ap (λ seen. pair_of pair.feature (location_of (end_at side) seen)) is.place_is
     ∙ ap (pair_of pair.feature) (location-is side pair.location)
 
+-- the pair of a row is reached as it is seen from either side
 pub reached-by-row : (w : WorldState) (logs : Side → List Logged) (pair : FeatureAt) (side : Side) (servers clients : ℕ)
     → AreRowsOf (end_at side) (half_of w side).end.rows
     → Reached (row_pair (row_at (half_of w side).end.rows pair.feature (place_at side pair.location)))

@@ -69,6 +69,7 @@ neither : (one another : Bool) → (one || another) ≡ false → (one ≡ false
 neither true another none = cc none
 neither false another none = (refl, none)
 
+-- a row in STABLE has no wish that waits
 pub none-pending : (feature : Feature) (place : Place) (stand : Stand) (pending : Option Wanted) → stand ≡ Stable
     → is_pending feature place stand pending ≡ true → pending ≡ None
 none-pending feature place stand None stable is = refl
@@ -77,7 +78,8 @@ none-pending feature place Changing (Some wish) stable is = cc is
 none-pending feature place Unstable (Some wish) stable is = cc stable
 
 module _ (w : WorldState) (logs : Side → List Logged)
-    (spoken : (side : Side) → IsSpoken (party_of w logs side) (config_of (party_of w logs (other side))).iss) (pair : FeatureAt) (r : AreReached w logs pair) where
+    (spoken : (side : Side) → IsSpoken (party_of w logs side) (config_of (party_of w logs (other side))).iss) (pair : FeatureAt)
+    (r : AreReached w logs pair) where
   abbrev server : FeatureSide
   server = view_at w logs r.servers pair Server
 

@@ -98,7 +98,8 @@ report-sends n (Some number) options ratio rest none = by (report_of number opti
   by (Some report) = none
 
 -- A packet reports by its own acknowledgement number.
-told-from : (t : PacketType) (ack : Option ℕ) (options : List (Result Entry OptFault)) (n : ℕ) → IsToldBy (reported_from t ack) options n → IsToldBy ack options n
+told-from : (t : PacketType) (ack : Option ℕ) (options : List (Result Entry OptFault)) (n : ℕ) → IsToldBy (reported_from t ack) options n
+    → IsToldBy ack options n
 told-from types.Sync ack options n told = cc told.acknowledges
 told-from _ ack options n told = told
 

@@ -64,6 +64,7 @@ picked ack entry true false false change is_change values later rest same is = i
 picked ack entry false true placed change is_change values later rest same is = is
 picked ack entry false false placed change is_change values later rest same is = is
 
+-- values are for a feature where they begin with its number
 pub values-named : (number : ℕ) (body : List ℕ) → values_for number body ≡ (if begins_with_number number body then Some (drop 1 body) else None)
 values-named number [] = refl
 values-named number (first ∷ values) = refl
@@ -78,7 +79,8 @@ said-as feature place ack (Ok entry ∷ rest) =
     let later : Saying = said_in number place rest in
     let change : Bool = entry.kind == change_option place in
     ap (λ of_pair. if of_pair then said_then (values_for number entry.body) change later else later) (sym (types-placed place entry.kind))
-    ∙ ap (λ values. if is_of_negotiation entry.kind && is_of_place (is_left entry.kind) (opposite (opposite place)) then said_then values change later else later)
+    ∙ ap (λ values. if is_of_negotiation entry.kind && is_of_place (is_left entry.kind) (opposite (opposite place)) then said_then values change later
+    else later)
     (values-named number entry.body)
     ∙ picked ack entry (is_of_negotiation entry.kind) (begins_with_number number entry.body) (is_of_place (is_left entry.kind) (opposite (opposite place)))
     (heeding.is_change entry.kind) change (drop 1 entry.body) later _ (types-change place entry.kind) (said-as feature place ack rest)
@@ -140,6 +142,7 @@ sent-later : (config : Config) (first : SentFrame) (frames : List SentFrame) (l 
 sent-later config first frames l s =
     record { index = suc s.index; number = s.number; frame = s.frame; is_there = s.is_there; is_logged = s.is_logged }
 
+-- the frame of a place of the log
 pub frame-at : (config : Config) {first : ℕ} {frames : List SentFrame} {log : List Logged} (place : ℕ) (l : Logged) → AreLogged config first frames log
     → slice_get log place ≡ Some l → IsSentIn config frames l
 frame-at config place l NoFrames there = cc there

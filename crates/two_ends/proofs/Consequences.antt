@@ -32,7 +32,7 @@ use Rattle.two_ends.specs.Counted.{AreAmongFirst, AreResets}
 use Rattle.two_ends.specs.Frames.{is_reset}
 use Rattle.two_ends.specs.Negotiated.{Agree, HasSent, Initial, IsNotNegotiable, IsServerPriority, IsSettled, Origin, Reconciled, Told as ToldValue, last_list_sent, last_value, list_said, pair_was_negotiated, value_said}
 use Rattle.two_ends.specs.Pairs.{FeatureAt, held_at, said_by}
-use Rattle.two_ends.specs.Reported.{CarriesVector, Far, Heard, NeedsNoReport, Once, Told, Truthful, WasTold, processed_by}
+use Rattle.two_ends.specs.Reported.{CarriesVector, Far, Heard, NeedsNoReport, Once, Told, ToldIn, Truthful, WasTold, processed_by}
 use Rattle.two_ends.specs.World.{WorldState, half_of}
 use Rattle.two_ends.proofs.Processed.{at-has, has-at}
 use Rattle.two_ends.proofs.Shown.{or-any}
@@ -149,18 +149,13 @@ module _ (w : WorldState) where
 
   pub far-behind : Told w → (side : Side) (iss count n : ℕ) → iss < 2 ^ 48 → 1 ≤ count → count + 2047 ≤ 2 ^ 47 → n ≡ number_of iss count
       → distance (half_of w side).end.marks.isr n < distance (half_of w side).end.marks.isr (half_of w side).end.received.set.floor
-      → ((index : ℕ) (frame : SentFrame) (ack : ℕ) (bytes : List ℕ) → slice_get (half_of w side).frames index ≡ Some frame → CarriesVector frame ack bytes
-      → is_whole_under (has (take frame.processed (half_of w side).processed)) frame.floor ack (half_of w side).end.config.vectors ≡ true
-      → IsWithin n frame.floor ack
-      → Contains (half_of w (other side)).processed frame.number → ⊥)
-      → AreAmongFirst iss (count + 2047) (half_of w side).processed → ⊥
+      → (ToldIn w side n → ⊥) → AreAmongFirst iss (count + 2047) (half_of w side).processed → ⊥
   far-behind told side iss count n fits some early is below none among = by (told side n (number-small iss count n is) below) where
     by : NeedsNoReport w side n → ⊥
     by (Far q has_it before) =
         let q_is = among q has_it in
         far-not iss count q_is.count n q fits some early q_is.some q_is.early is q_is.same before
-    by (WasTold was) =
-        none was.index was.frame was.ack was.bytes was.is_there was.vector_is was.whole was.reaches was.heard
+    by (WasTold was) = none was
 
   module _ (once : Once w) (side : Side) where
     pub apart-so : (early n : ℕ) → Contains (take early (half_of w side).processed) n → Contains (drop early (half_of w side).processed) n → ⊥

@@ -397,7 +397,8 @@ module _ {C : Type 0} (control : Control C) where
     now : (r : Result (ControlledStep C) WorldFault) (step : ControlledStep C) → happens_to control w e ≡ r → r ≡ Ok step → (f : Event) → e ≡ f
         → (p : Option (ℕ × ℕ)) → place_delivered step.seen ≡ p → slice_get (frame_delivered f step.seen) i ≡ Some named → DeliveredNow w e i named
     now r step same is (event.Deliver from index) at None none there =
-        let silent : slice_get (named_if from index None) i ≡ Some named = ap (λ (o : Option (ℕ × ℕ)). slice_get (named_if from index o) i) (sym none) ∙ there in
+        let silent : slice_get (named_if from index None) i ≡ Some named = ap (λ (o : Option (ℕ × ℕ)). slice_get (named_if from index o) i) (sym none)
+        ∙ there in
         cc silent
     now r step same is (event.Deliver from index) at (Some place) some there =
         let one = named-one from index place i named (ap (λ (o : Option (ℕ × ℕ)). slice_get (named_if from index o) i) (sym some) ∙ there) in

@@ -41,6 +41,7 @@ changes_read [] = 0
 changes_read (Err _ ∷ rest) = changes_read rest
 changes_read (Ok entry ∷ rest) = one_for (is_change entry.kind) + changes_read rest
 
+-- as many Changes are read as were written
 pub changes-as-read : (place : ℕ) (items : List Item) → changes_read (map Ok (entries_at place items)) ≡ changes_in items
 changes-as-read place [] = refl
 changes-as-read place (item ∷ items) =
@@ -114,6 +115,7 @@ heeds-adds count ack h (Ok entry ∷ rest) = by (heeds_entry count ack h entry) 
     joined (Err fault) more = tt
     joined (Ok last) more = omega (arith, one, more)
 
+-- each Change that is heeded adds one Confirm at most
 pub heeded-few : (count : Bool) (ack : Option ℕ) (h end : Heeding) (items : List (Result Entry OptFault)) → heeds count ack h items ≡ Ok end
     → length end.confirms ≤ length h.confirms + changes_read items
 heeded-few count ack h end items is = subst (AddsUpTo (changes_read items) h) is (heeds-adds count ack h items)
@@ -127,6 +129,7 @@ change-is : (place : Place) → is_change (change_type place) ≡ true
 change-is Here = refl
 change-is There = refl
 
+-- the Changes written are those of the rows that ask
 pub written-changes : (confirms : List Due) (rows : List Row) (keys : List Key) → changes_in (confirm_items confirms ++ change_items rows keys) ≡ length keys
 written-changes [] rows [] = refl
 written-changes [] rows (k ∷ keys) =
@@ -142,6 +145,7 @@ parts-changes (part ∷ parts) rest =
     let none = parts-changes parts rest in
     omega (arith, none)
 
+-- a vector is no Change
 pub vector-changes : (has_vector : Bool) (setting : Vectors) (set : MarkedSet) (ack : ℕ) (rest : List Item)
     → changes_in (vector_items has_vector setting set ack ++ rest) ≡ changes_in rest
 vector-changes has_vector setting set ack rest =
@@ -154,6 +158,7 @@ data-few bytes = by (nat_le (length bytes) 253) where
   by true = omega arith
   by false = omega arith
 
+-- a vector takes two options at most
 pub vector-length : (has_vector : Bool) (setting : Vectors) (set : MarkedSet) (ack : ℕ) (rest : List Item)
     → length (vector_items has_vector setting set ack ++ rest) ≤ 2 + length rest
 vector-length true setting set ack rest =
@@ -174,6 +179,7 @@ change-kind There = refl
 abbrev pub IsNegotiating : Item → Type 0
 IsNegotiating item = is_of_negotiation item.kind ≡ true
 
+-- Confirms and Changes are all that is written so
 pub written-kinds : (confirms : List Due) (rows : List Row) (keys : List Key) → All IsNegotiating (confirm_items confirms ++ change_items rows keys)
 written-kinds [] rows [] = All-nil IsNegotiating
 written-kinds [] rows (k ∷ keys) =
@@ -182,12 +188,14 @@ written-kinds [] rows (k ∷ keys) =
 written-kinds (due ∷ confirms) rows keys =
     All-cons IsNegotiating (confirm_item due) (confirm_items confirms ++ change_items rows keys) (confirm-kind due.left) (written-kinds confirms rows keys)
 
+-- one option for each Confirm and each row that asks
 pub written-length : (confirms : List Due) (rows : List Row) (keys : List Key)
     → length (confirm_items confirms ++ change_items rows keys) ≡ length confirms + length keys
 written-length confirms rows keys =
     length-append (confirm_items confirms) (change_items rows keys)
     ∙ omega (arith, length-map {B = Item} confirms confirm_item, length-map {B = Item} keys (λ (k : Key). change_item k (row_at rows k.0 k.1)))
 
+-- eighteen rows ask at most
 pub asking-few : (rows : List Row) (confirms : List Due) → IsNegotiation rows → length (asking rows confirms) ≤ 18
 asking-few rows confirms its =
     let few = unconfirmed-few confirms (due_keys rows) in

@@ -52,6 +52,7 @@ not-opened : (old opens : Bool) → opened_by old opens ≡ false → (old ≡ f
 not-opened old true is = cc is
 not-opened old false is = (is, refl)
 
+-- what is kept of a packet says whether it is the newest
 pub newest-is : (e : EndState) (given : Input) (a : Incoming) → Came e given a → a.newest ≡ is_newest e a.number
 newest-is e given a came =
     let number : a.number ≡ came.number = ap (λ (x : Incoming). x.number) came.same in
@@ -63,6 +64,7 @@ waiting-dead phases.Listen is = refl
 waiting-dead phases.Request is = refl
 waiting-dead _ is = cc
 
+-- a number by its place behind ISS, and its count
 pub is-number : (iss place number : ℕ) → iss < 2 ^ 48 → place < 2 ^ 47 → number ≡ residue (iss + place)
     → IsNumber iss number × (count_of iss number ≡ place + 1)
 is-number iss place number fits few is =
@@ -219,6 +221,7 @@ begins-dead : (r : Role) → is_live (first_phase r) ≡ false
 begins-dead role.Client = refl
 begins-dead role.Server = refl
 
+-- at first nothing is heard
 pub heard-none : (config : Config) (iss : ℕ) → IsHeardTo iss 0 0 (new_end config)
 heard-none config iss =
     record {

@@ -43,7 +43,12 @@ module _ (act : Act) (peer : IsOrdered act.peer) where
   hears-next : (f : Effect) (h : Hearing) → IsHearing (end_of act.side) act.given f.phase h → IsHearingPeer act.side act.peer
       → Hears (config_of act.peer).iss (length act.peer.log) (end_after (end_of act.side) (record f { hearing = h }))
   hears-next f _ (KeepsHeard live) (inl unset) =
-      inl (record { not_live = dead-still (is_live f.phase) (λ now. sym unset.not_live ∙ live now); no_first = unset.no_first; no_greatest = unset.no_greatest })
+      inl (record {
+        not_live = dead-still (is_live f.phase) (λ now. sym unset.not_live ∙ live now);
+        no_first = unset.no_first;
+        no_greatest =
+            unset.no_greatest;
+      })
   hears-next f _ (KeepsHeard live) (inr h) = inr h
   hears-next f _ (Starts a how came other entrance taken passes) before =
       let s = was-sent a came other in
@@ -61,10 +66,13 @@ more-heard iss count more e above (inl unset) = inl unset
 more-heard iss count more e above (inr h) =
     inr (record { first = more-sent iss count more _ above h.first; greatest = more-sent iss count more _ above h.greatest; in_order = h.in_order })
 
+-- a fact of both sides after every schedule
 pub hearing : Keeps (λ x y. IsOrdered x) IsHearingPeer
 hearing =
     record {
       starts = λ own peer own_fits peer_fits. inl (record { not_live = (begins own.role).not_live; no_first = refl; no_greatest = refl });
-      acts = λ act (own, others) (here, there).
-          (hears-next act others act.effect act.effect.hearing act.because.hears here, more-heard (config_of act.side).iss _ _ (end_of act.peer) (longer act) there);
+      acts = λ act (own, others) (here, there). (
+        hears-next act others act.effect act.effect.hearing act.because.hears here,
+        more-heard (config_of act.side).iss _ _ (end_of act.peer) (longer act) there,
+      );
     }

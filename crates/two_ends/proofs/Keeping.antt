@@ -120,7 +120,8 @@ module _ (w : WorldState) (h : IsHeld SideInvariant w) where
   kept-facts =
       record {
         numbered = λ side. numbered-half (party_of w h.logs side) (holds side).ordered;
-        heard = λ side. subst (λ (n : ℕ). Hears n (length (h.logs (other side))) (half_of w side).end) (sym (holds (other side)).ordered.first) (holds side).hears;
+        heard = λ side. subst (λ (n : ℕ). Hears n (length (h.logs (other side))) (half_of w side).end) (sym (holds (other side)).ordered.first)
+            (holds side).hears;
         unmoved = λ side. resets-move-nothing (half_of w side).end (holds side).ordered.proper;
         acknowledged = λ side. own-acknowledged (party_of w h.logs side) (holds side).ordered (holds side).acknowledged;
         spoken = λ side index frame there. speaks-once side frame.bytes (said-once side index frame there)
@@ -171,7 +172,15 @@ module _ (w : WorldState) (h : IsHeld SideInvariant w) where
   marked-few side =
       let m = marks-of side in
       let most = few-processed m.view m.peer.frames m.kept.here.sound m.kept.here.listed in
-      omega (arith, m.here.marked, ap length m.here.processed, length-map m.view.processed (number_of (config_of (party_of w h.logs (other side))).iss), most, frames-length m.there.frames, few-logged (party_of w h.logs (other side)) (ordered-there side))
+      omega (
+        arith,
+        m.here.marked,
+        ap length m.here.processed,
+        length-map m.view.processed (number_of (config_of (party_of w h.logs (other side))).iss),
+        most,
+        frames-length m.there.frames,
+        few-logged (party_of w h.logs (other side)) (ordered-there side),
+      )
 
   pub held-once : (side : Side) → IsOnce w side
   held-once side = once w h.logs side (holds side).ordered (ordered-there side) (marks-of side)
@@ -234,7 +243,8 @@ kept-safe control w h roles heard =
     }
 
 module _ (effects : EveryStepHasOneEffect) where
-  pub run-kept : (client server : Config) (events : List Occurrence) → Fits client → Fits server → IsHeld SideInvariant (world_after_all (at_start client server) events)
+  pub run-kept : (client server : Config) (events : List Occurrence) → Fits client → Fits server
+      → IsHeld SideInvariant (world_after_all (at_start client server) events)
   run-kept client server events client_fits server_fits =
       run-held SideInvariant keeping (λ x y k. k.ordered.proper) (λ x y k. k.ordered.numbers) effects client server events client_fits server_fits
 
@@ -247,7 +257,8 @@ module _ (effects : EveryStepHasOneEffect) where
   pub run-roles : (client server : Config) (events : List Occurrence) → client.role ≡ role.Client → server.role ≡ role.Server → Fits client → Fits server
       → HasRoles (world_after_all (at_start client server) events)
   run-roles client server events is_client is_server client_fits server_fits =
-      let same = run-configs SideInvariant keeping (λ x y k. k.ordered.proper) (λ x y k. k.ordered.numbers) effects client server events client_fits server_fits in
+      let same = run-configs SideInvariant keeping (λ x y k. k.ordered.proper)
+      (λ x y k. k.ordered.numbers) effects client server events client_fits server_fits in
       record {
         is_client = ap (λ (config : Config). config.role) (same Client) ∙ is_client;
         is_server = ap (λ (config : Config). config.role) (same Server) ∙ is_server;

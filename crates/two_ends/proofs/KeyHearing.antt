@@ -115,6 +115,7 @@ kept-said iss k kd (Offers confirmed ∷ []) long is well = absurd well
 kept-said iss k kd (Sends number ∷ []) long is well = absurd well
 kept-said iss k kd (first ∷ (second ∷ rest)) long is well = absurd well
 
+-- the opposite of the opposite place is the place
 pub opposite-twice : (p : Place) → opposite (opposite p) ≡ p
 opposite-twice Here = refl
 opposite-twice There = refl

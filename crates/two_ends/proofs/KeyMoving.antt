@@ -122,7 +122,8 @@ module _ (s : KnownStep) where
       ∙ by (has_key k keys) refl
     where
       by : (asks : Bool) → has_key k keys ≡ asks
-          → with_frame (frames k) (carried_by peer_iss k.0 (said_of None asks (ack_of packet.kind) k (row-after k))) ≡ frames_after (row-after k) (frames k) asks true
+          → with_frame (frames k) (carried_by peer_iss k.0 (said_of None asks (ack_of packet.kind) k (row-after k))) ≡ frames_after (row-after k)
+          (frames k) asks true
       by true is = ap (with_frame (frames k)) (busy-carries k.0 k.1 (row-after k) (this-wish s k none is))
       by false is = refl
 
@@ -179,7 +180,8 @@ module _ (s : KnownStep) where
       let its = s.own.proper.rows.sound.each k.0 k.1 in
       let heard : KeyHears act greatest later k (events_of k.0 k.1 act.because.turns.heard) (Some body) =
       subst (KeyHears act greatest later k (events_of k.0 k.1 act.because.turns.heard)) some (this-hears s k) in
-      let first = confirms iss greatest (row k) (there k) (frames k) s.own.fits.iss few its.sound begun later (events_of k.0 k.1 act.because.turns.heard) body heard in
+      let first = confirms iss greatest (row k) (there k) (frames k) s.own.fits.iss few its.sound begun later
+      (events_of k.0 k.1 act.because.turns.heard) body heard in
       subst (MovedTo k (row-after k)) (sym (confirm-frames k body some f.sending _ _ act.because.says))
       (by first (key-confirmed e act.given s.own.proper.rows.sound act.because.turns.heard due (rows-heard s) k body
       act.because.turns.offered act.because.turns.preferred keys act.because.turns.occasion some))

@@ -66,7 +66,8 @@ confirm-is (Confirms other) body is = (let same : other ≡ body = cc is in ap C
 confirm-is _ body is = cc is
 
 -- The Confirm that is due is whole.
-reply-whole : (iss count : ℕ) (row : Row) (there : List Carried) (events : List RowEvent) (body : List ℕ) → IsSoundRow row → IsHeardOf iss row there count events
+reply-whole : (iss count : ℕ) (row : Row) (there : List Carried) (events : List RowEvent) (body : List ℕ) → IsSoundRow row
+    → IsHeardOf iss row there count events
     → reply_due row events ≡ Some body → is_whole_confirm row.feature body ≡ true
 reply-whole iss count row there [] body sound heard due = cc due
 reply-whole iss count row there (Change change mandatory ∷ []) body sound heard due =
@@ -93,7 +94,8 @@ hears-reply iss greatest row there later events _ body sound (HearsNewest _ newe
     record { newer = newer; whole = reply-whole iss later row there events body sound heard is }
 
 -- what a row heard leaves it its own
-hears-its : (iss greatest : ℕ) (row : Row) (there : List Carried) (later : ℕ) (events : List RowEvent) (reply : Option (List ℕ)) (feature : Feature) (place : Place)
+hears-its : (iss greatest : ℕ) (row : Row) (there : List Carried) (later : ℕ) (events : List RowEvent) (reply : Option (List ℕ)) (feature : Feature)
+    (place : Place)
     → IsRowOf feature place row → Hears iss greatest row there later events reply → IsRowOf feature place (row_turned row events)
 hears-its iss greatest row there later _ _ feature place its (HearsNothing same) = its
 hears-its iss greatest row there later events _ feature place its (HearsNewest _ newer heard) =
@@ -149,6 +151,7 @@ active-wish feature place None is own =
     cc (is, none)
 active-wish feature place (Some wish) is own = (wish, refl, is)
 
+-- a row that is not in STABLE has a wish
 pub busy-wish : (feature : Feature) (place : Place) (row : Row) → IsRowOf feature place row → row.stand ≢ Stable → HasWish feature place row
 busy-wish feature place row its busy =
     let own : is_ours row.feature row.place ≡ true = ours row (is_ours row.feature row.place) its.sound busy refl in
@@ -171,6 +174,7 @@ busy-valid feature place row w =
     ap (λ (a : Option Wanted). is_valid_change feature place (wish_bytes feature a)) w.is_active
     ∙ ap (is_valid_change feature place) (data-same feature w.wish) ∙ wish_valid feature place w.wish w.is_own
 
+-- its Change carries the values of that wish
 pub busy-carries : (feature : Feature) (place : Place) (row : Row) → HasWish feature place row
     → change_in feature (wish_bytes feature row.active) ≡ CarriedChange (entries_of row.active)
 busy-carries feature place row w =
@@ -308,7 +312,8 @@ module _ (s : KnownStep) where
 
   -- What goes out says of a row:
   pub this-says : (k : Key) (packet : Draft) (processed floor : ℕ) → packet.options ≡ written-by packet.kind
-      → said_by k (record { draft = packet; processed = processed; floor = floor }) ≡ said_of (confirm_for k due) (has_key k keys) (ack_of packet.kind) k (row-after k)
+      → said_by k (record { draft = packet; processed = processed; floor = floor }) ≡ said_of (confirm_for k due) (has_key k keys) (ack_of packet.kind) k
+      (row-after k)
   this-says k packet processed floor is =
       ap (λ (items : List Item). said_to true (ack_of packet.kind) (k.0, opposite k.1) (map Ok (entries_at 0 items))) is
       ∙ own_packets_say (ack_of packet.kind) (has-vector packet.kind) e.config.vectors told acked due (rows_by e.rows f) keys k

@@ -51,6 +51,7 @@ preference-stable row s wish opens = grind arith
 preference-busy : (row : Row) (s : Stand) (wish : Wanted) → (row_line row s (Preferred wish)).answer ≢ Opens → s ≢ Stable
 preference-busy row s wish waits stable = grind arith
 
+-- a row whose Change is due is not in STABLE
 pub due-busy : (row : Row) → is_due row ≡ true → row.stand ≢ Stable
 due-busy row due stable =
     let none : is_due row ≡ false = ap is_asking stable in
@@ -180,7 +181,8 @@ module _ (e : EndState) (input : Input) (rows : IsNegotiation e.rows) (heard : L
       → (events_of k.0 k.1 offered ++ events_of k.0 k.1 preferred ≡ []) ⊎ (events_of k.0 k.1 offered ++ events_of k.0 k.1 preferred ≡ Offers true ∷ [])
   key-confirmed k body _ _ _ Plain some = inl refl
   key-confirmed k body _ _ _ Offering some =
-      inr (ap (λ (xs : List RowEvent). xs ++ []) (events-offerings (is_confirmed confirms) k) ∙ ap (λ (c : Bool). Offers c ∷ []) (confirmed-some confirms k body some))
+      inr (ap (λ (xs : List RowEvent). xs ++ []) (events-offerings (is_confirmed confirms) k)
+      ∙ ap (λ (c : Bool). Offers c ∷ []) (confirmed-some confirms k body some))
   key-confirmed k body _ _ _ (Repeating in_flight fired deaf quiet) some = inl refl
   key-confirmed k body _ _ _ (OccasionNow other values wish called is asks deaf quiet) some =
       let none : confirm_for k confirms ≡ None = ap (confirm_for k) quiet in

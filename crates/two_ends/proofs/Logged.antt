@@ -80,6 +80,7 @@ found-later : {config : Config} {first : ℕ} {own : Logged} {log : List Logged}
 found-later (AtPlace place number l there same is) = AtPlace (suc place) number l there (omega (arith, same)) is
 found-later (Nowhere is) = Nowhere is
 
+-- a frame of the side is one of its log, or is not logged
 pub found : (config : Config) {first : ℕ} {frames : List SentFrame} {log : List Logged} (index : ℕ) (frame : SentFrame)
     → AreLogged config first frames log → slice_get frames index ≡ Some frame → Found config first log frame
 found config index frame NoFrames there = cc there

@@ -322,7 +322,8 @@ module _ (act : Act) (peer_ordered : IsOrdered act.peer) (view peer : MarkSide) 
     not-closed : view.closed ≡ false
     not-closed = open-so (inl live)
 
-    set-at : (how : Passing) (s : MarkedSet) (after : MarkSide) → Heard false a.number how ≡ f.hearing → (heard_by e.received (Heard false a.number how)).set ≡ s
+    set-at : (how : Passing) (s : MarkedSet) (after : MarkSide) → Heard false a.number how ≡ f.hearing
+        → (heard_by e.received (Heard false a.number how)).set ≡ s
         → IsMarked iss s after → IsMarked iss (heard_by e.received f.hearing).set after
     set-at how s after is same are =
         subst (λ (h : Hearing). IsMarked iss (heard_by e.received h).set after) is
@@ -342,7 +343,8 @@ module _ (act : Act) (peer_ordered : IsOrdered act.peer) (view peer : MarkSide) 
         ap (count_by e.marked e.received) (sym is) ∙ ap (λ (m : Marked). one_more_taken e.marked (is_new m)) new ∙ count-rose e.marked marked-few in
         record {
           after = with_processed view at;
-          moves = Next view (with_processed view at) (with_processed view at) (Joins at has-first not-closed at-there parts.0 parts.1) (Done (with_processed view at));
+          moves = Next view (with_processed view at) (with_processed view at) (Joins at has-first not-closed at-there parts.0 parts.1)
+              (Done (with_processed view at));
           frames = refl;
           heard = later-heard Taken is;
           first = λ some. ap (first_by e.marks.isr) (sym is) ∙ here.first some;

@@ -266,7 +266,8 @@ module _ (act : Act) (own : IsOrdered act.side) (peer_ordered : IsOrdered act.pe
                 });
             records =
                 λ r has_it. recorded-before own_iss iss t.after.frames (other_frame t.after 0) r
-                (records-now r (subst (λ (b : Bool). Contains (recorded_by (b && has-vector) setting kept-numbers (next_number e) greatest).records r) other has_it));
+                (records-now r (subst
+                (λ (b : Bool). Contains (recorded_by (b && has-vector) setting kept-numbers (next_number e) greatest).records r) other has_it));
           }
 
       -- an Ack or a DataAck
@@ -318,7 +319,12 @@ module _ (act : Act) (own : IsOrdered act.side) (peer_ordered : IsOrdered act.pe
             }
 
         its-record : (r : Record) → has-vector ≡ true
-            → r ≡ record { number = next_number e; ack = greatest; whole = is_whole_under (has kept-numbers.set.numbers) kept-numbers.set.floor greatest setting }
+            → r ≡ record {
+              number = next_number e;
+              ack = greatest;
+              whole =
+                  is_whole_under (has kept-numbers.set.numbers) kept-numbers.set.floor greatest setting;
+            }
             → IsRecorded own_iss iss (with_sent_frame t.after frame).frames r
         its-record r vector is =
             let last : frame_at (with_sent_frame t.after frame).frames (suc (length t.after.frames)) ≡ frame = frame-last t.after.frames frame in
@@ -343,7 +349,8 @@ module _ (act : Act) (own : IsOrdered act.side) (peer_ordered : IsOrdered act.pe
             → IsRecorded own_iss iss (with_sent_frame t.after frame).frames r
         records-by false vector r has_it = recorded-before own_iss iss t.after.frames frame r (records-now r has_it)
         records-by true vector r has_it =
-            elim (recorded-there kept-numbers (next_number e) greatest (is_whole_under (has kept-numbers.set.numbers) kept-numbers.set.floor greatest setting) r has_it) [
+            elim (recorded-there kept-numbers (next_number e) greatest
+            (is_whole_under (has kept-numbers.set.numbers) kept-numbers.set.floor greatest setting) r has_it) [
               | inl before ↦ recorded-before own_iss iss t.after.frames frame r (records-now r before)
               | inr new ↦ its-record r vector new
             ]
@@ -352,7 +359,8 @@ module _ (act : Act) (own : IsOrdered act.side) (peer_ordered : IsOrdered act.pe
         ack-sent =
             record {
               frames = (with_sent_frame t.after frame).frames;
-              moves = NextMove t.after (with_sent_frame t.after frame) (with_sent_frame t.after frame) (AcksFrame has-vector whole begun-some not-closed) (Done (with_sent_frame t.after frame));
+              moves = NextMove t.after (with_sent_frame t.after frame) (with_sent_frame t.after frame) (AcksFrame has-vector whole begun-some not-closed)
+                  (Done (with_sent_frame t.after frame));
               are = frames-append frames-now its-frame;
               records =
                   λ r has_it. records-by has-vector refl r
@@ -376,7 +384,8 @@ module _ (act : Act) (own : IsOrdered act.side) (peer_ordered : IsOrdered act.pe
 
     pub shown : IsShown (acted act) act.peer last
     shown =
-        let keeps : (received_by e f).set ≡ kept-numbers.set = recorded-set (is_acking_sent f.sending && has-vector) setting kept-numbers (next_number e) greatest in
+        let keeps : (received_by e f).set ≡ kept-numbers.set =
+        recorded-set (is_acking_sent f.sending && has-vector) setting kept-numbers (next_number e) greatest in
         record {
           heard = t.heard;
           first = t.first;

@@ -89,12 +89,20 @@ begins own peer =
       records = λ r has_it. absurd (omega (arith, has_it.1));
     }
 
+-- a fact of both sides after every schedule
 pub marking : Keeps (λ x y. IsOrdered x) IsMarking
 marking =
     record {
       starts =
           λ own peer own_fits peer_fits.
-          record { view = unmoved_side; peer = unmoved_side; kept = reached_keeps unmoved_side unmoved_side Starts; here = begins own peer; there = begins peer own };
+          record {
+            view = unmoved_side;
+            peer = unmoved_side;
+            kept = reached_keeps unmoved_side unmoved_side Starts;
+            here = begins own peer;
+            there =
+                begins peer own;
+          };
       acts =
           λ act (own, others) (here, there).
           let next = acting act own others here in

@@ -22,7 +22,8 @@ use Rattle.feature_machine.specs.declared.row.Row.{Row}
 use Rattle.feature_machine.specs.declared.stands.Stand.TheVariants.{Stable}
 
 -- A row and its end's frames come to others, and the greatest count taken to another.
-pub record Moved (iss : ℕ) (there : List Carried) (row : Row) (greatest : ℕ) (frames : List Carried) (after : Row) (later : ℕ) (more : List Carried) : Type 0 where
+pub record Moved (iss : ℕ) (there : List Carried) (row : Row) (greatest : ℕ) (frames : List Carried) (after : Row) (later : ℕ)
+    (more : List Carried) : Type 0 where
   pub moves : RowMoves row there (side_of iss row greatest frames) (side_of iss after later more)
   pub same : IsSameRow row after
   pub begun : IsBegun iss after
@@ -52,13 +53,16 @@ frames_after after frames true packet = with_frame frames (Change (entries_of af
 frames_after after frames false true = with_frame frames Nothing
 frames_after after frames false false = frames
 
+-- a row is the same as itself
 pub same-refl : (row : Row) → IsSameRow row row
 same-refl row = record { role = refl; feature = refl; place = refl }
 
+-- and as what is the same as its like
 pub same-then : (one two three : Row) → IsSameRow one two → IsSameRow two three → IsSameRow one three
 same-then one two three first second =
     record { role = second.role ∙ first.role; feature = second.feature ∙ first.feature; place = second.place ∙ first.place }
 
+-- moves follow one another
 pub moved-then : (iss : ℕ) (there : List Carried) (one two three : Row) (first second third : ℕ) (begin middle last : List Carried)
     → Moved iss there one first begin two second middle → Moved iss there two second middle three third last
     → Moved iss there one first begin three third last

@@ -113,7 +113,8 @@ module _ (act : Act) (own : IsOrdered act.side) (peer : IsOrdered act.peer) (gre
       let last : FeatureSide = view_of (acted act) (config_of act.peer).iss s.later (across k) in
       subst (λ p. Reached p server last) pair
       (client_row_reaches (row (across k)) server first last (row-role (across k) ∙ ap role_of is)
-      (subst (λ (key : Key). RowMoves (row (across k)) (map (carried_of (config_of act.side).iss key) act.peer.log) first last) own_key (s.moved (across k)).moves)
+      (subst (λ (key : Key). RowMoves (row (across k)) (map (carried_of (config_of act.side).iss key) act.peer.log) first last) own_key
+      (s.moved (across k)).moves)
       (subst (λ p. Reached p server first) (sym pair) (before k)))
 
 acts : (act : Act) → Both (λ x y. IsOrdered x) act.side act.peer → Both IsNegotiated act.side act.peer → Both IsNegotiated (acted act) act.peer
@@ -174,5 +175,6 @@ begins own peer own_fits peer_fits =
           (starts k.0 (location k) (entries_of (listed_at own.lists k.0 k.1).wish) (entries_of (listed_at peer.lists k.0 (opposite k.1)).wish)));
     }
 
+-- a fact of both sides after every schedule
 pub negotiating : Keeps (λ x y. IsOrdered x) IsNegotiated
 negotiating = record { starts = begins; acts = acts }

@@ -85,6 +85,7 @@ others-none (kind.SyncAck ack) other may = cc may
 acking-near : (k : Kind) (gsr : ℕ) → gsr < 2 ^ 48 → has_forms true k ≡ true → ack_of k ≡ Some gsr → is_ack_far (ack_of (kind_in_widths k)) gsr ≡ false
 acking-near k gsr fits long is = ap (λ (ack : Option ℕ). is_ack_far ack gsr) (ack-kept k gsr long is fits) ∙ self-near gsr fits
 
+-- a packet that may be short, and is neither Ack nor DataAck, is not far by what it acknowledges
 pub others-near : (k : Kind) (gsr : ℕ) → is_acking (packet_type k) ≡ false → may_be_short (packet_type k) ≡ true
     → is_ack_far (ack_of (kind_in_widths k)) gsr ≡ false
 others-near k gsr other may = ap (λ (ack : Option ℕ). is_ack_far ack gsr) (others-none k other may)
@@ -184,10 +185,16 @@ acting act o peer =
           logged-append e.config _ (sent_by act.side.half act.arrived act.effect) (drafted_by act.side.half act.arrived act.effect) refl o.logged
           (sent-logged e act.effect numbers processed floor _ act.given act.effect.sending refl next act.because.sends act.because.framed);
       greatest = greatest;
-      few = omega (arith, act.room, sent-few after.marks processed floor (frame_by e act.effect act.effect.sending), length-append act.side.half.frames (sent_by act.side.half act.arrived act.effect));
+      few = omega (
+        arith,
+        act.room,
+        sent-few after.marks processed floor (frame_by e act.effect act.effect.sending),
+        length-append act.side.half.frames (sent_by act.side.half act.arrived act.effect),
+      );
       numbers = numbers;
     }
 
+-- a fact of both sides after every schedule
 pub numbering : Keeps NoFact (λ x y. IsOrdered x)
 numbering =
     record {

@@ -14,7 +14,7 @@ use Rattle.dccp_endpoint.specs.Inputs as input
 use Rattle.dccp_endpoint.specs.Saying.{is_key}
 use Rattle.dccp_endpoint.specs.Speaking.{is_confirmed}
 use Rattle.dccp_endpoint.specs.Steps.{next_number}
-use Rattle.dccp_endpoint.specs.Turns.{Key, offerings, sendings, turn_of}
+use Rattle.dccp_endpoint.specs.Turns.{Key, sendings, turn_of}
 use Rattle.dccp_endpoint.specs.declared.config.Config.{Config}
 use Rattle.feature_agreement.specs.Rows.{entries_of}
 use Rattle.feature_lists.specs.Wishes.{wish_of}
@@ -24,7 +24,7 @@ use Rattle.feature_lists.specs.declared.wishes.PreferFault.{PreferFault}
 use Rattle.feature_lists.specs.declared.wishes.Wanted.{Wanted}
 use Rattle.feature_machine.proofs.Turning.{first-fresh, turned-row, turned-sound}
 use Rattle.feature_machine.specs.Negotiating.{IsNegotiation, every_place, row_at}
-use Rattle.feature_machine.specs.Rows.{Prefers, Sends}
+use Rattle.feature_machine.specs.Rows.{Prefers}
 use Rattle.feature_machine.specs.Sound.{IsSoundRow}
 use Rattle.feature_machine.specs.Turns.{Turn, row_turned, turned}
 use Rattle.feature_machine.specs.declared.row.Row.{Row}
@@ -38,6 +38,7 @@ use Rattle.world_events.specs.declared.event.Side.TheVariants.{Client, Server}
 use Rattle.world_events.specs.declared.event.WorldFault.{WorldFault}
 use Rattle.world_events.specs.declared.event.WorldFault.TheVariants as fault
 use Rattle.two_ends.specs.Controlled.{Controlled, ControlledStep, begins_with, congestion_of, controlled, controlled_after, controls, happens_to, plays, said_by}
+use Rattle.two_ends.specs.Reached.{IsBeginning}
 use Rattle.two_ends.specs.Preferred.{AsksFor, AsksNothing, IsAccepted, IsLastAsked, WantsValues, row_of, values_configured}
 use Rattle.two_ends.specs.World.{Half, HalfStep, Said, WorldState, WorldStep, delivers_frame, half_of, half_steps, happens, is_far_frame, is_full, seen_of_call, unless_far, unless_full, with_half, world_after}
 use Rattle.world_events.specs.Refusals.{refusal_of}
@@ -354,7 +355,8 @@ module _ {C : Type 0} (control : Control C) (effects : EveryStepHasOneEffect) wh
           leads = ap (controlled_after w) a.takes_place;
         }
 
-  sound-row : (w : Controlled C) → IsHeld SideInvariant w.world → (side : Side) (feature : Feature) (place : Place) → IsSoundRow (row_of w.world side feature place)
+  sound-row : (w : Controlled C) → IsHeld SideInvariant w.world → (side : Side) (feature : Feature) (place : Place)
+      → IsSoundRow (row_of w.world side feature place)
   sound-row w held side feature place = ((kept-proper w.world held side).rows.sound.each feature place).sound
 
   asked-wants : (w : Controlled C) → IsHeld SideInvariant w.world → (events : List Event) (side : Side) (feature : Feature) (place : Place) (values : List ℕ)
@@ -399,12 +401,34 @@ module _ {C : Type 0} (control : Control C) (effects : EveryStepHasOneEffect) wh
     first-wants Server feature place =
         ap (λ (row : Row). entries_of (latest row)) (first-fresh (role_of server.role) server.lists server_fits.lists feature place)
 
-    pub plays-asked-last : (side : Side) (feature : Feature) (place : Place) (values : List ℕ) → IsLastAsked control start events side feature place values
+    plays-asked-last : (side : Side) (feature : Feature) (place : Place) (values : List ℕ) → IsLastAsked control start events side feature place values
         → WantsValues (row_of (plays control start events).world side feature place) values
     plays-asked-last side feature place values asked = asked-wants start start-held events side feature place values asked
 
-    pub plays-unasked : (side : Side) (feature : Feature) (place : Place) → AsksNothing control start events side feature place
+    plays-unasked : (side : Side) (feature : Feature) (place : Place) → AsksNothing control start events side feature place
         → WantsValues (row_of (plays control start events).world side feature place) (values_configured start.world side feature place)
     plays-unasked side feature place none =
         subst (WantsValues (row_of (plays control start events).world side feature place)) (first-wants side feature place)
         (unasked-wants start start-held events side feature place none)
+
+  -- The same of any world that begins so.
+  pub last-asked-wanted : (start : Controlled C) (events : List Event) → IsBeginning control start → (side : Side) (feature : Feature) (place : Place)
+      (values : List ℕ) → IsLastAsked control start events side feature place values
+      → WantsValues (row_of (plays control start events).world side feature place) values
+  last-asked-wanted start events begins side feature place values =
+      subst
+      (λ (w : Controlled C).
+      IsLastAsked control w events side feature place values → WantsValues (row_of (plays control w events).world side feature place) values)
+      (sym begins.same)
+      (plays-asked-last begins.client begins.server begins.for_client begins.for_server events begins.client_fits begins.server_fits side feature place values)
+
+  -- and where nothing was asked for
+  pub unasked-wanted : (start : Controlled C) (events : List Event) → IsBeginning control start → (side : Side) (feature : Feature) (place : Place)
+      → AsksNothing control start events side feature place
+      → WantsValues (row_of (plays control start events).world side feature place) (values_configured start.world side feature place)
+  unasked-wanted start events begins side feature place =
+      subst
+      (λ (w : Controlled C). AsksNothing control w events side feature place
+      → WantsValues (row_of (plays control w events).world side feature place) (values_configured w.world side feature place))
+      (sym begins.same)
+      (plays-unasked begins.client begins.server begins.for_client begins.for_server events begins.client_fits begins.server_fits side feature place)

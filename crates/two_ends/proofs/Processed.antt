@@ -29,6 +29,7 @@ equal-so m n same = grind arith
 pub has-at : (ns : List ℕ) (i n : ℕ) → i < length ns → slice_index_or ns i 0 ≡ n → has ns n ≡ true
 has-at ns i n below is = list_any_at (λ m. m == n) ns i 0 below (equal-so (slice_index_or ns i 0) n is)
 
+-- a number of a list stands at a place of it
 pub at-has : (ns : List ℕ) (n : ℕ) → has ns n ≡ true → (i : ℕ) × (i < length ns) × (slice_index_or ns i 0 ≡ n)
 at-has [] n is = cc is
 at-has (m ∷ ms) n is = by (m == n) refl is (λ later. at-has ms n later) where
@@ -55,6 +56,7 @@ states-none one other floor ack below = rw below refl
 le-so : (a b : ℕ) → nat_le a b ≡ true → a ≤ b
 le-so a b is = grind arith
 
+-- a count up to another is not after it on the circle
 pub not-after : (iss ack count : ℕ) → iss < 2 ^ 48 → 1 ≤ count → count ≤ ack → ack ≤ 2 ^ 47 → IsBefore (number_of iss ack) (number_of iss count) → ⊥
 not-after iss ack count fits some below early before = omega (arith, before)
 

@@ -4,6 +4,7 @@ use Rattle.std.proofs.lemmas.List.{append-nil}
 use Rattle.dccp_endpoint.specs.End.{EndState}
 use Rattle.two_ends.specs.World.{newly_processed, number_if}
 
+-- nothing is added
 pub nothing_more : (processed : List ℕ) → processed ≡ processed ++ []
 nothing_more processed = sym (append-nil processed)
 

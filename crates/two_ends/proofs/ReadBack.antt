@@ -49,6 +49,7 @@ pub record IsDrafted (config : Config) (short : Bool) (number : ℕ) (draft : Dr
 abbrev pub MayBe : Bool → Draft → Type 0
 MayBe short draft = short ≡ true → may_be_short (packet_type draft.kind) ≡ true
 
+-- a frame of a draft is one that was drafted
 pub is-drafted : (config : Config) (short : Bool) (number : ℕ) (draft : Draft) → IsSendable draft → MayBe short draft
     → IsDrafted config short number draft (frame_of config short number draft)
 is-drafted config short number draft sendable may =
@@ -134,7 +135,8 @@ kept-frame config short number draft marks processed floor sendable may close =
     let ack_is : ack_in_full marks (packet_of (frame_of config short number draft)) ≡ ack_of (kind_in_widths draft.kind) =
     ap (ack_in_full marks) read.is_packet
     ∙ ack-full short draft.kind marks.gsr sendable.is_long (λ is. (close is).gsr_fits) (λ is. (close is).ack_is_near) in
-    ap (λ (n : ℕ). one_frame (frame_of config short number draft) n (ack_in_full marks (packet_of (frame_of config short number draft))) processed floor) number_is
+    ap (λ (n : ℕ). one_frame (frame_of config short number draft) n
+    (ack_in_full marks (packet_of (frame_of config short number draft))) processed floor) number_is
     ∙ ap (λ (a : Option ℕ). one_frame (frame_of config short number draft) (number % 2 ^ 48) a processed floor) ack_is
 
 cut-again : (n : ℕ) → n % 2 ^ 24 % 2 ^ 24 ≡ n % 2 ^ 48 % 2 ^ 24
@@ -284,12 +286,14 @@ short-so : (short : Bool) (number : ℕ) → not (is_long (number_in_width (numb
 short-so true number = refl
 short-so false number = refl
 
+-- a frame of the log is short where its log says so
 pub logged-form : (config : Config) (number : ℕ) (frame : SentFrame) (l : Logged) (is : IsLogged config number frame l)
     → is_short_packet (packet_of frame.bytes) ≡ is.short
 logged-form config number frame l is =
     let read = is-drafted config is.short number l.draft is.sendable is.form in
     ap (λ (f : SentFrame). is_short_packet (packet_of f.bytes)) is.same ∙ ap is_short_packet read.is_packet ∙ short-so is.short number
 
+-- a frame that is not in the log is long
 pub unlogged-form : (config : Config) (frame : SentFrame) → IsUnlogged config frame → is_short_packet (packet_of frame.bytes) ≡ false
 unlogged-form config frame is =
     let read = is-drafted config false is.number (alone is.kind) is.sendable (λ short. cc short) in
@@ -317,7 +321,8 @@ module _ (e : EndState) (given : Input) (a : Incoming) (came : Came e given a) (
   near-numbers number frame l is close short takes =
       let form : is_short_packet (packet_of frame.bytes) ≡ true = logged-form config number frame l is ∙ short in
       let both =
-      near-parts (takes_short e) (is_short_packet (packet_of frame.bytes)) (is_far frame.number e.marks.gsr) (is_ack_far frame.ack e.marks.gss) close takes form in
+      near-parts (takes_short e) (is_short_packet (packet_of frame.bytes)) (is_far frame.number e.marks.gsr)
+      (is_ack_far frame.ack e.marks.gss) close takes form in
       record {
         gsr_fits = numbers.gsr;
         gss_fits = numbers.gss;
@@ -356,7 +361,8 @@ module _ (e : EndState) (given : Input) (a : Incoming) (came : Came e given a) (
   told-by-sender frames log arrived sent logged =
       told-found log sent.frame sent.same sent.not_far (found config sent.index sent.frame logged sent.is_there)
 
-  pub arrived-so : (frames : List SentFrame) (log : List Logged) (arrived : Option ℕ) → IsFromPeer e frames arrived given → AreLogged config config.iss frames log
+  pub arrived-so : (frames : List SentFrame) (log : List Logged) (arrived : Option ℕ) → IsFromPeer e frames arrived given
+      → AreLogged config config.iss frames log
       → arrived ≡ Some a.number
   arrived-so frames log arrived from logged =
       let sent : IsSentFrame e frames arrived came.bytes = subst (IsFromPeer e frames arrived) came.is_given from in

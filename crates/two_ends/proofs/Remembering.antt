@@ -173,7 +173,8 @@ module _ (w : WorldState) (logs : Side → List Logged) (side : Side) where
         let its = reset-frame (config_of (party_of w logs (other side))) frame is in
         let packet_is : packet ≡ its.spells.packet = same_Some packet its.spells.packet (sym read ∙ its.spells.is_packet) in
         let type = without-reset (config_of (party_of w logs (other side))).role its.spells.packet.header.kind its.has_code in
-        let plain : is_acking (packet_type packet.header.kind) ≡ false = ap (λ (p : Parts). is_acking (packet_type p.header.kind)) packet_is ∙ ap is_acking type in
+        let plain : is_acking (packet_type packet.header.kind) ≡ false = ap (λ (p : Parts). is_acking (packet_type p.header.kind)) packet_is
+        ∙ ap is_acking type in
         cc (acking, plain)
     newest-found frame packet (AtPlace place number l there numbered is) live read acking same =
         let y : Party = party_of w logs (other side) in
@@ -187,7 +188,8 @@ module _ (w : WorldState) (logs : Side → List Logged) (side : Side) where
         sym its.number_is ∙ same in
         let inside : place < length (logs (other side)) = slice_get_within (logs (other side)) place l there in
         let at : suc place ≡ m.view.greatest =
-        same-place (config_of y).iss m.view.greatest place number (half_of w side).end.marks.gsr others.fits.iss some (greatest-few (party_of w logs side) y others m)
+        same-place (config_of y).iss m.view.greatest place number (half_of w side).end.marks.gsr others.fits.iss some
+        (greatest-few (party_of w logs side) y others m)
         (omega (arith, inside, few-logged y others)) numbered number_is (m.here.heard.tied some) in
         let acks : (frame_at m.peer.frames m.view.greatest).is_ack ≡ true =
         ap (λ (n : ℕ). (frame_at m.peer.frames n).is_ack) (sym at) ∙ ours.acks ∙ sym (ap is_acking type) ∙ acking in
@@ -208,7 +210,8 @@ module _ (w : WorldState) (logs : Side → List Logged) (side : Side) where
       (m : IsMarking (party_of w logs side) (party_of w logs (other side))) where
     floor-rises : (iss early floor low : ℕ) → iss < 2 ^ 48 → 1 ≤ early → early ≤ floor → floor ≤ 2 ^ 47 → low ≡ number_of iss floor
         → IsBefore low (number_of iss early) → ⊥
-    floor-rises iss early floor low fits some below few is before = not-after iss floor early fits some below few (subst (λ (k : ℕ). IsBefore k (number_of iss early)) is before)
+    floor-rises iss early floor low fits some below few is before =
+        not-after iss floor early fits some below few (subst (λ (k : ℕ). IsBefore k (number_of iss early)) is before)
 
     pub records-honest : AreRecordsHonest w side
     records-honest r has_it =

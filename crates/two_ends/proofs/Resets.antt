@@ -96,9 +96,11 @@ module _ (e : EndState) where
       let heard : Hearing.Unheard ≡ Heard (hears_first e) cause.packet.number Taken = sym none ∙ form.heard in
       cc heard
 
+-- whatever the end
 pub resets-move-nothing : (e : EndState) → IsProper e → ResetsMoveNothing e
 resets-move-nothing e proper bytes p read is =
     let told : Told e bytes (receives e bytes) = told_of_step e bytes (receives e bytes) proper refl in
     let f : Effect = told.effect.effect in
     let none = unheard e (Arrives bytes) f.phase (λ a came. came-reset e bytes p a read is came) f.hearing told.effect.because.hears in
-    subst (KeepsReceived e) (sym told.effect.after_is) (quiet e bytes (receives e bytes).answer told.effect.cause f told.effect.because.turns told.effect.form none)
+    subst (KeepsReceived e) (sym told.effect.after_is)
+    (quiet e bytes (receives e bytes).answer told.effect.cause f told.effect.because.turns told.effect.form none)

@@ -44,6 +44,7 @@ behind-other : (config : Config) (first place : ℕ) (frame : SentFrame) (frames
 behind-other config first place frame frames l s =
     record { index = suc s.index; number = s.number; frame = s.frame; is_there = s.is_there; is_logged = s.is_logged; is_numbered = s.is_numbered }
 
+-- the frame at a place of the log
 pub sent-at : (config : Config) {first : ℕ} {frames : List SentFrame} {log : List Logged} (place : ℕ) (l : Logged) → AreLogged config first frames log
     → slice_get log place ≡ Some l → IsSentAt config first frames place l
 sent-at config place l NoFrames there = cc there
@@ -76,6 +77,7 @@ pub record IsReadIn (number : ℕ) (frame : SentFrame) (l : Logged) : Type 0 whe
   pub number_is : frame.number ≡ number % 2 ^ 48
   pub ack_is : frame.ack ≡ ack_of (kind_in_widths l.draft.kind)
 
+-- what is read in it
 pub read-in : (config : Config) (number : ℕ) (frame : SentFrame) (l : Logged) → IsLogged config number frame l → IsReadIn number frame l
 read-in config number frame l is =
     let read = is-drafted config is.short number l.draft is.sendable is.form in
@@ -88,6 +90,7 @@ read-in config number frame l is =
       ack_is = ap (λ (f : SentFrame). f.ack) is.same;
     }
 
+-- a packet of another type is no Reset
 pub no-reset : (k : Kind) → packet_type k ≢ types.Reset → is_reset k ≡ false
 no-reset (kind.Reset ack code detail) other = absurd (other refl)
 no-reset kind.Data other = refl

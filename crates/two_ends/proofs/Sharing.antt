@@ -154,7 +154,8 @@ heard-value iss row there count (Confirm body (Some ack) ∷ []) priority heard 
   listed [] same whole = cc whole
   listed (value ∷ []) same whole = cc whole
   listed (value ∷ (first ∷ rest)) same whole =
-      subst (λ (q : Confirmation). StaysOr row there count (row_line row row.stand (Confirmed q)).row.value) (sym (list-confirmed row value (first ∷ rest) priority))
+      subst (λ (q : Confirmation). StaysOr row there count (row_line row row.stand (Confirmed q)).row.value)
+      (sym (list-confirmed row value (first ∷ rest) priority))
       (elim (by-listed row row.stand value (reconciled_by row.role (entries row.active) (first ∷ rest))) [
         | inl stays ↦ inl stays
         | inr shared ↦ inr (record {
@@ -319,7 +320,8 @@ module _ (effects : EveryStepHasOneEffect) (w : WorldState) (h : IsHeld SideInva
 
   module _ (pair : FeatureAt) (priority : IsServerPriority pair) where
     shown : (side : Side) (count : ℕ) (theirs : List ℕ)
-        → wish_carried (carried_at (map (carried_of (config_of (party_of w h.logs side)).iss (across (key_of pair side))) (h.logs (other side))) count) ≡ Some theirs
+        → wish_carried (carried_at (map (carried_of (config_of (party_of w h.logs side)).iss (across (key_of pair side))) (h.logs (other side))) count)
+        ≡ Some theirs
         → HasSent w pair (other side) theirs
     shown Client count theirs is =
         list-sent w h.logs spoken pair Server 0 count theirs priority
@@ -332,7 +334,8 @@ module _ (effects : EveryStepHasOneEffect) (w : WorldState) (h : IsHeld SideInva
 
     -- the new world holds this value
     shared-so : (side : Side) (new : WorldState) (count : ℕ)
-        → IsFirstShared (row_for w pair side) (map (carried_of (config_of (party_of w h.logs side)).iss (across (key_of pair side))) (h.logs (other side))) count
+        → IsFirstShared (row_for w pair side)
+        (map (carried_of (config_of (party_of w h.logs side)).iss (across (key_of pair side))) (h.logs (other side))) count
         (held_at new pair side).value → IsShared w new pair side
     shared-so side new count f =
         let its = (both side).0.ordered.proper.rows in
@@ -351,7 +354,8 @@ module _ (effects : EveryStepHasOneEffect) (w : WorldState) (h : IsHeld SideInva
 
     own-step : (side : Side) (arrived : Option ℕ) (given : Input) → is_full (half_of w side) ≡ false
         → IsFromPeer (half_of w side).end (half_of w (other side)).frames arrived given
-        → (new : WorldState) → (held_at new pair side).value ≡ (row_at (end_stepped (half_of w side).end given).after.rows pair.feature (place_at side pair.location)).value
+        → (new : WorldState)
+        → (held_at new pair side).value ≡ (row_at (end_stepped (half_of w side).end given).after.rows pair.feature (place_at side pair.location)).value
         → ((held_at new pair side).value ≡ (held_at w pair side).value) ⊎ IsShared w new pair side
     own-step side arrived given room from new is =
         let x : Party = party_of w h.logs side in

@@ -54,9 +54,11 @@ pub same-counts : (iss one other : ℕ) → iss < 2 ^ 48 → 1 ≤ one → one �
     → one ≡ other
 same-counts iss one other fits some early others_some others_early same = omega (arith, same)
 
+-- the number at a place is that of the count after it
 pub next-number : (iss place : ℕ) → residue (iss + place) ≡ number_of iss (suc place)
 next-number iss place = omega arith
 
+-- the later of two numbers has the greater count
 pub later-greatest : (iss greatest count gsr number : ℕ) → iss < 2 ^ 48 → 1 ≤ greatest → greatest ≤ 2 ^ 47 → 1 ≤ count → count ≤ 2 ^ 47
     → gsr ≡ number_of iss greatest → number ≡ number_of iss count → later_of gsr number ≡ number_of iss (max greatest count)
 later-greatest iss greatest count gsr number fits some early others_some others_early gsr_is number_is = grind arith
@@ -70,6 +72,7 @@ some-first (suc first) greatest none some = omega arith
 apart : (a b : ℕ) → (a ≡ b → ⊥) → (a == b) ≡ false
 apart a b differ = grind arith
 
+-- what stands at a place does not depend on the default
 pub or-any : (ns : List ℕ) (i d e : ℕ) → i < length ns → slice_index_or ns i d ≡ slice_index_or ns i e
 or-any [] i d e below = absurd (omega (arith, below))
 or-any (n ∷ ns) zero d e below = refl

@@ -42,12 +42,14 @@ times-as feature place [] = refl
 times-as feature place (Err fault ∷ rest) = times-as feature place rest
 times-as feature place (Ok entry ∷ rest) =
     let later : ℕ = said_times (feature_number feature) place rest in
-    ap (λ (of_pair : Bool). if of_pair then one_if_said (values_for (feature_number feature) entry.body) + later else later) (sym (types-placed place entry.kind))
+    ap (λ (of_pair : Bool). if of_pair then one_if_said (values_for (feature_number feature) entry.body) + later else later)
+    (sym (types-placed place entry.kind))
     ∙ ap
     (λ (values : Option (List ℕ)).
     if is_of_negotiation entry.kind && is_of_place (is_left entry.kind) (opposite (opposite place)) then one_if_said values + later else later)
     (values-named (feature_number feature) entry.body)
-    ∙ counted (is_of_negotiation entry.kind) (begins_with_number (feature_number feature) entry.body) (is_of_place (is_left entry.kind) (opposite (opposite place)))
+    ∙ counted (is_of_negotiation entry.kind) (begins_with_number (feature_number feature) entry.body)
+    (is_of_place (is_left entry.kind) (opposite (opposite place)))
     (drop 1 entry.body) later (times_said_to (feature, opposite place) rest) (times-as feature place rest)
 
 -- What holds of each frame of a side.
@@ -76,10 +78,12 @@ found-once x peer_iss frame well (Nowhere is) =
           omega (arith, times);
     }
 
+-- each frame of a side says one thing of a feature at most
 pub frame-once : (x : Party) (peer_iss index : ℕ) (frame : SentFrame) → IsOrdered x → All (IsWell peer_iss) x.log → slice_get x.half.frames index ≡ Some frame
     → IsSaidOnce frame.bytes
 frame-once x peer_iss index frame o well there = found-once x peer_iss frame well (found (config_of x) index frame o.logged there)
 
+-- so it speaks once
 pub speaks-once : (side : Side) (bytes : List ℕ) → IsSaidOnce bytes
     → ((packet : Parts) → packet_of bytes ≡ Some packet → ack_of packet.header.kind ≡ None → ack_vectors (options_in bytes) ≡ []) → SpeaksOnce side bytes
 speaks-once side bytes said vectors = record { of_each_pair = λ pair. said.once side pair; vectors_acknowledge = vectors }

@@ -18,6 +18,7 @@ spelled role iss before count (first ∷ rest) zero frame (inr reset) there = su
 spelled role iss before count (first ∷ rest) (suc index) frame (inl numbered) there = spelled role iss (before + 1) count rest index frame numbered.1 there
 spelled role iss before count (first ∷ rest) (suc index) frame (inr reset) there = spelled role iss before count rest index frame reset.1 there
 
+-- each frame of a world in which the facts hold
 pub frame-spelled : (w : WorldState) → Facts w → (side : Side) (index : ℕ) (frame : SentFrame) → slice_get (half_of w side).frames index ≡ Some frame
     → SpellsItsNumbers frame
 frame-spelled w facts side index frame there = spelled _ _ 0 _ (half_of w side).frames index frame (facts.numbered side).in_order there

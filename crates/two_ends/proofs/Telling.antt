@@ -36,6 +36,7 @@ confirmed-list true width count (value ∷ []) is whole = cc whole
 confirmed-list true width count (value ∷ (first ∷ rest)) is whole = refl
 confirmed-list false width count body is whole = cc is
 
+-- the wish that is carried is the list that is said
 pub wish-told : (iss : ℕ) (k : Key) (events : List RowEvent) → (described k.0).is_server_priority ≡ true → IsWellSaid iss k events
     → wish_carried (carried_by iss k.0 events) ≡ list_said (saying_of events)
 wish-told iss k [] priority well = refl
@@ -62,6 +63,7 @@ confirmed-value true width count [] = refl
 confirmed-value true width count (value ∷ rest) = refl
 confirmed-value false width count body = refl
 
+-- the value that is carried is the one that is said
 pub value-told : (iss : ℕ) (k : Key) (events : List RowEvent) → (described k.0).is_server_priority ≡ false → IsWellSaid iss k events
     → change_of (carried_by iss k.0 events) ≡ option_map only (value_said (saying_of events))
 value-told iss k [] priority well = refl
@@ -77,7 +79,8 @@ confirmed-no_change true width count [] = refl
 confirmed-no_change true width count (value ∷ rest) = refl
 confirmed-no_change false width count body = refl
 
-change-told : (iss : ℕ) (k : Key) (events : List RowEvent) → IsWellSaid iss k events → view.carries_change (carried_by iss k.0 events) ≡ says_change (saying_of events)
+change-told : (iss : ℕ) (k : Key) (events : List RowEvent) → IsWellSaid iss k events
+    → view.carries_change (carried_by iss k.0 events) ≡ says_change (saying_of events)
 change-told iss k [] well = refl
 change-told iss k (Change body mandatory ∷ []) well = refl
 change-told iss k (Confirm body (Some ack) ∷ []) well = confirmed-no_change (described k.0).is_server_priority (described k.0).width _ body
@@ -131,6 +134,7 @@ shown-later : (carries : Logged → Carried) (shows : Carried → Option (List �
     → IsShown carries shows log wish → IsShown carries shows (first ∷ log) wish
 shown-later carries shows first log wish s = record { place = suc s.place; logged = s.logged; is_there = s.is_there; is_shown = s.is_shown }
 
+-- what is carried at a count is shown
 pub shown-at : (carries : Logged → Carried) (shows : Carried → Option (List ℕ)) (log : List Logged) (count : ℕ) (wish : List ℕ) → shows Nothing ≡ None
     → shows (carried_at (map carries log) count) ≡ Some wish → IsShown carries shows log wish
 shown-at carries shows log zero wish none shown = absurd (cc (sym none ∙ shown))

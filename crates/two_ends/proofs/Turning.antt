@@ -9,10 +9,12 @@ use Rattle.feature_machine.specs.Rows.{RowEvent, row_step}
 use Rattle.feature_machine.specs.Turns.{Turn, events_of, row_turned, turned}
 use Rattle.feature_machine.specs.declared.row.Row.{Row}
 
+-- turns follow one another
 pub turned-append : (row : Row) (a b : List RowEvent) → row_turned row (a ++ b) ≡ row_turned (row_turned row a) b
 turned-append row [] b = refl
 turned-append row (event ∷ a) b = turned-append (row_step row event).row a b
 
+-- there are as many rows behind turns
 pub turned-size : (rows : List Row) (turns : List Turn) → length (turned rows turns) ≡ length rows
 turned-size rows [] = refl
 turned-size rows (first ∷ rest) =

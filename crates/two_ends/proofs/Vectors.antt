@@ -48,6 +48,7 @@ parts-written [] place rest all = no-vectors place rest all
 parts-written (part ∷ parts) place rest all =
     ap (λ (more : List (List ℕ)). part ∷ more) (parts-written parts (place + length (spelled false 38 part)) rest all)
 
+-- the vectors that are read are those written
 pub vectors-written : (has_vector : Bool) (setting : Vectors) (set : MarkedSet) (ack : ℕ) (rest : List Item) → All IsNegotiating rest
     → ack_vectors (map Ok (entries_at 0 (vector_items has_vector setting set ack ++ rest))) ≡ vector_parts has_vector setting set ack
 vectors-written has_vector setting set ack rest all =
@@ -77,16 +78,19 @@ pub data AreFrames (iss : ℕ) (setting : Vectors) : List Logged → List Frame 
   OneSent : {l : Logged} {log : List Logged} {frame : Frame} {frames : List Frame} → IsFrame iss setting l frame
       → AreFrames iss setting log frames → AreFrames iss setting (l ∷ log) (frame ∷ frames)
 
+-- a log with one packet more
 pub frames-append : {iss : ℕ} {setting : Vectors} {log : List Logged} {frames : List Frame} {l : Logged} {frame : Frame}
     → AreFrames iss setting log frames → IsFrame iss setting l frame → AreFrames iss setting (log ++ l ∷ []) (frames_with frames frame)
 frames-append NoneSent is = OneSent is NoneSent
 frames-append (OneSent first rest) is = OneSent first (frames-append rest is)
 
+-- one frame for each packet of the log
 pub frames-length : {iss : ℕ} {setting : Vectors} {log : List Logged} {frames : List Frame} → AreFrames iss setting log frames
     → length frames ≡ length log
 frames-length NoneSent = refl
 frames-length (OneSent first rest) = ap suc (frames-length rest)
 
+-- the frame of a place of the log
 pub frame-of : {iss : ℕ} {setting : Vectors} {log : List Logged} {frames : List Frame} (place : ℕ) (l : Logged) → AreFrames iss setting log frames
     → slice_get log place ≡ Some l → IsFrame iss setting l (frame_at frames (suc place))
 frame-of place l NoneSent there = cc there
@@ -101,6 +105,7 @@ frame-before [] frame place below = absurd (omega (arith, below))
 frame-before (first ∷ rest) frame zero below = refl
 frame-before (first ∷ rest) frame (suc place) below = frame-before rest frame place (omega (arith, below))
 
+-- the last frame is the one that was added
 pub frame-last : (frames : List Frame) (frame : Frame) → frame_at (frames_with frames frame) (suc (length frames)) ≡ frame
 frame-last [] frame = refl
 frame-last (first ∷ rest) frame = frame-last rest frame
@@ -116,6 +121,7 @@ pub record IsRecorded (own peer : ℕ) (frames : List Frame) (r : Record) : Type
   pub some : 1 ≤ (frame_at frames (suc place)).acknowledged
   pub early : (frame_at frames (suc place)).acknowledged < 2 ^ 47
 
+-- a record stays with one frame more
 pub recorded-before : (own peer : ℕ) (frames : List Frame) (frame : Frame) (r : Record) → IsRecorded own peer frames r
     → IsRecorded own peer (frames_with frames frame) r
 recorded-before own peer frames frame r is =

@@ -27,7 +27,6 @@ use Rattle.feature_machine.specs.declared.row.Row.{Row}
 use Rattle.feature_machine.specs.declared.stands.Stand.{Stand}
 use Rattle.feature_machine.specs.declared.stands.Stand.TheVariants.{Changing, Stable, Unstable}
 use Rattle.two_ends.specs.Preferred.{WantsValues}
-use Rattle.two_ends.specs.World.{happens}
 use Rattle.two_ends.proofs.Asking.{none-pending}
 
 -- what waits, or else what is active
@@ -110,6 +109,7 @@ not-waiting feature place Stable (Some wish) apart is = cc is
 not-waiting feature place Changing (Some wish) apart is = cc is
 not-waiting feature place Unstable (Some wish) apart is = absurd (apart refl)
 
+-- a sound row wants its latest wish
 pub wants : (row : Row) (wish : Option Wanted) → IsSoundRow row → latest row ≡ wish → WantsValues row (entries_of wish)
 wants row wish sound is =
     record {
@@ -136,7 +136,8 @@ wish-made feature place wish values is = by (is_allowed feature place values) (i
   by false own same = cc same
 
 -- a number is one value
-number-single : (feature : Feature) (place : Place) (number : ℕ) (values : List ℕ) → wish_of feature place values ≡ Ok (wanted.Number number) → length values ≡ 1
+number-single : (feature : Feature) (place : Place) (number : ℕ) (values : List ℕ) → wish_of feature place values ≡ Ok (wanted.Number number)
+    → length values ≡ 1
 number-single feature place number values is = by (described feature).is_server_priority refl where
   by : (listed : Bool) → (described feature).is_server_priority ≡ listed → length values ≡ 1
   by false apart = ((allowed_says feature place values).0 (wish-made feature place (wanted.Number number) values is).0).single apart
@@ -147,7 +148,8 @@ number-single feature place number values is = by (described feature).is_server_
       cc (list, made)
 
 -- the entries of a wish are the values that it was made of
-pub entries-are : (feature : Feature) (place : Place) (wish : Wanted) (values : List ℕ) → wish_of feature place values ≡ Ok wish → entries_of (Some wish) ≡ values
+pub entries-are : (feature : Feature) (place : Place) (wish : Wanted) (values : List ℕ) → wish_of feature place values ≡ Ok wish
+    → entries_of (Some wish) ≡ values
 entries-are feature place (wanted.List list) values is = grind arith
 entries-are feature place (wanted.Number number) [] is = cc is
 entries-are feature place (wanted.Number number) (value ∷ []) is = grind arith
@@ -160,6 +162,7 @@ abbrev pub AreCalm : List Turn → Type 0
 AreCalm [] = Unit {0}
 AreCalm (first ∷ rest) = IsCalm first.event × AreCalm rest
 
+-- calm turns follow one another
 pub calm-append : (earlier later : List Turn) → AreCalm earlier → AreCalm later → AreCalm (earlier ++ later)
 calm-append [] later calm more = more
 calm-append (first ∷ rest) later calm more = (calm.0, calm-append rest later calm.1 more)
@@ -178,6 +181,7 @@ one-keeps k first rows sound calm = ap latest (turned-row k.0 k.1 (first ∷ [])
   by true = calm-keeps (row_at rows k.0 k.1) first.event (sound.each k.0 k.1).sound calm
   by false = refl
 
+-- calm turns keep the latest wish
 pub turns-keep : (k : Key) (turns : List Turn) (rows : List Row) → IsNegotiation rows → AreCalm turns
     → latest (row_at (turned rows turns) k.0 k.1) ≡ latest (row_at rows k.0 k.1)
 turns-keep k [] rows sound calm = refl
@@ -197,7 +201,8 @@ known-calm (Some known) left ack entry false body = (tt, tt)
 entry-calm : (count : Bool) (ack : Option ℕ) (h : Heeding) (entry : Entry) → AreCalm (entry_turns count ack h entry)
 entry-calm count ack h entry = by (is_understood entry.kind (length entry.body)) (count && is_of_negotiation entry.kind) where
   spoken : (number : ℕ) (body : List ℕ) (used many : Bool)
-      → AreCalm (if used then [] else if many then [] else turn_known (feature_numbered number) (is_left entry.kind) (event_of ack entry (is_change entry.kind) body))
+      → AreCalm (if used then [] else if many then []
+      else turn_known (feature_numbered number) (is_left entry.kind) (event_of ack entry (is_change entry.kind) body))
   spoken number body true many = tt
   spoken number body false true = tt
   spoken number body false false = known-calm (feature_numbered number) (is_left entry.kind) ack entry (is_change entry.kind) body
@@ -215,19 +220,23 @@ item-calm : (count : Bool) (ack : Option ℕ) (h : Heeding) (item : Result Entry
 item-calm count ack h (Ok entry) = entry-calm count ack h entry
 item-calm count ack h (Err _) = tt
 
+-- what is heard is calm
 pub heard-calm : (count : Bool) (ack : Option ℕ) (h : Heeding) (items : List (Result Entry OptFault)) → AreCalm (heard_turns count ack h items)
 heard-calm count ack h [] = tt
 heard-calm count ack h (item ∷ rest) =
     calm-append (item_turns count ack h item) (turns_then (heeds_item count ack h item) (λ next. heard_turns count ack next rest))
     (item-calm count ack h item) (later (heeds_item count ack h item) (λ next. heard-calm count ack next rest)) where
-      later : (r : Result Heeding Fault) → ((next : Heeding) → AreCalm (heard_turns count ack next rest)) → AreCalm (turns_then r (λ next. heard_turns count ack next rest))
+      later : (r : Result Heeding Fault) → ((next : Heeding) → AreCalm (heard_turns count ack next rest))
+          → AreCalm (turns_then r (λ next. heard_turns count ack next rest))
       later (Ok next) more = more next
       later (Err fault) more = tt
 
+-- so are Changes that go out
 pub sendings-calm : (number : ℕ) (keys : List Key) → AreCalm (sendings number keys)
 sendings-calm number [] = tt
 sendings-calm number (k ∷ keys) = (tt, sendings-calm number keys)
 
+-- and offers
 pub offerings-calm : (test : Key → Bool) (keys : List Key) → AreCalm (offerings test keys)
 offerings-calm test [] = tt
 offerings-calm test (k ∷ keys) = (tt, offerings-calm test keys)

@@ -1,5 +1,5 @@
 -- Two ends with their congestion controls (own): each event asks that of the side that acts, and its step calls it.
-use Rattle.std.specs.Prelude.{ℕ, List, [], ◌∷◌, Option, Result, Ok, Err}
+use Rattle.std.specs.Prelude.{◌≢◌, ℕ, ◌^◌, ◌<◌, List, [], ◌∷◌, length, Option, Result, Ok, Err}
 use Rattle.congestion_trait.specs.Control.{Control, may_send}
 use Rattle.dccp_endpoint.specs.Controlled.{End, after_calls, begins, has_in_flight}
 use Rattle.dccp_endpoint.specs.Inputs.{Input}
@@ -11,6 +11,7 @@ use Rattle.world_events.specs.declared.event.Seen.{Seen}
 use Rattle.world_events.specs.declared.event.Side.{Side}
 use Rattle.world_events.specs.declared.event.Side.TheVariants.{Client, Server}
 use Rattle.world_events.specs.declared.event.WorldFault.{WorldFault}
+use Rattle.world_events.specs.declared.event.WorldFault.TheVariants as fault
 
 -- the two ends with all that they sent and processed, and the congestion control of each
 pub record Controlled (C : Type 0) : Type 0 where
@@ -98,3 +99,8 @@ begins_with control client server for_client for_server =
 -- A whole schedule of two ends that have sent and received nothing.
 abbrev pub plays_from_start : {C : Type 0} → Control C → Config → Config → C → C → List Event → Controlled C
 plays_from_start control client server for_client for_server events = plays control (begins_with control client server for_client for_server) events
+
+-- Where each side has sent fewer than 2^23 frames, the event is not refused for a frame that is far (own).
+abbrev pub IsNeverFar : {C : Type 0} → Control C → Controlled C → Event → Type 0
+IsNeverFar control w event =
+    length w.world.client.frames < 2 ^ 23 → length w.world.server.frames < 2 ^ 23 → happens_to control w event ≢ Err fault.FarShort

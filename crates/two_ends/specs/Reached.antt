@@ -7,6 +7,16 @@ use Rattle.dccp_endpoint.specs.Drafts.{Fits}
 use Rattle.two_ends.specs.Controlled.{Controlled, begins_with, plays}
 use Rattle.world_events.specs.declared.event.Event.{Event}
 
+-- two ends with configurations that fit, which have sent and received nothing
+pub record IsBeginning {C : Type 0} (control : Control C) (w : Controlled C) : Type 0 where
+  pub client : Config
+  pub server : Config
+  pub for_client : C
+  pub for_server : C
+  pub client_fits : Fits client
+  pub server_fits : Fits server
+  pub same : w ≡ begins_with control client server for_client for_server
+
 -- some schedule leads here from a client and a server that have sent and received nothing
 pub record ReachedByEvents {C : Type 0} (control : Control C) (w : Controlled C) : Type 0 where
   pub client : Config

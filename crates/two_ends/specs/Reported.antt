@@ -1,6 +1,6 @@
 -- What the ends processed of each other's packets, and what they believe received (RFC 4340, section 11.4).
 use Rattle.std.specs.Prelude.{◌≡◌, ℕ, ◌^◌, ◌<◌, true, false, List, length, take, slice_get, slice_index, Some, Contains}
-use Rattle.seq_circle.specs.Circle.{distance, IsBefore, IsWithin}
+use Rattle.seq_circle.specs.Circle.{distance, IsBefore, IsFrom, IsWithin}
 use Rattle.run_list.specs.MarkedSet.{has, floor_under}
 use Rattle.ack_vectors.specs.Vector.{vector_under, is_whole_under}
 use Rattle.dccp_options.specs.Vectors.{report_of}
@@ -56,6 +56,21 @@ LiesBelowFloor half n = distance half.end.marks.isr n < distance half.end.marks.
 pub record CarriesVector (frame : SentFrame) (ack : ℕ) (bytes : List ℕ) : Type 0 where
   pub acknowledges : frame.ack ≡ Some ack
   pub carries : report_of ack (options_in frame.bytes) ≡ Some (record { ack = ack; bytes = bytes })
+
+-- Among the frames that a side sent is this one, which carries this vector.
+pub record HasSentVector (half : Half) (frame : SentFrame) (ack : ℕ) (bytes : List ℕ) : Type 0 where
+  pub index : ℕ
+  pub is_there : slice_get half.frames index ≡ Some frame
+  pub carries : CarriesVector frame ack bytes
+
+-- A whole vector speaks of this number: it lies from the frame's floor up to the acknowledged number, which is not
+-- before the floor. All three are numbers of 48 bits.
+pub record IsSpokenOf (frame : SentFrame) (ack n : ℕ) : Type 0 where
+  pub floor_fits : frame.floor < 2 ^ 48
+  pub ack_fits : ack < 2 ^ 48
+  pub fits : n < 2 ^ 48
+  pub in_order : IsFrom frame.floor ack
+  pub within : IsWithin n frame.floor ack
 
 -- They are the vector of just what the side had processed, from the acknowledged number down to its floor, as far as
 -- its options have room, and it had processed nothing after that number.

@@ -2,7 +2,7 @@
 //!
 //! Each part of `Safe` has a function whose clauses follow from it and from no weaker one. They are what a reader may
 //! hold against the definitions, by plain counts where numbers are in them.
-ghost use Rattle.std.specs.Prelude.{◌≡◌, ◌≢◌, ℕ, ◌+◌, ◌^◌, ◌<◌, ◌≤◌, List, [], ◌∷◌, ◌++◌, length, Some, None, Err, IsTrue, IsSome, Contains, take, drop, slice_get};
+ghost use Rattle.std.specs.Prelude.{◌≡◌, ℕ, ◌+◌, ◌^◌, ◌<◌, ◌≤◌, List, [], ◌∷◌, ◌++◌, Some, None, IsTrue, IsSome, Contains, take, drop, slice_get};
 ghost use Rattle.congestion_trait.specs.Flight.{Has};
 ghost use Rattle.congestion_trait.specs.declared.flight.Standing.TheVariants as standing;
 ghost use Rattle.dccp_endpoint.specs.Drafts.{Fits};
@@ -18,7 +18,7 @@ ghost use Rattle.feature_lists.specs.declared.features.Feature.{Feature};
 ghost use Rattle.feature_lists.specs.declared.features.Place.{Place};
 ghost use Rattle.feature_lists.specs.declared.features.Place.TheVariants as place;
 ghost use Rattle.feature_machine.specs.declared.stands.Stand.TheVariants.{Stable};
-ghost use Rattle.seq_circle.specs.Circle.{IsBefore, IsFrom, IsWithin};
+ghost use Rattle.seq_circle.specs.Circle.{IsBefore};
 ghost use Rattle.seq_circle.specs.Counts.{number_of};
 ghost use Rattle.world_events.specs.Actors.{other};
 ghost use Rattle.world_events.specs.declared.event.Event.{Event};
@@ -26,19 +26,19 @@ ghost use Rattle.world_events.specs.declared.event.Side.{Side};
 ghost use Rattle.world_events.specs.declared.event.Side.TheVariants.{Client, Server};
 ghost use Rattle.two_ends.specs.declared.frames.SentFrame.{SentFrame};
 ghost use Rattle.two_ends.specs.Asked.{AllIsAsked, KeepsInitialValues};
-ghost use Rattle.two_ends.specs.Controlled.{Controlled, begins_with, congestion_of, happens_to, plays_from_start};
+ghost use Rattle.two_ends.specs.Controlled.{Controlled, IsNeverFar, congestion_of, plays, plays_from_start};
 ghost use Rattle.two_ends.specs.Counted.{AreAmongFirst, AreResets};
 ghost use Rattle.two_ends.specs.Frames.{ack_in_width, in_width, packet_of};
 ghost use Rattle.two_ends.specs.Negotiated.{HasSent, IsNotNegotiable, IsServerPriority, IsSettled, last_list_sent, last_value, list_said, pair_was_negotiated, value_said};
 ghost use Rattle.two_ends.specs.Numbered.{Facts};
 ghost use Rattle.two_ends.specs.Pairs.{FeatureAt, held_at, said_by};
 ghost use Rattle.two_ends.specs.Preferred.{AsksNothing, IsLastAsked, WantsValues, row_of, values_configured};
-ghost use Rattle.two_ends.specs.Reported.{CarriesVector, IsUncut, LiesBelowFloor, processed_by};
+ghost use Rattle.two_ends.specs.Reached.{IsBeginning};
+ghost use Rattle.two_ends.specs.Reported.{HasSentVector, IsSpokenOf, IsUncut, LiesBelowFloor, ToldIn, processed_by};
 ghost use Rattle.two_ends.specs.Safe.{Safe};
 ghost use Rattle.two_ends.specs.Shared.{ChangesByLists};
 ghost use Rattle.two_ends.specs.World.{WorldState, half_of};
 
-use crate::WorldFault;
 use congestion_trait::Congestion;
 use dccp_endpoint::every_step_has_one_effect;
 
@@ -85,19 +85,14 @@ pub fn values_come_from_both_sides<C: Congestion>()
 /// it; a whole vector tells received each of those from the frame's floor up to the number that it acknowledges; and
 /// none of them is after that.
 pub fn vectors_tell_what_was_processed<C: Congestion>()
-    ensures received { (w : Controlled C) → Safe C.control w
-        → (side : Side) (index : ℕ) (frame : SentFrame) (ack n : ℕ) (bytes : List ℕ)
-        → slice_get (half_of w.world side).frames index ≡ Some frame → CarriesVector frame ack bytes → ack < 2 ^ 48 → n < 2 ^ 48
+    ensures received { (w : Controlled C) → Safe C.control w → (side : Side) (frame : SentFrame) (ack n : ℕ) (bytes : List ℕ)
+        → HasSentVector (half_of w.world side) frame ack bytes → ack < 2 ^ 48 → n < 2 ^ 48
         → IsTrue (is_received (state_at ack bytes n)) → Contains (processed_by (half_of w.world side) frame) n }
-    ensures all { (w : Controlled C) → Safe C.control w
-        → (side : Side) (index : ℕ) (frame : SentFrame) (ack n : ℕ) (bytes : List ℕ)
-        → slice_get (half_of w.world side).frames index ≡ Some frame → CarriesVector frame ack bytes
-        → IsUncut (half_of w.world side) frame ack → frame.floor < 2 ^ 48 → ack < 2 ^ 48 → n < 2 ^ 48
-        → IsFrom frame.floor ack → IsWithin n frame.floor ack → Contains (processed_by (half_of w.world side) frame) n
-        → IsTrue (is_received (state_at ack bytes n)) }
-    ensures none_after { (w : Controlled C) → Safe C.control w
-        → (side : Side) (index : ℕ) (frame : SentFrame) (ack n : ℕ) (bytes : List ℕ)
-        → slice_get (half_of w.world side).frames index ≡ Some frame → CarriesVector frame ack bytes
+    ensures all { (w : Controlled C) → Safe C.control w → (side : Side) (frame : SentFrame) (ack n : ℕ) (bytes : List ℕ)
+        → HasSentVector (half_of w.world side) frame ack bytes → IsUncut (half_of w.world side) frame ack → IsSpokenOf frame ack n
+        → Contains (processed_by (half_of w.world side) frame) n → IsTrue (is_received (state_at ack bytes n)) }
+    ensures none_after { (w : Controlled C) → Safe C.control w → (side : Side) (frame : SentFrame) (ack n : ℕ) (bytes : List ℕ)
+        → HasSentVector (half_of w.world side) frame ack bytes
         → Contains (processed_by (half_of w.world side) frame) n → IsBefore ack n → ⊥ }
 {}
 
@@ -107,10 +102,7 @@ pub fn vectors_tell_what_was_processed<C: Congestion>()
 pub fn what_none_told_is_far_behind<C: Congestion>()
     ensures { (w : Controlled C) → Safe C.control w → (side : Side) (iss count n : ℕ) → iss < 2 ^ 48 → 1 ≤ count
         → count + 2047 ≤ 2 ^ 47
-        → n ≡ number_of iss count → LiesBelowFloor (half_of w.world side) n
-        → ((index : ℕ) (frame : SentFrame) (ack : ℕ) (bytes : List ℕ) → slice_get (half_of w.world side).frames index ≡ Some frame
-        → CarriesVector frame ack bytes → IsUncut (half_of w.world side) frame ack
-        → IsWithin n frame.floor ack → Contains (half_of w.world (other side)).processed frame.number → ⊥)
+        → n ≡ number_of iss count → LiesBelowFloor (half_of w.world side) n → (ToldIn w.world side n → ⊥)
         → AreAmongFirst iss (count + 2047) (half_of w.world side).processed → ⊥ }
 {}
 
@@ -132,11 +124,8 @@ pub fn frames_spell_their_numbers()
 /// After every list of events no further event is refused as `FarShort`, as long as each side has sent fewer than 2^23
 /// frames (own). An event sends one frame at most.
 pub fn few_frames_are_never_far<C: Congestion>()
-    ensures { (client server : Config) (for_client for_server : C) (events : List Event) (next : Event) → Fits client
-        → Fits server
-        → length (plays_from_start C.control client server for_client for_server events).world.client.frames < 2 ^ 23
-        → length (plays_from_start C.control client server for_client for_server events).world.server.frames < 2 ^ 23
-        → happens_to C.control (plays_from_start C.control client server for_client for_server events) next ≢ Err WorldFault.FarShort }
+    ensures { (client server : Config) (for_client for_server : C) (events : List Event) (next : Event)
+        → Fits client → Fits server → IsNeverFar C.control (plays_from_start C.control client server for_client for_server events) next }
 {
     every_step_has_one_effect();
 }
@@ -188,17 +177,13 @@ pub fn last_lists_are_active<C: Congestion>()
 /// next Change. Where none was accepted they are those that the side was configured with. So where a row is STABLE, the
 /// last list that its end sent for it, if it sent one, has just these values ([`last_lists_are_active`]).
 pub fn what_was_asked_last_is_wanted<C: Congestion>()
-    ensures asked { (client server : Config) (for_client for_server : C) (events : List Event) → Fits client
-        → Fits server
+    ensures asked { (start : Controlled C) (events : List Event) → IsBeginning C.control start
         → (side : Side) (feature : Feature) (place : Place) (values : List ℕ)
-        → IsLastAsked C.control (begins_with C.control client server for_client for_server) events side feature place values
-        → WantsValues (row_of (plays_from_start C.control client server for_client for_server events).world side feature place) values }
-    ensures configured { (client server : Config) (for_client for_server : C) (events : List Event) → Fits client
-        → Fits server
-        → (side : Side) (feature : Feature) (place : Place)
-        → AsksNothing C.control (begins_with C.control client server for_client for_server) events side feature place
-        → WantsValues (row_of (plays_from_start C.control client server for_client for_server events).world side feature place)
-        (values_configured (begins_with C.control client server for_client for_server).world side feature place) }
+        → IsLastAsked C.control start events side feature place values
+        → WantsValues (row_of (plays C.control start events).world side feature place) values }
+    ensures configured { (start : Controlled C) (events : List Event) → IsBeginning C.control start
+        → (side : Side) (feature : Feature) (place : Place) → AsksNothing C.control start events side feature place
+        → WantsValues (row_of (plays C.control start events).world side feature place) (values_configured start.world side feature place) }
 {
     every_step_has_one_effect();
 }

@@ -106,7 +106,8 @@ impl<C: Congestion> Sides<C> {
         ensures ok { IfOk result (λ seen. controls C.control self.old (other from) (takes_place self.old.world (Delivers from index)) ≡ Ok (record { after = self.new; seen = seen })) }
         ensures no_such_frame { (result ≡ Err WorldFault.NoSuchFrame) ↔ (slice_get (half_of self.old.world from).frames index ≡ None) }
         ensures full { (result ≡ Err WorldFault.Full) ↔ ((is_some (slice_get (half_of self.old.world from).frames index) ≡ true) × (is_full (half_of self.old.world (other from)) ≡ true)) }
-        ensures far_short { (result ≡ Err WorldFault.FarShort) ↔ ((is_full (half_of self.old.world (other from)) ≡ false) × (is_far_at (half_of self.old.world (other from)).end (slice_get (half_of self.old.world from).frames index) ≡ true)) }
+        ensures far_short { (result ≡ Err WorldFault.FarShort) ↔ ((is_full (half_of self.old.world (other from)) ≡ false)
+            × (is_far_at (half_of self.old.world (other from)).end (slice_get (half_of self.old.world from).frames index) ≡ true)) }
         ensures err { OnErr result (self.new ≡ self.old) }
     {
         match from {
@@ -116,7 +117,9 @@ impl<C: Congestion> Sides<C> {
     }
 
     fn call(&mut self, side: Side, asked: Asked<'_>) -> Result<Seen, WorldFault>
-        ensures ok { IfOk result (λ seen. controls C.control self.old side (takes_place self.old.world (Calls side (input_of asked.entry (said_by C.control (congestion_of self.old side))))) ≡ Ok (record { after = self.new; seen = seen })) }
+        ensures ok { IfOk result (λ seen.
+            controls C.control self.old side (takes_place self.old.world (Calls side (input_of asked.entry (said_by C.control (congestion_of self.old side)))))
+            ≡ Ok (record { after = self.new; seen = seen })) }
         ensures there { result ≢ Err WorldFault.NoSuchFrame }
         ensures full { (result ≡ Err WorldFault.Full) ↔ (is_full (half_of self.old.world side) ≡ true) }
         ensures near { result ≢ Err WorldFault.FarShort }
@@ -137,7 +140,8 @@ fn is_full<C: Congestion>(half: &HalfWorld<C>) -> bool
 }
 
 fn call_half<C: Congestion>(half: &mut HalfWorld<C>, asked: Asked<'_>) -> Result<Seen, WorldFault>
-    ensures ok { IfOk result (λ seen. (is_full half.old.half ≡ false) × (record { after = half.new; seen = seen } ≡ controlled_half_steps C.control half.old None (input_of asked.entry (said_by C.control half.old.congestion)))) }
+    ensures ok { IfOk result (λ seen. (is_full half.old.half ≡ false) × (record { after = half.new; seen = seen }
+        ≡ controlled_half_steps C.control half.old None (input_of asked.entry (said_by C.control half.old.congestion)))) }
     ensures full { (result ≡ Err WorldFault.Full) ↔ (is_full half.old.half ≡ true) }
     ensures there { result ≢ Err WorldFault.NoSuchFrame }
     ensures near { result ≢ Err WorldFault.FarShort }
@@ -157,7 +161,9 @@ fn deliver<C: Congestion>(
     index: u64,
     half: &mut HalfWorld<C>,
 ) -> Result<Seen, WorldFault>
-    ensures ok { IfOk result (λ seen. IfSome (slice_get frames.now index) (λ frame. (is_full half.old.half ≡ false) × (is_far_frame half.old.half.end frame ≡ false) × (record { after = half.new; seen = seen } ≡ controlled_half_steps C.control half.old (Some frame.number) (Arrives frame.bytes)))) }
+    ensures ok { IfOk result (λ seen. IfSome (slice_get frames.now index) (λ frame.
+        (is_full half.old.half ≡ false) × (is_far_frame half.old.half.end frame ≡ false)
+        × (record { after = half.new; seen = seen } ≡ controlled_half_steps C.control half.old (Some frame.number) (Arrives frame.bytes)))) }
     ensures no_such_frame { (result ≡ Err WorldFault.NoSuchFrame) ↔ (slice_get frames.now index ≡ None) }
     ensures full { (result ≡ Err WorldFault.Full) ↔ ((is_some (slice_get frames.now index) ≡ true) × (is_full half.old.half ≡ true)) }
     ensures far_short { (result ≡ Err WorldFault.FarShort) ↔ ((is_full half.old.half ≡ false) × (is_far_at half.old.half.end (slice_get frames.now index) ≡ true)) }
@@ -173,7 +179,8 @@ fn receive_half<C: Congestion>(
     half: &mut HalfWorld<C>,
     frame: &SentFrame,
 ) -> Result<Seen, WorldFault>
-    ensures ok { IfOk result (λ seen. (is_full half.old.half ≡ false) × (is_far_frame half.old.half.end frame.now ≡ false) × (record { after = half.new; seen = seen } ≡ controlled_half_steps C.control half.old (Some frame.now.number) (Arrives frame.now.bytes))) }
+    ensures ok { IfOk result (λ seen. (is_full half.old.half ≡ false) × (is_far_frame half.old.half.end frame.now ≡ false)
+        × (record { after = half.new; seen = seen } ≡ controlled_half_steps C.control half.old (Some frame.now.number) (Arrives frame.now.bytes))) }
     ensures full { (result ≡ Err WorldFault.Full) ↔ (is_full half.old.half ≡ true) }
     ensures far_short { (result ≡ Err WorldFault.FarShort) ↔ ((is_full half.old.half ≡ false) × (is_far_frame half.old.half.end frame.now ≡ true)) }
     ensures there { result ≢ Err WorldFault.NoSuchFrame }

@@ -3,7 +3,8 @@ use Rattle.two_ends.proofs.Consequences.{from-silent, from-apart, from-untold}
 use Rattle.two_ends.proofs.laws.values_come_from_both_sides.Goals as goal
 
 pub returns-clause-silent : goal.returns-clause-silent
-returns-clause-silent g c = λ w safe pair quiet side priority none. from-silent w.world pair (held_at w.world pair side).value quiet priority none (safe.given pair side)
+returns-clause-silent g c =
+    λ w safe pair quiet side priority none. from-silent w.world pair (held_at w.world pair side).value quiet priority none (safe.given pair side)
 
 pub returns-clause-apart : goal.returns-clause-apart
 returns-clause-apart g c = λ w safe pair side priority apart. from-apart w.world pair (held_at w.world pair side).value priority apart (safe.given pair side)
