@@ -5,7 +5,6 @@ use Rattle.bridge_command.specs.declared.words.Form.{Form}
 use Rattle.bridge_command.specs.declared.words.Form.TheVariants as form
 use Rattle.tool_forms.specs.BridgeWords.{IsFlowWithinBounds, IsRunWithinBounds, flow_side_of, seed_run_of}
 use Rattle.tool_forms.specs.Words.{is_word}
-use Rattle.tool_forms.specs.declared.bridge_words.FlowSide.{FlowSide}
 use Rattle.tool_forms.specs.declared.bridge_words.SeedRun.{SeedRun}
 
 -- No word may follow `capture`, `unwrap` and `json`.
@@ -49,24 +48,6 @@ has_bridge_settings (first ∷ words) = is_word first (codes "seed") || is_word 
 abbrev pub bridge_usage : List ℕ
 bridge_usage = codes "usage: dccp_bridge capture | unwrap | seed --seed S --events E | frames --flow F --side server|client | json\n"
 
--- For `capture`, over a source that tells its bytes, something holds of them.
-abbrev pub OnCapture : List (String Global) → Option (List ℕ) → (List ℕ → Type 0) → Type 0
-OnCapture words told Holds = asked_form words ≡ Some form.Capture → (bytes : List ℕ) → told ≡ Some bytes → Holds bytes
-
--- the same for `unwrap`
-abbrev pub OnUnwrap : List (String Global) → Option (List ℕ) → (List ℕ → Type 0) → Type 0
-OnUnwrap words told Holds = asked_form words ≡ Some form.Unwrap → (bytes : List ℕ) → told ≡ Some bytes → Holds bytes
-
--- for `seed`, which reads nothing, something holds of the run that is asked for
+-- For `seed`, which reads nothing, something holds of the run that is asked for.
 abbrev pub OnSeed : List (String Global) → (SeedRun → Type 0) → Type 0
 OnSeed words Holds = (run : SeedRun) → asked_form words ≡ Some (form.Seed run) → Holds run
-
--- for `frames`, over a source that tells its bytes, something holds of the side of a flow that is asked for, and of
--- them
-abbrev pub OnFrames : List (String Global) → Option (List ℕ) → (FlowSide → List ℕ → Type 0) → Type 0
-OnFrames words told Holds =
-    (asked : FlowSide) → asked_form words ≡ Some (form.Frames asked) → (bytes : List ℕ) → told ≡ Some bytes → Holds asked bytes
-
--- and for `json`
-abbrev pub OnJson : List (String Global) → Option (List ℕ) → (List ℕ → Type 0) → Type 0
-OnJson words told Holds = asked_form words ≡ Some form.Json → (bytes : List ℕ) → told ≡ Some bytes → Holds bytes

@@ -1,12 +1,9 @@
 //! The second tool's one call: a form of its words over a source and a sink.
-ghost use Rattle.std.specs.Prelude.{◌≡◌, ◌⊎◌, [], Some, None, false, true};
+ghost use Rattle.std.specs.Prelude.{◌≡◌, ◌≢◌, ◌⊎◌, [], Some, None, false, true};
 ghost use Rattle.dccp_io.specs.Counts.{Rose};
-ghost use Rattle.bridge_capture.specs.Capturing.{frames_capture, transcript_accepted, transcript_refused};
-ghost use Rattle.bridge_frames.specs.Framing.{frames_pieces, frames_text, is_frames_faulty};
-ghost use Rattle.bridge_json.specs.Telling.{is_json_faulty, json_pieces, json_text};
 ghost use Rattle.bridge_seed.specs.Schedule.{seed_text};
-ghost use Rattle.bridge_unwrap.specs.Unwrapping.{is_unwrapped_faulty, unwrapped_pieces, unwrapped_text};
-ghost use Rattle.bridge_command.specs.Words.{OnCapture, OnFrames, OnJson, OnSeed, OnUnwrap, asked_form, bridge_usage, has_bridge_settings};
+ghost use Rattle.bridge_command.specs.Forms.{OnBridgeInput, OnBridgeRead, bridge_accepted, bridge_reads_past, bridge_text, has_input, is_bridge_refused};
+ghost use Rattle.bridge_command.specs.Words.{IsBridgeFormWithinBounds, OnSeed, asked_form, bridge_usage, has_bridge_settings};
 ghost use Rattle.tool_output.specs.Ends.{SinkFails, IsWritten, Answers, StopsWithin, EndsForCause};
 
 use crate::words::{Form, USAGE, form_of};
@@ -44,38 +41,43 @@ pub fn bridge<S: Source, K: Sink>(
         → IsWritten bridge_usage (K.taken output.old) (K.taken output.new) (SinkFails K.faults K.empty_takes output.old output.new) }
     ensures silent { asked_form words.now ≡ None → result ≡ Status.Memory → output.new ≡ output.old }
 
-    // What each form writes, how it ends, and how far a refused input was read. What reads nothing owes the same as of
-    // an empty input.
-    ensures captured { OnCapture words.now (S.left input.old) (λ bytes.
-        Answers (frames_capture bytes) (transcript_refused bytes) result (S.left input.new) (K.taken output.old) (K.taken output.new)) }
-    ensures past { OnCapture words.now (S.left input.old) (λ bytes. StopsWithin 16384 (transcript_accepted bytes) bytes result (S.left input.new)) }
-    ensures unwrapped { OnUnwrap words.now (S.left input.old) (λ bytes.
-        Answers (unwrapped_text bytes) (is_unwrapped_faulty bytes) result (S.left input.new) (K.taken output.old) (K.taken output.new)) }
-    ensures unwrap_past { OnUnwrap words.now (S.left input.old) (λ bytes. StopsWithin 524288 (unwrapped_pieces bytes).accepted bytes result (S.left input.new)) }
-    ensures framed { OnFrames words.now (S.left input.old) (λ asked bytes.
-        Answers (frames_text asked.flow asked.side bytes) (is_frames_faulty asked.flow asked.side bytes) result (S.left input.new) (K.taken output.old) (K.taken output.new)) }
-    ensures frames_past { OnFrames words.now (S.left input.old) (λ asked bytes.
-        StopsWithin 524288 (frames_pieces asked.flow asked.side bytes).accepted bytes result (S.left input.new)) }
-    ensures objects { OnJson words.now (S.left input.old) (λ bytes.
-        Answers (json_text bytes) (is_json_faulty bytes) result (S.left input.new) (K.taken output.old) (K.taken output.new)) }
-    ensures json_past { OnJson words.now (S.left input.old) (λ bytes. StopsWithin 524288 (json_pieces bytes).accepted bytes result (S.left input.new)) }
+    // What each form that reads its input writes and how it ends, and how far it had read where it refuses it.
+    ensures answers { OnBridgeInput words.now (S.left input.old) (λ form bytes.
+        Answers (bridge_text form bytes) (is_bridge_refused form bytes) result (S.left input.new) (K.taken output.old) (K.taken output.new)) }
+    ensures past { OnBridgeInput words.now (S.left input.old) (λ form bytes.
+        StopsWithin (bridge_reads_past form) (bridge_accepted form bytes) bytes result (S.left input.new)) }
+
+    // What a seed owes, which reads nothing: the same as of an empty input. And why any form ended.
     ensures told { OnSeed words.now (λ run. Answers (seed_text run.seed run.events) false result (Some []) (K.taken output.old) (K.taken output.new)) }
     ensures told_unread { OnSeed words.now (λ run. input.new ≡ input.old) }
-
-    // Why any form ended.
     ensures cause { (form : Form) → asked_form words.now ≡ Some form
         → EndsForCause result (Rose (S.faults input.old) (S.faults input.new)) (SinkFails K.faults K.empty_takes output.old output.new) }
 {
-    let Ok(form) = form_of(alloc, words) else {
-        return Status::Memory;
-    };
+    match form_of(alloc, words) {
+        Ok(Some(form)) => perform(alloc, form, input, output),
+        Ok(None) => refuse_words(output),
+        Err(_) => Status::Memory,
+    }
+}
+
+// Does what a form asks for.
+fn perform<S: Source, K: Sink>(alloc: Global, form: Form, input: &mut S, output: &mut K) -> Status
+    requires { IsBridgeFormWithinBounds form }
+    ensures words { result ≢ Status.Words }
+    ensures answers { OnBridgeRead form (S.left input.old) (λ bytes.
+        Answers (bridge_text form bytes) (is_bridge_refused form bytes) result (S.left input.new) (K.taken output.old) (K.taken output.new)) }
+    ensures past { OnBridgeRead form (S.left input.old) (λ bytes.
+        StopsWithin (bridge_reads_past form) (bridge_accepted form bytes) bytes result (S.left input.new)) }
+    ensures told { has_input form ≡ false → Answers (bridge_text form []) false result (Some []) (K.taken output.old) (K.taken output.new) }
+    ensures unread { has_input form ≡ false → input.new ≡ input.old }
+    ensures cause { EndsForCause result (Rose (S.faults input.old) (S.faults input.new)) (SinkFails K.faults K.empty_takes output.old output.new) }
+{
     match form {
-        Some(Form::Capture) => capture_frames(alloc, input, output),
-        Some(Form::Unwrap) => unwrap_capture(alloc, input, output),
-        Some(Form::Seed(run)) => tell_seed(alloc, run.seed, run.events, output),
-        Some(Form::Frames(asked)) => frame_flow(alloc, asked.flow, asked.side, input, output),
-        Some(Form::Json) => json_records(alloc, input, output),
-        None => refuse_words(output),
+        Form::Capture => capture_frames(alloc, input, output),
+        Form::Unwrap => unwrap_capture(alloc, input, output),
+        Form::Seed(run) => tell_seed(alloc, run.seed, run.events, output),
+        Form::Frames(asked) => frame_flow(alloc, asked.flow, asked.side, input, output),
+        Form::Json => json_records(alloc, input, output),
     }
 }
 
