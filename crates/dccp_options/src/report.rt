@@ -125,6 +125,7 @@ impl<'a> Iterator for ReportRuns<'a> {
 
     ghost remaining = { item_count (λ runs. runs) };
 
+    #[inline(always)]
     fn next(&mut self) -> Option<Run> {
         let byte = self.bytes.next()?;
         let run = Run {
