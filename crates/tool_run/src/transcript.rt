@@ -1,8 +1,9 @@
 //! `run`: a job over a schedule's lines.
-ghost use Rattle.std.specs.Prelude.{◌≡◌, ◌≢◌, ℕ, List, Some};
+ghost use Rattle.std.specs.Prelude.{◌≡◌, ◌≢◌, ℕ, List, Some, IfOk, Ok};
 ghost use Rattle.dccp_io.specs.Counts.{Rose};
 ghost use Rattle.tool_output.specs.Ends.{IsAnswered, Answers, SinkFails, StopsWithin, EndsForCause};
-ghost use Rattle.tool_run.specs.Transcript.{IsPlayable, first_play, transcript, is_refused, accepted_bytes, SafeThroughout};
+ghost use Rattle.tool_lines.specs.Jobs.{Judges};
+ghost use Rattle.tool_run.specs.Transcript.{IsPlayable, first_play, judged_line, run_job, transcript, is_refused, accepted_bytes, SafeThroughout};
 
 use crate::play::Play;
 use ccid_two::Kinds;
@@ -16,12 +17,13 @@ use tool_output::Status;
 use tool_words::LineFault;
 use two_ends::every_run_is_safe;
 
-/// A schedule while it is played, with room for what one line says, which is cleared once. Contracts see where the
-/// schedule stands.
+/// A schedule while it is played, with room for what one line says: for one that sends data by itself, since a line that
+/// becomes one of another kind is cleared with its room for data. Contracts see where the schedule stands.
 #[derive(Drop)]
 struct Schedule {
     play: Play,
-    said: Line,
+    sending: Line,
+    other: Line,
 }
 
 impl Model for Schedule {
@@ -41,7 +43,8 @@ impl Schedule {
     {
         Schedule {
             play: Play::new(),
-            said: Line::Nothing,
+            sending: Line::Nothing,
+            other: Line::Nothing,
         }
     }
 }
@@ -57,7 +60,6 @@ impl LineJob for Schedule {
 
     ghost keeps = { λ play number. IsPlayable play };
 
-    #[tactic(auto, unfolding(crate::specs::Transcript::judged_line))]
     fn judge(
         &mut self,
         alloc: Global,
@@ -65,14 +67,36 @@ impl LineJob for Schedule {
         line: &[u8],
         text: &mut Vec<u8>,
     ) -> Result<Result<(), LineFault>, NoMemory> {
-        match read_line_into(line, &mut self.said) {
-            Err(fault) => Ok(Err(self.play.in_place(fault))),
-            Ok(()) => self.play.say(alloc, number, &self.said, text),
+        match line {
+            [b's', b'e', b'n', ..] => {
+                judge_into(&mut self.sending, &mut self.play, alloc, number, line, text)
+            }
+            _ => judge_into(&mut self.other, &mut self.play, alloc, number, line, text),
         }
     }
 
     fn finish(&mut self, alloc: Global, text: &mut Vec<u8>) -> Result<(), NoMemory> {
         self.play.finish(alloc, text)
+    }
+}
+
+// Judges a line, by what it says, which is left in `said`.
+#[tactic(auto, unfolding(crate::specs::Transcript::judged_line))]
+fn judge_into(
+    said: &mut Line,
+    play: &mut Play,
+    alloc: Global,
+    number: u64,
+    line: &[u8],
+    text: &mut Vec<u8>,
+) -> Result<Result<(), LineFault>, NoMemory>
+    requires { IsPlayable play.old }
+    ensures verdict { IfOk result (λ answer. Judges run_job (judged_line play.old number line.now) text.old.items text.new.items play.new answer) }
+    ensures keeps_on { IfOk result (λ answer. answer ≡ Ok tt → IsPlayable play.new) }
+{
+    match read_line_into(line, said) {
+        Err(fault) => Ok(Err(play.in_place(fault))),
+        Ok(()) => play.say(alloc, number, said, text),
     }
 }
 
