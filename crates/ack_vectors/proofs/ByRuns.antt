@@ -25,7 +25,8 @@ states_down-same p q f (suc (suc count)) n a b h k =
     states_down-same p q f (suc count) (down n) a (down_fits n) (omega arith) (λ m fits u v. k m fits (omega arith) (omega arith)) in
     ap (λ s. s ∷ states_down p (suc count) (down n)) here ∙ ap (λ ss. q n ∷ ss) rest
 
-pub states_down-add : (state : ℕ → ℕ) (a b n m : ℕ) → n < 2 ^ 48 → m < 2 ^ 48 → residue (m + a) ≡ n → states_down state (a + b) n ≡ states_down state a n ++ states_down state b m
+pub states_down-add : (state : ℕ → ℕ) (a b n m : ℕ) → n < 2 ^ 48 → m < 2 ^ 48 → residue (m + a) ≡ n
+    → states_down state (a + b) n ≡ states_down state a n ++ states_down state b m
 states_down-add state zero b n m p q e =
     let none : 0 + b ≡ b = omega arith in
     let same : m ≡ n = omega arith in
@@ -66,7 +67,8 @@ groups-replicate s (suc count) rest h =
     ap (λ gs. grouped_with s gs) (groups-replicate s count rest h) ∙ grouped_with-same s (suc count) (groups rest) ∙ ap (λ c. group s c ∷ groups rest) one
 
 -- the bytes of a run, and of what follows it
-pub spelled-replicate : (s count : ℕ) (rest : List ℕ) → BeginsWithout s rest → bytes_of_groups (groups (replicate count s ++ rest)) ≡ pieces s count ++ bytes_of_groups (groups rest)
+pub spelled-replicate : (s count : ℕ) (rest : List ℕ) → BeginsWithout s rest
+    → bytes_of_groups (groups (replicate count s ++ rest)) ≡ pieces s count ++ bytes_of_groups (groups rest)
 spelled-replicate s zero rest h = refl
 spelled-replicate s (suc count) rest h = ap bytes_of_groups (groups-replicate s count rest h)
 
@@ -107,7 +109,8 @@ runs-nothing left n =
     ∙ ap (λ ss. bytes_of_groups (groups ss)) (append-nil (replicate left 3) ∙ sym (constant-states 3 left n))
 
 -- a run above all that is left is passed
-pub runs-passed : (f left n : ℕ) (s : Stretch) (rest : List ℕ) → f < 2 ^ 48 → n < 2 ^ 48 → s.hi < 2 ^ 48 → s.count ≤ distance f s.hi + 1 → IsTop f left n → left ≤ distance f s.hi + 1 - s.count
+pub runs-passed : (f left n : ℕ) (s : Stretch) (rest : List ℕ) → f < 2 ^ 48 → n < 2 ^ 48 → s.hi < 2 ^ 48 → s.count ≤ distance f s.hi + 1 → IsTop f left n
+    → left ≤ distance f s.hi + 1 - s.count
     → states_down (set_states (has (downwards s.count s.hi ++ rest))) left n ≡ states_down (set_states (has rest)) left n
 runs-passed f left n s rest p q r above top ge =
     states_down-same (set_states (has (downwards s.count s.hi ++ rest))) (set_states (has rest)) f left n p q (at_most f left n top)
@@ -115,16 +118,19 @@ runs-passed f left n s rest p q r above top ge =
     ap state_told (above-absent f m s.count s.hi rest p r (omega arith)))
 
 -- the numbers above a run are missing, those in it are there
-pub runs-missing : (f a n : ℕ) (s : Stretch) (ss : List Stretch) → f < 2 ^ 48 → n < 2 ^ 48 → AreLaid f (distance f s.hi + 1) (s ∷ ss) → (0 < a → a + distance f s.hi ≤ distance f n) → a ≤ distance f n + 1
+pub runs-missing : (f a n : ℕ) (s : Stretch) (ss : List Stretch) → f < 2 ^ 48 → n < 2 ^ 48 → AreLaid f (distance f s.hi + 1) (s ∷ ss)
+    → (0 < a → a + distance f s.hi ≤ distance f n) → a ≤ distance f n + 1
     → states_down (set_states (has (numbers_of (s ∷ ss)))) a n ≡ replicate a 3
 runs-missing f zero n s ss p q h over most = refl
 runs-missing f (suc a) n s ss p q h over most =
     let far : suc a + distance f s.hi ≤ distance f n = over (omega arith) in
     states_down-same (set_states (has (numbers_of (s ∷ ss)))) (λ _. 3) f (suc a) n p q most
-    (λ m fits u v. ap state_told (below-absent f (distance f s.hi + 1) m (numbers_of (s ∷ ss)) (omega arith) (falling_numbers f (distance f s.hi + 1) (s ∷ ss) p h)))
+    (λ m fits u v. ap state_told
+    (below-absent f (distance f s.hi + 1) m (numbers_of (s ∷ ss)) (omega arith) (falling_numbers f (distance f s.hi + 1) (s ∷ ss) p h)))
     ∙ constant-states 3 (suc a) n
 
-pub runs-received : (f k n : ℕ) (s : Stretch) (rest : List ℕ) → f < 2 ^ 48 → n < 2 ^ 48 → s.hi < 2 ^ 48 → distance f n ≤ distance f s.hi → distance f s.hi + k ≤ distance f n + s.count → k ≤ distance f n + 1
+pub runs-received : (f k n : ℕ) (s : Stretch) (rest : List ℕ) → f < 2 ^ 48 → n < 2 ^ 48 → s.hi < 2 ^ 48 → distance f n ≤ distance f s.hi
+    → distance f s.hi + k ≤ distance f n + s.count → k ≤ distance f n + 1
     → states_down (set_states (has (downwards s.count s.hi ++ rest))) k n ≡ replicate k 0
 runs-received f k n s rest p q r under over most =
     states_down-same (set_states (has (downwards s.count s.hi ++ rest))) (λ _. 0) f k n p q most
@@ -187,7 +193,8 @@ runs-is f b left n (s ∷ ss) p q h top =
           let some : 1 ≤ s.count = h.0.some in
           let above : s.count ≤ distance f s.hi + 1 = h.0.above in
           let m : ℕ = first.0 in
-          let ih : bytes_by_runs f bottom ss ≡ bytes_of_groups (groups (states_down (set_states (has (numbers_of ss))) bottom m)) = runs-is f (bound_below f s) bottom m ss p first.1 h.1 first.2 in
+          let ih : bytes_by_runs f bottom ss ≡ bytes_of_groups (groups (states_down (set_states (has (numbers_of ss))) bottom m)) =
+          runs-is f (bound_below f s) bottom m ss p first.1 h.1 first.2 in
           let rest : List ℕ = states_down (set_states (has (numbers_of ss))) bottom m in
           let begins : BeginsWithout 0 rest = begins-missing (has (numbers_of ss)) bottom m
           (λ pos. let here : bottom ≡ distance f m + 1 = at_top f bottom m first.2 pos in
@@ -199,19 +206,22 @@ runs-is f b left n (s ∷ ss) p q h top =
           ∙ ap (λ ys. pieces 3 a ++ ys) (spelled-replicate 0 k rest begins ∙ ap (λ ys. pieces 0 k ++ ys) (sym ih))))
       | inr ge ↦
           let test : nat_lt (distance f s.hi + 1 - s.count) left ≡ false = le-ltb (distance f s.hi + 1 - s.count) left ge in
-          let ih : bytes_by_runs f left ss ≡ bytes_of_groups (groups (states_down (set_states (has (numbers_of ss))) left n)) = runs-is f (bound_below f s) left n ss p q h.1 top in
+          let ih : bytes_by_runs f left ss ≡ bytes_of_groups (groups (states_down (set_states (has (numbers_of ss))) left n)) =
+          runs-is f (bound_below f s) left n ss p q h.1 top in
           let same = runs-passed f left n s (numbers_of ss) p q h.0.fits h.0.above top ge in
           rw test (ih ∙ ap (λ xs. bytes_of_groups (groups xs)) (sym same))
     ]
 
 -- one run more, by what is written for it
 pub runs-cons : (f left : ℕ) (s : Stretch) (ss : List Stretch) → distance f s.hi + 1 - s.count < left
-    → bytes_by_runs f left (s ∷ ss) ≡ pieces 3 (left - min (distance f s.hi + 1) left) ++ (pieces 0 (min (distance f s.hi + 1) left - (distance f s.hi + 1 - s.count)) ++ bytes_by_runs f (distance f s.hi + 1 - s.count) ss)
+    → bytes_by_runs f left (s ∷ ss) ≡ pieces 3 (left - min (distance f s.hi + 1) left)
+    ++ (pieces 0 (min (distance f s.hi + 1) left - (distance f s.hi + 1 - s.count)) ++ bytes_by_runs f (distance f s.hi + 1 - s.count) ss)
 runs-cons f left s ss lt =
     let test : nat_lt (distance f s.hi + 1 - s.count) left ≡ true = lt-ltb (distance f s.hi + 1 - s.count) left lt in
     rw test refl
 
-pub step_joins : (f left top bottom cut : ℕ) (out new goal : List ℕ) (s : Stretch) (ss : List Stretch) → top ≡ distance f s.hi + 1 → bottom ≡ top - s.count → bottom < left → cut ≡ min top left
+pub step_joins : (f left top bottom cut : ℕ) (out new goal : List ℕ) (s : Stretch) (ss : List Stretch) → top ≡ distance f s.hi + 1 → bottom ≡ top - s.count
+    → bottom < left → cut ≡ min top left
     → new ≡ out ++ (pieces 3 (left - cut) ++ pieces 0 (cut - bottom)) → out ++ bytes_by_runs f left (s ∷ ss) ≡ goal → new ++ bytes_by_runs f bottom ss ≡ goal
 step_joins f left top bottom cut out new goal s ss t b lt c n j =
     let bottom_is : bottom ≡ distance f s.hi + 1 - s.count = omega arith in
@@ -220,17 +230,20 @@ step_joins f left top bottom cut out new goal s ss t b lt c n j =
     rw (n, cut_is, bottom_is)
     (append_assoc out _ _ ∙ ap (λ xs. out ++ xs) (append_assoc (pieces 3 (left - min (distance f s.hi + 1) left)) _ _ ∙ sym parts) ∙ j)
 
-pub step_cut : (room f left top bottom cut : ℕ) (out new goal : List ℕ) (s : Stretch) (ss : List Stretch) → top ≡ distance f s.hi + 1 → bottom ≡ top - s.count → bottom < left → cut ≡ min top left
+pub step_cut : (room f left top bottom cut : ℕ) (out new goal : List ℕ) (s : Stretch) (ss : List Stretch) → top ≡ distance f s.hi + 1 → bottom ≡ top - s.count
+    → bottom < left → cut ≡ min top left
     → new ≡ take room (out ++ (pieces 3 (left - cut) ++ pieces 0 (cut - bottom))) → room < length (out ++ (pieces 3 (left - cut) ++ pieces 0 (cut - bottom)))
     → out ++ bytes_by_runs f left (s ∷ ss) ≡ goal → (new ≡ take room goal) × (room < length goal)
 step_cut room f left top bottom cut out new goal s ss t b lt c n long j =
     let front : List ℕ = out ++ (pieces 3 (left - cut) ++ pieces 0 (cut - bottom)) in
     let all : front ++ bytes_by_runs f bottom ss ≡ goal = step_joins f left top bottom cut out front goal s ss t b lt c refl j in
-    let size : length (front ++ bytes_by_runs f bottom ss) ≡ length front + length (bytes_by_runs f bottom ss) = length-append front (bytes_by_runs f bottom ss) in
+    let size : length (front ++ bytes_by_runs f bottom ss) ≡ length front + length (bytes_by_runs f bottom ss) =
+    length-append front (bytes_by_runs f bottom ss) in
     let same : length (front ++ bytes_by_runs f bottom ss) ≡ length goal = ap length all in
     (n ∙ sym (take_cut room front (bytes_by_runs f bottom ss) long) ∙ ap (λ xs. take room xs) all, omega arith)
 
-pub step_passed : (f left top bottom : ℕ) (out goal : List ℕ) (s : Stretch) (ss : List Stretch) → top ≡ distance f s.hi + 1 → bottom ≡ top - s.count → left ≤ bottom
+pub step_passed : (f left top bottom : ℕ) (out goal : List ℕ) (s : Stretch) (ss : List Stretch) → top ≡ distance f s.hi + 1 → bottom ≡ top - s.count
+    → left ≤ bottom
     → out ++ bytes_by_runs f left (s ∷ ss) ≡ goal → out ++ bytes_by_runs f left ss ≡ goal
 step_passed f left top bottom out goal s ss t b ge j =
     let test : nat_lt (distance f s.hi + 1 - s.count) left ≡ false = le-ltb (distance f s.hi + 1 - s.count) left (omega arith) in

@@ -97,7 +97,8 @@ module _ {S : Type 0} (coding : Coding S) (CanBe : S → Type 0) (lawful : IsLaw
   groups-replicate s (suc count) rest =
       ap (λ (gs : List (Group S)). grouped_with coding s gs) (groups-replicate s count rest) ∙ grouped-onto s (suc count) (groups coding rest)
 
-  full-count : (s : S) (count : ℕ) (g : Group S) → coding.same g.state s ≡ true → (count ≡ coding.most s) ⊎ (coding.same g.state s ≡ false) → count ≡ coding.most s
+  full-count : (s : S) (count : ℕ) (g : Group S) → coding.same g.state s ≡ true → (count ≡ coding.most s) ⊎ (coding.same g.state s ≡ false)
+      → count ≡ coding.most s
   full-count s count g same (inl is) = is
   full-count s count g same (inr apart) = absurd (both_ways (coding.same g.state s) apart same)
 
@@ -105,7 +106,8 @@ module _ {S : Type 0} (coding : Coding S) (CanBe : S → Type 0) (lawful : IsLaw
       → pieces coding s (g.count + count) ++ bytes_of_groups coding gs ≡ coding.byte s count ∷ (pieces coding g.state g.count ++ bytes_of_groups coding gs)
   bytes-joined s count g gs same is =
       let state : g.state ≡ s = lawful.alike g.state s same in
-      subst (λ (k : ℕ). pieces coding s (g.count + k) ++ bytes_of_groups coding gs ≡ coding.byte s k ∷ (pieces coding g.state g.count ++ bytes_of_groups coding gs))
+      subst (λ (k : ℕ). pieces coding s (g.count + k) ++ bytes_of_groups coding gs ≡ coding.byte s k
+      ∷ (pieces coding g.state g.count ++ bytes_of_groups coding gs))
       (sym is)
       (ap (λ (bytes : List ℕ). bytes ++ bytes_of_groups coding gs) (pieces-full coding s g.count (lawful.some s))
       ∙ ap (λ (t : S). coding.byte s (coding.most s) ∷ (pieces coding t g.count ++ bytes_of_groups coding gs)) (sym state))
@@ -155,7 +157,8 @@ module _ {S : Type 0} (coding : Coding S) (CanBe : S → Type 0) (lawful : IsLaw
       ∙ ap (λ (states : List S). states ++ states_of coding rest) (replicate-append-replicate (coding.most s) c s)
       ∙ ap (λ (k : ℕ). replicate k s ++ states_of coding rest) (omega arith)
 
-  states-pieces : (fuel : ℕ) (s : S) (c : ℕ) (rest : List ℕ) → c ≤ fuel → CanBe s → states_of coding (pieces coding s c ++ rest) ≡ replicate c s ++ states_of coding rest
+  states-pieces : (fuel : ℕ) (s : S) (c : ℕ) (rest : List ℕ) → c ≤ fuel → CanBe s
+      → states_of coding (pieces coding s c ++ rest) ≡ replicate c s ++ states_of coding rest
   states-pieces zero s c rest h can = states-none s c rest (omega arith)
   states-pieces (suc fuel) s c rest h can =
       elim (cases_lt (coding.most s) c) [
@@ -170,7 +173,8 @@ module _ {S : Type 0} (coding : Coding S) (CanBe : S → Type 0) (lawful : IsLaw
         ]
       ]
 
-  states-grouped : (s : S) (gs : List (Group S)) → CanBe s → states_of coding (bytes_of_groups coding (grouped_with coding s gs)) ≡ s ∷ states_of coding (bytes_of_groups coding gs)
+  states-grouped : (s : S) (gs : List (Group S)) → CanBe s
+      → states_of coding (bytes_of_groups coding (grouped_with coding s gs)) ≡ s ∷ states_of coding (bytes_of_groups coding gs)
   states-grouped s [] can = states-pieces 1 s 1 [] (omega arith) can
   states-grouped s (g ∷ gs) can =
       elim (cases_Bool (coding.same g.state s)) [
@@ -179,7 +183,8 @@ module _ {S : Type 0} (coding : Coding S) (CanBe : S → Type 0) (lawful : IsLaw
             let head = states-pieces (g.count + 1) s (g.count + 1) (bytes_of_groups coding gs) (omega arith) can in
             let tail = states-pieces g.count s g.count (bytes_of_groups coding gs) (omega arith) can in
             rw same (head ∙ ap (λ (k : ℕ). replicate k s ++ states_of coding (bytes_of_groups coding gs)) (add-one g.count)
-            ∙ ap (λ (states : List S). s ∷ states) (sym tail ∙ ap (λ (t : S). states_of coding (pieces coding t g.count ++ bytes_of_groups coding gs)) (sym state)))
+            ∙ ap (λ (states : List S). s ∷ states)
+            (sym tail ∙ ap (λ (t : S). states_of coding (pieces coding t g.count ++ bytes_of_groups coding gs)) (sym state)))
         | inr apart ↦ rw apart (states-pieces 1 s 1 (bytes_of_groups coding (g ∷ gs)) (omega arith) can)
       ]
 

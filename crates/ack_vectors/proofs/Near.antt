@@ -59,17 +59,23 @@ near_push : (span : ℕ) (x : Record) (later : List Record) (last : Record) (num
     → AreNear span (record_numbers (x ∷ later)) → AreNear (span + distance last.number number) (record_numbers (x ∷ later) ++ number ∷ [])
 near_push span x [] last number low is near =
     let same : x ≡ last = some_is x last is in
-    let here : distance x.number number ≤ span + distance last.number number = subst (λ (e : Record). distance x.number number ≤ span + distance e.number number) same (omega arith) in
+    let here : distance x.number number ≤ span + distance last.number number =
+    subst (λ (e : Record). distance x.number number ≤ span + distance e.number number) same (omega arith) in
     (near.0, (here, tt), (low, tt, tt))
 near_push span x (y ∷ later) last number low is near =
     let is_later : last_item (y ∷ later) ≡ Some last = sym (last_later x y later) ∙ is in
     let to_last : distance x.number last.number ≤ span = all_last (λ o. distance x.number o ≤ span) y later last is_later near.1 in
     let last_low : last.number < 2 ^ 48 = all_last (λ o. o < 2 ^ 48) y later last is_later (all_low span (record_numbers (y ∷ later)) near.2) in
     let triangle = further x.number last.number number near.0 last_low low in
-    let more = all_more (λ o. distance x.number o ≤ span) (λ o. distance x.number o ≤ span + distance last.number number) (record_numbers (y ∷ later)) (λ o h. omega arith) near.1 in
-    (near.0, all_push (λ o. distance x.number o ≤ span + distance last.number number) (record_numbers (y ∷ later)) number more (omega arith), near_push span y later last number low is_later near.2)
+    let more = all_more (λ o. distance x.number o ≤ span) (λ o. distance x.number o ≤ span + distance last.number number) (record_numbers (y ∷ later))
+    (λ o h. omega arith) near.1 in (
+      near.0,
+      all_push (λ o. distance x.number o ≤ span + distance last.number number) (record_numbers (y ∷ later)) number more (omega arith),
+      near_push span y later last number low is_later near.2,
+    )
 
-pub near_first : (span number : ℕ) (records : List Record) → number < 2 ^ 48 → last_item records ≡ None → AreNear (span + 0) (record_numbers records ++ number ∷ [])
+pub near_first : (span number : ℕ) (records : List Record) → number < 2 ^ 48 → last_item records ≡ None
+    → AreNear (span + 0) (record_numbers records ++ number ∷ [])
 near_first span number records low is = rw (none_last records is) (low, tt, tt)
 
 pub near_after : (span number : ℕ) (records : List Record) (last : Record) → number < 2 ^ 48 → last_item records ≡ Some last
@@ -78,11 +84,13 @@ near_after span number [] last low is near = cc
 near_after span number (x ∷ later) last low is near = near_push span x later last number low is near
 
 -- what is recorded is near where the list with it was
-pub near_recorded : (span : ℕ) (new : Record) (records : List Record) → AreNear span (record_numbers records ++ new.number ∷ []) → AreNear span (record_numbers (keep_last 64 (records ++ new ∷ [])))
+pub near_recorded : (span : ℕ) (new : Record) (records : List Record) → AreNear span (record_numbers records ++ new.number ∷ [])
+    → AreNear span (record_numbers (keep_last 64 (records ++ new ∷ [])))
 near_recorded span new records near =
     let all : record_numbers (records ++ new ∷ []) ≡ record_numbers records ++ new.number ∷ [] = map-append (λ (e : Record). e.number) records (new ∷ []) in
     let n = length (records ++ new ∷ []) - 64 in
-    let kept : drop n (record_numbers (records ++ new ∷ [])) ≡ record_numbers (keep_last 64 (records ++ new ∷ [])) = drop-map (λ (e : Record). e.number) n (records ++ new ∷ []) in
+    let kept : drop n (record_numbers (records ++ new ∷ [])) ≡ record_numbers (keep_last 64 (records ++ new ∷ [])) =
+    drop-map (λ (e : Record). e.number) n (records ++ new ∷ []) in
     subst (AreNear span) kept (near_drop span n (record_numbers (records ++ new ∷ [])) (subst (AreNear span) (sym all) near))
 
 -- of the records up to one, that one too

@@ -92,7 +92,8 @@ length-states_down p zero n = refl
 length-states_down p (suc count) n = ap suc (length-states_down p count (down n))
 
 -- the state at a place is that of the number so far down
-pub slice_get-states_down : {S : Type 0} (p : ℕ → S) (count n i m : ℕ) → n < 2 ^ 48 → m < 2 ^ 48 → i < count → residue (m + i) ≡ n → slice_get (states_down p count n) i ≡ Some (p m)
+pub slice_get-states_down : {S : Type 0} (p : ℕ → S) (count n i m : ℕ) → n < 2 ^ 48 → m < 2 ^ 48 → i < count → residue (m + i) ≡ n
+    → slice_get (states_down p count n) i ≡ Some (p m)
 slice_get-states_down p zero n i m a b h e = absurd (omega arith)
 slice_get-states_down p (suc count) n zero m a b h e = let same : n ≡ m = omega arith in ap (λ k. Some (p k)) same
 slice_get-states_down p (suc count) n (suc i) m a b h e = slice_get-states_down p count (down n) i m (down_fits n) b (omega arith) (omega arith)
@@ -157,13 +158,15 @@ whole_reaches room p floor ack plain =
     let cut : length (drop room bytes) ≤ length (states (drop room bytes)) = states-long (drop room bytes) in
     let size : length (drop room bytes) ≡ length bytes - room = length-drop room bytes in (
       λ h. let fits : length bytes ≤ room = leb-true (length bytes) room h in
-          ap (λ xs. length (states xs)) (take_all room bytes fits) ∙ ap length (states-all_bytes p floor ack plain) ∙ length-states_down p (numbers_between floor ack) ack,
+          ap (λ xs. length (states xs)) (take_all room bytes fits) ∙ ap length (states-all_bytes p floor ack plain)
+          ∙ length-states_down p (numbers_between floor ack) ack,
       λ e. le-leb (length bytes) room (omega arith),
     )
 
 -- a vector looks at nothing but the numbers between
 pub states_between-same : (one other : ℕ → ℕ) (floor ack : ℕ) → floor < 2 ^ 48 → ack < 2 ^ 48
-    → ((n : ℕ) → n < 2 ^ 48 → IsFrom floor n → distance floor n ≤ distance floor ack → one n ≡ other n) → states_between one floor ack ≡ states_between other floor ack
+    → ((n : ℕ) → n < 2 ^ 48 → IsFrom floor n → distance floor n ≤ distance floor ack → one n ≡ other n)
+    → states_between one floor ack ≡ states_between other floor ack
 states_between-same one other floor ack a b h =
     elim (cases_Bool (is_from floor ack)) [
       | inl ahead ↦

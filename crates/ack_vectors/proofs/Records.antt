@@ -14,7 +14,8 @@ use Rattle.ack_vectors.specs.Kept.{Kept, recorded, raised_by, acked, is_whole_at
 use Rattle.ack_vectors.specs.declared.received.Record.{Record}
 
 -- the newest record of a whole vector, and that there is one
-pub newest_from-last : (n : ℕ) (found : Option Record) (rs : List Record) (r : Record) → newest_from n found (rs ++ r ∷ []) ≡ (if is_whole_at n r then Some r else newest_from n found rs)
+pub newest_from-last : (n : ℕ) (found : Option Record) (rs : List Record) (r : Record)
+    → newest_from n found (rs ++ r ∷ []) ≡ (if is_whole_at n r then Some r else newest_from n found rs)
 newest_from-last n found [] r = refl
 newest_from-last n found (q ∷ rs) r = newest_from-last n (if is_whole_at n q then Some q else found) rs r
 

@@ -71,11 +71,15 @@ if-fits false fault read fits = fits
 
 word-fits : (word : WordAt) → FitsRead (word_read told_first word)
 word-fits word =
-    if-fits (length word.text == 0) (fault_at word.column why.Missing) (read_at word.column (told_first word.text)) (at-fits word.column (told_first word.text) (first-fits word.text))
+    if-fits (length word.text == 0) (fault_at word.column why.Missing) (read_at word.column (told_first word.text))
+    (at-fits word.column (told_first word.text) (first-fits word.text))
 
 size-fits : (test : Bool) (column : ℕ) (said : (Side × ℕ) × (List ℕ × Unit {0})) → nat_lt 2044 (length said.1.0) ≡ test → FitsRead (frame_told column said)
-size-fits true column said is = subst (λ (t : Bool). FitsRead (if t then Err (fault_at column why.FrameTooLong) else Ok (told.Sent said.0.0 said.1.0))) (sym is) tt
-size-fits false column said is = subst (λ (t : Bool). FitsRead (if t then Err (fault_at column why.FrameTooLong) else Ok (told.Sent said.0.0 said.1.0))) (sym is) (ltb-false 2044 (length said.1.0) is)
+size-fits true column said is =
+    subst (λ (t : Bool). FitsRead (if t then Err (fault_at column why.FrameTooLong) else Ok (told.Sent said.0.0 said.1.0))) (sym is) tt
+size-fits false column said is =
+    subst (λ (t : Bool). FitsRead (if t then Err (fault_at column why.FrameTooLong) else Ok (told.Sent said.0.0 said.1.0))) (sym is)
+    (ltb-false 2044 (length said.1.0) is)
 
 said-fits : (column : ℕ) (said : Result ((Side × ℕ) × (List ℕ × Unit {0})) LineFault) → FitsRead (said >>= (λ s. frame_told column s))
 said-fits column (Ok s) = size-fits (nat_lt 2044 (length s.1.0)) column s refl
@@ -117,7 +121,8 @@ told-fits clock (Err fault) time fits = tt
 told-fits clock (Ok None) time fits = (All-nil FitsFrame, time)
 told-fits clock (Ok (Some told.Other)) time fits = (All-nil FitsFrame, time)
 told-fits clock (Ok (Some (told.Number number))) time fits = (All-nil FitsFrame, fits)
-told-fits clock (Ok (Some (told.Sent from frame))) time fits = (All-cons FitsFrame (timed clock from frame) [] (record { time = time; size = fits }) (All-nil FitsFrame), time)
+told-fits clock (Ok (Some (told.Sent from frame))) time fits =
+    (All-cons FitsFrame (timed clock from frame) [] (record { time = time; size = fits }) (All-nil FitsFrame), time)
 
 judged-fits : (clock : Clock) (number : ℕ) (line : List ℕ) → clock.seconds < 2 ^ 32 → FitsVerdict (transcript_judged clock number line)
 unfolding transcript_judged
@@ -134,10 +139,12 @@ gone-fits : (clock : Clock) (number given : ℕ) (verdict : Verdict TimedFrame C
 gone-fits clock number given (Accepted deed next) rest fits others = All-append FitsFrame (deeds_of deed) (rest next).deeds fits.0 (others next fits.1)
 gone-fits clock number given (Refused fault) rest fits others = All-nil FitsFrame
 
-lines-fit : (clock : Clock) (number given : ℕ) (lines : List (List ℕ)) → clock.seconds < 2 ^ 32 → All FitsFrame (gone_from capture_job clock number given lines).deeds
+lines-fit : (clock : Clock) (number given : ℕ) (lines : List (List ℕ)) → clock.seconds < 2 ^ 32
+    → All FitsFrame (gone_from capture_job clock number given lines).deeds
 lines-fit clock number given [] time = All-nil FitsFrame
 lines-fit clock number given (line ∷ lines) time =
-    gone-fits clock number given (by_next capture_job clock number (next_in_lines given (line ∷ lines))) (λ next. gone_from capture_job next (number + 1) (given + length line) lines)
+    gone-fits clock number given (by_next capture_job clock number (next_in_lines given (line ∷ lines)))
+    (λ next. gone_from capture_job next (number + 1) (given + length line) lines)
     (next-fits clock number (next_in_lines given (line ∷ lines)) time)
     (λ next fits. lines-fit next (number + 1) (given + length line) lines fits)
 
@@ -150,10 +157,12 @@ records-of [] = refl
 records-of (f ∷ frames) = ap (λ (more : List ℕ). raw_record (frame_record f) ++ more) (records-of frames)
 
 -- without a refusal nothing stands behind the records
-pub made-of : (input : List ℕ) → (transcript_gone input).refusal ≡ None → frames_capture input ≡ capture_of false (map frame_record (transcript_gone input).deeds)
+pub made-of : (input : List ℕ) → (transcript_gone input).refusal ≡ None
+    → frames_capture input ≡ capture_of false (map frame_record (transcript_gone input).deeds)
 made-of input none =
     let gone = transcript_gone input in
-    ap (λ (refusal : Option LineFault). file_header false ++ (flat_map (λ f. raw_record (frame_record f)) gone.deeds ++ last_lines capture_job gone.last gone.number refusal)) none
+    ap (λ (refusal : Option LineFault). file_header false
+    ++ (flat_map (λ f. raw_record (frame_record f)) gone.deeds ++ last_lines capture_job gone.last gone.number refusal)) none
     ∙ ap (λ (records : List ℕ). file_header false ++ records) (append-nil (flat_map (λ f. raw_record (frame_record f)) gone.deeds))
     ∙ ap (λ (records : List ℕ). file_header false ++ records) (records-of gone.deeds)
 
@@ -171,4 +180,5 @@ pub frames-read : (input : List ℕ) → (transcript_gone input).refusal ≡ Non
 frames-read input none room =
     let records = map frame_record (transcript_gone input).deeds in
     let made = made-of input none in
-    ap captured made ∙ records-read false records (headers-fit (transcript_gone input).deeds (deeds-fit input)) (subst (λ (bytes : List ℕ). length bytes ≤ 2 ^ 32) made room)
+    ap captured made ∙ records-read false records (headers-fit (transcript_gone input).deeds (deeds-fit input))
+    (subst (λ (bytes : List ℕ). length bytes ≤ 2 ^ 32) made room)

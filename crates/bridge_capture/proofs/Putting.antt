@@ -17,7 +17,8 @@ put-whole old digits front room post rest size front_is room_is post_is size_is 
     ∙ ap (λ (n : ℕ). take n ((old ++ digits) ++ rest)) long
     ∙ take-append_seam (old ++ digits) rest
 
-longer : (old now : List ℕ) (held begin count : ℕ) → held ≡ length old → begin ≡ length old → now ≡ take (begin + count) old ++ replicate (begin + count - held) 0
+longer : (old now : List ℕ) (held begin count : ℕ) → held ≡ length old → begin ≡ length old
+    → now ≡ take (begin + count) old ++ replicate (begin + count - held) 0
     → now ≡ old ++ replicate count 0
 longer old now held begin count held_is begin_is now_is =
     let more : begin + count - held ≡ count = omega (arith, begin_is, held_is) in

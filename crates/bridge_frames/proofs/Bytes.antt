@@ -244,4 +244,5 @@ by-are (Some kind) bytes are = as-are kind (has_long_numbers bytes) bytes are
 -- what bytes decode to is of bytes
 pub decoded-are : (bytes : List ℕ) → AreBytes bytes → DecodesToBytes (decoded bytes)
 decoded-are bytes are =
-    either DecodesToBytes (nat_lt (length bytes) 12) (Err faults.Short) (decoded_by (type_of (type_code bytes)) bytes) tt (by-are (type_of (type_code bytes)) bytes are)
+    either DecodesToBytes (nat_lt (length bytes) 12) (Err faults.Short) (decoded_by (type_of (type_code bytes)) bytes) tt
+    (by-are (type_of (type_code bytes)) bytes are)

@@ -17,19 +17,23 @@ comment_put old line text start is put =
     ∙ ap (λ (behind : List ℕ). old ++ cut_comment behind) (drop_at old comment start (sym is))
 
 -- by whether it is too long
-cut-by : (comment : List ℕ) (long : Bool) → nat_lt 4097 (length comment) ≡ long → cut_comment comment ≡ (if long then take 4096 comment ++ codes "\n" else comment)
+cut-by : (comment : List ℕ) (long : Bool) → nat_lt 4097 (length comment) ≡ long
+    → cut_comment comment ≡ (if long then take 4096 comment ++ codes "\n" else comment)
 cut-by comment long is = ap (λ (b : Bool). if b then take 4096 comment ++ codes "\n" else comment) is
 
 -- one that is not stays
 pub comment_kept : (text : List ℕ) (start : ℕ) → length text - start ≤ 4097 → text ≡ take start text ++ cut_comment (drop start text)
 comment_kept text start short =
     let size = length-drop start text in
-    sym (ap (λ (comment : List ℕ). take start text ++ comment) (cut-by (drop start text) false (le-ltb 4097 (length (drop start text)) (omega (arith, size, short)))) ∙ take-append-drop start text)
+    sym (ap (λ (comment : List ℕ). take start text ++ comment)
+    (cut-by (drop start text) false (le-ltb 4097 (length (drop start text)) (omega (arith, size, short)))) ∙ take-append-drop start text)
 
 -- one that is ends behind 4,096 bytes
-pub comment_cut : (text : List ℕ) (start : ℕ) → 4097 < length text - start → take (start + 4096) text ++ codes "\n" ≡ take start text ++ cut_comment (drop start text)
+pub comment_cut : (text : List ℕ) (start : ℕ) → 4097 < length text - start
+    → take (start + 4096) text ++ codes "\n" ≡ take start text ++ cut_comment (drop start text)
 comment_cut text start long =
     let size = length-drop start text in
     ap (λ (front : List ℕ). front ++ codes "\n") (take-add start 4096 text)
     ∙ append_assoc (take start text) (take 4096 (drop start text)) (codes "\n")
-    ∙ ap (λ (comment : List ℕ). take start text ++ comment) (sym (cut-by (drop start text) true (lt-ltb 4097 (length (drop start text)) (omega (arith, size, long)))))
+    ∙ ap (λ (comment : List ℕ). take start text ++ comment)
+    (sym (cut-by (drop start text) true (lt-ltb 4097 (length (drop start text)) (omega (arith, size, long)))))

@@ -43,7 +43,8 @@ words-read : (end : UsualEnd) (initial : ℕ) (packet : Parts) → IsOfBytes pac
 words-read end initial packet are (Ok bytes) is =
     let h : Header = moved_header end initial packet.header in
     let frame = is-frame h packet.options packet.payload bytes is in
-    let spelled = spelled-are h packet.options packet.payload frame.header are.ccval are.cscov (moved-fields end initial packet.header.kind are.kind) are.options are.payload in
+    let spelled = spelled-are h packet.options packet.payload frame.header are.ccval are.cscov
+    (moved-fields end initial packet.header.kind are.kind) are.options are.payload in
     sealed-read bytes (each-byte bytes (subst AreBytes frame.same spelled))
     (subst (λ (b : List ℕ). 8 ≤ length b) frame.same (eight-bytes h packet.options packet.payload))
     (subst (λ (b : List ℕ). length b ≤ 2044) frame.same frame.whole)
@@ -80,7 +81,8 @@ IsDoneBack (Some packet) = IsReadBack packet
 abbrev IsPassedBack : RecordStep FlowPacket Framing → Type 0
 IsPassedBack passed = IsDoneBack passed.deed
 
-direction-reads : (s : Framing) (met : Met) (entry : RecordParts) (there : DatagramParts) (packet : Parts) (goes : Bool) → HasByteAddresses there.pseudo → IsOfBytes packet
+direction-reads : (s : Framing) (met : Met) (entry : RecordParts) (there : DatagramParts) (packet : Parts) (goes : Bool) → HasByteAddresses there.pseudo
+    → IsOfBytes packet
     → IsPassedBack (by_direction s met entry there packet goes)
 direction-reads s met entry there packet true addresses are = packet-reads s met entry there packet addresses are
 direction-reads s met entry there packet false addresses are = tt
@@ -93,7 +95,8 @@ number-reads s number entry there packet addresses are =
     either IsPassedBack (number == s.flow) (by_sender s entry there packet from) (passed_over s)
     (direction-reads s met entry there packet (goes_to s.side (same_end from met.client)) addresses are) tt
 
-decoded-reads : (s : Framing) (entry : RecordParts) (there : DatagramParts) (packet : Result Parts Malformed) → HasByteAddresses there.pseudo → DecodesToBytes packet
+decoded-reads : (s : Framing) (entry : RecordParts) (there : DatagramParts) (packet : Result Parts Malformed) → HasByteAddresses there.pseudo
+    → DecodesToBytes packet
     → IsPassedBack (by_decoded s entry there packet)
 decoded-reads s entry there (Ok packet) addresses are =
     let flow : Flow = flow_of there.pseudo packet.header.from packet.header.to in
@@ -111,7 +114,8 @@ IsByteCarried (Some there) = IsByteDatagram there
 
 v4-carried : (bytes : List ℕ) → AreBytes bytes → IsByteCarried (in_v4 bytes)
 v4-carried bytes are =
-    let there : IsByteDatagram (behind_v4 bytes) = record { bytes = bytes-part (v4_total bytes - v4_header bytes) (v4_header bytes) bytes are; addresses = tt } in
+    let there : IsByteDatagram (behind_v4 bytes) =
+    record { bytes = bytes-part (v4_total bytes - v4_header bytes) (v4_header bytes) bytes are; addresses = tt } in
     either IsByteCarried (is_v4 bytes) (Some (behind_v4 bytes)) None there tt
 
 v6-carried : (bytes : List ℕ) → AreBytes bytes → IsByteCarried (in_v6 bytes)
@@ -166,7 +170,8 @@ next-reads s given byte bytes are =
     let judged : IsJudgedBack (by_judged frames_work s piece (file_judged s.file piece)) =
     judged-reads s piece (file_judged s.file piece) (bytes-part wanted 0 (byte ∷ bytes) are) in
     either (λ (next : PieceNext). IsJudgedBack (by_next_piece job s next)) (nat_lt most_piece_bytes (given + wanted)) (PieceWrong why.TooLarge) whole tt
-    (either (λ (next : PieceNext). IsJudgedBack (by_next_piece job s next)) (nat_lt (length (byte ∷ bytes)) wanted) (PieceWrong why.CutShort) (Piece piece) tt judged)
+    (either (λ (next : PieceNext). IsJudgedBack (by_next_piece job s next)) (nat_lt (length (byte ∷ bytes)) wanted) (PieceWrong why.CutShort)
+    (Piece piece) tt judged)
 
 taken-reads : (s : Reading) (given : ℕ) (judged : Judgement FlowPacket Reading) (rest : Reading → Taken FlowPacket Reading) → IsJudgedBack judged
     → ((next : Reading) → All IsReadBack (rest next).deeds) → All IsReadBack (taken_by s given judged rest).deeds

@@ -70,7 +70,8 @@ pub record IsFrame (h : Header) (o d bytes : List ℕ) : Type 0 where
   pub header : header_length h + length (padded o) ≤ 1020
   pub whole : length (spelling h o d) ≤ 2044
 
-frame-by : (h : Header) (o d bytes : List ℕ) (header whole : Bool) → nat_lt 1020 (header_length h + length (padded o)) ≡ header → nat_lt 2044 (length (spelling h o d)) ≡ whole
+frame-by : (h : Header) (o d bytes : List ℕ) (header whole : Bool) → nat_lt 1020 (header_length h + length (padded o)) ≡ header
+    → nat_lt 2044 (length (spelling h o d)) ≡ whole
     → (if header || whole then Err none.FrameTooLong else Ok (spelling h o d)) ≡ Ok bytes → IsFrame h o d bytes
 frame-by h o d bytes true whole p q is = cc is
 frame-by h o d bytes false true p q is = cc is
@@ -104,7 +105,8 @@ frame-sized side initial packet bytes fits valid is =
     let size : length (spelling h packet.options packet.payload) ≡ length bytes = ap length frame.same in
     let words : ℕ = (header_length h + length (padded packet.options)) / 4 in
     let joined = length-append (header_bytes h words) (padded packet.options ++ packet.payload) in
-    let front = length-header_bytes h words (detail_of_fits h.kind (header-fits side initial packet.header fits).kind) (moved-is-valid side initial packet.header valid) in
+    let front = length-header_bytes h words (detail_of_fits h.kind (header-fits side initial packet.header fits).kind)
+    (moved-is-valid side initial packet.header valid) in
     let least = shortest (is_long h.number) (packet_type h.kind) in
     let most = frame.whole in
     (omega (arith, size, joined, front, least), omega (arith, size, most))

@@ -19,7 +19,8 @@ behind-spelling h o d =
 
 pub header_too_long : (h : Header) (o d : List ℕ) → 1020 < header_length h + length (padded o) → frame_with h o d ≡ Err none.FrameTooLong
 header_too_long h o d long =
-    ap (λ (header : Bool). if header || nat_lt 2044 (length (spelling h o d)) then Err none.FrameTooLong else Ok (spelling h o d)) (lt-ltb 1020 (header_length h + length (padded o)) long)
+    ap (λ (header : Bool). if header || nat_lt 2044 (length (spelling h o d)) then Err none.FrameTooLong else Ok (spelling h o d))
+    (lt-ltb 1020 (header_length h + length (padded o)) long)
 
 all-too-long : (header whole : Bool) (bytes : List ℕ) → whole ≡ true → (if header || whole then Err none.FrameTooLong else Ok bytes) ≡ Err none.FrameTooLong
 all-too-long true whole bytes is = refl

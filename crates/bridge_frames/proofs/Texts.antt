@@ -107,7 +107,8 @@ v4-text a =
     let two : List ℕ = decimal (slice_index a 0) ++ codes "." ++ decimal (slice_index a 1) in
     let three : List ℕ = two ++ codes "." ++ decimal (slice_index a 2) in
     numbers three (codes ".") (slice_index a 3)
-    (numbers two (codes ".") (slice_index a 2) (numbers (decimal (slice_index a 0)) (codes ".") (slice_index a 1) (decimal-text (slice_index a 0)) refl) refl) refl
+    (numbers two (codes ".") (slice_index a 2)
+    (numbers (decimal (slice_index a 0)) (codes ".") (slice_index a 1) (decimal-text (slice_index a 0)) refl) refl) refl
 
 zeros-text : (text : List ℕ) → IsText text → IsText (without_zeros text)
 zeros-text [] are = refl
@@ -217,7 +218,8 @@ abbrev chosen : List (Bool × List ℕ) → List ℕ → List ℕ
 chosen [] last = last
 chosen (row ∷ rows) last = if row.0 then row.1 else chosen rows last
 
-chosen-text : (rows : List (Bool × List ℕ)) (last : List ℕ) → list_all (λ (row : Bool × List ℕ). list_all is_text row.1) rows ≡ true → IsText last → IsText (chosen rows last)
+chosen-text : (rows : List (Bool × List ℕ)) (last : List ℕ) → list_all (λ (row : Bool × List ℕ). list_all is_text row.1) rows ≡ true → IsText last
+    → IsText (chosen rows last)
 chosen-text [] last are is = is
 chosen-text (row ∷ rows) last are is =
     let both = both-true (list_all is_text row.1) (list_all (λ (row : Bool × List ℕ). list_all is_text row.1) rows) are in
@@ -259,7 +261,8 @@ form-text kind body are =
     let has_data : Bool = nat_le kinds.init_cookie kind && nat_le kind kinds.data_checksum in
     either (λ form. IsText (option_by_form form kind body)) (kind == kinds.slow_receiver) (option_form 2)
     (if has_feature then option_form 32 else if has_data then option_form 36 else option_form 3) (name-text kind)
-    (either (λ form. IsText (option_by_form form kind body)) has_feature (option_form 32) (if has_data then option_form 36 else option_form 3) (feature-text kind body are)
+    (either (λ form. IsText (option_by_form form kind body)) has_feature (option_form 32) (if has_data then option_form 36 else option_form 3)
+    (feature-text kind body are)
     (either (λ form. IsText (option_by_form form kind body)) has_data (option_form 36) (option_form 3)
     (worded (option_name kind) (codes " ") (hex_or_dash body) (name-text kind) refl (dash-text body are))
     (numbered (option_name kind) kind body (name-text kind) are)))
@@ -305,14 +308,16 @@ raw-bytes place skip [] are = refl
 raw-bytes place (suc skip) (byte ∷ rest) are = raw-bytes (place + 1) skip rest (other-bytes byte rest are)
 raw-bytes place zero (kind ∷ rest) are =
     let others : AreBytes rest = other-bytes kind rest are in
-    then-bytes place kind (option_body kind rest) (λ skip. raw_options (place + 1) skip rest) (body-bytes kind rest others) (λ skip. raw-bytes (place + 1) skip rest others)
+    then-bytes place kind (option_body kind rest) (λ skip. raw_options (place + 1) skip rest) (body-bytes kind rest others)
+    (λ skip. raw-bytes (place + 1) skip rest others)
 
 filtered-bytes : (test : RawOption → Bool) (raws : List RawOption) → HaveBytes raws → HaveBytes (filter test raws)
 filtered-bytes test [] are = refl
 filtered-bytes test (raw ∷ raws) are =
     let both = both-true (has_bytes raw) (list_all has_bytes raws) are in
     let others : HaveBytes (filter test raws) = filtered-bytes test raws both.1 in
-    either HaveBytes (test raw) (raw ∷ filter test raws) (filter test raws) (and-true (has_bytes raw) (list_all has_bytes (filter test raws)) both.0 others) others
+    either HaveBytes (test raw) (raw ∷ filter test raws) (filter test raws)
+    (and-true (has_bytes raw) (list_all has_bytes (filter test raws)) both.0 others) others
 
 counting-bytes : (on_data : Bool) (raws : List RawOption) → HaveBytes raws → HaveBytes (counted_options on_data raws)
 counting-bytes false raws are = are
@@ -335,7 +340,8 @@ entries-text marked (raw ∷ rest) are =
     then-text (part_of raw.kind) marked raw (λ next. marked_entries next rest) both.0 (λ next. entries-text next rest both.1)
 
 area-text : (area : List ℕ) (on_data : Bool) → AreBytes area → IsText (options_text (options_of area on_data))
-area-text area on_data are = entries-text false (counted_options on_data (raw_options 0 0 area)) (counting-bytes on_data (raw_options 0 0 area) (raw-bytes 0 0 area are))
+area-text area on_data are =
+    entries-text false (counted_options on_data (raw_options 0 0 area)) (counting-bytes on_data (raw_options 0 0 area) (raw-bytes 0 0 area are))
 
 -- Lines
 

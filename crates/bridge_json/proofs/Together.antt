@@ -49,7 +49,8 @@ module _ (file : FileState) (nanos : Bool) (n given : ℕ) (made : State → Tak
   next-same (PieceWrong why) = record { records = refl; refusal = refl }
 
 all-same : (skip given : ℕ) (file : FileState) (nanos : Bool) (n : ℕ) (bytes : List ℕ)
-    → AreSame (pieces_from (records_work unwrap_work) skip (at file nanos n) given bytes) (pieces_from (records_work json_work) skip (at file nanos n) given bytes)
+    → AreSame (pieces_from (records_work unwrap_work) skip (at file nanos n) given bytes)
+    (pieces_from (records_work json_work) skip (at file nanos n) given bytes)
 all-same skip given file nanos n [] = record { records = refl; refusal = refl }
 all-same (suc skip) given file nanos n (byte ∷ bytes) = all-same skip given file nanos n bytes
 all-same zero given file nanos n (byte ∷ bytes) =
@@ -60,6 +61,7 @@ all-same zero given file nanos n (byte ∷ bytes) =
     (next_piece (records_work unwrap_work) (at file nanos n) given (byte ∷ bytes))
 
 pub told-and-unwrapped : (input : List ℕ)
-    → (records_among (unwrapped_pieces input).deeds ≡ map unwrapped_entry (json_pieces input).deeds) × ((unwrapped_pieces input).refusal ≡ (json_pieces input).refusal)
+    → (records_among (unwrapped_pieces input).deeds ≡ map unwrapped_entry (json_pieces input).deeds)
+    × ((unwrapped_pieces input).refusal ≡ (json_pieces input).refusal)
 told-and-unwrapped input =
     let same = all-same 0 0 first_file false 0 input in (same.records, same.refusal)

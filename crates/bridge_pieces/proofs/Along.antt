@@ -110,13 +110,19 @@ module _ {P V : Type 0} (job : PieceWork P V) (first : V) where
       let moved : drop used bytes ≡ drop (given + used) input = drop-drop used given input in
       let enough : used ≤ length bytes = subst (λ (xs : List ℕ). used ≤ length xs) all (let size = length-append pending more in omega (arith, size, there)) in
       let stands = piece-there used given bytes state is enough counts some in
-      let goes : pieces_from job 0 state given bytes ≡ taken_by state given (job.judged state (take used pending)) (λ onward. pieces_from job 0 onward (given + used) (drop (given + used) input)) =
+      let goes : pieces_from job 0 state given bytes ≡ taken_by state given (job.judged state (take used pending))
+      (λ onward. pieces_from job 0 onward (given + used) (drop (given + used) input)) =
       pieces-cut job state given bytes (omega (arith, enough, some)) (subst (λ (n : ℕ). 1 ≤ n) is some)
-      ∙ ap (λ n. taken_by state given (by_next_piece job state n) (λ (onward : V). pieces_from job 0 onward (given + job.wanted state) (drop (job.wanted state) bytes))) stands
-      ∙ ap (λ (piece : List ℕ). taken_by state given (job.judged state piece) (λ (onward : V). pieces_from job 0 onward (given + job.wanted state) (drop (job.wanted state) bytes))) front
-      ∙ ap (λ (n : ℕ). taken_by state given (job.judged state (take used pending)) (λ (onward : V). pieces_from job 0 onward (given + n) (drop n bytes))) (sym is)
-      ∙ ap (λ (rest : List ℕ). taken_by state given (job.judged state (take used pending)) (λ (onward : V). pieces_from job 0 onward (given + used) rest)) moved in
-      accepted-piece state next given (given + used) (Some (pending ++ more)) (Some (drop used pending ++ more)) text after before taken input along (job.judged state (take used pending))
+      ∙ ap (λ n. taken_by state given (by_next_piece job state n)
+      (λ (onward : V). pieces_from job 0 onward (given + job.wanted state) (drop (job.wanted state) bytes))) stands
+      ∙ ap (λ (piece : List ℕ). taken_by state given (job.judged state piece)
+      (λ (onward : V). pieces_from job 0 onward (given + job.wanted state) (drop (job.wanted state) bytes))) front
+      ∙ ap (λ (n : ℕ). taken_by state given (job.judged state (take used pending)) (λ (onward : V). pieces_from job 0 onward (given + n) (drop n bytes)))
+      (sym is)
+      ∙ ap (λ (rest : List ℕ). taken_by state given (job.judged state (take used pending))
+      (λ (onward : V). pieces_from job 0 onward (given + used) rest)) moved in
+      accepted-piece state next given (given + used) (Some (pending ++ more)) (Some (drop used pending ++ more)) text after before taken input along
+      (job.judged state (take used pending))
       (ap Some (sym behind ∙ moved)) goes judges
 
   -- the text of what is left stands behind that of what was done
@@ -150,7 +156,8 @@ module _ {P V : Type 0} (job : PieceWork P V) (first : V) where
         record {
           answers = answers-early (text_of_pieces job (pieces_of job first input)) (is_some (pieces_of job first input).refusal) result known before later off
               (subst (HasBegun before later) (sym (whole-text rest state given left text before after input along refl))
-              (begun-behind before after later along.written (text ++ text_of_pieces job rest) along.taken_is (begun-longer after later text (text_of_pieces job rest) begun)));
+              (begun-behind before after later along.written (text ++ text_of_pieces job rest) along.taken_is
+              (begun-longer after later text (text_of_pieces job rest) begun)));
           past = λ is. absurd (not-both result (inr is) off);
         }
 
@@ -169,7 +176,8 @@ module _ {P V : Type 0} (job : PieceWork P V) (first : V) where
             whole = λ answered.
                 leaves.whole answered ∙ ap (λ (took : Option (List ℕ)). append_known took (text ++ text_of_pieces job rest)) along.taken_is
                 ∙ append-twice before along.written (text ++ text_of_pieces job rest) ∙ ap (append_known before) (sym parts);
-            front = λ off. subst (HasBegun before later) (sym parts) (begun-behind before after later along.written (text ++ text_of_pieces job rest) along.taken_is (leaves.front off));
+            front = λ off. subst (HasBegun before later) (sym parts)
+                (begun-behind before after later along.written (text ++ text_of_pieces job rest) along.taken_is (leaves.front off));
             done = λ done. (refused ∙ leaves.done done, none done);
             input = λ is_input. refused ∙ leaves.input is_input;
           };
@@ -181,4 +189,5 @@ module _ {P V : Type 0} (job : PieceWork P V) (first : V) where
     refused-here [] why some is = end-refused state given (job.may_end state) why is
     refused-here (byte ∷ bytes) why some is =
         pieces-cut job state given (byte ∷ bytes) (omega arith) some
-        ∙ ap (λ (j : Judgement P V). taken_by state given j (λ (next : V). pieces_from job 0 next (given + job.wanted state) (drop (job.wanted state) (byte ∷ bytes)))) is
+        ∙ ap (λ (j : Judgement P V). taken_by state given j
+        (λ (next : V). pieces_from job 0 next (given + job.wanted state) (drop (job.wanted state) (byte ∷ bytes)))) is

@@ -18,7 +18,8 @@ followed-by state given (Stops why) rest other same = refl
 -- where some bytes are left, what stands next is judged, and then the pieces behind it
 pub pieces-cut : {P V : Type 0} (job : PieceWork P V) (state : V) (given : ℕ) (bytes : List ℕ) → 0 < length bytes → 1 ≤ job.wanted state
     → pieces_from job 0 state given bytes
-    ≡ taken_by state given (by_next_piece job state (next_piece job state given bytes)) (λ next. pieces_from job 0 next (given + job.wanted state) (drop (job.wanted state) bytes))
+    ≡ taken_by state given (by_next_piece job state (next_piece job state given bytes))
+    (λ next. pieces_from job 0 next (given + job.wanted state) (drop (job.wanted state) bytes))
 pieces-cut job state given [] none some = absurd (omega (arith, none))
 pieces-cut job state given (byte ∷ bytes) none some =
     let wanted = job.wanted state in

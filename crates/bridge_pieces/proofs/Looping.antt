@@ -33,7 +33,8 @@ pub record InPieces {S K P V : Type 0} (left : S → Option (List ℕ)) (faults 
 
 module _ {S K P V : Type 0} (left : S → Option (List ℕ)) (faults : S → ℕ) (taken : K → Option (List ℕ)) (failed empty : K → ℕ) (job : PieceWork P V)
     (start : V) (first : S) (opened : K) where
-  first-along : (known : Option (List ℕ)) → IfSome known (λ input. Along job start start 0 (ahead_of (record { pending = []; size = 524288 }) known) [] (taken opened) (taken opened) input)
+  first-along : (known : Option (List ℕ))
+      → IfSome known (λ input. Along job start start 0 (ahead_of (record { pending = []; size = 524288 }) known) [] (taken opened) (taken opened) input)
   first-along None = tt
   first-along (Some input) = along-first job start (Some input) (taken opened) input refl
 
@@ -46,7 +47,8 @@ module _ {S K P V : Type 0} (left : S → Option (List ℕ)) (faults : S → ℕ
     faults_rise = omega arith;
     sink_faults = omega arith;
     empty_takes = omega arith;
-    along = subst (λ (a : BytesAhead). IfSome (left first) (λ input. Along job start start 0 (ahead_of a (left first)) [] (taken opened) (taken opened) input)) (sym is) (first-along (left first));
+    along = subst (λ (a : BytesAhead). IfSome (left first) (λ input. Along job start start 0 (ahead_of a (left first)) [] (taken opened) (taken opened) input))
+        (sym is) (first-along (left first));
   }
 
   -- what the loop comes to
@@ -56,7 +58,8 @@ module _ {S K P V : Type 0} (left : S → Option (List ℕ)) (faults : S → ℕ
   module _ (state : V) (source : S) (ahead : BytesAhead) (output : K) (text : List ℕ) (given : ℕ)
       (before : InPieces left faults taken failed empty job start first opened state source ahead output text given) where
     -- a front of the text was written
-    pub moved-on : {A E : Type 0} (later : K) (kept : List ℕ) (flushed : Result A E) → OnOk flushed (IsMovedOut (taken output) (taken later) text kept) → is_err flushed ≡ false
+    pub moved-on : {A E : Type 0} (later : K) (kept : List ℕ) (flushed : Result A E) → OnOk flushed (IsMovedOut (taken output) (taken later) text kept)
+        → is_err flushed ≡ false
         → failed output ≤ failed later → empty output ≤ empty later
         → InPieces left faults taken failed empty job start first opened state source ahead later kept given
     moved-on later kept flushed moved fine failed_rise empty_rise = record {
@@ -77,14 +80,16 @@ module _ {S K P V : Type 0} (left : S → Option (List ℕ)) (faults : S → ℕ
     unmoved later flushed taken_front failing =
         let begun = on-err flushed (TakesFront (taken output) (taken later) text) taken_front failing in
         IfSome_then (left first) before.along (λ (input : List ℕ) along.
-        through-early job start state given (ahead_of ahead (left source)) (left source) text (taken opened) (taken output) (taken later) input status.Write along
+        through-early job start state given (ahead_of ahead (left source)) (left source) text (taken opened) (taken output)
+        (taken later) input status.Write along
         (inr (inl refl)) (begun.0, begun.2))
 
     -- no memory was left
     pub out-of-memory : (handed : S) → Through handed (taken output) status.Memory
     out-of-memory handed =
         IfSome_then (left first) before.along (λ (input : List ℕ) along.
-        through-early job start state given (ahead_of ahead (left source)) (left handed) text (taken opened) (taken output) (taken output) input status.Memory along
+        through-early job start state given (ahead_of ahead (left source)) (left handed) text (taken opened) (taken output)
+        (taken output) input status.Memory along
         (inr (inr refl)) (unwritten text (taken output) (taken output) refl))
 
     module _ (new : Standing S V) (t : Turn) (keeps : KeepsBlock faults (standing source ahead state text) new)
@@ -101,8 +106,10 @@ module _ {S K P V : Type 0} (left : S → Option (List ℕ)) (faults : S → ℕ
             sink_faults = before.sink_faults;
             empty_takes = before.empty_takes;
             along = IfSome_then (left first) before.along (λ (input : List ℕ) along.
-                subst (λ (v : V). Along job start v given (ahead_of new.ahead (left new.source)) new.text (taken opened) (taken output) input) (sym read.0.state)
-                (subst (λ (w : List ℕ). Along job start state given (ahead_of new.ahead (left new.source)) w (taken opened) (taken output) input) (sym read.0.text)
+                subst (λ (v : V). Along job start v given (ahead_of new.ahead (left new.source)) new.text (taken opened) (taken output) input)
+                (sym read.0.state)
+                (subst (λ (w : List ℕ). Along job start state given (ahead_of new.ahead (left new.source)) w (taken opened) (taken output) input)
+                (sym read.0.text)
                 (subst (λ (o : Option (List ℕ)). Along job start state given o text (taken opened) (taken output) input) (sym read.0.ahead) along)));
           }
 
@@ -119,8 +126,10 @@ module _ {S K P V : Type 0} (left : S → Option (List ℕ)) (faults : S → ℕ
             sink_faults = before.sink_faults;
             empty_takes = before.empty_takes;
             along = IfSome_then (left first) before.along (λ (input : List ℕ) along.
-                subst (λ (s : S). Along job start new.state (given + used) (ahead_of new.ahead (left s)) new.text (taken opened) (taken output) input) (sym piece.source)
-                (subst (λ (a : BytesAhead). Along job start new.state (given + used) (ahead_of a (left source)) new.text (taken opened) (taken output) input) (sym piece.ahead)
+                subst (λ (s : S). Along job start new.state (given + used) (ahead_of new.ahead (left s)) new.text (taken opened) (taken output) input)
+                (sym piece.source)
+                (subst (λ (a : BytesAhead). Along job start new.state (given + used) (ahead_of a (left source)) new.text (taken opened) (taken output) input)
+                (sym piece.ahead)
                 (along-piece job start state new.state given used ahead.pending text new.text (left source) (taken opened) (taken output) input along
                 piece.used piece.some piece.there piece.counts piece.judges)));
           }
@@ -135,16 +144,20 @@ module _ {S K P V : Type 0} (left : S → Option (List ℕ)) (faults : S → ℕ
           let here = subst (λ (all : Option (List ℕ)). IfSome all (λ bytes. bytes ≡ [])) along.rest_is ends in
           let closes = subst (λ (v : V). LeavesText (text ++ job.closing v None) false result (taken output) later) same.state
           (subst (λ (w : List ℕ). LeavesText (w ++ job.closing new.state None) false result (taken output) later) same.text leaves) in
-          through-last job start state given (ahead_of ahead (left source)) (left new.source) text (taken opened) (taken output) later input result along None new.ahead.pending
+          through-last job start state given (ahead_of ahead (left source)) (left new.source) text (taken opened)
+          (taken output) later input result along None new.ahead.pending
           (ap (pieces_from job 0 state given) here ∙ ap (λ m. taken_so_far state given (unended m)) may) closes
           (λ _. none-left new.ahead.pending (left new.source) (same.ahead ∙ along.rest_is ∙ ap (λ (bytes : List ℕ). Some bytes) here)) same.ahead
           (subst (λ (n : ℕ). length new.ahead.pending ≤ n) (keeps.same_size ∙ before.size) keeps.fits)
       over-by (Some why) later result input (same, some, stands) leaves along =
-          let here = subst (λ (all : Option (List ℕ)). IfSome all (λ bytes. by_next_piece job state (next_piece job state given bytes) ≡ Stops why)) along.rest_is stands in
+          let here = subst (λ (all : Option (List ℕ)). IfSome all
+          (λ bytes. by_next_piece job state (next_piece job state given bytes) ≡ Stops why)) along.rest_is stands in
           let closes = subst (λ (v : V). LeavesText (text ++ job.closing v (Some why)) true result (taken output) later) same.state
           (subst (λ (w : List ℕ). LeavesText (w ++ job.closing new.state (Some why)) true result (taken output) later) same.text leaves) in
-          through-last job start state given (ahead_of ahead (left source)) (left new.source) text (taken opened) (taken output) later input result along (Some why) new.ahead.pending
-          (refused-here job start state given (ahead_of ahead (left source)) (left new.source) text (taken opened) (taken output) later input result along (drop given input) why some here) closes
+          through-last job start state given (ahead_of ahead (left source)) (left new.source) text (taken opened) (taken output) later input result along
+          (Some why) new.ahead.pending
+          (refused-here job start state given (ahead_of ahead (left source)) (left new.source) text (taken opened) (taken output) later input result along
+          (drop given input) why some here) closes
           (λ is. cc (closes.done is)) same.ahead
           (subst (λ (n : ℕ). length new.ahead.pending ≤ n) (keeps.same_size ∙ before.size) keeps.fits)
 
@@ -152,10 +165,12 @@ module _ {S K P V : Type 0} (left : S → Option (List ℕ)) (faults : S → ℕ
           → LeavesText (new.text ++ job.closing new.state end) (is_some end) result (taken output) later → Through new.source later result
       over end later result is leaves =
           IfSome_then (left first) before.along (λ (input : List ℕ) along.
-          over-by end later result input (subst (λ (s : Turn). TurnsPiece left faults job given (standing source ahead state text) new (Ok s)) is turns) leaves along)
+          over-by end later result input
+          (subst (λ (s : Turn). TurnsPiece left faults job given (standing source ahead state text) new (Ok s)) is turns) leaves along)
 
       -- the source failed
-      pub turned-off : (later : Option (List ℕ)) (out : List ℕ) (result : Status) → t ≡ turn.Failed → out ≡ new.text → result ≡ status.Read → HasBegun (taken output) later out
+      pub turned-off : (later : Option (List ℕ)) (out : List ℕ) (result : Status) → t ≡ turn.Failed → out ≡ new.text → result ≡ status.Read
+          → HasBegun (taken output) later out
           → Through new.source later result
       turned-off later out result is same read begun =
           let failed_now = subst (λ (s : Turn). TurnsPiece left faults job given (standing source ahead state text) new (Ok s)) is turns in

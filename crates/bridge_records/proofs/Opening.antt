@@ -34,7 +34,8 @@ taken-in order nanos bytes format true true v l told =
     ours ∙ ap (λ (f : Format). Ok f) same
 
 -- the same without the two tests
-taken-by : (order : Order) (nanos : Bool) (bytes : List ℕ) (format : Format) → format_in order nanos bytes ≡ Ok format → any_format_in order nanos bytes ≡ Ok format
+taken-by : (order : Order) (nanos : Bool) (bytes : List ℕ) (format : Format) → format_in order nanos bytes ≡ Ok format
+    → any_format_in order nanos bytes ≡ Ok format
 taken-by order nanos bytes format told =
     taken-in order nanos bytes format (is_version order bytes) (is_link (ordered_number_at order 20 4 bytes)) refl refl told
 
@@ -61,7 +62,8 @@ format-taken-in bytes format false false false false p q r s told =
     let stops : format_of bytes ≡ Err why.BadMagic = rw (p, q, r, s) refl in cc (sym stops ∙ told)
 
 -- a header of a section has none of them, in either byte order
-no-section-in : (bytes : List ℕ) (format : Format) (a b c d : Bool) → 4 ≤ length bytes → (magic_in Big bytes == microseconds) ≡ a → (magic_in Big bytes == nanoseconds) ≡ b
+no-section-in : (bytes : List ℕ) (format : Format) (a b c d : Bool) → 4 ≤ length bytes → (magic_in Big bytes == microseconds) ≡ a
+    → (magic_in Big bytes == nanoseconds) ≡ b
     → (magic_in Little bytes == microseconds) ≡ c → (magic_in Little bytes == nanoseconds) ≡ d → format_of bytes ≡ Ok format
     → (ordered_number_at Big 0 4 bytes == section_block) ≡ false
 no-section-in [] format a b c d long p q r s told = absurd (omega (arith, long))

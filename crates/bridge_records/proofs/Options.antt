@@ -9,7 +9,8 @@ use Rattle.capture_reader.specs.declared.format.Order.TheVariants.{Big, Little}
 use Rattle.bridge_records.specs.Interfaces.{by_option, option_from, option_size}
 
 -- the first bytes belong to the option before
-skipped : (order : Order) (code place skip : ℕ) (bytes : List ℕ) → option_from order code place skip bytes ≡ option_from order code (place + skip) 0 (drop skip bytes)
+skipped : (order : Order) (code place skip : ℕ) (bytes : List ℕ)
+    → option_from order code place skip bytes ≡ option_from order code (place + skip) 0 (drop skip bytes)
 skipped order code place zero [] = refl
 skipped order code place zero (byte ∷ bytes) =
     let same : place ≡ place + 0 = omega arith in
@@ -21,7 +22,8 @@ skipped order code place (suc skip) (byte ∷ bytes) =
 
 -- where some bytes are left, the option there is judged, and then those behind it
 cut : (order : Order) (code place : ℕ) (bytes : List ℕ) → 0 < length bytes
-    → option_from order code place 0 bytes ≡ by_option order code place bytes (option_from order code (place + option_size order bytes) 0 (drop (option_size order bytes) bytes))
+    → option_from order code place 0 bytes ≡ by_option order code place bytes
+    (option_from order code (place + option_size order bytes) 0 (drop (option_size order bytes) bytes))
 cut order code place [] some = absurd (omega (arith, some))
 cut order code place (byte ∷ bytes) some =
     let size = option_size order (byte ∷ bytes) in
@@ -88,7 +90,8 @@ module _ (order : Order) (code place : ℕ) (options : List ℕ) where
       sought_on other =
           let is : (ordered_number_at order 0 2 (drop place options) == code) ≡ false = ap (λ (n : ℕ). n == code) (code-here order place options) ∙ other in
           let size = option_size order (drop place options) in
-          let same : size ≡ 4 + (ordered_number_at order (place + 2) 2 options + 3) / 4 * 4 = ap (λ (n : ℕ). 4 + (n + 3) / 4 * 4) (length-here order place options) in
+          let same : size ≡ 4 + (ordered_number_at order (place + 2) 2 options + 3) / 4 * 4 =
+          ap (λ (n : ℕ). 4 + (n + 3) / 4 * 4) (length-here order place options) in
           cut order code place (drop place options) some
           ∙ rw (long, not_last, is) refl
           ∙ ap (λ (rest : List ℕ). option_from order code (place + size) 0 rest) (drop-drop size place options)

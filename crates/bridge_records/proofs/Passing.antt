@@ -36,16 +36,21 @@ module _ {P V : Type 0} (job : PieceWork P V) where
 
 -- a number in the front of bytes
 big-front : (count : ℕ) (front rest : List ℕ) → count ≤ length front → big_from 0 count (front ++ rest) ≡ big_from 0 count front
-big-front count front rest fits = sym (big_from-take 0 count (length front) (front ++ rest) (omega (arith, fits))) ∙ ap (big_from 0 count) (take_at front rest (length front) refl)
+big-front count front rest fits = sym (big_from-take 0 count (length front) (front ++ rest) (omega (arith, fits)))
+    ∙ ap (big_from 0 count) (take_at front rest (length front) refl)
 
 little-front : (count : ℕ) (front rest : List ℕ) → count ≤ length front → little_from 0 count (front ++ rest) ≡ little_from 0 count front
-little-front count front rest fits = sym (little_from-take 0 count (length front) (front ++ rest) (omega (arith, fits))) ∙ ap (little_from 0 count) (take_at front rest (length front) refl)
+little-front count front rest fits = sym (little_from-take 0 count (length front) (front ++ rest) (omega (arith, fits)))
+    ∙ ap (little_from 0 count) (take_at front rest (length front) refl)
 
-number-front : (order : Order) (at count : ℕ) (front rest : List ℕ) → at + count ≤ length front → ordered_number_at order at count (front ++ rest) ≡ ordered_number_at order at count front
+number-front : (order : Order) (at count : ℕ) (front rest : List ℕ) → at + count ≤ length front
+    → ordered_number_at order at count (front ++ rest) ≡ ordered_number_at order at count front
 number-front Big at count front rest fits =
-    ap (big_from 0 count) (drop-append-le at front rest (omega (arith, fits))) ∙ big-front count (drop at front) rest (let size = length-drop at front in omega (arith, size, fits))
+    ap (big_from 0 count) (drop-append-le at front rest (omega (arith, fits)))
+    ∙ big-front count (drop at front) rest (let size = length-drop at front in omega (arith, size, fits))
 number-front Little at count front rest fits =
-    ap (little_from 0 count) (drop-append-le at front rest (omega (arith, fits))) ∙ little-front count (drop at front) rest (let size = length-drop at front in omega (arith, size, fits))
+    ap (little_from 0 count) (drop-append-le at front rest (omega (arith, fits)))
+    ∙ little-front count (drop at front) rest (let size = length-drop at front in omega (arith, size, fits))
 
 -- no capture has so many records that their count would stay
 few-more : (number given : ℕ) → number ≤ given → given ≤ 2 ^ 32 → one_more number ≡ number + 1
@@ -102,11 +107,14 @@ module _ {P V : Type 0} (work : RecordWork P V) (format : Format) where
   -- a header is a piece
   header-piece : (n given : ℕ) (job : V) (bytes : List ℕ) → 16 ≤ length bytes → given + 16 ≤ 2 ^ 32
       → onward given (here n job) bytes
-      ≡ taken_by (here n job) given (by_judged work (here n job) (take 16 bytes) (by_header (file (place.Header format)) format (head_in format.order (take 16 bytes)))) (λ next. onward (given + 16) next (drop 16 bytes))
+      ≡ taken_by (here n job) given
+      (by_judged work (here n job) (take 16 bytes) (by_header (file (place.Header format)) format (head_in format.order (take 16 bytes))))
+      (λ next. onward (given + 16) next (drop 16 bytes))
   header-piece n given job bytes long counts =
       let one : 1 ≤ 16 = omega arith in
       pieces-cut pieces (here n job) given bytes (omega (arith, long)) one
-      ∙ ap (λ (p : PieceNext). taken_by (here n job) given (by_next_piece pieces (here n job) p) (λ (next : RecordsState V). onward (given + 16) next (drop 16 bytes)))
+      ∙ ap (λ (p : PieceNext). taken_by (here n job) given (by_next_piece pieces (here n job) p)
+      (λ (next : RecordsState V). onward (given + 16) next (drop 16 bytes)))
       (piece-there pieces (here n job) 16 given bytes (here n job) refl long counts one)
 
   -- a record without bytes is made by its header alone
@@ -126,7 +134,8 @@ module _ {P V : Type 0} (work : RecordWork P V) (format : Format) where
   -- the bytes of a record
   body-judged : (n : ℕ) (job : V) (piece : List ℕ) (head : RecordHeader)
       → pieces.judged (inside head n job) piece
-      ≡ Goes (work.passed job (entry-behind n head (take head.captured piece))).deed (here (one_more n) (work.passed job (entry-behind n head (take head.captured piece))).next)
+      ≡ Goes (work.passed job (entry-behind n head (take head.captured piece))).deed
+      (here (one_more n) (work.passed job (entry-behind n head (take head.captured piece))).next)
   body-judged n job piece head = refl
 
   body-piece : (n given : ℕ) (job : V) (head : RecordHeader) (body rest : List ℕ) → length body ≡ head.captured → 1 ≤ length body → given + length body ≤ 2 ^ 32
@@ -139,9 +148,11 @@ module _ {P V : Type 0} (work : RecordWork P V) (format : Format) where
       let front : take count bytes ≡ body = take_at body rest count size in
       let behind : drop count bytes ≡ rest = drop_at body rest count size in
       pieces-cut pieces (inside head n job) given bytes (omega (arith, joined, some)) one
-      ∙ ap (λ (p : PieceNext). taken_by (inside head n job) given (by_next_piece pieces (inside head n job) p) (λ (next : RecordsState V). onward (given + count) next (drop count bytes)))
+      ∙ ap (λ (p : PieceNext). taken_by (inside head n job) given (by_next_piece pieces (inside head n job) p)
+      (λ (next : RecordsState V). onward (given + count) next (drop count bytes)))
       (piece-there pieces (inside head n job) count given bytes (inside head n job) refl (omega (arith, joined, size)) (omega (arith, counts, size)) one)
-      ∙ ap (λ (j : Judgement P (RecordsState V)). taken_by (inside head n job) given j (λ (next : RecordsState V). onward (given + count) next (drop count bytes))) (body-judged n job (take count bytes) head)
+      ∙ ap (λ (j : Judgement P (RecordsState V)). taken_by (inside head n job) given j
+      (λ (next : RecordsState V). onward (given + count) next (drop count bytes))) (body-judged n job (take count bytes) head)
       ∙ ap (λ (piece : List ℕ). passing n job (entry-behind n head (take count piece)) (given + count) (drop count bytes)) front
       ∙ ap (λ (held : List ℕ). passing n job (entry-behind n head held) (given + count) (drop count bytes)) (take_all count body (omega (arith, size)))
       ∙ ap (λ (left : List ℕ). passing n job (entry-behind n head body) (given + count) left) behind
@@ -152,13 +163,15 @@ module _ {P V : Type 0} (work : RecordWork P V) (format : Format) where
   same-front taken = refl
 
   -- a record
-  record-piece : (n given : ℕ) (job : V) (bytes body rest : List ℕ) → 16 ≤ length bytes → drop 16 bytes ≡ body ++ rest → (head_in format.order (take 16 bytes)).captured ≡ length body
+  record-piece : (n given : ℕ) (job : V) (bytes body rest : List ℕ) → 16 ≤ length bytes → drop 16 bytes ≡ body ++ rest
+      → (head_in format.order (take 16 bytes)).captured ≡ length body
       → length body ≤ 262144 → given + (16 + length body) ≤ 2 ^ 32
       → onward given (here n job) bytes ≡ passing n job (entry-behind n (head_in format.order (take 16 bytes)) body) (given + (16 + length body)) rest
   record-piece n given job bytes [] rest long parts size fits counts =
       let head = head_in format.order (take 16 bytes) in
       header-piece n given job bytes long counts
-      ∙ ap (λ (j : Judgement P (RecordsState V)). taken_by (here n job) given j (λ (next : RecordsState V). onward (given + 16) next (drop 16 bytes))) (none-judged n job (take 16 bytes) head size)
+      ∙ ap (λ (j : Judgement P (RecordsState V)). taken_by (here n job) given j (λ (next : RecordsState V). onward (given + 16) next (drop 16 bytes)))
+      (none-judged n job (take 16 bytes) head size)
       ∙ ap (λ (left : List ℕ). passing n job (entry-behind n head []) (given + 16) left) parts
   record-piece n given job bytes (byte ∷ body) rest long parts size fits counts =
       let head = head_in format.order (take 16 bytes) in
@@ -175,13 +188,18 @@ module _ {P V : Type 0} (work : RecordWork P V) (format : Format) where
   -- what the header of a record says
   head-same : (number given : ℕ) (entry : RecordParts) (rest bytes : List ℕ) (r : IsRecord format number given entry rest bytes)
       → head_in format.order (take 16 bytes)
-      ≡ head-of (ordered_number_at format.order 0 4 bytes) (ordered_number_at format.order 4 4 bytes) (length r.body) (ordered_number_at format.order 12 4 bytes)
+      ≡ head-of (ordered_number_at format.order 0 4 bytes) (ordered_number_at format.order 4 4 bytes) (length r.body)
+      (ordered_number_at format.order 12 4 bytes)
   head-same number given entry rest bytes r =
       let piece = take 16 bytes in
-      let read : (at : ℕ) → at + 4 ≤ 16 → ordered_number_at format.order at 4 piece ≡ ordered_number_at format.order at 4 bytes = head-read bytes r.header (r.body ++ rest) r.whole r.header_length in
-      ap (λ (s : ℕ). head-of s (ordered_number_at format.order 4 4 piece) (ordered_number_at format.order 8 4 piece) (ordered_number_at format.order 12 4 piece)) (read 0 (omega arith))
-      ∙ ap (λ (f : ℕ). head-of (ordered_number_at format.order 0 4 bytes) f (ordered_number_at format.order 8 4 piece) (ordered_number_at format.order 12 4 piece)) (read 4 (omega arith))
-      ∙ ap (λ (c : ℕ). head-of (ordered_number_at format.order 0 4 bytes) (ordered_number_at format.order 4 4 bytes) c (ordered_number_at format.order 12 4 piece)) (read 8 (omega arith) ∙ sym r.body_length)
+      let read : (at : ℕ) → at + 4 ≤ 16 → ordered_number_at format.order at 4 piece ≡ ordered_number_at format.order at 4 bytes =
+      head-read bytes r.header (r.body ++ rest) r.whole r.header_length in
+      ap (λ (s : ℕ). head-of s (ordered_number_at format.order 4 4 piece) (ordered_number_at format.order 8 4 piece)
+      (ordered_number_at format.order 12 4 piece)) (read 0 (omega arith))
+      ∙ ap (λ (f : ℕ). head-of (ordered_number_at format.order 0 4 bytes) f (ordered_number_at format.order 8 4 piece)
+      (ordered_number_at format.order 12 4 piece)) (read 4 (omega arith))
+      ∙ ap (λ (c : ℕ). head-of (ordered_number_at format.order 0 4 bytes) (ordered_number_at format.order 4 4 bytes) c
+      (ordered_number_at format.order 12 4 piece)) (read 8 (omega arith) ∙ sym r.body_length)
       ∙ ap (λ (o : ℕ). head-of (ordered_number_at format.order 0 4 bytes) (ordered_number_at format.order 4 4 bytes) (length r.body) o) (read 12 (omega arith))
 
   -- the record that is handed on
@@ -190,18 +208,22 @@ module _ {P V : Type 0} (work : RecordWork P V) (format : Format) where
   entry-same number given entry rest bytes r few =
       let next : one_more number ≡ number + 1 = few-more number given few (omega (arith, r.counts)) in
       ap (λ (h : RecordHeader). entry-behind number h r.body) (head-same number given entry rest bytes r)
-      ∙ ap (λ (n : ℕ). numbered_entry n format.nanos format.link (head-of (ordered_number_at format.order 0 4 bytes) (ordered_number_at format.order 4 4 bytes) (length r.body) (ordered_number_at format.order 12 4 bytes)) r.body) next
+      ∙ ap (λ (n : ℕ). numbered_entry n format.nanos format.link
+      (head-of (ordered_number_at format.order 0 4 bytes) (ordered_number_at format.order 4 4 bytes) (length r.body)
+      (ordered_number_at format.order 12 4 bytes)) r.body) next
       ∙ sym r.stands
 
   all-passed : (entries : List RecordParts) (number given : ℕ) (job : V) (bytes : List ℕ) → number ≤ given → HasRecords format number given bytes entries None
       → ArePassed work job entries (onward given (here number job) bytes)
-  all-passed [] number given job bytes few none = subst (λ (bs : List ℕ). ArePassed work job [] (onward given (here number job) bs)) (sym none) (record { refusal = refl; deeds = refl })
+  all-passed [] number given job bytes few none =
+      subst (λ (bs : List ℕ). ArePassed work job [] (onward given (here number job) bs)) (sym none) (record { refusal = refl; deeds = refl })
   all-passed (entry ∷ entries) number given job bytes few (rest, r, more) =
       let size : length entry.bytes ≡ length r.body = ap (λ (e : RecordParts). length e.bytes) r.stands in
       let whole : length bytes ≡ length (r.header ++ (r.body ++ rest)) = ap length r.whole in
       let joined = length-append r.header (r.body ++ rest) in
       let behind : drop 16 bytes ≡ r.body ++ rest = ap (drop 16) r.whole ∙ drop_at r.header (r.body ++ rest) 16 r.header_length in
-      let captured : (head_in format.order (take 16 bytes)).captured ≡ length r.body = ap (λ (h : RecordHeader). h.captured) (head-same number given entry rest bytes r) in
+      let captured : (head_in format.order (take 16 bytes)).captured ≡ length r.body =
+      ap (λ (h : RecordHeader). h.captured) (head-same number given entry rest bytes r) in
       let further : given + (16 + length entry.bytes) ≡ given + (16 + length r.body) = ap (λ (k : ℕ). given + (16 + k)) size in
       let next : number + 1 ≡ one_more number = sym (few-more number given few (omega (arith, r.counts))) in
       let after : V = (work.passed job entry).next in
@@ -217,13 +239,16 @@ module _ {P V : Type 0} (work : RecordWork P V) (format : Format) where
 
   -- the file header begins the capture
   start-judged : (first : V) (piece : List ℕ) → any_format piece ≡ Ok format → (ordered_number_at Big 0 4 piece == section_block) ≡ false
-      → by_judged work (first_reading first) piece (by_start first_file piece) ≡ Goes (work.begun first format.nanos).deed (here 0 (work.begun first format.nanos).next)
+      → by_judged work (first_reading first) piece (by_start first_file piece) ≡ Goes (work.begun first format.nanos).deed
+      (here 0 (work.begun first format.nanos).next)
   start-judged first piece taken other =
-      ap (λ (is : Bool). by_judged work (first_reading first) piece (if is then by_section first_file piece (section_order piece) else by_format first_file (any_format piece))) other
+      ap (λ (is : Bool). by_judged work (first_reading first) piece
+      (if is then by_section first_file piece (section_order piece) else by_format first_file (any_format piece))) other
       ∙ ap (λ (r : Result Format PieceFault). by_judged work (first_reading first) piece (by_format first_file r)) taken
 
   input-begun : (first : V) (input : List ℕ) → IsTaken input format
-      → records_of work first input ≡ in_front (done_by (work.begun first format.nanos).deed) (onward 24 (here 0 (work.begun first format.nanos).next) (drop 24 input))
+      → records_of work first input ≡ in_front (done_by (work.begun first format.nanos).deed)
+      (onward 24 (here 0 (work.begun first format.nanos).next) (drop 24 input))
   input-begun first input is =
       let one : 1 ≤ 24 = omega arith in
       let start : RecordsState V = first_reading first in
@@ -248,8 +273,10 @@ module _ {P V : Type 0} (work : RecordWork P V) (format : Format) where
 
 -- Of a capture that a reader of captures takes, which has no fault, each record that it finds is handed to the job, in
 -- their order, and nothing else is.
-pub records-passed : {P V : Type 0} (work : RecordWork P V) (first : V) (input : List ℕ) (format : Format) → opened input ≡ Ok format → (captured input).end ≡ None
+pub records-passed : {P V : Type 0} (work : RecordWork P V) (first : V) (input : List ℕ) (format : Format) → opened input ≡ Ok format
+    → (captured input).end ≡ None
     → ((records_of work first input).refusal ≡ None) × ((records_of work first input).deeds ≡ deeds_from work first format.nanos (captured input).records)
 records-passed work first input format told_so whole =
     begun-by work format first input (captured input).records told_so
-    (subst (λ (end : Option CaptureFault). IsCapture input (captured input).records end) whole (read-capture input (captured input).records (captured input).end refl))
+    (subst (λ (end : Option CaptureFault). IsCapture input (captured input).records end) whole
+    (read-capture input (captured input).records (captured input).end refl))

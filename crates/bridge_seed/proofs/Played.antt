@@ -248,7 +248,8 @@ schedule-follows opens nexts seed events some most =
     let whole : performed (seed_text seed events) ≡ gone_from run_job (configured seed) (1 + 1 + 1) (a + b) (lines_of lines) =
     ap (λ (bytes : List ℕ). gone_from run_job first_play 1 0 (lines_of bytes)) (append_assoc one two lines)
     ∙ number-goes first_play 1 0 Client (client_number seed) (two ++ lines) fits refl (omega arith)
-    ∙ number-goes (with_iss Client (client_number seed) (with_header first_play)) (1 + 1) a Server (server_number seed) lines also refl (omega (arith, first)) in
+    ∙ number-goes (with_iss Client (client_number seed) (with_header first_play)) (1 + 1) a Server (server_number seed) lines also refl
+    (omega (arith, first)) in
     subst (Follows (begun_run (generator seed)).report (seeded seed events) (seeded_events seed events) (configured seed)) (sym whole)
     (events-go opens nexts seed events (1 + 1 + 1) (a + b) some most (omega (arith, first, second)))
 

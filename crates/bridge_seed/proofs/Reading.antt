@@ -37,7 +37,8 @@ pub text-first : (text rest : List ℕ) → list_all is_text text ≡ true → l
 text-first [] rest all = refl
 text-first (byte ∷ text) rest all =
     let both = both-true (is_text byte) (list_all is_text text) all in
-    if-false (byte == newline) ((newline ∷ []) ∷ lines_of (text ++ (newline ∷ rest))) (before_line byte (lines_of (text ++ (newline ∷ rest)))) (other-byte byte both.0)
+    if-false (byte == newline) ((newline ∷ []) ∷ lines_of (text ++ (newline ∷ rest))) (before_line byte (lines_of (text ++ (newline ∷ rest))))
+    (other-byte byte both.0)
     ∙ ap (before_line byte) (text-first text rest both.1)
 
 short-front : (text : List ℕ) → take (length text) (text ++ (newline ∷ [])) ≡ text
@@ -81,7 +82,9 @@ line-gone {P} {V} job state number given text rest clean few =
     let front : text_of line ≡ text = ap (λ (n : ℕ). take n line) size ∙ short-front text in
     ap (λ (bytes : List ℕ). gone_from job state number given (lines_of bytes)) (append_assoc text (newline ∷ []) rest)
     ∙ ap (gone_from job state number given) (text-first text rest clean.all)
-    ∙ ap (λ (n : Next). gone_by state number given (by_next job state number n) (λ (next : V). gone_from job next (number + 1) (given + length line) (lines_of rest)))
+    ∙ ap (λ (n : Next). gone_by state number given (by_next job state number n)
+    (λ (next : V). gone_from job next (number + 1) (given + length line) (lines_of rest)))
     (stands-next given text (lines_of rest) clean few)
-    ∙ ap₂ (λ (t : List ℕ) (n : ℕ). gone_by state number given (job.judged state number t) (λ (next : V). gone_from job next (number + 1) (given + n) (lines_of rest)))
+    ∙ ap₂ (λ (t : List ℕ) (n : ℕ). gone_by state number given (job.judged state number t)
+    (λ (next : V). gone_from job next (number + 1) (given + n) (lines_of rest)))
     front (line-size text)

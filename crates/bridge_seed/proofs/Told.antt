@@ -37,7 +37,8 @@ told-more all done first run drawn next event before now text near is_next is_dr
           ∙ told.lines;
     }
 
-pub drawn-little : (all done : ℕ) (first run next : Running) (before now : List ℕ) → next ≡ record run { words = behind_two run.words } → IsTold all done first run before now
+pub drawn-little : (all done : ℕ) (first run next : Running) (before now : List ℕ) → next ≡ record run { words = behind_two run.words }
+    → IsTold all done first run before now
     → size next.report < 2 ^ 62
 drawn-little all done first run next before now is told = subst (λ (r : Running). size r.report < 2 ^ 62) (sym is) (counts-little all done first run told.way)
 
@@ -58,7 +59,8 @@ opened-little seed events run opened some most is opens =
     opened-few events run opened some (starts-little (generator seed) events run most is) opens
 
 pub all-told : (seed events : ℕ) (run opened : Running) (before text after : List ℕ) → run ≡ begun_run (generator seed) → opened ≡ played run Open
-    → text ≡ before ++ event_line Open → after ≡ text ++ event_lines (next_events (events - 1) opened) → after ≡ before ++ event_lines (seeded_events seed events)
+    → text ≡ before ++ event_line Open → after ≡ text ++ event_lines (next_events (events - 1) opened)
+    → after ≡ before ++ event_lines (seeded_events seed events)
 all-told seed events run opened before text after is opens put more =
     more
     ∙ ap₂ (λ (t : List ℕ) (r : Running). t ++ event_lines (next_events (events - 1) r)) put (opens ∙ ap (λ (r : Running). played r Open) is)

@@ -16,7 +16,8 @@ no-v6 : (bytes : List ℕ) → (version bytes == 6) ≡ false → is_v6 bytes �
 no-v6 bytes other = grind (arith, nat_tests)
 
 -- where the bytes are some, IP of this version begins with them, or not
-ip-at-first : (wanted : ℕ) (bytes : List ℕ) (is : Bool) → nat_lt 0 (length bytes) ≡ true → (version bytes == wanted) ≡ is → ip_at wanted 0 bytes ≡ (if is then Some 0 else None)
+ip-at-first : (wanted : ℕ) (bytes : List ℕ) (is : Bool) → nat_lt 0 (length bytes) ≡ true → (version bytes == wanted) ≡ is
+    → ip_at wanted 0 bytes ≡ (if is then Some 0 else None)
 ip-at-first wanted bytes is some v =
     ap (λ (there : Bool). if there && version bytes == wanted then Some 0 else None) some
     ∙ ap (λ (right : Bool). if right then Some 0 else None) v
@@ -93,7 +94,8 @@ frame-stays kind bytes true six f x = rw f (v4-stays bytes (nat_lt 14 (length by
 frame-stays kind bytes false true f x = rw (f, x) (v6-stays bytes (nat_lt 14 (length bytes)) (version (drop 14 bytes) == 6) refl refl)
 frame-stays kind bytes false false f x = rw (f, x) refl
 
-ethernet-by : (bytes : List ℕ) (short : Bool) → nat_lt (length bytes) 14 ≡ short → IsUntagged bytes → in_ip (bytes_at_start (ip_by_type 12 14 bytes) bytes) ≡ in_ethernet bytes
+ethernet-by : (bytes : List ℕ) (short : Bool) → nat_lt (length bytes) 14 ≡ short → IsUntagged bytes
+    → in_ip (bytes_at_start (ip_by_type 12 14 bytes) bytes) ≡ in_ethernet bytes
 ethernet-by bytes true s untagged = rw s refl
 ethernet-by bytes false s untagged =
     let kind = number_at 12 2 bytes in

@@ -92,7 +92,8 @@ claim_goes n id s v rule at part word true test =
     let few = fits.few in
     let found = slice_index s.words 0 in
     rw test (claim_keeps n id s v (with_claimed v found) rule at part refl refl refl (omega (arith, length-append v.numbers (found ∷ [])))
-    (λ x. rw (times-push x v.numbers found, word) (passed x n (all_drawn s.views) (times x v.numbers) (below_limit found (all_drawn s.views) v.limit n word limit test))))
+    (λ x. rw (times-push x v.numbers found, word)
+    (passed x n (all_drawn s.views) (times x v.numbers) (below_limit found (all_drawn s.views) v.limit n word limit test))))
 claim_goes n id s v rule at part word false test =
     let fits = rule.each id v at in
     let limit : v.limit ≡ n = fits.same (omega arith) in

@@ -50,13 +50,15 @@ body-told : (format : Format) (number given : ℕ) (bytes : List ℕ) (wrong : O
     → body_fault (captured_length format bytes) (most_bytes - given - 16) (length bytes - 16) ≡ wrong
     → next_of format number given bytes ≡ next_by format (number + 1) (unless_faulty wrong (Some (record_header format.order bytes))) bytes
 body-told format number given bytes wrong there is =
-    ap (λ (h : Result (Option RecordHeader) CaptureFault). next_by format (number + 1) (found_by (most_bytes - given) h bytes) bytes) (header-there format given bytes there)
+    ap (λ (h : Result (Option RecordHeader) CaptureFault). next_by format (number + 1) (found_by (most_bytes - given) h bytes) bytes)
+    (header-there format given bytes there)
     ∙ ap (λ (w : Option CaptureFault). next_by format (number + 1) (unless_faulty w (Some (record_header format.order bytes))) bytes) is
 
 body-long : (captured room size : ℕ) → most_captured < captured → body_fault captured room size ≡ Some RecordTooLong
 body-long captured room size long = let test : nat_lt most_captured captured ≡ true = lt-ltb most_captured captured long in rw test refl
 
-body-fits : (captured room size : ℕ) (wrong : Option CaptureFault) → captured ≤ most_captured → missing captured room size ≡ wrong → body_fault captured room size ≡ wrong
+body-fits : (captured room size : ℕ) (wrong : Option CaptureFault) → captured ≤ most_captured → missing captured room size ≡ wrong
+    → body_fault captured room size ≡ wrong
 body-fits captured room size wrong fits is = let test : nat_lt most_captured captured ≡ false = le-ltb most_captured captured fits in rw test is
 
 -- what is wrong by the relation is what is read
@@ -67,16 +69,19 @@ wrong-read format number given bytes CutShort some within (inl cut) =
 wrong-read format number given bytes CutShort some within (inr (there, fits, cut)) =
     body-told format number given bytes (Some CutShort) there
     (body-fits (captured_length format bytes) (most_bytes - given - 16) (length bytes - 16) (Some CutShort) fits
-    (missing-cut (captured_length format bytes) (most_bytes - given - 16) (length bytes - 16) (omega (arith, cut.0, there.0)) (omega (arith, cut.1, there.0, there.1))))
+    (missing-cut (captured_length format bytes) (most_bytes - given - 16) (length bytes - 16) (omega (arith, cut.0, there.0))
+    (omega (arith, cut.1, there.0, there.1))))
 wrong-read format number given bytes RecordTooLong some within wrong =
     body-told format number given bytes (Some RecordTooLong) wrong.0
     (body-long (captured_length format bytes) (most_bytes - given - 16) (length bytes - 16) wrong.1)
 wrong-read format number given bytes TooLarge some within (inl large) =
-    header-wrong format number given bytes TooLarge some (missing-large 16 (most_bytes - given) (length bytes) (omega (arith, large.0, within)) (omega (arith, large.1)))
+    header-wrong format number given bytes TooLarge some
+    (missing-large 16 (most_bytes - given) (length bytes) (omega (arith, large.0, within)) (omega (arith, large.1)))
 wrong-read format number given bytes TooLarge some within (inr (there, fits, large)) =
     body-told format number given bytes (Some TooLarge) there
     (body-fits (captured_length format bytes) (most_bytes - given - 16) (length bytes - 16) (Some TooLarge) fits
-    (missing-large (captured_length format bytes) (most_bytes - given - 16) (length bytes - 16) (omega (arith, large.0, there.1)) (omega (arith, large.1, there.0, there.1))))
+    (missing-large (captured_length format bytes) (most_bytes - given - 16) (length bytes - 16) (omega (arith, large.0, there.1))
+    (omega (arith, large.1, there.0, there.1))))
 wrong-read format number given bytes BadMagic some within wrong = absurd wrong
 wrong-read format number given bytes BadVersion some within wrong = absurd wrong
 wrong-read format number given bytes BadLink some within wrong = absurd wrong
@@ -103,21 +108,24 @@ record-read format number given entry rest bytes r =
     let size = record-length format number given entry rest bytes r in
     let there : HasHeader given bytes = (omega (arith, size), omega (arith, r.counts)) in
     let none : missing (captured_length format bytes) (most_bytes - given - 16) (length bytes - 16) ≡ None =
-    missing-none (captured_length format bytes) (most_bytes - given - 16) (length bytes - 16) (omega (arith, size, r.body_length)) (omega (arith, r.counts, r.body_length)) in
+    missing-none (captured_length format bytes) (most_bytes - given - 16) (length bytes - 16) (omega (arith, size, r.body_length))
+    (omega (arith, r.counts, r.body_length)) in
     let read = body-told format number given bytes None there
     (body-fits (captured_length format bytes) (most_bytes - given - 16) (length bytes - 16) None (omega (arith, r.fits, r.body_length)) none) in
     let body : take (captured_length format bytes) (drop 16 bytes) ≡ r.body =
     ap (λ (xs : List ℕ). take (captured_length format bytes) (drop 16 xs)) r.whole
     ∙ ap (take (captured_length format bytes)) (drop_at r.header (r.body ++ rest) 16 r.header_length)
     ∙ take_at r.body rest (captured_length format bytes) r.body_length in
-    read ∙ ap (λ (text : List ℕ). Ok (Some (entry_with format (number + 1) (record_header format.order bytes) text))) body ∙ ap (λ (e : RecordParts). Ok (Some e)) (sym r.stands)
+    read ∙ ap (λ (text : List ℕ). Ok (Some (entry_with format (number + 1) (record_header format.order bytes) text))) body
+    ∙ ap (λ (e : RecordParts). Ok (Some e)) (sym r.stands)
 
 -- what stands next, by the relation
 pub data Stands (format : Format) (number given : ℕ) (bytes : List ℕ) : Type 0 where
   IsWrongHere : (why : CaptureFault) → IsWrong format given bytes why → Stands format number given bytes
   IsRecordHere : (entry : RecordParts) (rest : List ℕ) → IsRecord format number given entry rest bytes → Stands format number given bytes
 
-record-here : (format : Format) (number given : ℕ) (bytes : List ℕ) → 16 + captured_length format bytes ≤ length bytes → captured_length format bytes ≤ most_captured
+record-here : (format : Format) (number given : ℕ) (bytes : List ℕ) → 16 + captured_length format bytes ≤ length bytes
+    → captured_length format bytes ≤ most_captured
     → given + (16 + captured_length format bytes) ≤ most_bytes → Stands format number given bytes
 record-here format number given bytes there fits counts =
     let count = captured_length format bytes in
@@ -134,7 +142,8 @@ record-here format number given bytes there fits counts =
       counts = rw size counts;
     })
 
-body-here : (format : Format) (number given : ℕ) (bytes : List ℕ) → HasHeader given bytes → captured_length format bytes ≤ most_captured → Stands format number given bytes
+body-here : (format : Format) (number given : ℕ) (bytes : List ℕ) → HasHeader given bytes → captured_length format bytes ≤ most_captured
+    → Stands format number given bytes
 body-here format number given bytes there fits =
     let count = captured_length format bytes in
     ⊎_elim
@@ -165,7 +174,8 @@ stands-here format number given bytes =
     (cases_lt (length bytes) 16)
 
 -- the first bytes that belong to the record before
-skipped : (format : Format) (number given skip : ℕ) (bytes : List ℕ) → records_from format skip number given bytes ≡ records_from format 0 number given (drop skip bytes)
+skipped : (format : Format) (number given skip : ℕ) (bytes : List ℕ)
+    → records_from format skip number given bytes ≡ records_from format 0 number given (drop skip bytes)
 skipped format number given zero bytes = refl
 skipped format number given (suc skip) [] = refl
 skipped format number given (suc skip) (byte ∷ bytes) = skipped format number given skip bytes
@@ -177,7 +187,8 @@ records-wrong format number given [] why some read = absurd (omega (arith, some)
 records-wrong format number given (byte ∷ bytes) why some read =
     ap (λ (next : Result (Option RecordParts) CaptureFault). onward next (λ used. records_from format (used - 1) (number + 1) (given + used) bytes)) read
 
-pub records-next : (format : Format) (number given : ℕ) (bytes : List ℕ) (entry : RecordParts) → 0 < length bytes → next_of format number given bytes ≡ Ok (Some entry)
+pub records-next : (format : Format) (number given : ℕ) (bytes : List ℕ) (entry : RecordParts) → 0 < length bytes
+    → next_of format number given bytes ≡ Ok (Some entry)
     → records_from format 0 number given bytes
     ≡ before entry (records_from format 0 (number + 1) (given + (16 + length entry.bytes)) (drop (16 + length entry.bytes) bytes))
 records-next format number given [] entry some read = absurd (omega (arith, some))
@@ -240,7 +251,8 @@ same-records (entry ∷ entries) format number given bytes end within (rest, r, 
 abbrev both : List RecordParts → Option CaptureFault → Captured
 both records end = record { records = records; end = end }
 
-pub capture-read : (bytes : List ℕ) (records : List RecordParts) (end : Option CaptureFault) → IsCapture bytes records end → captured bytes ≡ record { records = records; end = end }
+pub capture-read : (bytes : List ℕ) (records : List RecordParts) (end : Option CaptureFault) → IsCapture bytes records end
+    → captured bytes ≡ record { records = records; end = end }
 capture-read bytes records end (Refused why told none ends) =
     ap (λ (o : Result Format CaptureFault). captured_by o bytes) told
     ∙ ap (λ (rs : List RecordParts). both rs (Some why)) (sym none) ∙ ap (both records) (sym ends)
@@ -252,5 +264,6 @@ capture-by : (bytes : List ℕ) (told : Result Format CaptureFault) → opened b
 capture-by bytes (Err why) told = Refused why told refl refl
 capture-by bytes (Ok format) told = Opened format told (has-records (length (drop 24 bytes)) format 0 24 (drop 24 bytes) (omega arith) (omega arith))
 
-pub read-capture : (bytes : List ℕ) (records : List RecordParts) (end : Option CaptureFault) → captured bytes ≡ record { records = records; end = end } → IsCapture bytes records end
+pub read-capture : (bytes : List ℕ) (records : List RecordParts) (end : Option CaptureFault) → captured bytes ≡ record { records = records; end = end }
+    → IsCapture bytes records end
 read-capture bytes records end is = subst (λ (c : Captured). IsCapture bytes c.records c.end) is (capture-by bytes (opened bytes) refl)

@@ -26,7 +26,8 @@ ahead-passed n pending None enough = refl
 ahead-passed n pending (Some more) enough = ap (λ (xs : List ℕ). Some xs) (sym (drop-append-le n pending more enough))
 
 -- what is pending was taken from what the source had
-pub passed-ahead : (most : ℕ) (pending : List ℕ) (known all : Option (List ℕ)) → length pending ≤ most → prepend_known pending known ≡ all → Passed most all known
+pub passed-ahead : (most : ℕ) (pending : List ℕ) (known all : Option (List ℕ)) → length pending ≤ most → prepend_known pending known ≡ all
+    → Passed most all known
 passed-ahead most pending None all fits same = (length pending, fits, subst (λ (o : Option (List ℕ)). None ≡ option_map (drop (length pending)) o) same refl)
 passed-ahead most pending (Some more) all fits same = (
   length pending,

@@ -37,7 +37,8 @@ from_some None = []
 from_some (Some bytes) = bytes
 
 -- what was read past some bytes that were passed
-passed-behind : (k : ℕ) (pending : List ℕ) (all known : Option (List ℕ)) → k ≤ 16 → length pending ≤ 262144 → prepend_known pending known ≡ option_map (drop k) all
+passed-behind : (k : ℕ) (pending : List ℕ) (all known : Option (List ℕ)) → k ≤ 16 → length pending ≤ 262144
+    → prepend_known pending known ≡ option_map (drop k) all
     → Passed 262160 all known
 passed-behind k pending None None small fits same = (0, omega arith, refl)
 passed-behind k pending None (Some more) small fits same = absurd (none-some (pending ++ more) (sym same))
@@ -70,19 +71,23 @@ found-next format number given header pending (Some bytes) (Some more) fits same
     )
 
 -- a header and the bytes behind it make a record, or what is wrong with these
-behind-header : (order : Order) (room : ℕ) (header : RecordHeader) (bytes : List ℕ) (wrong : Option CaptureFault) → header_in order room bytes ≡ Ok (Some header)
+behind-header : (order : Order) (room : ℕ) (header : RecordHeader) (bytes : List ℕ) (wrong : Option CaptureFault)
+    → header_in order room bytes ≡ Ok (Some header)
     → body_fault header.captured (room - 16) (length (drop 16 bytes)) ≡ wrong → found_in order room bytes ≡ unless_faulty wrong (Some header)
 behind-header order room header bytes wrong told judged =
     ap (λ (f : Result (Option RecordHeader) CaptureFault). found_by room f bytes) told
     ∙ ap (λ (n : ℕ). unless_faulty (body_fault header.captured (room - 16) n) (Some header)) (sym (length-drop 16 bytes))
     ∙ ap (λ (f : Option CaptureFault). unless_faulty f (Some header)) judged
 
-pub found-told : (order : Order) (room : ℕ) (header : RecordHeader) (all behind : Option (List ℕ)) (wrong : Option CaptureFault) → behind ≡ option_map (drop 16) all
-    → IfSome all (λ bytes. header_in order room bytes ≡ Ok (Some header)) → IfSome behind (λ bytes. body_fault header.captured (room - 16) (length bytes) ≡ wrong)
+pub found-told : (order : Order) (room : ℕ) (header : RecordHeader) (all behind : Option (List ℕ)) (wrong : Option CaptureFault)
+    → behind ≡ option_map (drop 16) all
+    → IfSome all (λ bytes. header_in order room bytes ≡ Ok (Some header))
+    → IfSome behind (λ bytes. body_fault header.captured (room - 16) (length bytes) ≡ wrong)
     → IfSome all (λ bytes. found_in order room bytes ≡ unless_faulty wrong (Some header))
 found-told order room header None behind wrong passed told judged = tt
 found-told order room header (Some bytes) behind wrong passed told judged =
-    behind-header order room header bytes wrong told (subst (λ (o : Option (List ℕ)). IfSome o (λ bs. body_fault header.captured (room - 16) (length bs) ≡ wrong)) passed judged)
+    behind-header order room header bytes wrong told
+    (subst (λ (o : Option (List ℕ)). IfSome o (λ bs. body_fault header.captured (room - 16) (length bs) ≡ wrong)) passed judged)
 
 -- faults that did not fall before have risen since
 pub cause-later : (why : CaptureFault) (first before after : ℕ) (Wrong Worse : Type 0) → first ≤ before → (Wrong → Worse) → IsCause why before after Wrong
@@ -110,7 +115,8 @@ unread-by (Some why) settled before after none still is = cc none
 
 module _ {S : Type 0} (left : S → Option (List ℕ)) (faults lender : S → ℕ) where
   pub advanced-found : (before after : S) (held passed got : BytesAhead) (lent : ℕ) (format : Format) (given number : ℕ) (fault : Option CaptureFault)
-      (header : RecordHeader) → (is_record_settled format.order (most_bytes - given) passed.pending ≡ true → after ≡ before) → passed ≡ let_go held lent → fault ≡ None → given ≤ 2 ^ 32 → length got.pending ≤ 262144
+      (header : RecordHeader) → (is_record_settled format.order (most_bytes - given) passed.pending ≡ true → after ≡ before) → passed ≡ let_go held lent
+      → fault ≡ None → given ≤ 2 ^ 32 → length got.pending ≤ 262144
       → KeepsTheSource faults lender passed got before after
       → RecordRead left faults format.order (most_bytes - given) passed got before after (Ok (Some header))
       → Advances left faults lender (state before held.pending lent format given number fault)
@@ -139,7 +145,8 @@ module _ {S : Type 0} (left : S → Option (List ℕ)) (faults lender : S → �
       }
 
   pub advanced-end : (before after : S) (held passed got : BytesAhead) (lent : ℕ) (format : Format) (given number : ℕ) (fault : Option CaptureFault)
-      → (is_record_settled format.order (most_bytes - given) passed.pending ≡ true → after ≡ before) → passed ≡ let_go held lent → fault ≡ None → given ≤ 2 ^ 32 → length got.pending ≤ 262144 → KeepsTheSource faults lender passed got before after
+      → (is_record_settled format.order (most_bytes - given) passed.pending ≡ true → after ≡ before) → passed ≡ let_go held lent → fault ≡ None → given ≤ 2 ^ 32
+      → length got.pending ≤ 262144 → KeepsTheSource faults lender passed got before after
       → RecordRead left faults format.order (most_bytes - given) passed got before after (Ok None)
       → Advances left faults lender (state before held.pending lent format given number fault) (state after got.pending 0 format given number fault) (Ok None)
   advanced-end before after held passed got lent format given number fault still is stands within block keeps read =
@@ -164,10 +171,12 @@ module _ {S : Type 0} (left : S → Option (List ℕ)) (faults lender : S → �
       }
 
   pub advanced-wrong : (before after : S) (held passed got : BytesAhead) (lent : ℕ) (format : Format) (given number : ℕ) (fault : Option CaptureFault)
-      (why : CaptureFault) → (is_record_settled format.order (most_bytes - given) passed.pending ≡ true → after ≡ before) → passed ≡ let_go held lent → fault ≡ None → given ≤ 2 ^ 32 → length got.pending ≤ 262144
+      (why : CaptureFault) → (is_record_settled format.order (most_bytes - given) passed.pending ≡ true → after ≡ before) → passed ≡ let_go held lent
+      → fault ≡ None → given ≤ 2 ^ 32 → length got.pending ≤ 262144
       → KeepsTheSource faults lender passed got before after
       → RecordRead left faults format.order (most_bytes - given) passed got before after (Err why)
-      → Advances left faults lender (state before held.pending lent format given number fault) (state after got.pending 0 format given number (Some why)) (Err why)
+      → Advances left faults lender (state before held.pending lent format given number fault) (state after got.pending 0 format given number (Some why))
+      (Err why)
   advanced-wrong before after held passed got lent format given number fault why still is stands within block keeps read =
       let here : RecordRead left faults format.order (most_bytes - given) (let_go held lent) got before after (Err why) =
       subst (λ (ahead : BytesAhead). RecordRead left faults format.order (most_bytes - given) ahead got before after (Err why)) is read in
@@ -195,7 +204,8 @@ module _ {S : Type 0} (left : S → Option (List ℕ)) (faults lender : S → �
       }
 
   -- a reader whose capture ended with a fault does nothing
-  pub advanced-refused : (old : CapturesState S) (why : CaptureFault) → old.fault ≡ Some why → IsOfRecords why → old.given ≤ 2 ^ 32 → length old.pending ≤ 262144
+  pub advanced-refused : (old : CapturesState S) (why : CaptureFault) → old.fault ≡ Some why → IsOfRecords why → old.given ≤ 2 ^ 32
+      → length old.pending ≤ 262144
       → Advances left faults lender old old (Err why)
   advanced-refused old why kept of_records within block = record {
     never_falls = omega arith;

@@ -51,7 +51,8 @@ record-there nanos number given r rest fits room =
       body_length = sym captured ∙ ap (λ (bs : List ℕ). captured_length (written_format nanos) bs) (sym parts);
       stands =
           ap (λ (s : ℕ). entry_as nanos (number + 1) s r.fraction r.original r.bytes) (sym seconds ∙ ap (λ (bs : List ℕ). big_number 4 bs) (sym parts))
-          ∙ ap (λ (t : ℕ). entry_as nanos (number + 1) (big_number 4 bytes) t r.original r.bytes) (sym fraction ∙ ap (λ (bs : List ℕ). big_number 4 (drop 4 bs)) (sym parts))
+          ∙ ap (λ (t : ℕ). entry_as nanos (number + 1) (big_number 4 bytes) t r.original r.bytes)
+          (sym fraction ∙ ap (λ (bs : List ℕ). big_number 4 (drop 4 bs)) (sym parts))
           ∙ ap (λ (o : ℕ). entry_as nanos (number + 1) (big_number 4 bytes) (big_number 4 (drop 4 bytes)) o r.bytes)
           (sym original ∙ ap (λ (bs : List ℕ). big_number 4 (drop 12 bs)) (sym parts));
       fits = fits.size;

@@ -20,7 +20,8 @@ none_past_report states mark (entry ∷ later) none =
     let passed = is_passed (map (entry_reported states) later) in
     let parts = and_parts (not (is_past mark entry.number)) (list_all (λ e. not (is_past mark e.number)) later) none in
     let first = ap (λ n. not (is_past mark n)) (same_number (is_received (states entry.number)) passed entry) ∙ parts.0 in
-    and_from (not (is_past mark (lost_if passed (entry_reported states entry)).number)) (list_all (λ e. not (is_past mark e.number)) (after_report states later))
+    and_from (not (is_past mark (lost_if passed (entry_reported states entry)).number))
+    (list_all (λ e. not (is_past mark e.number)) (after_report states later))
     first (none_past_report states mark later parts.1)
 
 none_past_drop : (mark : Option ℕ) (n : ℕ) (entries : List Entry) → NonePast mark entries → NonePast mark (drop n entries)
@@ -37,7 +38,8 @@ none_past_push : (number : ℕ) (entries : List Entry) → NonePast (Some number
 none_past_push number [] none = ap (λ b. not b && true) (not_before_itself number)
 none_past_push number (entry ∷ later) none =
     let parts = and_parts (not (is_past (Some number) entry.number)) (list_all (λ e. not (is_past (Some number) e.number)) later) none in
-    and_from (not (is_past (Some number) entry.number)) (list_all (λ e. not (is_past (Some number) e.number)) (later ++ record { number = number; standing = Out } ∷ []))
+    and_from (not (is_past (Some number) entry.number))
+    (list_all (λ e. not (is_past (Some number) e.number)) (later ++ record { number = number; standing = Out } ∷ []))
     parts.0 (none_past_push number later parts.1)
 
 none_past_sent : (number : ℕ) (entries : List Entry) → NonePast (Some number) entries → NonePast (Some number) (sent entries number)
@@ -102,7 +104,8 @@ mark_is_last false state acked ratio is = cc
 pub one_halving : (calls : List Call) (states : States) (ratio : ℕ) (reports : List (States × ℕ))
     → IsInOrder first_state calls
     → is_congested states (run ccid_control first_state calls).mark (run ccid_control first_state calls).flight ≡ true
-    → (with_report (run ccid_control first_state calls) states ratio).window ≤ (after_reports (with_report (run ccid_control first_state calls) states ratio) reports).window
+    → (with_report (run ccid_control first_state calls) states ratio).window
+    ≤ (after_reports (with_report (run ccid_control first_state calls) states ratio) reports).window
 one_halving calls states ratio reports order congested =
     let state = run ccid_control first_state calls in
     let none : NonePast state.last state.flight = none_past_run first_state calls order refl in

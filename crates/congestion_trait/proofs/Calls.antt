@@ -94,7 +94,8 @@ module _ {S : Type 0} (control : Control S) (lawful : IsLawful control) where
       → Has (control.flight (run control state calls)) number Out → Has (control.flight state) number Out ⊎ IsTrue (list_any (call_sends number) calls)
   out_run state [] number h = inl h
   out_run state (call ∷ rest) number h =
-      ⊎_elim (λ now. ⊎_elim (λ before. inl before) (λ here. inr (or_first (call_sends number call) (list_any (call_sends number) rest) here)) (out_after state call number now))
+      ⊎_elim (λ now. ⊎_elim (λ before. inl before) (λ here. inr (or_first (call_sends number call) (list_any (call_sends number) rest) here))
+      (out_after state call number now))
       (λ later. inr (or_second (call_sends number call) (list_any (call_sends number) rest) later))
       (out_run (after_call control state call) rest number h)
 
@@ -103,7 +104,8 @@ module _ {S : Type 0} (control : Control S) (lawful : IsLawful control) where
       → HasEntry (control.flight (run control state calls)) number → HasEntry (control.flight state) number ⊎ IsTrue (list_any (call_sends number) calls)
   listed_run state [] number h = inl h
   listed_run state (call ∷ rest) number h =
-      ⊎_elim (λ now. ⊎_elim (λ before. inl before) (λ here. inr (or_first (call_sends number call) (list_any (call_sends number) rest) here)) (listed_after state call number now))
+      ⊎_elim (λ now. ⊎_elim (λ before. inl before) (λ here. inr (or_first (call_sends number call) (list_any (call_sends number) rest) here))
+      (listed_after state call number now))
       (λ later. inr (or_second (call_sends number call) (list_any (call_sends number) rest) later))
       (listed_run (after_call control state call) rest number h)
 
@@ -112,6 +114,7 @@ module _ {S : Type 0} (control : Control S) (lawful : IsLawful control) where
       → Has (control.flight (run control state calls)) number Reported → Has (control.flight state) number Reported ⊎ IsTrue (list_any (tells number) calls)
   reported_run state [] number h = inl h
   reported_run state (call ∷ rest) number h =
-      ⊎_elim (λ now. ⊎_elim (λ before. inl before) (λ here. inr (or_first (tells number call) (list_any (tells number) rest) here)) (reported_after state call number now))
+      ⊎_elim (λ now. ⊎_elim (λ before. inl before) (λ here. inr (or_first (tells number call) (list_any (tells number) rest) here))
+      (reported_after state call number now))
       (λ later. inr (or_second (tells number call) (list_any (tells number) rest) later))
       (reported_run (after_call control state call) rest number h)

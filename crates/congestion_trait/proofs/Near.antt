@@ -75,15 +75,20 @@ pub near_push : (span : ℕ) (x : Entry) (later : List Entry) (last : Entry) (nu
     → AreNear span (numbers (x ∷ later)) → AreNear (span + distance last.number number) (numbers (x ∷ later) ++ number ∷ [])
 near_push span x [] last number low is near =
     let same : x ≡ last = some_is x last is in
-    let here : distance x.number number ≤ span + distance last.number number = subst (λ (e : Entry). distance x.number number ≤ span + distance e.number number) same (omega arith) in
+    let here : distance x.number number ≤ span + distance last.number number =
+    subst (λ (e : Entry). distance x.number number ≤ span + distance e.number number) same (omega arith) in
     (near.0, (here, tt), (low, tt, tt))
 near_push span x (y ∷ later) last number low is near =
     let is_later : last_item (y ∷ later) ≡ Some last = sym (last_later x y later) ∙ is in
     let to_last : distance x.number last.number ≤ span = all_last (λ o. distance x.number o ≤ span) y later last is_later near.1 in
     let last_low : last.number < 2 ^ 48 = all_last (λ o. o < 2 ^ 48) y later last is_later (all_low span (numbers (y ∷ later)) near.2) in
     let triangle = further x.number last.number number near.0 last_low low in
-    let more = all_more (λ o. distance x.number o ≤ span) (λ o. distance x.number o ≤ span + distance last.number number) (numbers (y ∷ later)) (λ o h. omega arith) near.1 in
-    (near.0, all_push (λ o. distance x.number o ≤ span + distance last.number number) (numbers (y ∷ later)) number more (omega arith), near_push span y later last number low is_later near.2)
+    let more = all_more (λ o. distance x.number o ≤ span) (λ o. distance x.number o ≤ span + distance last.number number) (numbers (y ∷ later))
+    (λ o h. omega arith) near.1 in (
+      near.0,
+      all_push (λ o. distance x.number o ≤ span + distance last.number number) (numbers (y ∷ later)) number more (omega arith),
+      near_push span y later last number low is_later near.2,
+    )
 
 pub near_first : (span number : ℕ) (entries : List Entry) → number < 2 ^ 48 → last_item entries ≡ None → AreNear (span + 0) (numbers entries ++ number ∷ [])
 near_first span number entries low is = rw (none_last entries is) (low, tt, tt)
@@ -160,7 +165,8 @@ untouched_below ack bytes span i old rest x cut near seen room none =
     let whole : take i old ++ x ∷ rest ≡ old = ap (λ l. take i old ++ l) (sym cut) ∙ take-append-drop i old in
     let near_whole : AreNear span (numbers (take i old ++ x ∷ rest)) = subst (λ l. AreNear span (numbers l)) (sym whole) near in
     let low : x.number < 2 ^ 48 = all_at (λ n. n < 2 ^ 48) (take i old) x rest (all_low span (numbers (take i old ++ x ∷ rest)) near_whole) in
-    let sum : pipe_of (take i old ++ drop i old) ≡ pipe_of (take i old) + pipe_of (drop i old) = sum_by-append (λ (e : Entry). cond (is_out e.standing) 1 0) (take i old) (drop i old) in
+    let sum : pipe_of (take i old ++ drop i old) ≡ pipe_of (take i old) + pipe_of (drop i old) =
+    sum_by-append (λ (e : Entry). cond (is_out e.standing) 1 0) (take i old) (drop i old) in
     let all : pipe_of (take i old ++ drop i old) ≡ pipe_of old = ap pipe_of (take-append-drop i old) in
     untouched_before (state_at ack bytes) span (take i old) x rest near_whole (omega arith) (ends_at ack bytes span x.number low room none)
 

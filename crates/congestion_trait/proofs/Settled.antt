@@ -95,7 +95,8 @@ is_congested-front told mark [] rest all = refl
 is_congested-front told mark (entry ∷ front) rest all =
     let parts = and_parts (is_untouched told entry) (list_all (λ e. is_untouched told e) front) all in
     let passed = is_passed (map (entry_reported told) (front ++ rest)) in
-    let none = no_news entry.standing (is_past mark entry.number) (is_unmarked (told entry.number)) (is_marked (told entry.number)) passed entry.number parts.0 in
+    let none = no_news entry.standing (is_past mark entry.number) (is_unmarked (told entry.number))
+    (is_marked (told entry.number)) passed entry.number parts.0 in
     ap (λ b. b || is_congested told mark (front ++ rest)) none ∙ is_congested-front told mark front rest parts.1
 
 module _ (told : States) (mark : Option ℕ) (entries : List Entry) (settled : ℕ) (front : AllUntouched told (take settled entries)) where
@@ -103,17 +104,20 @@ module _ (told : States) (mark : Option ℕ) (entries : List Entry) (settled : �
   report_from = sym (report-front told (take settled entries) (drop settled entries) front) ∙ ap (λ l. after_report told l) (take-append-drop settled entries)
 
   pub acked_from : acked_count told (drop settled entries) ≡ acked_count told entries
-  acked_from = sym (acked_count-front told (take settled entries) (drop settled entries) front) ∙ ap (λ l. acked_count told l) (take-append-drop settled entries)
+  acked_from = sym (acked_count-front told (take settled entries) (drop settled entries) front)
+      ∙ ap (λ l. acked_count told l) (take-append-drop settled entries)
 
   pub congested_from : is_congested told mark (drop settled entries) ≡ is_congested told mark entries
-  congested_from = sym (is_congested-front told mark (take settled entries) (drop settled entries) front) ∙ ap (λ l. is_congested told mark l) (take-append-drop settled entries)
+  congested_from = sym (is_congested-front told mark (take settled entries) (drop settled entries) front)
+      ∙ ap (λ l. is_congested told mark l) (take-append-drop settled entries)
 
   pub pipe_from : pipe_of (after_report told (drop settled entries)) ≡ pipe_of (after_report told entries)
   pipe_from = sym (pipe_of-front told (take settled entries) (after_report told (drop settled entries)) front) ∙ ap pipe_of report_from
 
   pub front_stays : settled ≤ length entries → take settled (after_report told entries) ≡ take settled entries
   front_stays within =
-      ap (λ l. take settled l) (sym report_from) ∙ take_at (take settled entries) (after_report told (drop settled entries)) settled (length-take-le settled entries within)
+      ap (λ l. take settled l) (sym report_from)
+      ∙ take_at (take settled entries) (after_report told (drop settled entries)) settled (length-take-le settled entries within)
 
 -- one more entry at the front is Reported
 all-push : (xs : List Entry) (entry : Entry) → AllReported xs → is_reported entry.standing ≡ true → AllReported (xs ++ entry ∷ [])

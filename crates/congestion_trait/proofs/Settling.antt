@@ -38,10 +38,11 @@ still_reported false passed x = lost_unreported passed x.standing
 -- what was received is not lost
 lost_unreceived : (received passed : Bool) (x : Entry)
     → (is_out (cond received (record x { standing = Reported }) x).standing && passed) ≡ (is_out x.standing && not received && passed)
-lost_unreceived received passed x = elim received as (λ r. (is_out (cond r (record x { standing = Reported }) x).standing && passed) ≡ (is_out x.standing && not r && passed)) [
-  | true ↦ elim (is_out x.standing) as (λ o. false ≡ (o && false && passed)) [ true ↦ refl | false ↦ refl ]
-  | false ↦ elim (is_out x.standing) as (λ o. (o && passed) ≡ (o && true && passed)) [ true ↦ refl | false ↦ refl ]
-]
+lost_unreceived received passed x =
+    elim received as (λ r. (is_out (cond r (record x { standing = Reported }) x).standing && passed) ≡ (is_out x.standing && not r && passed)) [
+      | true ↦ elim (is_out x.standing) as (λ o. false ≡ (o && false && passed)) [ true ↦ refl | false ↦ refl ]
+      | false ↦ elim (is_out x.standing) as (λ o. (o && passed) ≡ (o && true && passed)) [ true ↦ refl | false ↦ refl ]
+    ]
 
 -- what one entry adds to a walk
 pub record IsStep (state mark : Option ℕ) (x : Entry) (walk next : Walk) (standing : Standing) : Type 0 where
@@ -94,7 +95,9 @@ module _ (told : States) (mark : Option ℕ) (later : List Entry) (x : Entry) (w
   congested_more : next.congested ≡ is_congested told mark (x ∷ later)
   congested_more =
       step.congested
-      ∙ ap (λ n. is_past mark x.number && (not (is_reported x.standing) && is_marked (told x.number) || is_out x.standing && not (is_received (told x.number)) && leb 3 n) || walk.congested) so_far.reported
+      ∙ ap (λ n. is_past mark x.number
+      && (not (is_reported x.standing) && is_marked (told x.number) || is_out x.standing && not (is_received (told x.number)) && leb 3 n)
+      || walk.congested) so_far.reported
       ∙ ap (λ l. is_past mark x.number && (not (is_reported x.standing) && is_marked (told x.number) || l) || walk.congested)
       (sym (lost_unreceived (is_received (told x.number)) (is_passed (map (entry_reported told) later)) x))
       ∙ ap (λ c. is_past mark x.number && (is_newly_marked told x || is_newly_lost told x later) || c) so_far.congested

@@ -60,7 +60,8 @@ out_before told entries number h = out_at told entries number h.0 h.1 h.2
 pub same_number : (received passed : Bool) (entry : Entry)
     → (lost_if passed (cond received (record entry { standing = Reported }) entry)).number ≡ entry.number
 same_number true passed entry = refl
-same_number false passed entry = elim (is_out entry.standing && passed) as (λ b. (cond b (record entry { standing = Lost }) entry).number ≡ entry.number) [ true ↦ refl | false ↦ refl ]
+same_number false passed entry =
+    elim (is_out entry.standing && passed) as (λ b. (cond b (record entry { standing = Lost }) entry).number ≡ entry.number) [ true ↦ refl | false ↦ refl ]
 
 listed_later : (entry : Entry) (later : List Entry) (number : ℕ) → HasEntry later number → HasEntry (entry ∷ later) number
 listed_later entry later number h = (h.0, has_later entry later number h.0 h.1)

@@ -30,7 +30,8 @@ pub others-tell_nothing : (place : ℕ) (items : List Item) → All IsOther item
 others-tell_nothing place [] others = refl
 others-tell_nothing place (item ∷ items) others =
     let other : (item.kind == data_dropped) ≡ false = All-head IsOther item items others in
-    ap (λ (b : Bool). (if b then item.body ∷ [] else []) ++ drop_options (map Ok (entries_at (place + length (spelled item.mandatory item.kind item.body)) items))) other
+    ap (λ (b : Bool). (if b then item.body ∷ [] else []) ++ drop_options
+    (map Ok (entries_at (place + length (spelled item.mandatory item.kind item.body)) items))) other
     ∙ others-tell_nothing (place + length (spelled item.mandatory item.kind item.body)) items (All-tail IsOther item items others)
 
 zeros-tell_nothing : (place zeros : ℕ) → drop_options (listed_from place (replicate zeros 0)) ≡ []

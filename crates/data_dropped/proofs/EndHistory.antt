@@ -16,11 +16,13 @@ use Rattle.data_dropped.specs.Inbox.{InboxState, fits_item}
 use Rattle.data_dropped.proofs.History.{all-accounted, history_after-accounted, counted-codes, first-accounted}
 
 -- data of any length
-held-data : (h : History) (n : ℕ) (payload : List ℕ) (short : Bool) → (data_delivered short h.held n payload).inbox ≡ (history_after h (data_call short n payload)).held
+held-data : (h : History) (n : ℕ) (payload : List ℕ) (short : Bool)
+    → (data_delivered short h.held n payload).inbox ≡ (history_after h (data_call short n payload)).held
 held-data h n payload true = refl
 held-data h n payload false = refl
 
-held-by : (h : History) (n : ℕ) (bytes : List ℕ) (outcome : Outcome) → (delivery_by h.held n bytes outcome).inbox ≡ (history_after_all h (calls_by n bytes outcome)).held
+held-by : (h : History) (n : ℕ) (bytes : List ℕ) (outcome : Outcome)
+    → (delivery_by h.held n bytes outcome).inbox ≡ (history_after_all h (calls_by n bytes outcome)).held
 held-by h n bytes (Took None) = refl
 held-by h n bytes (Took (Some place)) = held-data h n (slice_range bytes place.0 place.1) (fits_item (slice_range bytes place.0 place.1))
 held-by h n bytes (Dropped why) = refl
@@ -30,7 +32,8 @@ held-by h n bytes (SentReset code detail) = refl
 
 module _ {C : Type 0} (control : Control C) where
   -- receiving is what the definitions of one step say
-  pub receives-held : (p : BufferedPast C) (bytes : List ℕ) → (buffers control (buffered_now p) bytes).after ≡ buffered_now (past_after control p (EndReceives bytes))
+  pub receives-held : (p : BufferedPast C) (bytes : List ℕ)
+      → (buffers control (buffered_now p) bytes).after ≡ buffered_now (past_after control p (EndReceives bytes))
   receives-held p bytes =
       let n : ℕ = arriving_number p.end.state.marks.gsr bytes in
       let step : EndStep C Outcome = with_control control p.end.congestion (receives p.end.state bytes) in
@@ -72,7 +75,8 @@ module _ {C : Type 0} (control : Control C) where
       → IsAccounted capacity (stopped || list_any is_end_stop calls) (past_all control p calls).past
   past-accounted capacity stopped p [] before = subst (λ (b : Bool). IsAccounted capacity b p.past) (sym (or-false stopped)) before
   past-accounted capacity stopped p (call ∷ calls) before =
-      subst (λ (b : Bool). IsAccounted capacity b (past_all control (past_after control p call) calls).past) (or-assoc stopped (is_end_stop call) (list_any is_end_stop calls))
+      subst (λ (b : Bool). IsAccounted capacity b (past_all control (past_after control p call) calls).past)
+      (or-assoc stopped (is_end_stop call) (list_any is_end_stop calls))
       (past-accounted capacity (stopped || is_end_stop call) (past_after control p call) calls (after-accounted capacity stopped p call before))
 
   pub every-past : (config : Config) (congestion : C) (capacity : ℕ) (calls : List EndCall)

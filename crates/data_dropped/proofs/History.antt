@@ -103,7 +103,8 @@ history_after-accounted capacity stopped h (DataArrive n payload) before =
     subst (λ (b : Bool). IsAccounted capacity b (history_after h (DataArrive n payload))) (sym (or-false stopped))
     (arrived-accounted capacity n payload stopped (takes_more h.held) h refl before)
 history_after-accounted capacity stopped h (LongDataArrive n) before =
-    subst (λ (b : Bool). IsAccounted capacity b (history_after h (LongDataArrive n))) (sym (or-false stopped)) (dropped-accounted capacity n [] stopped h before)
+    subst (λ (b : Bool). IsAccounted capacity b (history_after h (LongDataArrive n))) (sym (or-false stopped))
+    (dropped-accounted capacity n [] stopped h before)
 history_after-accounted capacity stopped h Takes before =
     subst (λ (b : Bool). IsAccounted capacity b (history_after h Takes)) (sym (or-false stopped)) (taken-accounted capacity stopped h before)
 history_after-accounted capacity stopped h Stops before =

@@ -58,7 +58,8 @@ parts-other (part ∷ parts) = All-cons IsOther (vector_item part) (map vector_i
 
 vector-other : (has_vector : Bool) (vectors : Vectors) (set : MarkedSet) (greatest : ℕ) → All IsOther (vector_items has_vector vectors set greatest)
 vector-other has_vector vectors set greatest =
-    subst (λ (items : List Item). All IsOther items) (sym (parts-are has_vector vectors set greatest)) (parts-other (vector_parts has_vector vectors set greatest))
+    subst (λ (items : List Item). All IsOther items) (sym (parts-are has_vector vectors set greatest))
+    (parts-other (vector_parts has_vector vectors set greatest))
 
 confirm-other : (left : Bool) → (confirm_type left == data_dropped) ≡ false
 confirm-other true = refl
@@ -81,7 +82,8 @@ own-other : (e : EndState) (f : Effect) (k : Kind) (confirms : List Due) (keys :
     → All IsOther (vector_of e f k ++ (confirm_items confirms ++ change_items (rows_by e.rows f) keys))
 own-other e f k confirms keys =
     All-append IsOther (vector_of e f k) (confirm_items confirms ++ change_items (rows_by e.rows f) keys)
-    (vector-other (is_acking (packet_type k) && sends_vectors (rows_by e.rows f)) e.config.vectors (told_by e.received f).set (greatest_by e.marks.gsr f.hearing))
+    (vector-other (is_acking (packet_type k) && sends_vectors (rows_by e.rows f)) e.config.vectors (told_by e.received f).set
+    (greatest_by e.marks.gsr f.hearing))
     (All-append IsOther (confirm_items confirms) (change_items (rows_by e.rows f) keys) (confirms-other confirms) (changes-other (rows_by e.rows f) keys))
 
 -- the header of an own frame is valid as it is read

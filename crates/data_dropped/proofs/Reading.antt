@@ -7,7 +7,8 @@ use Rattle.ack_vectors.proofs.Coded.{states_of-append}
 use Rattle.ack_vectors.proofs.ReadBack.{slice_get-front}
 use Rattle.data_dropped.specs.Drops.{code_at_place, code_in, drop_coding, numbers_in}
 
-slice_get-behind : {X : Type 0} (front behind : List X) (below left : ℕ) → length front + left ≡ below → slice_get (front ++ behind) below ≡ slice_get behind left
+slice_get-behind : {X : Type 0} (front behind : List X) (below left : ℕ) → length front + left ≡ below
+    → slice_get (front ++ behind) below ≡ slice_get behind left
 slice_get-behind [] behind below left is = let same : below ≡ left = omega arith in ap (λ (i : ℕ). slice_get behind i) same
 slice_get-behind (x ∷ front) behind zero left is = absurd (omega arith)
 slice_get-behind (x ∷ front) behind (suc below) left is = slice_get-behind front behind below left (omega arith)

@@ -28,7 +28,8 @@ told-is : (ack : ℕ) (says : Bool) (bytes : List ℕ) (r : Report) → joined_r
 told-is ack true bytes r is = option-is ack bytes r is
 told-is ack false bytes r is = absurd cc
 
-pub read_as_drops : (pseudo : Pseudo) (gsr : ℕ) (held : InboxState) (own frame : List ℕ) (tells : TellsItsDrops pseudo gsr held own frame) (ack : ℕ) (r : Report)
+pub read_as_drops : (pseudo : Pseudo) (gsr : ℕ) (held : InboxState) (own frame : List ℕ) (tells : TellsItsDrops pseudo gsr held own frame) (ack : ℕ)
+    (r : Report)
     → acknowledged_by gsr tells.packet.header.kind ≡ Some ack → report_in_packet ack tells.packet ≡ Some r → HaveCodes held.drops → ack < 2 ^ 48
     → IsReadAsDrops held ack r
 read_as_drops pseudo gsr held own frame tells ack r acks is have fits =

@@ -52,7 +52,8 @@ module _ (now : ℕ) where
 
   due-count : Alarms → ℕ
   due-count alarms =
-      due alarms timers.Request + due alarms timers.Ack + due alarms timers.Negotiate + due alarms timers.Rto + due alarms timers.Close + due alarms timers.TimeWait
+      due alarms timers.Request + due alarms timers.Ack + due alarms timers.Negotiate + due alarms timers.Rto + due alarms timers.Close
+      + due alarms timers.TimeWait
 
   at-most-six : (alarms : Alarms) → due-count alarms ≤ 6
   unfolding due-count due
@@ -243,7 +244,8 @@ module _ (now : ℕ) where
   is-stepped HadNoMemory = false
 
   end-then : (l after : Listening) (peer : Peer) (timer : Timer) (e : FlowEnd) (frame : Option (List ℕ)) (turned told : CallTold)
-      → end_of_peer l.flows peer ≡ Some e → is-stepped told ≡ true → IsTurnSo l after (record { peer = peer; deed = Calls (Fires timer); frame = frame; told = turned }) told
+      → end_of_peer l.flows peer ≡ Some e → is-stepped told ≡ true
+      → IsTurnSo l after (record { peer = peer; deed = Calls (Fires timer); frame = frame; told = turned }) told
       → end_of_peer after.flows peer
       ≡ (if is_given_up (flow_step e (Calls (Fires timer))).after.state.phase then None else Some (flow_step e (Calls (Fires timer))).after)
   unfolding is-stepped
@@ -284,7 +286,8 @@ module _ (now : ℕ) where
     fewer it found =
         let first : IsItsFirst s.timers it = its-first s.timers it sorted found in
         let there : IsSome (end_of_peer s.listening.flows it.0) =
-        found_among (is_peer it.0) s.listening.flows ∙ ap (list_any (is_peer it.0)) (sym is.tied) ∙ sym (found_among (is_peer it.0) s.timers) ∙ ap is_some first.1
+        found_among (is_peer it.0) s.listening.flows ∙ ap (list_any (is_peer it.0)) (sym is.tied) ∙ sym (found_among (is_peer it.0) s.timers)
+        ∙ ap is_some first.1
         in
         fewer-by it.0 it.1 first.0 (end_of_peer s.listening.flows it.0) refl there first.1 first.2
 

@@ -15,7 +15,8 @@ served-as : (now : ℕ) (had : Bool) (before after : Listening) (timers placed t
 served-as now had before after timers placed then' peer deed alarms is-placed is-after is-then is-alarms =
     ap (λ (t : Timers). served after t) (is-then ∙ then_placed now had timers placed peer (end_of_peer after.flows peer) alarms is-placed)
     ∙ ap (λ (l : Listening). served l (timers_then now timers peer (end_of_peer l.flows peer) alarms)) is-after
-    ∙ ap (λ (a : Alarms). served (listening_after before peer deed) (timers_then now timers peer (end_of_peer (listening_after before peer deed).flows peer) a)) is-alarms
+    ∙ ap (λ (a : Alarms). served (listening_after before peer deed)
+    (timers_then now timers peer (end_of_peer (listening_after before peer deed).flows peer) a)) is-alarms
 
 pub heard_served : (now : ℕ) (had : Bool) (before after : Listening) (timers placed then' : Timers) (peer : Peer) (iss : ℕ) (bytes : List ℕ)
     (frame : Option (List ℕ)) (told : CallTold) (alarms : Alarms) → IsPlaced had timers placed peer → IsDone before after peer (Arrives iss bytes) frame told

@@ -40,7 +40,8 @@ module _ (peer : Peer) where
   put-by v w one rest Less is later = at-itself v w (one ∷ rest)
   put-by v w one rest Equal is later = ap (λ (o : Ordering). match_ordering o ((peer, w) ∷ (one.0, v) ∷ rest) ((one.0, w) ∷ rest) ((one.0, v) ∷ put rest w)) is
   put-by v w one rest Greater is later =
-      ap (λ (o : Ordering). match_ordering o ((peer, w) ∷ one ∷ put rest v) ((one.0, w) ∷ put rest v) (one ∷ put (put rest v) w)) is ∙ ap (λ (t : Timers). one ∷ t) later
+      ap (λ (o : Ordering). match_ordering o ((peer, w) ∷ one ∷ put rest v) ((one.0, w) ∷ put rest v) (one ∷ put (put rest v) w)) is
+      ∙ ap (λ (t : Timers). one ∷ t) later
 
   put-twice : (v w : Alarms) (timers : Timers) → put (put timers v) w ≡ put timers w
   put-twice v w [] = at-itself v w []
@@ -57,7 +58,8 @@ module _ (peer : Peer) where
   none_gone (one ∷ rest) none = none-by one rest (is_peer peer one.0) none (none_gone rest)
 
   -- one that was put there is
-  rest-none : (one : Peer × Alarms) (rest : Timers) (here : Bool) → cond here (Some one.1) (lookup (is_peer peer) rest) ≡ None → lookup (is_peer peer) rest ≡ None
+  rest-none : (one : Peer × Alarms) (rest : Timers) (here : Bool) → cond here (Some one.1) (lookup (is_peer peer) rest) ≡ None
+      → lookup (is_peer peer) rest ≡ None
   rest-none one rest true none = cc none
   rest-none one rest false none = none
 

@@ -108,7 +108,10 @@ module _ (now : ℕ) where
 
   looked3 : (s : CEnd) → Quiet2 s → Quiet3 (rung_once s timers.Negotiate)
   looked3 s q = (
-    (other_stays_quiet kinds_control now s timers.Negotiate timers.Request refl q.0, other_stays_quiet kinds_control now s timers.Negotiate timers.Ack refl q.1),
+    (
+      other_stays_quiet kinds_control now s timers.Negotiate timers.Request refl q.0,
+      other_stays_quiet kinds_control now s timers.Negotiate timers.Ack refl q.1,
+    ),
     told_is_quiet kinds_control now s timers.Negotiate,
   )
 
@@ -125,7 +128,10 @@ module _ (now : ℕ) where
   looked5 s q = (
     (
       (
-        (other_stays_quiet kinds_control now s timers.Close timers.Request refl q.0.0.0, other_stays_quiet kinds_control now s timers.Close timers.Ack refl q.0.0.1),
+        (
+          other_stays_quiet kinds_control now s timers.Close timers.Request refl q.0.0.0,
+          other_stays_quiet kinds_control now s timers.Close timers.Ack refl q.0.0.1,
+        ),
         other_stays_quiet kinds_control now s timers.Close timers.Negotiate refl q.0.1,
       ),
       other_stays_quiet kinds_control now s timers.Close timers.Rto refl q.1,
@@ -138,7 +144,10 @@ module _ (now : ℕ) where
     (
       (
         (
-          (other_stays_quiet kinds_control now s timers.TimeWait timers.Request refl q.0.0.0.0, other_stays_quiet kinds_control now s timers.TimeWait timers.Ack refl q.0.0.0.1),
+          (
+            other_stays_quiet kinds_control now s timers.TimeWait timers.Request refl q.0.0.0.0,
+            other_stays_quiet kinds_control now s timers.TimeWait timers.Ack refl q.0.0.0.1,
+          ),
           other_stays_quiet kinds_control now s timers.TimeWait timers.Negotiate refl q.0.0.1,
         ),
         other_stays_quiet kinds_control now s timers.TimeWait timers.Rto refl q.0.1,
@@ -156,7 +165,8 @@ module _ (now : ℕ) where
 
   by6 : (n : ℕ) (s : CEnd) → Quiet5 s → (due : Bool) → has_run_out (alarm_of s.alarms timers.TimeWait) now ≡ due → ticked now (suc n) s ≡ rung_all s from6
   by6 n s q true is =
-      ap (ticked now n) (ticks-first s timers.TimeWait (first6 s q ∙ stops s.alarms timers.TimeWait [] is) is) ∙ at7 n (rung_once s timers.TimeWait) (looked6 s q)
+      ap (ticked now n) (ticks-first s timers.TimeWait (first6 s q ∙ stops s.alarms timers.TimeWait [] is) is)
+      ∙ at7 n (rung_once s timers.TimeWait) (looked6 s q)
   by6 n s q false is = at7 (suc n) s (q, is) ∙ sym (left-alone s timers.TimeWait is)
 
   at6 : (n : ℕ) (s : CEnd) → Quiet5 s → ticked now (suc n) s ≡ rung_all s from6
@@ -164,39 +174,48 @@ module _ (now : ℕ) where
 
   by5 : (n : ℕ) (s : CEnd) → Quiet4 s → (due : Bool) → has_run_out (alarm_of s.alarms timers.Close) now ≡ due → ticked now (suc (suc n)) s ≡ rung_all s from5
   by5 n s q true is =
-      ap (ticked now (suc n)) (ticks-first s timers.Close (first5 s q ∙ stops s.alarms timers.Close from6 is) is) ∙ at6 n (rung_once s timers.Close) (looked5 s q)
+      ap (ticked now (suc n)) (ticks-first s timers.Close (first5 s q ∙ stops s.alarms timers.Close from6 is) is)
+      ∙ at6 n (rung_once s timers.Close) (looked5 s q)
   by5 n s q false is = at6 (suc n) s (q, is) ∙ ap (λ (x : CEnd). rung_all x from6) (sym (left-alone s timers.Close is))
 
   at5 : (n : ℕ) (s : CEnd) → Quiet4 s → ticked now (suc (suc n)) s ≡ rung_all s from5
   at5 n s q = by5 n s q (has_run_out (alarm_of s.alarms timers.Close) now) refl
 
-  by4 : (n : ℕ) (s : CEnd) → Quiet3 s → (due : Bool) → has_run_out (alarm_of s.alarms timers.Rto) now ≡ due → ticked now (suc (suc (suc n))) s ≡ rung_all s from4
+  by4 : (n : ℕ) (s : CEnd) → Quiet3 s → (due : Bool) → has_run_out (alarm_of s.alarms timers.Rto) now ≡ due
+      → ticked now (suc (suc (suc n))) s ≡ rung_all s from4
   by4 n s q true is =
-      ap (ticked now (suc (suc n))) (ticks-first s timers.Rto (first4 s q ∙ stops s.alarms timers.Rto from5 is) is) ∙ at5 n (rung_once s timers.Rto) (looked4 s q)
+      ap (ticked now (suc (suc n))) (ticks-first s timers.Rto (first4 s q ∙ stops s.alarms timers.Rto from5 is) is)
+      ∙ at5 n (rung_once s timers.Rto) (looked4 s q)
   by4 n s q false is = at5 (suc n) s (q, is) ∙ ap (λ (x : CEnd). rung_all x from5) (sym (left-alone s timers.Rto is))
 
   at4 : (n : ℕ) (s : CEnd) → Quiet3 s → ticked now (suc (suc (suc n))) s ≡ rung_all s from4
   at4 n s q = by4 n s q (has_run_out (alarm_of s.alarms timers.Rto) now) refl
 
-  by3 : (n : ℕ) (s : CEnd) → Quiet2 s → (due : Bool) → has_run_out (alarm_of s.alarms timers.Negotiate) now ≡ due → ticked now (suc (suc (suc (suc n)))) s ≡ rung_all s from3
+  by3 : (n : ℕ) (s : CEnd) → Quiet2 s → (due : Bool) → has_run_out (alarm_of s.alarms timers.Negotiate) now ≡ due
+      → ticked now (suc (suc (suc (suc n)))) s ≡ rung_all s from3
   by3 n s q true is =
-      ap (ticked now (suc (suc (suc n)))) (ticks-first s timers.Negotiate (first3 s q ∙ stops s.alarms timers.Negotiate from4 is) is) ∙ at4 n (rung_once s timers.Negotiate) (looked3 s q)
+      ap (ticked now (suc (suc (suc n)))) (ticks-first s timers.Negotiate (first3 s q ∙ stops s.alarms timers.Negotiate from4 is) is)
+      ∙ at4 n (rung_once s timers.Negotiate) (looked3 s q)
   by3 n s q false is = at4 (suc n) s (q, is) ∙ ap (λ (x : CEnd). rung_all x from4) (sym (left-alone s timers.Negotiate is))
 
   at3 : (n : ℕ) (s : CEnd) → Quiet2 s → ticked now (suc (suc (suc (suc n)))) s ≡ rung_all s from3
   at3 n s q = by3 n s q (has_run_out (alarm_of s.alarms timers.Negotiate) now) refl
 
-  by2 : (n : ℕ) (s : CEnd) → Quiet1 s → (due : Bool) → has_run_out (alarm_of s.alarms timers.Ack) now ≡ due → ticked now (suc (suc (suc (suc (suc n))))) s ≡ rung_all s from2
+  by2 : (n : ℕ) (s : CEnd) → Quiet1 s → (due : Bool) → has_run_out (alarm_of s.alarms timers.Ack) now ≡ due
+      → ticked now (suc (suc (suc (suc (suc n))))) s ≡ rung_all s from2
   by2 n s q true is =
-      ap (ticked now (suc (suc (suc (suc n))))) (ticks-first s timers.Ack (first2 s q ∙ stops s.alarms timers.Ack from3 is) is) ∙ at3 n (rung_once s timers.Ack) (looked2 s q)
+      ap (ticked now (suc (suc (suc (suc n))))) (ticks-first s timers.Ack (first2 s q ∙ stops s.alarms timers.Ack from3 is) is)
+      ∙ at3 n (rung_once s timers.Ack) (looked2 s q)
   by2 n s q false is = at3 (suc n) s (q, is) ∙ ap (λ (x : CEnd). rung_all x from3) (sym (left-alone s timers.Ack is))
 
   at2 : (n : ℕ) (s : CEnd) → Quiet1 s → ticked now (suc (suc (suc (suc (suc n))))) s ≡ rung_all s from2
   at2 n s q = by2 n s q (has_run_out (alarm_of s.alarms timers.Ack) now) refl
 
-  by1 : (n : ℕ) (s : CEnd) → (due : Bool) → has_run_out (alarm_of s.alarms timers.Request) now ≡ due → ticked now (suc (suc (suc (suc (suc (suc n)))))) s ≡ rung_all s every_timer
+  by1 : (n : ℕ) (s : CEnd) → (due : Bool) → has_run_out (alarm_of s.alarms timers.Request) now ≡ due
+      → ticked now (suc (suc (suc (suc (suc (suc n)))))) s ≡ rung_all s every_timer
   by1 n s true is =
-      ap (ticked now (suc (suc (suc (suc (suc n)))))) (ticks-first s timers.Request (stops s.alarms timers.Request from2 is) is) ∙ at2 n (rung_once s timers.Request) (told_is_quiet kinds_control now s timers.Request)
+      ap (ticked now (suc (suc (suc (suc (suc n)))))) (ticks-first s timers.Request (stops s.alarms timers.Request from2 is) is)
+      ∙ at2 n (rung_once s timers.Request) (told_is_quiet kinds_control now s timers.Request)
   by1 n s false is = at2 (suc n) s is ∙ ap (λ (x : CEnd). rung_all x from2) (sym (left-alone s timers.Request is))
 
   at1 : (n : ℕ) (s : CEnd) → ticked now (suc (suc (suc (suc (suc (suc n)))))) s ≡ rung_all s every_timer

@@ -196,7 +196,8 @@ there-by alarms rest true is = refl
 there-by alarms rest false is = is
 
 due-by : (peer : Peer) (alarms : Alarms) (rest : Timers) (timer : Option Timer) (later : Option (Peer × Timer))
-    → IfSome later (λ due. IsSome (lookup (is_peer due.0) rest)) → IfSome (due_or peer timer later) (λ due. IsSome (lookup (is_peer due.0) ((peer, alarms) ∷ rest)))
+    → IfSome later (λ due. IsSome (lookup (is_peer due.0) rest))
+    → IfSome (due_or peer timer later) (λ due. IsSome (lookup (is_peer due.0) ((peer, alarms) ∷ rest)))
 due-by peer alarms rest (Some timer) later is =
     ap (λ (here : Bool). is_some (cond here (Some alarms) (lookup (is_peer peer) rest))) (peers_alike.refl peer)
 due-by peer alarms rest None None is = tt

@@ -37,7 +37,8 @@ keeps-more sent l nonce k =
       last = last-more;
     }
   where
-    last-more : (i : ℕ) → i < length (take 4096 (nonce ∷ l.nonces)) → slice_get (take 4096 (nonce ∷ l.nonces)) i ≡ slice_get (sent ++ nonce ∷ []) (length (sent ++ nonce ∷ []) - (i + 1))
+    last-more : (i : ℕ) → i < length (take 4096 (nonce ∷ l.nonces))
+        → slice_get (take 4096 (nonce ∷ l.nonces)) i ≡ slice_get (sent ++ nonce ∷ []) (length (sent ++ nonce ∷ []) - (i + 1))
     last-more zero h =
         let newest : length (sent ++ nonce ∷ []) - 1 ≡ length sent = omega (arith, length-append sent (nonce ∷ [])) in
         sym (ap (λ i. slice_get (sent ++ nonce ∷ []) i) newest ∙ get-pushed sent nonce)

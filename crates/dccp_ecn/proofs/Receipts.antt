@@ -19,7 +19,8 @@ abbrev pub EachArrival : (ℕ → Arrived → Type 0) → List Arrival → Type 
 EachArrival P [] = Unit {0}
 EachArrival P (a ∷ rest) = (a.number < 2 ^ 48) × P a.number a.how × EachArrival P rest
 
-pub each_arrival-push : (P : ℕ → Arrived → Type 0) (rs : List Arrival) (n : ℕ) (how : Arrived) → n < 2 ^ 48 → P n how → EachArrival P rs → EachArrival P (rs ++ arrival_of n how ∷ [])
+pub each_arrival-push : (P : ℕ → Arrived → Type 0) (rs : List Arrival) (n : ℕ) (how : Arrived) → n < 2 ^ 48 → P n how → EachArrival P rs
+    → EachArrival P (rs ++ arrival_of n how ∷ [])
 each_arrival-push P [] n how fits p each = (fits, p, tt)
 each_arrival-push P (r ∷ rs) n how fits p each = (each.0, each.1, each_arrival-push P rs n how fits p each.2)
 
@@ -94,7 +95,8 @@ pub received-push : (e : Arrivals) (rs : List Arrival) (a : Arrival) → receive
 received-push e [] a = refl
 received-push e (r ∷ rs) a = received-push (taken_in e r.number r.how) rs a
 
-pub greatest-push : (greatest : Option ℕ) (rs : List Arrival) (a : Arrival) → greatest_from greatest (rs ++ a ∷ []) ≡ greatest_came (greatest_from greatest rs) a.number
+pub greatest-push : (greatest : Option ℕ) (rs : List Arrival) (a : Arrival)
+    → greatest_from greatest (rs ++ a ∷ []) ≡ greatest_came (greatest_from greatest rs) a.number
 greatest-push greatest [] a = refl
 greatest-push greatest (r ∷ rs) a = greatest-push (greatest_came greatest r.number) rs a
 

@@ -83,11 +83,13 @@ abbrev EachHeard : (ℕ → Arrived → Type 0) → List (List Arrival) → Type
 EachHeard P [] = Unit {0}
 EachHeard P (receipts ∷ rest) = EachArrival P receipts × EachHeard P rest
 
-heard-push : (P : ℕ → Arrived → Type 0) (heard : List (List Arrival)) (receipts : List Arrival) → EachArrival P receipts → EachHeard P heard → EachHeard P (heard ++ receipts ∷ [])
+heard-push : (P : ℕ → Arrived → Type 0) (heard : List (List Arrival)) (receipts : List Arrival) → EachArrival P receipts → EachHeard P heard
+    → EachHeard P (heard ++ receipts ∷ [])
 heard-push P [] receipts each all = (each, tt)
 heard-push P (rs ∷ rest) receipts each all = (all.0, heard-push P rest receipts each all.1)
 
-heard-weaker : (P Q : ℕ → Arrived → Type 0) (heard : List (List Arrival)) → ((n : ℕ) (how : Arrived) → P n how → Q n how) → EachHeard P heard → EachHeard Q heard
+heard-weaker : (P Q : ℕ → Arrived → Type 0) (heard : List (List Arrival)) → ((n : ℕ) (how : Arrived) → P n how → Q n how) → EachHeard P heard
+    → EachHeard Q heard
 heard-weaker P Q [] h all = tt
 heard-weaker P Q (rs ∷ rest) h all = (each_arrival-weaker P Q rs h all.0, heard-weaker P Q rest h all.1)
 
@@ -105,7 +107,8 @@ sent-stays sent more n how is nonce same =
     let most : n ≤ length sent = before.1 in
     (some, omega (arith, length-append sent (more ∷ [])), get-front sent (more ∷ []) (n - 1) (omega arith) ∙ before.2)
 
-unmarked-sent : (sent : List Bool) (index : ℕ) (nonce : Bool) → length sent ≤ 2 ^ 46 → slice_get sent index ≡ Some nonce → IsSent sent (packet_number index) (came.Nonce nonce)
+unmarked-sent : (sent : List Bool) (index : ℕ) (nonce : Bool) → length sent ≤ 2 ^ 46 → slice_get sent index ≡ Some nonce
+    → IsSent sent (packet_number index) (came.Nonce nonce)
 unmarked-sent sent index nonce few is other same =
     let inside : index < length sent = slice_get_within sent index nonce is in
     let back : packet_number index - 1 ≡ index = omega arith in
@@ -166,7 +169,8 @@ heard-honest : (sent : List Bool) (heard : List (List Arrival)) → length sent 
     → (checks (ledger_by sent) report ≡ unless_old sent report Fits) × (checks_forged (ledger_by sent) report ≡ unless_old sent report Unfit)
 heard-honest sent [] few all index report is = absurd (none-some report is)
 heard-honest sent (receipts ∷ rest) few all zero report is =
-    subst (λ (told : EcnReport). (checks (ledger_by sent) told ≡ unless_old sent told Fits) × (checks_forged (ledger_by sent) told ≡ unless_old sent told Unfit))
+    subst (λ (told : EcnReport). (checks (ledger_by sent) told ≡ unless_old sent told Fits)
+    × (checks_forged (ledger_by sent) told ≡ unless_old sent told Unfit))
     (same_Some (report_by receipts) report is) (report-honest sent receipts few all.0)
 heard-honest sent (receipts ∷ rest) few all (suc index) report is = heard-honest sent rest few all.1 index report is
 

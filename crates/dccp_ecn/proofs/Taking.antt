@@ -45,14 +45,17 @@ pub places_apart : (f m n : ℕ) → f < 2 ^ 48 → m < 2 ^ 48 → n < 2 ^ 48 �
 places_apart f m n p q r a b e = omega arith
 
 -- of the numbers less than 2,048 above the floor that is raised, just those keep their place that were so above the old one
-pub near-kept : (f g m : ℕ) → f < 2 ^ 48 → g < 2 ^ 48 → m < 2 ^ 48 → distance f g < 2 ^ 47 → distance g m < 2048 → distance f m < 2048 → distance f g ≤ distance f m % 2048
+pub near-kept : (f g m : ℕ) → f < 2 ^ 48 → g < 2 ^ 48 → m < 2 ^ 48 → distance f g < 2 ^ 47 → distance g m < 2048 → distance f m < 2048
+    → distance f g ≤ distance f m % 2048
 near-kept f g m p q r up above near = omega arith
 
-pub far-emptied : (f g m : ℕ) → f < 2 ^ 48 → g < 2 ^ 48 → m < 2 ^ 48 → distance f g < 2 ^ 47 → distance g m < 2048 → 2048 ≤ distance f m → distance f m % 2048 < distance f g
+pub far-emptied : (f g m : ℕ) → f < 2 ^ 48 → g < 2 ^ 48 → m < 2 ^ 48 → distance f g < 2 ^ 47 → distance g m < 2048 → 2048 ≤ distance f m
+    → distance f m % 2048 < distance f g
 far-emptied f g m p q r up above far = omega arith
 
 -- a place that was written
-pub put-at : (ring : List (Option Arrived)) (n place : ℕ) (how : Arrived) → length ring ≡ 2048 → place ≡ n % 2048 → IsPut n how ring (slice_set ring place (Some how))
+pub put-at : (ring : List (Option Arrived)) (n place : ℕ) (how : Arrived) → length ring ≡ 2048 → place ≡ n % 2048
+    → IsPut n how ring (slice_set ring place (Some how))
 put-at ring n place how size placed m =
     elim (cases_eq (m % 2048) (n % 2048)) [
       | inl same ↦ rw (eq-eqb (m % 2048) (n % 2048) same) (get_or-set_at ring place (m % 2048) (Some how) None (same ∙ sym placed) (omega arith))

@@ -48,7 +48,8 @@ zeros-each P hi (byte ∷ rest) fits h =
     first = elim (cases_Bool (state_of byte == 0)) [
       | inl zeros ↦
           rw zeros (each-downwards P (run_length byte) hi fits (omega arith)
-          (λ n n_fits near. h (byte_run hi byte) n (0, omega arith, refl) (eqb-true (state_of byte) 0 zeros) n_fits (lt-ltb (distance n hi) (run_length byte) near)))
+          (λ n n_fits near. h (byte_run hi byte) n (0, omega arith, refl) (eqb-true (state_of byte) 0 zeros) n_fits
+          (lt-ltb (distance n hi) (run_length byte) near)))
       | inr other ↦ rw other tt
     ]
 
@@ -76,5 +77,8 @@ zeros-told e ack fits =
     (λ run n there is_zero n_fits inside.
     let few : length (ecn_bytes e ack) ≤ 253 = room-vector option_room (ecn_states e) e.set.floor ack in
     let given : state_at ack (ecn_bytes e ack) n ≡ Some run.state = each_run-gives ack n (ecn_bytes e ack) run fits n_fits (omega arith) there inside in
-    let read = read_back option_room (ecn_states e) e.set.floor ack n (plain-ecn e) fits n_fits in
-    (n_fits, told-state (nat_lt (distance n ack) (numbers_told_within option_room (ecn_states e) e.set.floor ack)) (ecn_states e n) run.state (sym read ∙ given) ∙ is_zero))
+    let read = read_back option_room (ecn_states e) e.set.floor ack n (plain-ecn e) fits n_fits in (
+      n_fits,
+      told-state (nat_lt (distance n ack) (numbers_told_within option_room (ecn_states e) e.set.floor ack)) (ecn_states e n) run.state (sym read ∙ given)
+          ∙ is_zero,
+    ))

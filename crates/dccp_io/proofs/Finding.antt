@@ -55,7 +55,8 @@ end-next given (Some bytes) ahead same next =
 -- a line stands next, and behind it what is left
 line-next : (given count : ℕ) (got : List ℕ) (all known : Option (List ℕ)) → count ≤ length got → prepend_known got known ≡ all
     → IfSome all (λ bytes. next_in_bytes given bytes ≡ Line (take count got))
-    → IfSome all (λ bytes. (next_in_bytes given bytes ≡ Line (take count got)) × (prepend_known (drop count got) known ≡ Some (drop (length (take count got)) bytes)))
+    → IfSome all (λ bytes. (next_in_bytes given bytes ≡ Line (take count got))
+    × (prepend_known (drop count got) known ≡ Some (drop (length (take count got)) bytes)))
 line-next given count got None known fits same next = tt
 line-next given count got (Some bytes) None fits same next = absurd (none-some bytes same)
 line-next given count got (Some bytes) (Some more) fits same next =
@@ -79,7 +80,8 @@ module _ {S : Type 0} (left : S → Option (List ℕ)) (faults lender : S → �
       → given ≤ most_input_bytes → length got.pending ≤ 8192 → Seeks left faults lender passed got before after → Rose (faults before) (faults after)
       → Finds left faults lender (state before held.pending used given stopped) (state after got.pending 0 given (Some stop.Failed)) (Err stop.Failed)
   found-failed before after held passed got used given stopped is unstopped within block seeks rose =
-      let here : Seeks left faults lender (let_go held used) got before after = subst (λ (ahead : BytesAhead). Seeks left faults lender ahead got before after) is seeks in
+      let here : Seeks left faults lender (let_go held used) got before after =
+      subst (λ (ahead : BytesAhead). Seeks left faults lender ahead got before after) is seeks in
       record {
         never_falls = here.never_falls;
         same_lender = here.same_lender;
@@ -93,7 +95,8 @@ module _ {S : Type 0} (left : S → Option (List ℕ)) (faults lender : S → �
       → IfSome (ahead_of passed (left before)) (λ bytes. next_in_bytes given bytes ≡ made_out got.pending stands.TooLong)
       → Finds left faults lender (state before held.pending used given stopped) (state after got.pending 0 given (Some stop.TooLong)) (Err stop.TooLong)
   found-long before after held passed got used given stopped is unstopped within block seeks next =
-      let here : Seeks left faults lender (let_go held used) got before after = subst (λ (ahead : BytesAhead). Seeks left faults lender ahead got before after) is seeks in
+      let here : Seeks left faults lender (let_go held used) got before after =
+      subst (λ (ahead : BytesAhead). Seeks left faults lender ahead got before after) is seeks in
       record {
         never_falls = here.never_falls;
         same_lender = here.same_lender;
@@ -105,7 +108,8 @@ module _ {S : Type 0} (left : S → Option (List ℕ)) (faults lender : S → �
           same_rest = here.same_ahead;
           cause = inr (
             unstopped,
-            subst (λ (ahead : BytesAhead). IfSome (ahead_of ahead (left before)) (λ bytes. next_in_bytes given bytes ≡ made_out got.pending stands.TooLong)) is next,
+            subst (λ (ahead : BytesAhead). IfSome (ahead_of ahead (left before))
+                (λ bytes. next_in_bytes given bytes ≡ made_out got.pending stands.TooLong)) is next,
           );
         };
       }
@@ -115,7 +119,8 @@ module _ {S : Type 0} (left : S → Option (List ℕ)) (faults lender : S → �
       → IfSome (ahead_of passed (left before)) (λ bytes. next_in_bytes given bytes ≡ made_out got.pending stands.TooMuch)
       → Finds left faults lender (state before held.pending used given stopped) (state after got.pending 0 given (Some stop.TooMuch)) (Err stop.TooMuch)
   found-much before after held passed got used given stopped is unstopped within block seeks next =
-      let here : Seeks left faults lender (let_go held used) got before after = subst (λ (ahead : BytesAhead). Seeks left faults lender ahead got before after) is seeks in
+      let here : Seeks left faults lender (let_go held used) got before after =
+      subst (λ (ahead : BytesAhead). Seeks left faults lender ahead got before after) is seeks in
       record {
         never_falls = here.never_falls;
         same_lender = here.same_lender;
@@ -127,7 +132,8 @@ module _ {S : Type 0} (left : S → Option (List ℕ)) (faults lender : S → �
           same_rest = here.same_ahead;
           cause = inr (
             unstopped,
-            subst (λ (ahead : BytesAhead). IfSome (ahead_of ahead (left before)) (λ bytes. next_in_bytes given bytes ≡ made_out got.pending stands.TooMuch)) is next,
+            subst (λ (ahead : BytesAhead). IfSome (ahead_of ahead (left before))
+                (λ bytes. next_in_bytes given bytes ≡ made_out got.pending stands.TooMuch)) is next,
           );
         };
       }
@@ -137,7 +143,8 @@ module _ {S : Type 0} (left : S → Option (List ℕ)) (faults lender : S → �
       → IfSome (ahead_of passed (left before)) (λ bytes. next_in_bytes given bytes ≡ made_out got.pending stands.End)
       → Finds left faults lender (state before held.pending used given stopped) (state after got.pending 0 given stopped) (Ok false)
   found-end before after held passed got used given stopped is unstopped within block seeks next =
-      let here : Seeks left faults lender (let_go held used) got before after = subst (λ (ahead : BytesAhead). Seeks left faults lender ahead got before after) is seeks in
+      let here : Seeks left faults lender (let_go held used) got before after =
+      subst (λ (ahead : BytesAhead). Seeks left faults lender ahead got before after) is seeks in
       record {
         never_falls = here.never_falls;
         same_lender = here.same_lender;
@@ -148,7 +155,8 @@ module _ {S : Type 0} (left : S → Option (List ℕ)) (faults lender : S → �
           is_open = unstopped;
           given = refl;
           next = end-next given (prepend_known (drop used held.pending) (left before)) (prepend_known got.pending (left after)) here.same_ahead
-              (subst (λ (ahead : BytesAhead). IfSome (ahead_of ahead (left before)) (λ bytes. next_in_bytes given bytes ≡ made_out got.pending stands.End)) is next);
+              (subst (λ (ahead : BytesAhead). IfSome (ahead_of ahead (left before))
+              (λ bytes. next_in_bytes given bytes ≡ made_out got.pending stands.End)) is next);
         };
       }
 
@@ -158,7 +166,8 @@ module _ {S : Type 0} (left : S → Option (List ℕ)) (faults lender : S → �
       → IsLineOf given got.pending (stands.Line count)
       → Finds left faults lender (state before held.pending used given stopped) (state after got.pending count (given + count) stopped) (Ok true)
   found-line before after held passed got used given count stopped is unstopped block seeks next fits =
-      let here : Seeks left faults lender (let_go held used) got before after = subst (λ (ahead : BytesAhead). Seeks left faults lender ahead got before after) is seeks in
+      let here : Seeks left faults lender (let_go held used) got before after =
+      subst (λ (ahead : BytesAhead). Seeks left faults lender ahead got before after) is seeks in
       let size : length (take count got.pending) ≡ count = length-take-le count got.pending fits.1 in
       record {
         never_falls = here.never_falls;
@@ -172,6 +181,7 @@ module _ {S : Type 0} (left : S → Option (List ℕ)) (faults lender : S → �
           short = rw size fits.2;
           given = ap (λ (n : ℕ). given + n) (sym size);
           next = line-next given count got.pending (prepend_known (drop used held.pending) (left before)) (left after) fits.1 here.same_ahead
-              (subst (λ (ahead : BytesAhead). IfSome (ahead_of ahead (left before)) (λ bytes. next_in_bytes given bytes ≡ made_out got.pending (stands.Line count))) is next);
+              (subst (λ (ahead : BytesAhead). IfSome (ahead_of ahead (left before))
+              (λ bytes. next_in_bytes given bytes ≡ made_out got.pending (stands.Line count))) is next);
         };
       }

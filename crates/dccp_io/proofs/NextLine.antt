@@ -23,7 +23,8 @@ lacking-by : (test all : Bool) (t n k : ℕ) → (not test && all) ≡ true → 
 lacking-by true all t n k is more = cc is
 lacking-by false all t n k is more = let same : t ≡ n + k = more is in omega (arith, same)
 
-block-length : (n : ℕ) (xs : List ℕ) → n ≤ length xs → list_all (λ byte. not (byte == newline)) (take n xs) ≡ true → text_length xs ≡ n + text_length (drop n xs)
+block-length : (n : ℕ) (xs : List ℕ) → n ≤ length xs → list_all (λ byte. not (byte == newline)) (take n xs) ≡ true
+    → text_length xs ≡ n + text_length (drop n xs)
 block-length zero xs fits all = omega arith
 block-length (suc n) [] fits all = absurd (omega (arith, fits))
 block-length (suc n) (x ∷ xs) fits all =
@@ -49,7 +50,8 @@ one-clear-by : (test : Bool) (n m k : ℕ) → suc (suc k) ≤ suc (if test then
 one-clear-by true n m k fits behind = absurd (omega (arith, fits))
 one-clear-by false n m k fits behind = let more : k ≤ m = behind (omega (arith, fits)) in omega (arith, more)
 
-pub all_but_one_clear : (count : ℕ) (bytes : List ℕ) → 0 < count → count ≤ length bytes → count ≤ text_length bytes + 1 → count - 1 ≤ text_length (take count bytes)
+pub all_but_one_clear : (count : ℕ) (bytes : List ℕ) → 0 < count → count ≤ length bytes → count ≤ text_length bytes + 1
+    → count - 1 ≤ text_length (take count bytes)
 all_but_one_clear zero bytes some fits line = absurd (omega (arith, some))
 all_but_one_clear (suc zero) bytes some fits line = omega arith
 all_but_one_clear (suc (suc count)) [] some fits line = absurd (omega (arith, fits))
@@ -61,7 +63,8 @@ all_but_one_clear (suc (suc count)) (byte ∷ bytes) some fits line =
 
 -- nor does one stand in a block behind them
 pub block_seen : (bytes : List ℕ) (done size : ℕ) → done + size ≤ length bytes → text_length bytes ≡ done + text_length (drop done bytes)
-    → list_all (λ byte. not (byte == newline)) (take (done + size - done) (drop done bytes)) ≡ true → text_length bytes ≡ done + size + text_length (drop (done + size) bytes)
+    → list_all (λ byte. not (byte == newline)) (take (done + size - done) (drop done bytes)) ≡ true
+    → text_length bytes ≡ done + size + text_length (drop (done + size) bytes)
 block_seen bytes done size fits before lacks =
     let same : size ≡ done + size - done = omega arith in
     let block =
@@ -118,9 +121,12 @@ settled-line given pending more inside =
     let some : 0 < length pending = omega (arith, inside) in
     let longer : 0 < length (pending ++ more) = rw (length-append pending more) (omega (arith, inside)) in
     next-some given (pending ++ more) longer
-    ∙ ap (λ (l : List ℕ). if ends_within given l then (if nat_le one_too_many (text_length (pending ++ more)) then Long (take one_too_many (pending ++ more)) else Line l) else Much) line
-    ∙ ap (λ (k : ℕ). if ends_within given (first_line pending) then (if nat_le one_too_many k then Long (take one_too_many (pending ++ more)) else Line (first_line pending)) else Much) same
-    ∙ alike-by (ends_within given (first_line pending)) (nat_le one_too_many n) (take one_too_many (pending ++ more)) (take one_too_many pending) (first_line pending) (first_line pending)
+    ∙ ap (λ (l : List ℕ). if ends_within given l
+    then (if nat_le one_too_many (text_length (pending ++ more)) then Long (take one_too_many (pending ++ more)) else Line l) else Much) line
+    ∙ ap (λ (k : ℕ). if ends_within given (first_line pending)
+    then (if nat_le one_too_many k then Long (take one_too_many (pending ++ more)) else Line (first_line pending)) else Much) same
+    ∙ alike-by (ends_within given (first_line pending)) (nat_le one_too_many n) (take one_too_many (pending ++ more)) (take one_too_many pending)
+    (first_line pending) (first_line pending)
     (λ long. let least = is-least one_too_many n long in take-append-le one_too_many pending more (omega (arith, least, inside))) refl
     ∙ sym (next-some given pending some)
 
@@ -131,7 +137,8 @@ is-within : (given : ℕ) (line : List ℕ) → given + one_too_many ≤ most_in
 is-within given line within = grind (arith, nat_tests)
 
 -- a line of that many bytes is too much
-next-much : (given : ℕ) (bytes : List ℕ) → most_input_bytes < given + min (text_length bytes) one_too_many → given ≤ most_input_bytes → next_in_bytes given bytes ≡ Much
+next-much : (given : ℕ) (bytes : List ℕ) → most_input_bytes < given + min (text_length bytes) one_too_many → given ≤ most_input_bytes
+    → next_in_bytes given bytes ≡ Much
 next-much given bytes past within =
     let fits = text_length-fits bytes in
     let size : length (first_line bytes) ≡ min (suc (text_length bytes)) (length bytes) = length-take (suc (text_length bytes)) bytes in
@@ -143,7 +150,8 @@ is-long : (n : ℕ) → one_too_many ≤ n → nat_le one_too_many n ≡ true
 is-long n long = grind (arith, nat_tests)
 
 -- a line of that many bytes is too long
-next-long : (given : ℕ) (bytes : List ℕ) → one_too_many ≤ text_length bytes → given + one_too_many ≤ most_input_bytes → next_in_bytes given bytes ≡ Long (take one_too_many bytes)
+next-long : (given : ℕ) (bytes : List ℕ) → one_too_many ≤ text_length bytes → given + one_too_many ≤ most_input_bytes
+    → next_in_bytes given bytes ≡ Long (take one_too_many bytes)
 next-long given bytes long within =
     let fits = text_length-fits bytes in
     next-some given bytes (omega (arith, long, fits))
@@ -161,7 +169,8 @@ is-inside : (given : ℕ) (line : List ℕ) → given + min (length line) one_to
 is-inside given line inside = grind (arith, nat_tests)
 
 -- a line that is neither too long nor too much
-pub next-line : (given n : ℕ) (bytes : List ℕ) → n ≡ length (first_line bytes) → 0 < n → given + min n one_too_many ≤ most_input_bytes → text_length bytes < one_too_many
+pub next-line : (given n : ℕ) (bytes : List ℕ) → n ≡ length (first_line bytes) → 0 < n → given + min n one_too_many ≤ most_input_bytes
+    → text_length bytes < one_too_many
     → Line (take n bytes) ≡ next_in_bytes given bytes
 next-line given n bytes is some inside short =
     let size = first_line_length bytes in
@@ -208,7 +217,8 @@ settled-front given asked pending more false tight within is enough none =
     ∙ sym (next-long given pending all inside)
 
 settled-by : (given asked : ℕ) (pending more : List ℕ) (test : Bool) → nat_lt (text_length pending) (length pending) ≡ test → given ≤ most_input_bytes
-    → asked ≡ min one_too_many (most_input_bytes - given + 1) → asked ≤ text_length pending → next_in_bytes given (pending ++ more) ≡ next_in_bytes given pending
+    → asked ≡ min one_too_many (most_input_bytes - given + 1) → asked ≤ text_length pending
+    → next_in_bytes given (pending ++ more) ≡ next_in_bytes given pending
 settled-by given asked pending more true test within is enough = settled-line given pending more (grind (arith, nat_tests))
 settled-by given asked pending more false test within is enough =
     let fits = text_length-fits pending in
@@ -229,8 +239,10 @@ abbrev from_some : Option (List ℕ) → List ℕ
 from_some None = []
 from_some (Some bytes) = bytes
 
-pub stands-next : (given asked : ℕ) (pending : List ℕ) (all known : Option (List ℕ)) (next : Next) → given ≤ most_input_bytes → asked ≡ min one_too_many (most_input_bytes - given + 1)
-    → IsSought asked pending known → prepend_known pending known ≡ all → next ≡ next_in_bytes given pending → IfSome all (λ bytes. next_in_bytes given bytes ≡ next)
+pub stands-next : (given asked : ℕ) (pending : List ℕ) (all known : Option (List ℕ)) (next : Next) → given ≤ most_input_bytes
+    → asked ≡ min one_too_many (most_input_bytes - given + 1)
+    → IsSought asked pending known → prepend_known pending known ≡ all → next ≡ next_in_bytes given pending
+    → IfSome all (λ bytes. next_in_bytes given bytes ≡ next)
 stands-next given asked pending None known next within is sought same told = tt
 stands-next given asked pending (Some bytes) None next within is sought same told = absurd (none-some bytes same)
 stands-next given asked pending (Some bytes) (Some more) next within is sought same told =

@@ -19,8 +19,10 @@ one-turn : (before between : Listening) (turn : CallTurn) (told : CallTold) (pee
     → IsChain between.config peer (end_of_peer between.flows peer) last later
     → IsChain before.config peer (end_of_peer before.flows peer) last (peer_turn_if same turn told later)
 one-turn before between turn (Stepped it) peer true is so last later rest =
-    let own : record { after = end_of_peer between.flows peer; frame = turn.frame; seen = it } ≡ chain_step before.config peer (end_of_peer before.flows peer) turn.deed
-    = subst (λ (p : Peer). record { after = end_of_peer between.flows p; frame = turn.frame; seen = it } ≡ chain_step before.config p (end_of_peer before.flows p) turn.deed)
+    let own : record { after = end_of_peer between.flows peer; frame = turn.frame; seen = it } ≡ chain_step before.config peer
+    (end_of_peer before.flows peer) turn.deed
+    = subst (λ (p : Peer). record { after = end_of_peer between.flows p; frame = turn.frame; seen = it } ≡ chain_step before.config p
+    (end_of_peer before.flows p) turn.deed)
     (one_peer turn.peer peer is) so.own in (
       ap (λ (step : ChainStep). step.frame) own,
       ap (λ (step : ChainStep). step.seen) own,
@@ -28,7 +30,8 @@ one-turn before between turn (Stepped it) peer true is so last later rest =
           (end_of_peer between.flows peer) last later so.same_config (ap (λ (step : ChainStep). step.after) own) rest,
     )
 one-turn before between turn (Stepped it) peer false is so last later rest =
-    moved-chain before.config between.config peer (end_of_peer before.flows peer) (end_of_peer between.flows peer) last later so.same_config (so.others peer is) rest
+    moved-chain before.config between.config peer (end_of_peer before.flows peer) (end_of_peer between.flows peer) last later so.same_config
+    (so.others peer is) rest
 one-turn before between turn WasBusy peer true is so last later rest =
     subst (λ (l : Listening). IsChain l.config peer (end_of_peer l.flows peer) last later) so rest
 one-turn before between turn WasBusy peer false is so last later rest =

@@ -43,13 +43,15 @@ others-after peer other e flows false ordered there apart =
 
 -- an end that stands takes a step
 stands-step : (l : Listening) (peer : Peer) (deed : Deed) (e : FlowEnd) → end_of_peer l.flows peer ≡ Some e → AreInOrder l.flows
-    → IsStep l (record l { flows = with_end l.flows peer (flow_step e deed).after }) peer deed (flow_step e deed).frame (Some (seen_of (flow_step e deed).answer))
+    → IsStep l (record l { flows = with_end l.flows peer (flow_step e deed).after }) peer deed (flow_step e deed).frame
+    (Some (seen_of (flow_step e deed).answer))
 stands-step l peer deed e found ordered =
     let next : FlowEnd = (flow_step e deed).after in
     let there : IsSome (end_of_peer l.flows peer) = ap is_some found in
     let shown = λ (after : Option FlowEnd). shows after (flow_step e deed) in
     record {
-      own = ap shown (own-after peer next l.flows (is_given_up next.state.phase) ordered there) ∙ ap (λ (x : Option FlowEnd). chain_step l.config peer x deed) (sym found);
+      own = ap shown (own-after peer next l.flows (is_given_up next.state.phase) ordered there)
+          ∙ ap (λ (x : Option FlowEnd). chain_step l.config peer x deed) (sym found);
       others = λ other apart. others-after peer other next l.flows (is_given_up next.state.phase) ordered there apart;
       same_config = refl;
     }

@@ -112,7 +112,8 @@ stand-after : (before after : Listening) (peer : Peer) (deed : Deed) (frame : Op
     → IsSoundListener before.config before.flows → IsStep before after peer deed frame seen
     → (q : Peer) (same : Bool) → is_peer peer q ≡ same → IfSome (end_of_peer after.flows q) (Stands before.config q)
 stand-after before after peer deed frame seen sound step q true is =
-    let own : end_of_peer after.flows peer ≡ (chain_step before.config peer (end_of_peer before.flows peer) deed).after = ap (λ (s : ChainStep). s.after) step.own in
+    let own : end_of_peer after.flows peer ≡ (chain_step before.config peer (end_of_peer before.flows peer) deed).after =
+    ap (λ (s : ChainStep). s.after) step.own in
     subst (λ (p : Peer). IfSome (end_of_peer after.flows p) (Stands before.config p)) (one_peer peer q is)
     (subst (λ (x : Option FlowEnd). IfSome x (Stands before.config peer)) (sym own)
     (ends_stand before.config peer (end_of_peer before.flows peer) deed sound.lists (sound.stand peer)))

@@ -54,17 +54,20 @@ heard-by : (config : Config) (bytes : List ℕ) (p : Parts) (service number : �
 heard-by config bytes p service number true is = refl
 heard-by config bytes p service number false is = cc is
 
-pub request_told : (config : Config) (bytes : List ℕ) (p : Parts) (service number : ℕ) (frame : Option (List ℕ)) (told : Option Outcome) → config.role ≡ roles.Server
+pub request_told : (config : Config) (bytes : List ℕ) (p : Parts) (service number : ℕ) (frame : Option (List ℕ)) (told : Option Outcome)
+    → config.role ≡ roles.Server
     → p.header.kind ≡ kind.Request service → (service == config.service) ≡ true
     → IsToldOfRequest config number (fault_if (reads_request config.lists p.options)) frame told
     → IsToldOf (takes (new_end config) (incoming (new_end config) bytes p number)) frame told
 request_told config bytes p service number frame told role asks own so =
-    let server_so = subst (λ (r : Role). IsToldOfRequest (record config { role = r }) number (fault_if (reads_request config.lists p.options)) frame told) role so in
+    let server_so = subst (λ (r : Role). IsToldOfRequest (record config { role = r }) number
+    (fault_if (reads_request config.lists p.options)) frame told) role so in
     let read = told-by config bytes p service number (reads_request config.lists p.options) frame told server_so in
     let taken : IsToldOf (takes (server config) (asked config bytes p service number)) frame told
     = subst (λ (s : Step Outcome). IsToldOf s frame told) (sym (heard-by config bytes p service number (service == config.service) own)) read in
     let whole : IsToldOf (takes (server config) (incoming (server config) bytes p number)) frame told
-    = subst (λ (k : Kind). IsToldOf (takes (server config) (incoming (server config) bytes (record p { header = record p.header { kind = k } }) number)) frame told)
+    = subst (λ (k : Kind). IsToldOf
+    (takes (server config) (incoming (server config) bytes (record p { header = record p.header { kind = k } }) number)) frame told)
     (sym asks) taken in
     subst (λ (r : Role). IsToldOf (takes (new_end (record config { role = r })) (incoming (new_end (record config { role = r })) bytes p number)) frame told)
     (sym role) whole

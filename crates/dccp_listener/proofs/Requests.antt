@@ -26,7 +26,8 @@ fresh config peer iss bytes = new_end (config_for config peer iss bytes)
 
 -- only a Request takes it out of LISTEN
 leaves-by : (config : ListenConfig) (peer : Peer) (iss : ℕ) (made bytes : List ℕ) (p : Parts) (number : ℕ) (k : Kind) → p.header.kind ≡ k
-    → is_flow (takes (fresh config peer iss made) (incoming (fresh config peer iss made) bytes (record p { header = record p.header { kind = k } }) number)).after.phase ≡ true
+    → is_flow (takes (fresh config peer iss made)
+    (incoming (fresh config peer iss made) bytes (record p { header = record p.header { kind = k } }) number)).after.phase ≡ true
     → (service : ℕ) × (k ≡ kind.Request service)
 leaves-by config peer iss made bytes p number (kind.Request service) is live = (service, refl)
 leaves-by config peer iss made bytes p number (kind.Response ack service) is live = absurd (false≢true live)

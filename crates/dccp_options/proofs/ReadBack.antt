@@ -116,7 +116,8 @@ items-entries_at place (item ∷ rest) =
     ap (λ items. item ∷ items) (items-entries_at (place + length (spelled item.mandatory item.kind item.body)) rest)
 
 pub said-entries_at : (place : ℕ) (items : List Item)
-    → map {B = ℕ × List ℕ} (λ (entry : Entry). (entry.kind, entry.body)) (entries_at place items) ≡ map {B = ℕ × List ℕ} (λ (item : Item). (item.kind, item.body)) items
+    → map {B = ℕ × List ℕ} (λ (entry : Entry). (entry.kind, entry.body)) (entries_at place items) ≡ map {B = ℕ × List ℕ}
+    (λ (item : Item). (item.kind, item.body)) items
 said-entries_at place [] = refl
 said-entries_at place (item ∷ rest) =
     ap (λ said. (item.kind, item.body) ∷ said) (said-entries_at (place + length (spelled item.mandatory item.kind item.body)) rest)

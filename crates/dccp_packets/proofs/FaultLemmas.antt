@@ -94,11 +94,13 @@ pub reserved_fault : (bytes : List ℕ) → 12 ≤ length bytes → (decoded byt
 reserved_fault bytes enough =
     let code = type_code bytes in
     let reach = to_type bytes enough in (
-      (λ h. ⊎_elim (λ below. absurd (true≢false (sym (type_some code below) ∙ no_type (type_of code) bytes (sym reach ∙ h)))) (λ above. above) (cases_lt code 10)),
+      (λ h. ⊎_elim (λ below. absurd (true≢false (sym (type_some code below) ∙ no_type (type_of code) bytes (sym reach ∙ h)))) (λ above. above)
+          (cases_lt code 10)),
       (λ h. reach ∙ ap (λ t. decoded_by t bytes) (type_none code h)),
     )
 
-to_kind : (bytes : List ℕ) (kind : PacketType) → 12 ≤ length bytes → type_of (type_code bytes) ≡ Some kind → decoded bytes ≡ decoded_as kind (has_long_numbers bytes) bytes
+to_kind : (bytes : List ℕ) (kind : PacketType) → 12 ≤ length bytes → type_of (type_code bytes) ≡ Some kind
+    → decoded bytes ≡ decoded_as kind (has_long_numbers bytes) bytes
 to_kind bytes kind enough typed = to_type bytes enough ∙ ap (λ t. decoded_by t bytes) typed
 
 pub small_fault : (bytes : List ℕ) (kind : PacketType) → 12 ≤ length bytes → type_of (type_code bytes) ≡ Some kind
@@ -113,14 +115,17 @@ small_fault bytes kind enough typed =
       (λ h. reach ∙ refused_by (nat_lt offset size) OffsetSmall (large_left kind long bytes) (lt-ltb offset size h)),
     )
 
-to_large : (bytes : List ℕ) (kind : PacketType) → 12 ≤ length bytes → type_of (type_code bytes) ≡ Some kind → fixed_length (has_long_numbers bytes) kind ≤ data_offset_bytes bytes
+to_large : (bytes : List ℕ) (kind : PacketType) → 12 ≤ length bytes → type_of (type_code bytes) ≡ Some kind
+    → fixed_length (has_long_numbers bytes) kind ≤ data_offset_bytes bytes
     → decoded bytes ≡ large_left kind (has_long_numbers bytes) bytes
 to_large bytes kind enough typed above =
     let long = has_long_numbers bytes in
     to_kind bytes kind enough typed
-    ∙ passed_by (nat_lt (data_offset_bytes bytes) (fixed_length long kind)) OffsetSmall (large_left kind long bytes) (le-ltb (data_offset_bytes bytes) (fixed_length long kind) above)
+    ∙ passed_by (nat_lt (data_offset_bytes bytes) (fixed_length long kind)) OffsetSmall (large_left kind long bytes)
+    (le-ltb (data_offset_bytes bytes) (fixed_length long kind) above)
 
-pub large_fault : (bytes : List ℕ) (kind : PacketType) → 12 ≤ length bytes → type_of (type_code bytes) ≡ Some kind → fixed_length (has_long_numbers bytes) kind ≤ data_offset_bytes bytes
+pub large_fault : (bytes : List ℕ) (kind : PacketType) → 12 ≤ length bytes → type_of (type_code bytes) ≡ Some kind
+    → fixed_length (has_long_numbers bytes) kind ≤ data_offset_bytes bytes
     → (decoded bytes ≡ Err OffsetLarge) ↔ (length bytes < data_offset_bytes bytes)
 large_fault bytes kind enough typed above =
     let long = has_long_numbers bytes in
@@ -131,14 +136,16 @@ large_fault bytes kind enough typed above =
       (λ h. reach ∙ refused_by test OffsetLarge (form_left kind long bytes) (lt-ltb (length bytes) (data_offset_bytes bytes) h)),
     )
 
-pub form_fault : (bytes : List ℕ) (kind : PacketType) → 12 ≤ length bytes → type_of (type_code bytes) ≡ Some kind → fixed_length (has_long_numbers bytes) kind ≤ data_offset_bytes bytes
+pub form_fault : (bytes : List ℕ) (kind : PacketType) → 12 ≤ length bytes → type_of (type_code bytes) ≡ Some kind
+    → fixed_length (has_long_numbers bytes) kind ≤ data_offset_bytes bytes
     → data_offset_bytes bytes ≤ length bytes → (decoded bytes ≡ Err ShortNumbers) ↔ (has_form (has_long_numbers bytes) kind ≡ false)
 form_fault bytes kind enough typed above within =
     let long = has_long_numbers bytes in
     let form = has_form long kind in
     let read : Result Parts Malformed = Ok (parts_of kind long bytes) in
     let reach = to_large bytes kind enough typed above
-    ∙ passed_by (nat_lt (length bytes) (data_offset_bytes bytes)) OffsetLarge (form_left kind long bytes) (le-ltb (length bytes) (data_offset_bytes bytes) within) in (
+    ∙ passed_by (nat_lt (length bytes) (data_offset_bytes bytes)) OffsetLarge (form_left kind long bytes)
+    (le-ltb (length bytes) (data_offset_bytes bytes) within) in (
       (λ h. not-true form (refused_at (not form) ShortNumbers read (omega arith) (sym reach ∙ h))),
       (λ h. reach ∙ refused_by (not form) ShortNumbers read (not_from_false form h)),
     )

@@ -30,7 +30,8 @@ detail_of_fits (Sync ack) fits = tt
 detail_of_fits (SyncAck ack) fits = tt
 
 -- what follows the nine common bytes
-length-numbers : (number : Number) (kind : Kind) → HasDetail kind → has_forms (is_long number) kind ≡ true → 9 + length (number_bytes number ++ kind_bytes kind) ≡ fixed_length (is_long number) (packet_type kind)
+length-numbers : (number : Number) (kind : Kind) → HasDetail kind → has_forms (is_long number) kind ≡ true
+    → 9 + length (number_bytes number ++ kind_bytes kind) ≡ fixed_length (is_long number) (packet_type kind)
 length-numbers (Long n) (Request service) detailed form = refl
 length-numbers (Long n) (Response ack service) detailed form = refl
 length-numbers (Long n) Data detailed form = refl

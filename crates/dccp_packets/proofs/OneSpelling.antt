@@ -61,7 +61,8 @@ front_again (suc n) (x ∷ xs) enough bytes =
     ap (λ ys. x ∷ ys) rest ∙ sym (ap (λ ys. ys ++ drop n xs) whole)
 
 -- the same from a place on, where the number is known
-part_again : (place n x : ℕ) (xs : List ℕ) → place + n ≤ length xs → AreBytes xs → x ≡ number_at place n xs → drop place xs ≡ big_bytes n x ++ drop (place + n) xs
+part_again : (place n x : ℕ) (xs : List ℕ) → place + n ≤ length xs → AreBytes xs → x ≡ number_at place n xs
+    → drop place xs ≡ big_bytes n x ++ drop (place + n) xs
 part_again place n x xs within bytes known =
     let left = length-drop place xs in
     let moved : AreBytes (drop place xs) = λ k. subst (λ b. b < 256) (sym (get_or-drop place xs k 0)) (bytes (place + k)) in
@@ -116,8 +117,10 @@ record Again (number : Number) (kind : Kind) (b : List ℕ) (size : ℕ) : Type 
   behind : drop 9 b ≡ (number_bytes number ++ kind_bytes kind) ++ drop size b
 
 -- for the types that have an acknowledgement alone behind a long number
-ack_again : (code n ack : ℕ) (kind : Kind) (b : List ℕ) (size : ℕ) → code ≡ code_of (packet_type kind) → kind_bytes kind ≡ long_ack_bytes ack → size ≤ length b → AreBytes b
-    → slice_index b 8 < 32 → slice_index b 9 ≡ 0 → LongAckHasZeros b → HasType code 1 b → size ≡ 24 → n ≡ number_at 10 6 b → ack ≡ number_at 18 6 b → Again (Long n) kind b size
+ack_again : (code n ack : ℕ) (kind : Kind) (b : List ℕ) (size : ℕ) → code ≡ code_of (packet_type kind) → kind_bytes kind ≡ long_ack_bytes ack → size ≤ length b
+    → AreBytes b
+    → slice_index b 8 < 32 → slice_index b 9 ≡ 0 → LongAckHasZeros b → HasType code 1 b → size ≡ 24 → n ≡ number_at 10 6 b → ack ≡ number_at 18 6 b
+    → Again (Long n) kind b size
 ack_again code n ack kind b size coded written within bytes small none zeros has size_is number known =
     let first = long_number n b (omega (arith, within, size_is)) bytes none number in
     let next = long_ack ack b (omega (arith, within, size_is)) bytes zeros known in
@@ -197,7 +200,8 @@ row_again (Long n) (Reset ack code detail) b size row within bytes small none ze
     record {
       typed = zero_type 7 1 b small row.0;
       behind = joined (number_bytes (Long n)) (long_ack_bytes ack ++ (code ∷ detail)) (drop size b) first
-          (joined (long_ack_bytes ack) (code ∷ detail) (drop size b) next (coded ∙ (ap (λ xs. code ∷ xs) detailed ∙ ap (λ k. code ∷ (detail ++ drop k b)) (sym row.1))));
+          (joined (long_ack_bytes ack) (code ∷ detail) (drop size b) next
+          (coded ∙ (ap (λ xs. code ∷ xs) detailed ∙ ap (λ k. code ∷ (detail ++ drop k b)) (sym row.1))));
     }
 row_again (Short n) (Request service) b size row within bytes small none zeros = absurd row
 row_again (Short n) (Response ack service) b size row within bytes small none zeros = absurd row
@@ -229,5 +233,6 @@ one_spelling h o d bytes packet small zeros =
     let long = ap length filled in
     let counted : word ≡ (header_length h + length (padded o)) / 4 = omega (arith, offset, sized, long) in
     common
-    ∙ (ap (λ xs. common_bytes h word ++ xs) (again.behind ∙ ap (λ xs. (number_bytes h.number ++ kind_bytes h.kind) ++ xs) (after ∙ ap (λ xs. xs ++ d) (sym filled)))
+    ∙ (ap (λ xs. common_bytes h word ++ xs)
+    (again.behind ∙ ap (λ xs. (number_bytes h.number ++ kind_bytes h.kind) ++ xs) (after ∙ ap (λ xs. xs ++ d) (sym filled)))
     ∙ ap (λ w. header_bytes h w ++ (padded o ++ d)) counted)

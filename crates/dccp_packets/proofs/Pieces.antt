@@ -18,7 +18,8 @@ abbrev parts : Header → List ℕ → List ℕ → Parts
 parts header options payload = record { header = header; options = options; payload = payload }
 
 abbrev header : ℕ → ℕ → ℕ → ℕ → ℕ → Number → Kind → Header
-header from to ccval cscov checksum number kind = record { from = from; to = to; ccval = ccval; cscov = cscov; checksum = checksum; number = number; kind = kind }
+header from to ccval cscov checksum number kind =
+    record { from = from; to = to; ccval = ccval; cscov = cscov; checksum = checksum; number = number; kind = kind }
 
 pub same_header : {a a' b b' c c' d d' e e' : ℕ} {n n' : Number} {k k' : Kind} → a ≡ a' → b ≡ b' → c ≡ c' → d ≡ d' → e ≡ e' → n ≡ n' → k ≡ k'
     → header a b c d e n k ≡ header a' b' c' d' e' n' k'
@@ -29,7 +30,8 @@ same_parts header options payload = cc
 
 -- where none of the five faults holds, the parts are read
 pub decoded_ok : (kind : PacketType) (long : Bool) (bytes : List ℕ) → 12 ≤ length bytes → type_of (type_code bytes) ≡ Some kind → has_long_numbers bytes ≡ long
-    → fixed_length long kind ≤ data_offset_bytes bytes → data_offset_bytes bytes ≤ length bytes → has_form long kind ≡ true → decoded bytes ≡ Ok (parts_of kind long bytes)
+    → fixed_length long kind ≤ data_offset_bytes bytes → data_offset_bytes bytes ≤ length bytes → has_form long kind ≡ true
+    → decoded bytes ≡ Ok (parts_of kind long bytes)
 decoded_ok kind long bytes enough typed x above within form =
     let e1 = le-ltb (length bytes) 12 enough in
     let e2 = le-ltb (data_offset_bytes bytes) (fixed_length long kind) above in

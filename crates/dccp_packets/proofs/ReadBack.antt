@@ -97,7 +97,8 @@ form_again long (SyncAck ack) form = form
 header_again : (h : Header) (words : ℕ) (rest : List ℕ) → HasDetail h.kind → IsTrue (is_valid h)
     → header_of (packet_type h.kind) (is_long h.number) (header_bytes h words ++ rest) ≡ in_widths h
 header_again h words rest detailed valid =
-    let small = and_parts (nat_lt h.ccval 16) (nat_lt h.cscov 16) (and_parts (nat_lt h.ccval 16 && nat_lt h.cscov 16) (has_forms (is_long h.number) h.kind) valid).0 in
+    let small = and_parts (nat_lt h.ccval 16) (nat_lt h.cscov 16)
+    (and_parts (nat_lt h.ccval 16 && nat_lt h.cscov 16) (has_forms (is_long h.number) h.kind) valid).0 in
     let low = ltb-true h.ccval 16 small.0 in
     let cover = ltb-true h.cscov 16 small.1 in
     let bytes = header_bytes h words ++ rest in
@@ -128,7 +129,8 @@ reads_in_widths h o d detailed valid room =
     let after : drop fixed bytes ≡ padded o ++ d = drop_at (header_bytes h words) (padded o ++ d) fixed front in
     let header = header_again h words (padded o ++ d) detailed valid in
     let options : slice_range bytes fixed (data_offset_bytes bytes) ≡ padded o =
-    ap (λ n. take (n - fixed) (drop fixed bytes)) offset ∙ ap (take (fixed + filled - fixed)) after ∙ take_at (padded o) d (fixed + filled - fixed) (omega arith) in
+    ap (λ n. take (n - fixed) (drop fixed bytes)) offset ∙ ap (take (fixed + filled - fixed)) after
+    ∙ take_at (padded o) d (fixed + filled - fixed) (omega arith) in
     let payload : drop (data_offset_bytes bytes) bytes ≡ d =
     ap (λ n. drop n bytes) offset ∙ sym (drop-drop filled fixed bytes) ∙ ap (drop filled) after ∙ drop_at (padded o) d filled refl in
     decoded_ok (packet_type h.kind) (is_long h.number) bytes
@@ -160,7 +162,8 @@ kind-kept (SyncAck ack) fits = ap SyncAck (mod-eq_of_lt fits)
 -- a header whose fields fit is itself in the widths
 pub header-kept : (h : Header) → HeaderFits h → in_widths h ≡ h
 header-kept h fits =
-    same_header (mod-eq_of_lt fits.from) (mod-eq_of_lt fits.to) refl refl (mod-eq_of_lt fits.checksum) (number-kept h.number fits.number) (kind-kept h.kind fits.kind)
+    same_header (mod-eq_of_lt fits.from) (mod-eq_of_lt fits.to) refl refl (mod-eq_of_lt fits.checksum) (number-kept h.number fits.number)
+    (kind-kept h.kind fits.kind)
 
 pub reads_back : (h : Header) (o d : List ℕ) → HeaderFits h → IsTrue (is_valid h) → header_length h + length (padded o) ≤ 1020
     → decoded (spelling h o d) ≡ Ok (record { header = h; options = padded o; payload = d })

@@ -32,7 +32,8 @@ x_read : (code x : ℕ) (bytes : List ℕ) → x < 2 → HasType code x bytes �
 x_read code x bytes bit has = let byte = has.1 in omega (arith, byte)
 
 long_row : (code n : ℕ) (kind : Kind) (b : List ℕ) (size : ℕ) → code < 16 → type_of code ≡ Some (packet_type kind) → has_form true (packet_type kind) ≡ true
-    → HasType code 1 b → size ≡ fixed_length true (packet_type kind) → n ≡ number_at 10 6 b → kind_of (packet_type kind) true b ≡ kind → Reads (Long n) kind b size
+    → HasType code 1 b → size ≡ fixed_length true (packet_type kind) → n ≡ number_at 10 6 b → kind_of (packet_type kind) true b ≡ kind
+    → Reads (Long n) kind b size
 long_row code n kind b size small known form has size_is number kind_is = record {
   typed = ap type_of (code_read code 1 b small (omega arith) has) ∙ known;
   x = ap (λ k. k == 1) (x_read code 1 b (omega arith) has);
@@ -43,7 +44,8 @@ long_row code n kind b size small known form has size_is number kind_is = record
 }
 
 short_row : (code n : ℕ) (kind : Kind) (b : List ℕ) (size : ℕ) → code < 16 → type_of code ≡ Some (packet_type kind) → has_form false (packet_type kind) ≡ true
-    → HasType code 0 b → size ≡ fixed_length false (packet_type kind) → n ≡ number_at 9 3 b → kind_of (packet_type kind) false b ≡ kind → Reads (Short n) kind b size
+    → HasType code 0 b → size ≡ fixed_length false (packet_type kind) → n ≡ number_at 9 3 b → kind_of (packet_type kind) false b ≡ kind
+    → Reads (Short n) kind b size
 short_row code n kind b size small known form has size_is number kind_is = record {
   typed = ap type_of (code_read code 0 b small (omega arith) has) ∙ known;
   x = ap (λ k. k == 1) (x_read code 0 b (omega arith) has);
@@ -55,16 +57,22 @@ short_row code n kind b size small known form has size_is number kind_is = recor
 
 pub row_read : (number : Number) (kind : Kind) (b : List ℕ) (size : ℕ) → IsRow number kind b size → Reads number kind b size
 row_read (Long n) (Request service) b size row = long_row 0 n (Request service) b size (omega arith) refl refl row.0 row.1 row.2 (ap Request (sym row.3))
-row_read (Long n) (Response ack service) b size row = long_row 1 n (Response ack service) b size (omega arith) refl refl row.0 row.1 row.2 (same_response (sym row.3) (sym row.4))
+row_read (Long n) (Response ack service) b size row =
+    long_row 1 n (Response ack service) b size (omega arith) refl refl row.0 row.1 row.2 (same_response (sym row.3) (sym row.4))
 row_read (Short n) Data b size row = short_row 2 n Data b size (omega arith) refl refl row.0 row.1 row.2 refl
 row_read (Long n) Data b size row = long_row 2 n Data b size (omega arith) refl refl row.0 row.1 row.2 refl
-row_read (Short n) (Ack (Short ack)) b size row = short_row 3 n (Ack (Short ack)) b size (omega arith) refl refl row.0 row.1 row.2 (ap (λ a. Ack (Short a)) (sym row.3))
-row_read (Long n) (Ack (Long ack)) b size row = long_row 3 n (Ack (Long ack)) b size (omega arith) refl refl row.0 row.1 row.2 (ap (λ a. Ack (Long a)) (sym row.3))
-row_read (Short n) (DataAck (Short ack)) b size row = short_row 4 n (DataAck (Short ack)) b size (omega arith) refl refl row.0 row.1 row.2 (ap (λ a. DataAck (Short a)) (sym row.3))
-row_read (Long n) (DataAck (Long ack)) b size row = long_row 4 n (DataAck (Long ack)) b size (omega arith) refl refl row.0 row.1 row.2 (ap (λ a. DataAck (Long a)) (sym row.3))
+row_read (Short n) (Ack (Short ack)) b size row =
+    short_row 3 n (Ack (Short ack)) b size (omega arith) refl refl row.0 row.1 row.2 (ap (λ a. Ack (Short a)) (sym row.3))
+row_read (Long n) (Ack (Long ack)) b size row =
+    long_row 3 n (Ack (Long ack)) b size (omega arith) refl refl row.0 row.1 row.2 (ap (λ a. Ack (Long a)) (sym row.3))
+row_read (Short n) (DataAck (Short ack)) b size row =
+    short_row 4 n (DataAck (Short ack)) b size (omega arith) refl refl row.0 row.1 row.2 (ap (λ a. DataAck (Short a)) (sym row.3))
+row_read (Long n) (DataAck (Long ack)) b size row =
+    long_row 4 n (DataAck (Long ack)) b size (omega arith) refl refl row.0 row.1 row.2 (ap (λ a. DataAck (Long a)) (sym row.3))
 row_read (Long n) (CloseReq ack) b size row = long_row 5 n (CloseReq ack) b size (omega arith) refl refl row.0 row.1 row.2 (ap CloseReq (sym row.3))
 row_read (Long n) (Close ack) b size row = long_row 6 n (Close ack) b size (omega arith) refl refl row.0 row.1 row.2 (ap Close (sym row.3))
-row_read (Long n) (Reset ack code detail) b size row = long_row 7 n (Reset ack code detail) b size (omega arith) refl refl row.0 row.1 row.2 (same_reset (sym row.3) (sym row.4) (sym row.5))
+row_read (Long n) (Reset ack code detail) b size row =
+    long_row 7 n (Reset ack code detail) b size (omega arith) refl refl row.0 row.1 row.2 (same_reset (sym row.3) (sym row.4) (sym row.5))
 row_read (Long n) (Sync ack) b size row = long_row 8 n (Sync ack) b size (omega arith) refl refl row.0 row.1 row.2 (ap Sync (sym row.3))
 row_read (Long n) (SyncAck ack) b size row = long_row 9 n (SyncAck ack) b size (omega arith) refl refl row.0 row.1 row.2 (ap SyncAck (sym row.3))
 row_read (Short n) (Request service) b size row = absurd row
@@ -100,8 +108,10 @@ table_read h o d bytes packet =
     let options : slice_range bytes size (data_offset_bytes bytes) ≡ o =
     ap (take (data_offset_bytes bytes - size)) after ∙ take_at o d (data_offset_bytes bytes - size) (omega (arith, offset, fixed)) in
     let payload : drop (data_offset_bytes bytes) bytes ≡ d =
-    ap (λ n. drop n bytes) (offset ∙ ap (λ n. n + length o) fixed) ∙ sym (drop-drop (length o) size bytes) ∙ ap (drop (length o)) after ∙ drop_at o d (length o) refl in
-    decoded_ok kind long bytes (omega (arith, all, fixed, enough)) row.typed row.x (omega (arith, offset, fixed)) (omega (arith, offset, fixed, all, behind)) row.form
+    ap (λ n. drop n bytes) (offset ∙ ap (λ n. n + length o) fixed) ∙ sym (drop-drop (length o) size bytes) ∙ ap (drop (length o)) after
+    ∙ drop_at o d (length o) refl in
+    decoded_ok kind long bytes (omega (arith, all, fixed, enough)) row.typed row.x (omega (arith, offset, fixed))
+    (omega (arith, offset, fixed, all, behind)) row.form
     ∙ ap Ok (same_parts header options payload)
 
 -- a fault is no packet
@@ -189,7 +199,8 @@ code_found (suc (suc (suc (suc (suc (suc zero)))))) kind h = ap code_at h
 code_found (suc (suc (suc (suc (suc (suc (suc zero))))))) kind h = ap code_at h
 code_found (suc (suc (suc (suc (suc (suc (suc (suc zero)))))))) kind h = ap code_at h
 code_found (suc (suc (suc (suc (suc (suc (suc (suc (suc zero))))))))) kind h = ap code_at h
-code_found (suc (suc (suc (suc (suc (suc (suc (suc (suc (suc n)))))))))) kind h = absurd (false≢true (ap is_some (sym (type_none (suc (suc (suc (suc (suc (suc (suc (suc (suc (suc n)))))))))) (omega arith)) ∙ h)))
+code_found (suc (suc (suc (suc (suc (suc (suc (suc (suc (suc n)))))))))) kind h =
+    absurd (false≢true (ap is_some (sym (type_none (suc (suc (suc (suc (suc (suc (suc (suc (suc (suc n)))))))))) (omega arith)) ∙ h)))
 
 x_at : (x : Bool) (n : ℕ) → (n == 1) ≡ x → n < 2 → n ≡ (if x then 1 else 0)
 x_at true n h small = eqb-true n 1 h
@@ -199,7 +210,8 @@ x_found : (n : ℕ) → n % 2 ≡ (if (n % 2 == 1) then 1 else 0)
 x_found n = x_at (n % 2 == 1) (n % 2) refl (omega arith)
 
 -- the byte of type and X, with its reserved bits
-type_found : (kind : PacketType) (bytes : List ℕ) → type_of (type_code bytes) ≡ Some kind → HasType (code_of kind) (if has_long_numbers bytes then 1 else 0) bytes
+type_found : (kind : PacketType) (bytes : List ℕ) → type_of (type_code bytes) ≡ Some kind
+    → HasType (code_of kind) (if has_long_numbers bytes then 1 else 0) bytes
 type_found kind bytes h =
     let code = code_found (type_code bytes) kind h in
     let x = x_found (slice_index bytes 8) in
@@ -229,7 +241,8 @@ row_found types.Sync false b has form = absurd (false≢true form)
 row_found types.SyncAck false b has form = absurd (false≢true form)
 
 -- what is read is in the table
-read_packet : (kind : PacketType) (bytes : List ℕ) → type_of (type_code bytes) ≡ Some kind → fixed_length (has_long_numbers bytes) kind ≤ data_offset_bytes bytes
+read_packet : (kind : PacketType) (bytes : List ℕ) → type_of (type_code bytes) ≡ Some kind
+    → fixed_length (has_long_numbers bytes) kind ≤ data_offset_bytes bytes
     → data_offset_bytes bytes ≤ length bytes → has_form (has_long_numbers bytes) kind ≡ true
     → let p = parts_of kind (has_long_numbers bytes) bytes in IsPacket p.header p.options p.payload bytes
 read_packet kind bytes typed above within form =
@@ -238,7 +251,8 @@ read_packet kind bytes typed above within form =
     let offset = data_offset_bytes bytes in
     let front : length (take size bytes) ≡ size = length-take-le size bytes (omega (arith, above, within)) in
     let left = length-drop size bytes in
-    let area : length (take (offset - size) (drop size bytes)) ≡ offset - size = length-take-le (offset - size) (drop size bytes) (omega (arith, left, within)) in
+    let area : length (take (offset - size) (drop size bytes)) ≡ offset - size =
+    length-take-le (offset - size) (drop size bytes) (omega (arith, left, within)) in
     let sum : size + (offset - size) ≡ offset = omega (arith, above) in
     let behind : drop (offset - size) (drop size bytes) ≡ drop offset bytes = drop-drop (offset - size) size bytes ∙ ap (λ n. drop n bytes) sum in
     let split : drop size bytes ≡ take (offset - size) (drop size bytes) ++ drop offset bytes =
@@ -252,7 +266,8 @@ read_packet kind bytes typed above within form =
       nibbles = omega arith;
       nibble = omega arith;
       checksum = refl;
-      row = subst (λ n. IsRow (number_in long bytes) (kind_of kind long bytes) bytes n) (sym front) (row_found kind long bytes (type_found kind bytes typed) form);
+      row = subst (λ n. IsRow (number_in long bytes) (kind_of kind long bytes) bytes n) (sym front)
+          (row_found kind long bytes (type_found kind bytes typed) form);
     }
 
 pub read_table : (h : Header) (o d bytes : List ℕ) → decoded bytes ≡ Ok (record { header = h; options = o; payload = d }) → IsPacket h o d bytes

@@ -17,7 +17,8 @@ use Rattle.dccp_uses.specs.declared.alarms.Condition.{Condition}
 fresh-runs : (now wait : ℕ) → 1 ≤ wait → (wait - (now - now) == 0) ≡ false
 fresh-runs now wait some = search (arith, some)
 
-after-runs : (runs : Bool) (old : Option Alarm) (wait now : ℕ) → 1 ≤ wait → has_run_out old now ≡ false → has_run_out (alarm_after runs old wait now) now ≡ false
+after-runs : (runs : Bool) (old : Option Alarm) (wait now : ℕ) → 1 ≤ wait → has_run_out old now ≡ false
+    → has_run_out (alarm_after runs old wait now) now ≡ false
 after-runs false old wait now some quiet = refl
 after-runs true (Some alarm) wait now some quiet = quiet
 after-runs true None wait now some quiet = fresh-runs now wait some
@@ -26,7 +27,8 @@ arranged-runs : (alarms : Alarms) (timer : Timer) (c : Condition) (now : ℕ) �
     → has_run_out (alarm_of (arranged alarms c now) timer) now ≡ false
 arranged-runs alarms timers.Request c now quiet = after-runs (runs_in timers.Request c) alarms.request (first_wait timers.Request) now (omega arith) quiet
 arranged-runs alarms timers.Ack c now quiet = after-runs (runs_in timers.Ack c) alarms.ack (first_wait timers.Ack) now (omega arith) quiet
-arranged-runs alarms timers.Negotiate c now quiet = after-runs (runs_in timers.Negotiate c) alarms.negotiate (first_wait timers.Negotiate) now (omega arith) quiet
+arranged-runs alarms timers.Negotiate c now quiet =
+    after-runs (runs_in timers.Negotiate c) alarms.negotiate (first_wait timers.Negotiate) now (omega arith) quiet
 arranged-runs alarms timers.Rto c now quiet = after-runs (runs_in timers.Rto c) alarms.rto (starting_wait alarms timers.Rto) now (omega arith) quiet
 arranged-runs alarms timers.Close c now quiet = after-runs (runs_in timers.Close c) alarms.close (first_wait timers.Close) now (omega arith) quiet
 arranged-runs alarms timers.TimeWait c now quiet = after-runs (runs_in timers.TimeWait c) alarms.time_wait (first_wait timers.TimeWait) now (omega arith) quiet
@@ -46,7 +48,8 @@ own-runs alarms timers.TimeWait now = back-runs alarms.time_wait now
 module _ {C : Type 0} (control : Control C) (now : ℕ) where
   -- a timer that was told has not run out any more
   told-runs : (s : SessionState C) (timer : Timer) (due : Bool) → has_run_out (alarm_of s.alarms timer) now ≡ due
-      → has_run_out (alarm_of (if due then tells_end control now s timer else record { session = s; frame = None; answer = false }).session.alarms timer) now ≡ false
+      → has_run_out (alarm_of (if due then tells_end control now s timer else record { session = s; frame = None; answer = false }).session.alarms timer) now
+      ≡ false
   told-runs s timer true is =
       arranged-runs (rung s.alarms timer now) timer (condition_of control (tells_end control now s timer).session.end) now (own-runs s.alarms timer now)
   told-runs s timer false is = is
@@ -57,7 +60,8 @@ module _ {C : Type 0} (control : Control C) (now : ℕ) where
   -- and another timer's alarm is not touched by that
   other-told : (s : SessionState C) (timer other : Timer) (due : Bool) → alarm_of (rung s.alarms timer now) other ≡ alarm_of s.alarms other
       → has_run_out (alarm_of s.alarms other) now ≡ false
-      → has_run_out (alarm_of (if due then tells_end control now s timer else record { session = s; frame = None; answer = false }).session.alarms other) now ≡ false
+      → has_run_out (alarm_of (if due then tells_end control now s timer else record { session = s; frame = None; answer = false }).session.alarms other) now
+      ≡ false
   other-told s timer other true same quiet =
       arranged-runs (rung s.alarms timer now) other (condition_of control (tells_end control now s timer).session.end) now
       (subst (λ (alarm : Option Alarm). has_run_out alarm now ≡ false) (sym same) quiet)
@@ -77,9 +81,11 @@ module _ {C : Type 0} (control : Control C) (now : ℕ) where
       let e = (rings control now d timers.Close).session in
       elim timer as (λ (t : Timer). has_run_out (alarm_of (rings control now e timers.TimeWait).session.alarms t) now ≡ false) [
         | timers.Request ↦ other_stays_quiet e timers.TimeWait timers.Request refl (other_stays_quiet d timers.Close timers.Request refl
-            (other_stays_quiet c timers.Rto timers.Request refl (other_stays_quiet b timers.Negotiate timers.Request refl (other_stays_quiet a timers.Ack timers.Request refl
+            (other_stays_quiet c timers.Rto timers.Request refl
+            (other_stays_quiet b timers.Negotiate timers.Request refl (other_stays_quiet a timers.Ack timers.Request refl
             (told_is_quiet s timers.Request)))))
-        | timers.Ack ↦ other_stays_quiet e timers.TimeWait timers.Ack refl (other_stays_quiet d timers.Close timers.Ack refl (other_stays_quiet c timers.Rto timers.Ack refl
+        | timers.Ack ↦ other_stays_quiet e timers.TimeWait timers.Ack refl
+            (other_stays_quiet d timers.Close timers.Ack refl (other_stays_quiet c timers.Rto timers.Ack refl
             (other_stays_quiet b timers.Negotiate timers.Ack refl (told_is_quiet a timers.Ack))))
         | timers.Negotiate ↦ other_stays_quiet e timers.TimeWait timers.Negotiate refl (other_stays_quiet d timers.Close timers.Negotiate refl
             (other_stays_quiet c timers.Rto timers.Negotiate refl (told_is_quiet b timers.Negotiate)))
@@ -124,7 +130,8 @@ module _ {C N : Type 0} (sends : N → List ℕ → N → Type 0) (control : Con
       let r2 = rings_first timers.Ack (timers.Negotiate ∷ timers.Rto ∷ timers.Close ∷ timers.TimeWait ∷ []) s1 s2 s6 n1 n2 n6 a2 d2 r3 in
       rings_first timers.Request (timers.Ack ∷ timers.Negotiate ∷ timers.Rto ∷ timers.Close ∷ timers.TimeWait ∷ []) s0 s1 s6 n0 n1 n6 a1 d1 r2
 
-  by-due : (s new : SessionState C) (timer : Timer) (n n' : N) (answer : Bool) (due : Bool) → due ≡ true → Does sends (tells_end control now s timer) new n n' answer
+  by-due : (s new : SessionState C) (timer : Timer) (n n' : N) (answer : Bool) (due : Bool) → due ≡ true
+      → Does sends (tells_end control now s timer) new n n' answer
       → Does sends (if due then tells_end control now s timer else record { session = s; frame = None; answer = false }) new n n' answer
   by-due s new timer n n' answer true is does = does
   by-due s new timer n n' answer false is does = cc is
@@ -132,7 +139,8 @@ module _ {C N : Type 0} (sends : N → List ℕ → N → Type 0) (control : Con
   -- A timer that has run out, told by hand.
   pub ring_does : (s new : SessionState C) (timer : Timer) (n n' : N) (out : Option (List ℕ)) (end : End C) (answer : Bool)
       → has_run_out (alarm_of s.alarms timer) now ≡ true
-      → record { after = end; frame = out; answer = answer } ≡ with_control control s.end.congestion (fires s.end.state timer (has_in_flight control s.end.congestion))
+      → record { after = end; frame = out; answer = answer } ≡ with_control control s.end.congestion
+      (fires s.end.state timer (has_in_flight control s.end.congestion))
       → Hands sends n out n' → new.end ≡ end → new.alarms ≡ arranged (rung s.alarms timer now) (condition_of control end) now
       → Does sends (rings control now s timer) new n n' answer
   ring_does s new timer n n' out end answer due is hands end_is alarms_are =

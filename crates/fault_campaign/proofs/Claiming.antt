@@ -29,10 +29,12 @@ pub record IsClaiming (job : Job) (claims : TableId) (view : View) (now : Held) 
 pub each-size : (job : Job) → 1 ≤ job.events → job.events ≤ 4096 → (seed : ℕ) → size (seeded_report seed job.events) ≤ 20499
 each-size job some most seed = omega (arith, report-size seed job.events some)
 
-pub sum-size : (job : Job) (numbers : List ℕ) → 1 ≤ job.events → job.events ≤ 4096 → length numbers ≤ 1600000 → size (claimed_report job.first job.events numbers) < 2 ^ 62
+pub sum-size : (job : Job) (numbers : List ℕ) → 1 ≤ job.events → job.events ≤ 4096 → length numbers ≤ 1600000
+    → size (claimed_report job.first job.events numbers) < 2 ^ 62
 sum-size job numbers some most few = omega (arith, size-of job.first job.events (each-size job some most) numbers)
 
-pub at-start : (job : Job) (claims : TableId) (view : View) (now : Held) → CanWork 1 job view → now.claims ≡ claims → now.view ≡ view → IsClaiming job claims view now nothing
+pub at-start : (job : Job) (claims : TableId) (view : View) (now : Held) → CanWork 1 job view → now.claims ≡ claims → now.view ≡ view
+    → IsClaiming job claims view now nothing
 at-start job claims view now can same is =
     record {
       can = can;
@@ -64,7 +66,8 @@ one-turn job claims view now next report after one index before is below greater
       drawn = omega (arith, before.drawn, longer);
       rising = λ k all. let over = above-last now.view.numbers index k all in let low = before.rising index greater in omega (arith, longer);
       most = let low = before.rising index greater in omega (arith, longer, before.limit);
-      sum = added ∙ ap (plus report) ran ∙ ap (λ (r : Report). plus r (seeded_report (job.first + index) job.events)) before.sum ∙ one-more job.first job.events now.view.numbers index;
+      sum = added ∙ ap (plus report) ran ∙ ap (λ (r : Report). plus r (seeded_report (job.first + index) job.events)) before.sum
+          ∙ one-more job.first job.events now.view.numbers index;
     }) where
       longer : length (now.view.numbers ++ index ∷ []) ≡ length now.view.numbers + 1
       longer = length-append now.view.numbers (index ∷ [])
@@ -74,7 +77,8 @@ pub fits : (job : Job) (claims : TableId) (view : View) (now : Held) (report one
     → one ≡ seeded_report (job.first + index) job.events → size report + size one < 2 ^ 64
 fits job claims view now report one index before ran =
     let few : length now.view.numbers ≤ 1600000 = omega (arith, before.most, before.can.few) in
-    let mine : size report < 2 ^ 62 = subst (λ (x : Report). size x < 2 ^ 62) (sym before.sum) (sum-size job now.view.numbers before.can.some before.can.most few) in
+    let mine : size report < 2 ^ 62 =
+    subst (λ (x : Report). size x < 2 ^ 62) (sym before.sum) (sum-size job now.view.numbers before.can.some before.can.most few) in
     let its : size one ≤ 20499 = subst (λ (x : Report). size x ≤ 20499) (sym ran) (each-size job before.can.some before.can.most (job.first + index)) in
     omega (arith, mine, its)
 
@@ -90,8 +94,10 @@ in-vain job claims view now last report before is =
       whole = record { sum = before.sum; in_vain = omega (arith, before.drawn) };
     })
 
-pub out-of-memory : (job : Job) (claims : TableId) (view : View) (now last : Held) (report : Report) (index : ℕ) (lacks : NoMemory) → IsClaiming job claims view now report
-    → last ≡ held now.claims (with_claimed now.view index) → index < now.view.limit → All (λ x. x < index) now.view.numbers → HaveWorked 1 job claims view last (Err lacks)
+pub out-of-memory : (job : Job) (claims : TableId) (view : View) (now last : Held) (report : Report) (index : ℕ) (lacks : NoMemory)
+    → IsClaiming job claims view now report
+    → last ≡ held now.claims (with_claimed now.view index) → index < now.view.limit → All (λ x. x < index) now.view.numbers
+    → HaveWorked 1 job claims view last (Err lacks)
 out-of-memory job claims view now last report index lacks before is below greater =
     subst (λ (h : Held). HaveWorked 1 job claims view h (Err lacks)) (sym is)
     (record {
@@ -103,7 +109,8 @@ out-of-memory job claims view now last report index lacks before is below greate
     })
 
 -- what workers have counted fits
-pub small : (workers : ℕ) (job : Job) (claims : TableId) (view : View) (now : Held) (report : Result Report NoMemory) → workers ≤ 16 → 1 ≤ job.events → job.events ≤ 4096
+pub small : (workers : ℕ) (job : Job) (claims : TableId) (view : View) (now : Held) (report : Result Report NoMemory) → workers ≤ 16 → 1 ≤ job.events
+    → job.events ≤ 4096
     → HaveWorked workers job claims view now report → IfOk report (λ r. size r < 2 ^ 62)
 small workers job claims view now (Ok r) most some few have =
     subst (λ (x : Report). size x < 2 ^ 62) (sym have.whole.sum) (sum-size job now.view.numbers some few (omega (arith, have.few)))

@@ -56,7 +56,8 @@ delivery-happens w from frame room = by (is_full (half_of w (other from))) (is_f
 arrives-happens : (w : WorldState) (from : Side) (index : ℕ) → IsRoomy w → index < length (half_of w from).frames
     → Happens (delivers_frame w from (slice_get (half_of w from).frames index))
 arrives-happens w from index room below = by (slice_get_cases (half_of w from).frames index).1 where
-  by : ((x : SentFrame) × (index < length (half_of w from).frames) × (slice_get (half_of w from).frames index ≡ Some x) × (get_or (half_of w from).frames index x ≡ x))
+  by : ((x : SentFrame) × (index < length (half_of w from).frames) × (slice_get (half_of w from).frames index ≡ Some x)
+      × (get_or (half_of w from).frames index x ≡ x))
       ⊎ ((length (half_of w from).frames ≤ index) × (slice_get (half_of w from).frames index ≡ None))
       → Happens (delivers_frame w from (slice_get (half_of w from).frames index))
   by (inl there) =
@@ -71,7 +72,8 @@ takes-place w (Delivers from index) room has = arrives-happens w from index room
 abbrev IsOkOrFar : Result (ControlledStep Both) WorldFault → Type 0
 IsOkOrFar result = (result ≡ Err fault.FarShort) ⊎ IsOk result
 
-controls-happens : (w : Controlled Both) (acting : Side) (result : Result WorldStep WorldFault) → Happens result → IsOkOrFar (controls kinds_control w acting result)
+controls-happens : (w : Controlled Both) (acting : Side) (result : Result WorldStep WorldFault) → Happens result
+    → IsOkOrFar (controls kinds_control w acting result)
 controls-happens w acting (Ok step) happened = inr refl
 controls-happens w acting (Err why) (inl far) =
     let same : why ≡ fault.FarShort = cc far in
@@ -128,7 +130,8 @@ module _ (w : WorldState) (said : Said) where
   unfolding drawn
   drawn-can a b = event_of-can (a % 32) b
 
-happens : (w : Controlled Both) (event : Event) → IsRoomy w.world → HasFrame w.world (happening_of event (said_by kinds_control (congestion_of w (actor event))))
+happens : (w : Controlled Both) (event : Event) → IsRoomy w.world
+    → HasFrame w.world (happening_of event (said_by kinds_control (congestion_of w (actor event))))
     → IsOkOrFar (happens_to kinds_control w event)
 happens w event room has =
     controls-happens w (actor event) (takes_place w.world (happening_of event (said_by kinds_control (congestion_of w (actor event)))))

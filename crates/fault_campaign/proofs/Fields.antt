@@ -29,15 +29,18 @@ module _ (first events : ℕ) where
   pub none : nothing ≡ claimed_report first events []
   none = refl
 
-  pub one-more : (numbers : List ℕ) (k : ℕ) → plus (claimed_report first events numbers) (seeded_report (first + k) events) ≡ claimed_report first events (numbers ++ k ∷ [])
+  pub one-more : (numbers : List ℕ) (k : ℕ)
+      → plus (claimed_report first events numbers) (seeded_report (first + k) events) ≡ claimed_report first events (numbers ++ k ∷ [])
   one-more numbers k =
-      same (λ field. sum_by (field_at first events field) numbers + field_at first events field k) (λ field. sum_by (field_at first events field) (numbers ++ k ∷ []))
+      same (λ field. sum_by (field_at first events field) numbers + field_at first events field k)
+      (λ field. sum_by (field_at first events field) (numbers ++ k ∷ []))
       (λ field. sym (sum_by_push (field_at first events field) numbers k))
 
   -- numbers that are those below m, each once
   pub all-once : (numbers : List ℕ) (m : ℕ) → ((f : ℕ → ℕ) → sum_by f numbers ≡ sum_below f m) → claimed_report first events numbers ≡ totals first m events
   all-once numbers m sums =
-      same (λ field. sum_by (field_at first events field) numbers) (λ field. sum_below (field_at first events field) m) (λ field. sums (field_at first events field))
+      same (λ field. sum_by (field_at first events field) numbers) (λ field. sum_below (field_at first events field) m)
+      (λ field. sums (field_at first events field))
 
   -- one field, of seeds in two parts
   sum-of-parts : (field : Report → ℕ) (some more : ℕ) → sum_below (field_at first events field) (some + more)
@@ -63,7 +66,8 @@ module _ (first events : ℕ) where
       same (λ field. sum_below (field_at first events field) some + sum_below (field_at (first + some) events field) more)
       (λ field. sum_below (field_at first events field) (some + more)) (λ field. sym (sum-of-parts field some more))
 
-  pub size-of : ((seed : ℕ) → size (seeded_report seed events) ≤ 20499) → (numbers : List ℕ) → size (claimed_report first events numbers) ≤ length numbers * 20499
+  pub size-of : ((seed : ℕ) → size (seeded_report seed events) ≤ 20499) → (numbers : List ℕ)
+      → size (claimed_report first events numbers) ≤ length numbers * 20499
   size-of each [] = omega arith
   size-of each (k ∷ ks) =
       let rest = size-of each ks in

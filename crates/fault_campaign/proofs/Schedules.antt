@@ -30,7 +30,8 @@ rest-plays : (n : ℕ) (run : Running) → (goes_on_for n run).world ≡ plays k
 rest-plays zero run = refl
 rest-plays (suc n) run =
     rest-plays n (goes_on run)
-    ∙ ap (λ (w : Controlled Both). plays kinds_control w (next_events n (goes_on run))) (played-world (record run { words = behind_two run.words }) (next_event run))
+    ∙ ap (λ (w : Controlled Both). plays kinds_control w (next_events n (goes_on run)))
+    (played-world (record run { words = behind_two run.words }) (next_event run))
 
 pub schedule : (seed events : ℕ) → (seeded seed events).world ≡ plays kinds_control (begun_run (generator seed)).world (seeded_events seed events)
 schedule seed events =

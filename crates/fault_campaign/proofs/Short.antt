@@ -96,9 +96,19 @@ happening-grows w (Delivers from index) = arrives-grows w from (slice_get (half_
 after-event : (n : ℕ) (run : Running) (acting : Side) (result : Result WorldStep WorldFault) → Grows run.world.world result → IsShort n run
     → IsShort (n + 1) (after_event run (controls kinds_control run.world acting result))
 after-event n run Client (Ok step) grows short =
-    record { counted = omega (arith, seen-size run.report step.seen, short.counted); clients = omega (arith, grows Client, short.clients); servers = omega (arith, grows Server, short.servers) }
+    record {
+      counted = omega (arith, seen-size run.report step.seen, short.counted);
+      clients = omega (arith, grows Client, short.clients);
+      servers =
+          omega (arith, grows Server, short.servers);
+    }
 after-event n run Server (Ok step) grows short =
-    record { counted = omega (arith, seen-size run.report step.seen, short.counted); clients = omega (arith, grows Client, short.clients); servers = omega (arith, grows Server, short.servers) }
+    record {
+      counted = omega (arith, seen-size run.report step.seen, short.counted);
+      clients = omega (arith, grows Client, short.clients);
+      servers =
+          omega (arith, grows Server, short.servers);
+    }
 after-event n run acting (Err fault) grows short =
     record { counted = omega (arith, short.counted); clients = omega (arith, short.clients); servers = omega (arith, short.servers) }
 
@@ -117,7 +127,8 @@ after-open seed = after-one 0 _ Open (at-first (generator seed))
 
 pub after-next : (n : ℕ) (run : Running) → IsShort n run → IsShort (n + 1) (goes_on run)
 after-next n run short =
-    after-one n (record run { words = behind_two run.words }) (next_event run) (record { counted = short.counted; clients = short.clients; servers = short.servers })
+    after-one n (record run { words = behind_two run.words }) (next_event run)
+    (record { counted = short.counted; clients = short.clients; servers = short.servers })
 
 after-more : (more n m : ℕ) (run : Running) → n + more ≡ m → IsShort n run → IsShort m (goes_on_for more run)
 after-more zero n m run all short =

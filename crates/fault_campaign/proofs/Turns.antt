@@ -66,7 +66,8 @@ goes-on-size run = event-size (record run { words = behind_two run.words }) (hap
 pub counts-little : (all done : ℕ) (first run : Running) → IsUnderWay all done first run → size run.report < 2 ^ 62
 counts-little all done first run before = omega (arith, before.few)
 
-pub one-turn : (all done : ℕ) (first run next : Running) → done < all → next ≡ goes_on run → IsUnderWay all done first run → IsUnderWay all (done + 1) first next
+pub one-turn : (all done : ℕ) (first run next : Running) → done < all → next ≡ goes_on run → IsUnderWay all done first run
+    → IsUnderWay all (done + 1) first next
 one-turn all done first run next near is before =
     let less : all - done ≡ suc (all - (done + 1)) = omega arith in
     let size_of_next = goes-on-size run in
@@ -89,7 +90,8 @@ opened-few events run opened some few is =
     let more = played-size run Open in
     subst (λ (r : Running). size r.report + 2 * (events - 1) < 2 ^ 62) (sym is) (omega (arith, some, few, more))
 
-pub reported : (seed events : ℕ) (opened run : Running) → opened ≡ opened_run seed → run ≡ goes_on_for (events - 1) opened → run_report run events ≡ seeded_report seed events
+pub reported : (seed events : ℕ) (opened run : Running) → opened ≡ opened_run seed → run ≡ goes_on_for (events - 1) opened
+    → run_report run events ≡ seeded_report seed events
 unfolding seeded_report
 reported seed events opened run begun is =
     ap (λ (r : Running). run_report r events) (is ∙ ap (goes_on_for (events - 1)) begun)

@@ -60,8 +60,10 @@ client_rises pair _ _ (Client_moves server client after reached move) =
 module _ (rule : Rule) (side peer : FeatureSide) (kept : Kept rule side peer) where
   taken : (count acknowledged value : ℕ) (wish : List ℕ) → carried_at side.frames count ≡ Confirm acknowledged value wish
       → (acknowledged ≤ side.greatest) × IsTrue (carries_change (carried_at peer.frames acknowledged))
-  taken count acknowledged value wish carried =
-      (kept.out.confirms_taken count acknowledged value wish carried, is_one (carried_at peer.frames acknowledged) (kept.out.confirms_change count acknowledged value wish carried))
+  taken count acknowledged value wish carried = (
+    kept.out.confirms_taken count acknowledged value wish carried,
+    is_one (carried_at peer.frames acknowledged) (kept.out.confirms_change count acknowledged value wish carried),
+  )
     where
       is_one : (frame : Carried) → frame ≡ Change (changed frame) → carries_change frame ≡ true
       is_one Nothing is = absurd (cc is)

@@ -14,7 +14,8 @@ use Rattle.feature_lists.specs.declared.features.Place.{Place}
 use Rattle.feature_lists.specs.declared.features.Place.TheVariants as place
 
 -- a permitted value of a server-priority feature is a byte
-pub permitted_byte : (feature : Feature) (p : Place) (value : ℕ) → (described feature).is_server_priority ≡ true → is_permitted feature p value ≡ true → nat_lt value 256 ≡ true
+pub permitted_byte : (feature : Feature) (p : Place) (value : ℕ) → (described feature).is_server_priority ≡ true → is_permitted feature p value ≡ true
+    → nat_lt value 256 ≡ true
 permitted_byte f.Ccid place.Here value s h = grind arith
 permitted_byte f.Ccid place.There value s h = grind arith
 permitted_byte f.ShortSeqnos place.Here value s h = grind arith
@@ -32,13 +33,17 @@ permitted_byte f.MinCsCov place.There value s h = grind arith
 permitted_byte f.CheckDataChecksum place.Here value s h = grind arith
 permitted_byte f.CheckDataChecksum place.There value s h = grind arith
 
-pub permitted_bytes : (feature : Feature) (p : Place) (values : List ℕ) → (described feature).is_server_priority ≡ true → list_all (is_permitted feature p) values ≡ true → list_all (λ value. nat_lt value 256) values ≡ true
+pub permitted_bytes : (feature : Feature) (p : Place) (values : List ℕ) → (described feature).is_server_priority ≡ true
+    → list_all (is_permitted feature p) values ≡ true → list_all (λ value. nat_lt value 256) values ≡ true
 permitted_bytes feature p [] s h = refl
 permitted_bytes feature p (value ∷ values) s h =
-    let parts : (is_permitted feature p value ≡ true) × (list_all (is_permitted feature p) values ≡ true) = and_parts (is_permitted feature p value) (list_all (is_permitted feature p) values) h in
-    and_from (nat_lt value 256) (list_all (λ value. nat_lt value 256) values) (permitted_byte feature p value s parts.0) (permitted_bytes feature p values s parts.1)
+    let parts : (is_permitted feature p value ≡ true) × (list_all (is_permitted feature p) values ≡ true) =
+    and_parts (is_permitted feature p value) (list_all (is_permitted feature p) values) h in
+    and_from (nat_lt value 256) (list_all (λ value. nat_lt value 256) values) (permitted_byte feature p value s parts.0)
+    (permitted_bytes feature p values s parts.1)
 
-pub allowed_bytes : (feature : Feature) (p : Place) (values : List ℕ) → (described feature).is_server_priority ≡ true → is_allowed feature p values ≡ true → list_all (λ value. nat_lt value 256) values ≡ true
+pub allowed_bytes : (feature : Feature) (p : Place) (values : List ℕ) → (described feature).is_server_priority ≡ true → is_allowed feature p values ≡ true
+    → list_all (λ value. nat_lt value 256) values ≡ true
 allowed_bytes feature p values s h =
     permitted_bytes feature p values s
     (and_parts (is_counted feature (length values)) (list_all (is_permitted feature p) values)

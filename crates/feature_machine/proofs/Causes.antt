@@ -23,7 +23,8 @@ told_holds s value h = elim h [ inl e ↦ cc | inr q ↦ let e = q.1 in cc ]
 unshared_waits : ChangeFails stand.Unstable p.Unshared → ⊥
 unshared_waits h = elim h [ inl e ↦ cc | inr q ↦ q.0 refl ]
 
-pub change_causes : (row : Row) (s : Stand) (k : Proposal) (mandatory : Bool) → ((row_line row s (Proposed k mandatory)).answer ≡ Fatal 6) ↔ ((mandatory ≡ true) × ChangeFails s k)
+pub change_causes : (row : Row) (s : Stand) (k : Proposal) (mandatory : Bool)
+    → ((row_line row s (Proposed k mandatory)).answer ≡ Fatal 6) ↔ ((mandatory ≡ true) × ChangeFails s k)
 change_causes row s p.Invalid false = (λ e. cc, λ h. let m = h.0 in cc)
 change_causes row s p.Invalid true = (λ e. (refl, inl refl), λ h. refl)
 change_causes row stand.Unstable (p.Shared value) mandatory = (λ e. cc, λ h. absurd (shared_holds stand.Unstable value h.1))
@@ -49,7 +50,8 @@ empty_causes : (row : Row) (b : Bool) → (described row.feature).is_required �
 empty_causes row true e = (λ f. (refl, inr (refl, e)), λ h. refl)
 empty_causes row false e = (λ f. cc, λ h. absurd (elim h.1 [ inl w ↦ cc | inr q ↦ let r = q.1 in cc ]))
 
-pub confirm_causes : (row : Row) (s : Stand) (k : Confirmation) → ((row_line row s (Confirmed k)).answer ≡ Fatal 5) ↔ ((s ≡ stand.Changing) × ConfirmFails row k)
+pub confirm_causes : (row : Row) (s : Stand) (k : Confirmation)
+    → ((row_line row s (Confirmed k)).answer ≡ Fatal 5) ↔ ((s ≡ stand.Changing) × ConfirmFails row k)
 confirm_causes row stand.Stable k = (λ e. cc, λ h. let s = h.0 in cc)
 confirm_causes row stand.Unstable k = (λ e. cc, λ h. let s = h.0 in cc)
 confirm_causes row stand.Changing c.Late = (λ e. cc, λ h. absurd (neither row c.Late (λ w. cc) (λ w. cc) h.1))
@@ -75,7 +77,8 @@ pub before_number : (held : Option ℕ) (opened ack : ℕ) → held ≡ Some ope
 before_number None opened ack e before = cc
 before_number (Some n) opened ack e before = let t = before_tests ack opened before in cc
 
-pub late_ignored : (row : Row) (body : List ℕ) (ack : Option ℕ) → row.stand ≡ stand.Changing → answers_opening row.opened ack ≡ false → row_step row (Confirm body ack) ≡ says row Ignored
+pub late_ignored : (row : Row) (body : List ℕ) (ack : Option ℕ) → row.stand ≡ stand.Changing → answers_opening row.opened ack ≡ false
+    → row_step row (Confirm body ack) ≡ says row Ignored
 late_ignored row body ack changing late =
     let k : confirmation row body ack ≡ c.Late = ap (λ b. if b then timely_confirmation row body else c.Late) late in
     ap (λ s. row_line row s (Confirmed (confirmation row body ack))) changing ∙ ap (λ x. row_line row stand.Changing (Confirmed x)) k

@@ -93,7 +93,10 @@ mapped_more f xs ys i d e inside size =
     let front : length (map f (take i xs)) ≡ i = length-map (take i xs) f ∙ length-take-le i xs (omega arith) in
     let back : drop i ys ≡ get_or ys i e ∷ drop (suc i) ys = drop-cons ys i e (omega arith) in
     let put = set-append_seam (map f (take i xs)) (get_or ys i e) (drop (suc i) ys) (f (get_or xs i d)) in
-    let more : map f (take (i + 1) xs) ≡ map f (take i xs) ++ f (get_or xs i d) ∷ [] = ap (λ l. map f l) (take_more xs i d inside) ∙ map-append f (take i xs) (get_or xs i d ∷ []) in
+    let more : map f (take (i + 1) xs) ≡ map f (take i xs) ++ f (get_or xs i d) ∷ [] = ap (λ l. map f l) (take_more xs i d inside)
+    ∙ map-append f (take i xs) (get_or xs i d ∷ []) in
     let joined = append_assoc (map f (take i xs)) (f (get_or xs i d) ∷ []) (drop (suc i) ys) in
     let next : i + 1 ≡ suc i = omega arith in
-    rw (more, next, joined, back) (subst (λ k. set (map f (take i xs) ++ get_or ys i e ∷ drop (suc i) ys) k (f (get_or xs i d)) ≡ map f (take i xs) ++ f (get_or xs i d) ∷ drop (suc i) ys) front put)
+    rw (more, next, joined, back)
+    (subst (λ k. set (map f (take i xs) ++ get_or ys i e ∷ drop (suc i) ys) k (f (get_or xs i d)) ≡ map f (take i xs) ++ f (get_or xs i d) ∷ drop
+    (suc i) ys) front put)

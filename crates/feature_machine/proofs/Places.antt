@@ -50,7 +50,8 @@ number_above f.MinCsCov = omega arith
 number_above f.CheckDataChecksum = omega arith
 
 pub same_feature : (a b : Feature) → feature_number a ≡ feature_number b → a ≡ b
-same_feature a b e = let found : feature_numbered (feature_number a) ≡ feature_numbered (feature_number b) = ap feature_numbered e in cc (found, numbered a, numbered b)
+same_feature a b e = let found : feature_numbered (feature_number a) ≡ feature_numbered (feature_number b) = ap feature_numbered e in
+    cc (found, numbered a, numbered b)
 
 -- one place, one row
 pub same_place : (a b : Feature) (here there : Place) → index_of a here ≡ index_of b there → here ≡ there
@@ -67,17 +68,20 @@ same_number a b located.There located.Here e = absurd (omega arith)
 
 -- the row that was put, and the others
 pub put_there : (rows : List Row) (feature : Feature) (place : Place) (row : Row) → length rows ≡ 18 → row_at (put rows feature place row) feature place ≡ row
-put_there rows feature place row size = let inside : index_of feature place < length rows = (let n = index_below feature place in omega arith) in get_or-set_same rows (index_of feature place) row _ inside
+put_there rows feature place row size = let inside : index_of feature place < length rows = (let n = index_below feature place in omega arith) in
+    get_or-set_same rows (index_of feature place) row _ inside
 
 pub put_others : (rows : List Row) (feature : Feature) (place : Place) (row : Row) → OthersStay rows (put rows feature place row) feature place
 put_others rows feature place row other there differs = get_or-set_other rows (index_of feature place) (index_of other there) row _ differs
 
-pub put_negotiation : (rows : List Row) (feature : Feature) (place : Place) (row : Row) → IsNegotiation rows → IsRowOf feature place row → IsNegotiation (put rows feature place row)
+pub put_negotiation : (rows : List Row) (feature : Feature) (place : Place) (row : Row) → IsNegotiation rows → IsRowOf feature place row
+    → IsNegotiation (put rows feature place row)
 put_negotiation rows feature place row n its =
     record {
       size = length-set rows (index_of feature place) row ∙ n.size;
       each = λ other there.
-          elim (index_of other there == index_of feature place) as (λ b. (index_of other there == index_of feature place) ≡ b → IsRowOf other there (row_at (put rows feature place row) other there)) [
+          elim (index_of other there == index_of feature place) as
+          (λ b. (index_of other there == index_of feature place) ≡ b → IsRowOf other there (row_at (put rows feature place row) other there)) [
             | true ↦ λ e.
                 let same : index_of other there ≡ index_of feature place = eqb-true (index_of other there) (index_of feature place) e in
                 let features : feature ≡ other = sym (same_feature other feature (same_number other feature there place same)) in
@@ -86,6 +90,7 @@ put_negotiation rows feature place row n its =
                 (subst (λ y. IsRowOf feature y (row_at (put rows feature place row) feature y)) places
                 (subst (λ r. IsRowOf feature place r) (sym (put_there rows feature place row n.size)) its))
             | false ↦ λ e.
-                subst (λ r. IsRowOf other there r) (sym (put_others rows feature place row other there (eqb-false (index_of other there) (index_of feature place) e))) (n.each other there)
+                subst (λ r. IsRowOf other there r)
+                (sym (put_others rows feature place row other there (eqb-false (index_of other there) (index_of feature place) e))) (n.each other there)
           ] refl;
     }

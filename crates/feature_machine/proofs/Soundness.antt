@@ -27,7 +27,8 @@ use Rattle.feature_machine.specs.Rows.{is_there, says, Fatal, TableEvent, Propos
 use Rattle.feature_machine.specs.Sound.{is_lawful, is_active, is_pending, IsLawfulProposal, IsSoundRow, IsEventFor}
 
 -- a lawful value of a server-priority feature is a byte
-pub lawful_byte : (feature : Feature) (place : Place) (value : ℕ) → (described feature).is_server_priority ≡ true → is_lawful feature place value ≡ true → value < 256
+pub lawful_byte : (feature : Feature) (place : Place) (value : ℕ) → (described feature).is_server_priority ≡ true → is_lawful feature place value ≡ true
+    → value < 256
 lawful_byte f.Ccid located.Here value s h = grind arith
 lawful_byte f.Ccid located.There value s h = grind arith
 lawful_byte f.ShortSeqnos located.Here value s h = grind arith
@@ -110,15 +111,18 @@ wish_ours feature located.There (wanted.Number number) h =
     (and_parts (not (described feature).is_server_priority) (is_ours feature located.There)
     (and_parts (not (described feature).is_server_priority && is_ours feature located.There) (is_permitted feature located.There number) h).0).1
 
-none_pending : (feature : Feature) (place : Place) (wish : Option Wanted) → is_pending feature place stand.Changing wish ≡ true → is_pending feature place stand.Stable wish ≡ true
+none_pending : (feature : Feature) (place : Place) (wish : Option Wanted) → is_pending feature place stand.Changing wish ≡ true
+    → is_pending feature place stand.Stable wish ≡ true
 none_pending feature place None h = refl
 none_pending feature place (Some wish) h = cc
 
-still_none_pending : (feature : Feature) (place : Place) (wish : Option Wanted) → is_pending feature place stand.Stable wish ≡ true → is_pending feature place stand.Changing wish ≡ true
+still_none_pending : (feature : Feature) (place : Place) (wish : Option Wanted) → is_pending feature place stand.Stable wish ≡ true
+    → is_pending feature place stand.Changing wish ≡ true
 still_none_pending feature place None h = refl
 still_none_pending feature place (Some wish) h = cc
 
-pending_active : (feature : Feature) (place : Place) (wish : Option Wanted) → is_pending feature place stand.Unstable wish ≡ true → is_active feature place wish ≡ true
+pending_active : (feature : Feature) (place : Place) (wish : Option Wanted) → is_pending feature place stand.Unstable wish ≡ true
+    → is_active feature place wish ≡ true
 pending_active feature place None h = cc
 pending_active feature place (Some wish) h = h
 
@@ -127,9 +131,16 @@ pending_at row s e sound = subst (λ t. is_pending row.feature row.place t row.p
 
 holding_sound : (row : Row) (value : ℕ) → IsSoundRow row → is_lawful row.feature row.place value ≡ true → IsSoundRow (holding row value)
 holding_sound row value sound lawful =
-    record { value = lawful; active = sound.active; pending = sound.pending; quiet = λ ours. record { stand = (sound.quiet ours).stand; offer = (sound.quiet ours).offer } }
+    record {
+      value = lawful;
+      active = sound.active;
+      pending = sound.pending;
+      quiet =
+          λ ours. record { stand = (sound.quiet ours).stand; offer = (sound.quiet ours).offer };
+    }
 
-settled_sound : (row : Row) (value : ℕ) → row.stand ≡ stand.Changing → IsSoundRow row → is_lawful row.feature row.place value ≡ true → IsSoundRow (settled row value).row
+settled_sound : (row : Row) (value : ℕ) → row.stand ≡ stand.Changing → IsSoundRow row → is_lawful row.feature row.place value ≡ true
+    → IsSoundRow (settled row value).row
 settled_sound row value e sound lawful =
     record {
       value = lawful;
@@ -193,7 +204,13 @@ line_sound row stand.Changing (Preferred wish) e sound lawful =
 line_sound row stand.Unstable (Preferred wish) e sound lawful =
     record { value = sound.value; active = sound.active; pending = lawful; quiet = λ not_ours. absurd (ours_of row wish lawful not_ours) }
 line_sound row stand.Changing (Sending number None) e sound lawful =
-    record { value = sound.value; active = sound.active; pending = sound.pending; quiet = λ not_ours. record { stand = (sound.quiet not_ours).stand; offer = (sound.quiet not_ours).offer } }
+    record {
+      value = sound.value;
+      active = sound.active;
+      pending = sound.pending;
+      quiet =
+          λ not_ours. record { stand = (sound.quiet not_ours).stand; offer = (sound.quiet not_ours).offer };
+    }
 line_sound row stand.Changing (Sending number (Some opened)) e sound lawful = sound
 line_sound row stand.Unstable (Sending number o) e sound lawful =
     record {
@@ -204,9 +221,11 @@ line_sound row stand.Unstable (Sending number o) e sound lawful =
     }
 line_sound row stand.Stable (Sending number o) e sound lawful = sound
 line_sound row stand.Stable (Offered false offer.Plain) e sound lawful =
-    opened_sound (without_offer row) row.active false e (without_offer_sound row sound) sound.active (λ not_ours. let nothing : row.offer ≡ offer.Nothing = (sound.quiet not_ours).offer in cc)
+    opened_sound (without_offer row) row.active false e (without_offer_sound row sound) sound.active
+    (λ not_ours. let nothing : row.offer ≡ offer.Nothing = (sound.quiet not_ours).offer in cc)
 line_sound row stand.Stable (Offered false offer.Mandatory) e sound lawful =
-    opened_sound (without_offer row) row.active true e (without_offer_sound row sound) sound.active (λ not_ours. let nothing : row.offer ≡ offer.Nothing = (sound.quiet not_ours).offer in cc)
+    opened_sound (without_offer row) row.active true e (without_offer_sound row sound) sound.active
+    (λ not_ours. let nothing : row.offer ≡ offer.Nothing = (sound.quiet not_ours).offer in cc)
 line_sound row stand.Stable (Offered false offer.Nothing) e sound lawful = without_offer_sound row sound
 line_sound row stand.Stable (Offered true offer.Nothing) e sound lawful = without_offer_sound row sound
 line_sound row stand.Stable (Offered true offer.Plain) e sound lawful = without_offer_sound row sound
@@ -220,7 +239,8 @@ shared_lawful row (Some value) h = h value refl
 shared_lawful row None h = tt
 
 -- what the two lists settle on is lawful
-pub agreed_lawful : (row : Row) → IsSoundRow row → (peers : List ℕ) (value : ℕ) → reconciled_by row.role (entries row.active) peers ≡ Some value → is_lawful row.feature row.place value ≡ true
+pub agreed_lawful : (row : Row) → IsSoundRow row → (peers : List ℕ) (value : ℕ) → reconciled_by row.role (entries row.active) peers ≡ Some value
+    → is_lawful row.feature row.place value ≡ true
 agreed_lawful row sound peers value h =
     permitted_lawful row.feature row.place value
     (entry_permitted row.feature row.place row.active value sound.active (reconciled_own row.role (entries row.active) peers value h))
@@ -240,7 +260,8 @@ proposal_lawful row body sound =
     (and_parts (is_there row.place && length body == width row) (is_permitted row.feature row.place (big_number (width row) body)) valid).1)
     (λ invalid. tt))
 
-number_lawful : (feature : Feature) (place : Place) (active : Option Wanted) (value : ℕ) → is_active feature place active ≡ true → is_number active value ≡ true → is_lawful feature place value ≡ true
+number_lawful : (feature : Feature) (place : Place) (active : Option Wanted) (value : ℕ) → is_active feature place active ≡ true → is_number active value ≡ true
+    → is_lawful feature place value ≡ true
 number_lawful feature place None value a h = cc
 number_lawful feature place (Some (wanted.List list)) value a h = cc
 number_lawful feature place (Some (wanted.Number number)) value a h =
@@ -281,7 +302,8 @@ timely_lawful row (value ∷ rest) sound =
 
 confirmation_lawful : (row : Row) (body : List ℕ) (ack : Option ℕ) → IsSoundRow row → IsLawfulHeard row (Confirmed (confirmation row body ack))
 confirmation_lawful row body ack sound =
-    if_both (λ k. IsLawfulHeard row (Confirmed k)) (answers_opening row.opened ack) (timely_confirmation row body) c.Late (λ timely. timely_lawful row body sound) (λ late. tt)
+    if_both (λ k. IsLawfulHeard row (Confirmed k)) (answers_opening row.opened ack) (timely_confirmation row body) c.Late
+    (λ timely. timely_lawful row body sound) (λ late. tt)
 
 heard_lawful : (row : Row) (event : RowEvent) → IsSoundRow row → IsEventFor row event → IsLawfulHeard row (heard row event)
 heard_lawful row (Change body mandatory) sound lawful = proposal_lawful row body sound

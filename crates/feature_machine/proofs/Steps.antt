@@ -24,7 +24,8 @@ line_same row s h = record { role = grind arith; feature = grind arith; place = 
 pub step_same : (row : Row) (event : RowEvent) → IsSameRow row (row_step row event).row
 step_same row event = line_same row row.stand (heard row event)
 
-pub step_its : (feature : Feature) (place : Place) (row : Row) (event : RowEvent) → IsRowOf feature place row → IsEventFor row event → IsRowOf feature place (row_step row event).row
+pub step_its : (feature : Feature) (place : Place) (row : Row) (event : RowEvent) → IsRowOf feature place row → IsEventFor row event
+    → IsRowOf feature place (row_step row event).row
 step_its feature place row event its lawful =
     let same : IsSameRow row (row_step row event).row = step_same row event in
     record { feature_is = same.feature ∙ its.feature_is; place_is = same.place ∙ its.place_is; sound = step_sound row event its.sound lawful }
@@ -36,20 +37,24 @@ line_stays row s h refused = grind arith
 pub step_stays : (row : Row) (event : RowEvent) → IsRefusal (row_step row event).answer → (row_step row event).row ≡ row
 step_stays row event refused = line_stays row row.stand (heard row event) refused
 
-pub put_same : (rows : List Row) (feature : Feature) (place : Place) (row new : Row) → row ≡ row_at rows feature place → new ≡ row → put rows feature place new ≡ rows
+pub put_same : (rows : List Row) (feature : Feature) (place : Place) (row new : Row) → row ≡ row_at rows feature place → new ≡ row
+    → put rows feature place new ≡ rows
 put_same rows feature place row new is same = ap (λ r. put rows feature place r) (same ∙ is) ∙ set-get_or rows (index_of feature place) _
 
-pub stepped_stays : (rows : List Row) (feature : Feature) (place : Place) (event : RowEvent) → IsRefusal (stepped rows feature place event).answer → (stepped rows feature place event).rows ≡ rows
+pub stepped_stays : (rows : List Row) (feature : Feature) (place : Place) (event : RowEvent) → IsRefusal (stepped rows feature place event).answer
+    → (stepped rows feature place event).rows ≡ rows
 stepped_stays rows feature place event refused =
     ap (λ row. put rows feature place row) (step_stays (row_at rows feature place) event refused) ∙ set-get_or rows (index_of feature place) _
 
 -- a Confirm that does not settle its row is refused
-line_refuses : (row : Row) (s : Stand) (k : Confirmation) → settling_of (row_line row s (Confirmed k)).answer ≢ settling.Settled → IsRefusal (row_line row s (Confirmed k)).answer
+line_refuses : (row : Row) (s : Stand) (k : Confirmation) → settling_of (row_line row s (Confirmed k)).answer ≢ settling.Settled
+    → IsRefusal (row_line row s (Confirmed k)).answer
 line_refuses row stand.Stable k other = tt
 line_refuses row stand.Unstable k other = tt
 line_refuses row stand.Changing c.Late other = tt
 line_refuses row stand.Changing c.Empty other =
-    if_both (λ step. settling_of step.answer ≢ settling.Settled → IsRefusal step.answer) (described row.feature).is_required (says row (Fatal 5)) (settled row row.value)
+    if_both (λ step. settling_of step.answer ≢ settling.Settled → IsRefusal step.answer) (described row.feature).is_required (says row (Fatal 5))
+    (settled row row.value)
     (λ required refused. tt) (λ not_required refused. absurd (refused refl)) other
 line_refuses row stand.Changing (c.Shared value) other = absurd (other refl)
 line_refuses row stand.Changing c.Held other = absurd (other refl)
@@ -57,10 +62,13 @@ line_refuses row stand.Changing (c.Alone value) other = absurd (other refl)
 line_refuses row stand.Changing (c.Told value) other = absurd (other refl)
 line_refuses row stand.Changing c.Wrong other = tt
 
-pub confirm_refuses : (row : Row) (body : List ℕ) (ack : Option ℕ) → settling_of (row_step row (Confirm body ack)).answer ≢ settling.Settled → IsRefusal (row_step row (Confirm body ack)).answer
+pub confirm_refuses : (row : Row) (body : List ℕ) (ack : Option ℕ) → settling_of (row_step row (Confirm body ack)).answer ≢ settling.Settled
+    → IsRefusal (row_step row (Confirm body ack)).answer
 confirm_refuses row body ack other = line_refuses row row.stand (confirmation row body ack) other
 
 -- the eighteen rows stay sound
-pub stepped_negotiation : (rows : List Row) (feature : Feature) (place : Place) (event : RowEvent) → IsNegotiation rows → IsEventFor (row_at rows feature place) event → IsNegotiation (stepped rows feature place event).rows
+pub stepped_negotiation : (rows : List Row) (feature : Feature) (place : Place) (event : RowEvent) → IsNegotiation rows
+    → IsEventFor (row_at rows feature place) event → IsNegotiation (stepped rows feature place event).rows
 stepped_negotiation rows feature place event n lawful =
-    put_negotiation rows feature place (row_step (row_at rows feature place) event).row n (step_its feature place (row_at rows feature place) event (n.each feature place) lawful)
+    put_negotiation rows feature place (row_step (row_at rows feature place) event).row n
+    (step_its feature place (row_at rows feature place) event (n.each feature place) lawful)

@@ -7,7 +7,8 @@ use Rattle.mark_agreement.specs.Moves.ReachedByMarks.{Starts, Server_moves, Clie
 use Rattle.mark_agreement.specs.Exchange.{client_requesting, server_requested, server_answering, client_answered, client_acking, server_acked, server_telling, client_told, client_learning, client_exchanged, server_heard, server_exchanged}
 
 asked : ReachedByMarks server_requested client_requesting
-asked = Server_moves unmoved_side client_requesting server_requested (Client_moves unmoved_side unmoved_side client_requesting Starts (Sends 0)) (Begins 1 refl refl (omega arith) (omega arith))
+asked = Server_moves unmoved_side client_requesting server_requested (Client_moves unmoved_side unmoved_side client_requesting Starts (Sends 0))
+    (Begins 1 refl refl (omega arith) (omega arith))
 
 answered : ReachedByMarks server_answering client_answered
 answered =

@@ -42,7 +42,8 @@ nothing_below f c zero (s ∷ []) h = tt
 nothing_below f c zero (s ∷ t ∷ ss) h = absurd (omega arith)
 nothing_below f c (suc i) (s ∷ ss) h = nothing_below f c i ss (omega arith)
 
-pub gap_below : (f b n i : ℕ) (ss : List Stretch) (s t : Stretch) → i < length ss → s ≡ get_or ss i s → suc i < length ss → t ≡ get_or ss (suc i) t → AreLaid f b ss
+pub gap_below : (f b n i : ℕ) (ss : List Stretch) (s t : Stretch) → i < length ss → s ≡ get_or ss i s → suc i < length ss → t ≡ get_or ss (suc i) t
+    → AreLaid f b ss
     → distance f n + s.count ≡ distance f s.hi → ((distance f t.hi + 1 ≡ distance f n) → ⊥) → AreLaid f (distance f n - 1) (drop (suc i) ss)
 gap_below f b n i ss s t h e g u k d ne =
     let here : AreLaid f (bound_after f b (take i ss)) (s ∷ drop (suc i) ss) = laid_at f b i ss s h e k in
@@ -51,7 +52,8 @@ gap_below f b n i ss s t h e g u k d ne =
     let under : distance f t.hi < bound_below f s = next.0.below in
     rw parts (laid_below f (bound_below f s) (distance f n - 1) t (drop (suc (suc i)) ss) (omega arith) next)
 
-pub between_at : (f b n i : ℕ) (ss : List Stretch) (s t : Stretch) → f < 2 ^ 48 → n < 2 ^ 48 → i < length ss → s ≡ get_or ss i s → suc i < length ss → t ≡ get_or ss (suc i) t → AreLaid f b ss
+pub between_at : (f b n i : ℕ) (ss : List Stretch) (s t : Stretch) → f < 2 ^ 48 → n < 2 ^ 48 → i < length ss → s ≡ get_or ss i s → suc i < length ss
+    → t ≡ get_or ss (suc i) t → AreLaid f b ss
     → distance f n < bound_after f b (take i ss) → distance f n + s.count ≡ distance f s.hi → distance f t.hi + 1 ≡ distance f n
     → Adds f b n ss (remove (set ss i (stretch s.hi (s.count + 1 + t.count))) (i + 1))
 between_at f b n i ss s t p q h e g u k a d r =
@@ -78,7 +80,8 @@ present_at f b n i ss s p q h e k a d r =
     ap (λ ts. has (numbers_of ts) n) parts ∙ present_behind f b n (take i ss) (s ∷ drop (suc i) ss) p (subst P parts k) a there
 
 -- a run at a place that lies below another bound, and those behind it
-pub far_at : (f b c i : ℕ) (ss : List Stretch) (s : Stretch) → i < length ss → s ≡ get_or ss i s → AreLaid f b ss → distance f s.hi < c → AreLaid f c (drop i ss)
+pub far_at : (f b c i : ℕ) (ss : List Stretch) (s : Stretch) → i < length ss → s ≡ get_or ss i s → AreLaid f b ss → distance f s.hi < c
+    → AreLaid f c (drop i ss)
 far_at f b c i ss s h e k d =
     let here : AreLaid f (bound_after f b (take i ss)) (s ∷ drop (suc i) ss) = laid_at f b i ss s h e k in
     let parts : drop i ss ≡ s ∷ drop (suc i) ss = drop-cons ss i s h ∙ ap (λ x. x ∷ drop (suc i) ss) (sym e) in

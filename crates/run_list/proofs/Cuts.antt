@@ -17,7 +17,8 @@ use Rattle.run_list.proofs.Paths.{times-here, times-append, times-last, path-fit
 use Rattle.run_list.proofs.Links.{place_runs, rest_runs, place_once, place_all, all_parted, below_end, below_far}
 
 -- runs that lie below the new floor are dropped
-runs-dropped : (f to b : ℕ) (ss : List Stretch) → f < 2 ^ 48 → to < 2 ^ 48 → distance f to < 2 ^ 47 → b ≤ distance f to → AreLaid f b ss → filter (is_from to) (numbers_of ss) ≡ []
+runs-dropped : (f to b : ℕ) (ss : List Stretch) → f < 2 ^ 48 → to < 2 ^ 48 → distance f to < 2 ^ 47 → b ≤ distance f to → AreLaid f b ss
+    → filter (is_from to) (numbers_of ss) ≡ []
 runs-dropped f to b [] p q r h k = refl
 runs-dropped f to b (s ∷ ss) p q r h k =
     let below : distance f s.hi < b = k.0.below in
@@ -35,7 +36,8 @@ rest_low f to nodes first before at p s laid =
     ]
 
 -- no run is left
-pub cut_first : (f to : ℕ) (nodes : List Node) (first free before at : ℕ) → IsLinked nodes first free → IsPlaceBelow f (distance f to) nodes first before at → before ≡ 1024
+pub cut_first : (f to : ℕ) (nodes : List Node) (first free before at : ℕ) → IsLinked nodes first free
+    → IsPlaceBelow f (distance f to) nodes first before at → before ≡ 1024
     → f < 2 ^ 48 → to < 2 ^ 48 → distance f to < 2 ^ 47 → AreLaid f 2048 (runs_from nodes first)
     → IsParted nodes 1024 free at × (runs_from nodes 1024 ≡ []) × (filter (is_from to) (numbers_of (runs_from nodes first)) ≡ [])
 cut_first f to nodes first free before at l p e q r d laid =
@@ -48,7 +50,8 @@ cut_first f to nodes first free before at l p e q r d laid =
     (subst P same all.0, all.1, ap (λ (k : ℕ). filter (is_from to) (numbers_of (runs_from nodes k))) same ∙ low)
 
 -- the last run that is left keeps what lies at the new floor or above
-pub cut_runs : (f to count : ℕ) (ss rest : List Stretch) (s : Stretch) → f < 2 ^ 48 → to < 2 ^ 48 → distance f to < 2 ^ 47 → AreLaid f 2048 ((ss ++ s ∷ []) ++ rest) → distance f to ≤ distance f s.hi
+pub cut_runs : (f to count : ℕ) (ss rest : List Stretch) (s : Stretch) → f < 2 ^ 48 → to < 2 ^ 48 → distance f to < 2 ^ 47
+    → AreLaid f 2048 ((ss ++ s ∷ []) ++ rest) → distance f to ≤ distance f s.hi
     → count ≡ min s.count (distance f s.hi - distance f to + 1) → AreLaid f (distance f to) rest
     → AreLaid to 2048 (ss ++ stretch s.hi count ∷ []) × (numbers_of (ss ++ stretch s.hi count ∷ []) ≡ filter (is_from to) (numbers_of ((ss ++ s ∷ []) ++ rest)))
 cut_runs f to count ss rest s p q r laid h e low =
@@ -62,20 +65,23 @@ cut_runs f to count ss rest s p q r laid h e low =
           ∙ kept.0),
     )
 
-pub cut_parted : (nodes : List Node) (first free before at : ℕ) (x : Node) (l : IsLinked nodes first free) (p : IsPlace nodes first before at) → before < 1024 → x.next ≡ 1024
+pub cut_parted : (nodes : List Node) (first free before at : ℕ) (x : Node) (l : IsLinked nodes first free) (p : IsPlace nodes first before at) → before < 1024
+    → x.next ≡ 1024
     → IsParted (set nodes before x) first free at × (runs_from (set nodes before x) first ≡ runs_at nodes (front p.passed) ++ run_of x ∷ [])
 cut_parted nodes first free before at x l p h e =
     let size : length nodes ≡ 1024 = l.size in
     let new : List Node = set nodes before x in
     let new_size : length new ≡ 1024 = length-set nodes before x ∙ l.size in
     let all : length p.passed + length p.rest + length l.spare ≡ 1024 = place_all nodes first free before at l p in
-    let once : times_listed before p.passed + times_listed before p.rest + times_listed before l.spare ≡ 1 = place_once nodes first free before at before l p h in
+    let once : times_listed before p.passed + times_listed before p.rest + times_listed before l.spare ≡ 1 =
+    place_once nodes first free before at before l p h in
     let there : 1 ≤ times_listed before p.passed = times-last before p.passed h p.last in
     let no_rest : times_listed before p.rest ≡ 0 = omega arith in
     let no_spare : times_listed before l.spare ≡ 0 = omega arith in
     let parts : p.passed ≡ front p.passed ++ before ∷ [] = last-front before p.passed h p.last in
     let counts : times_listed before p.passed ≡ times_listed before (front p.passed ++ before ∷ []) = ap (λ (js : List ℕ). times_listed before js) parts in
-    let both : times_listed before (front p.passed ++ before ∷ []) ≡ times_listed before (front p.passed) + times_listed before (before ∷ []) = times-append before (front p.passed) (before ∷ []) in
+    let both : times_listed before (front p.passed ++ before ∷ []) ≡ times_listed before (front p.passed) + times_listed before (before ∷ []) =
+    times-append before (front p.passed) (before ∷ []) in
     let self : times_listed before (before ∷ []) ≡ 1 + times_listed before [] = times-here before before [] refl in
     let no_front : times_listed before (front p.passed) ≡ 0 = omega arith in
     let P : ℕ → Type 0 = λ k. IsPath new first p.passed k in
@@ -97,11 +103,13 @@ cut_parted nodes first free before at x l p h e =
           ∙ runs-edited nodes before x (front p.passed) [] (omega arith) no_front refl,
     )
 
-pub cut_behind : (f to count : ℕ) (nodes : List Node) (first free before at : ℕ) (l : IsLinked nodes first free) (p : IsPlaceBelow f (distance f to) nodes first before at) → before < 1024
+pub cut_behind : (f to count : ℕ) (nodes : List Node) (first free before at : ℕ) (l : IsLinked nodes first free)
+    (p : IsPlaceBelow f (distance f to) nodes first before at) → before < 1024
     → f < 2 ^ 48 → to < 2 ^ 48 → distance f to < 2 ^ 47 → AreLaid f 2048 (runs_from nodes first)
     → count ≡ min (node_at nodes before).count (distance f (node_at nodes before).hi - distance f to + 1)
     → AreLaid to 2048 (runs_at nodes (front p.place.passed) ++ stretch (node_at nodes before).hi count ∷ [])
-    × (numbers_of (runs_at nodes (front p.place.passed) ++ stretch (node_at nodes before).hi count ∷ []) ≡ filter (is_from to) (numbers_of (runs_from nodes first)))
+    × (numbers_of (runs_at nodes (front p.place.passed) ++ stretch (node_at nodes before).hi count ∷ []) ≡ filter (is_from to)
+    (numbers_of (runs_from nodes first)))
 cut_behind f to count nodes first free before at l p h q r d laid e =
     let ss : List Stretch = runs_at nodes (front p.place.passed) in
     let s : Stretch = run_of (node_at nodes before) in
@@ -117,7 +125,8 @@ cut_behind f to count nodes first free before at l p h q r d laid e =
     (both.0, both.1 ∙ sym (ap (λ (ts : List Stretch). filter (is_from to) (numbers_of ts)) all))
 
 -- the last run that is left lies below the bound
-pub cut_low : (f : ℕ) (nodes : List Node) (first before at : ℕ) (p : IsPlace nodes first before at) → length nodes ≡ 1024 → before < 1024 → AreLaid f 2048 (runs_from nodes first)
+pub cut_low : (f : ℕ) (nodes : List Node) (first before at : ℕ) (p : IsPlace nodes first before at) → length nodes ≡ 1024 → before < 1024
+    → AreLaid f 2048 (runs_from nodes first)
     → distance f (node_at nodes before).hi < 2048
 cut_low f nodes first before at p s h laid =
     let ss : List Stretch = runs_at nodes (front p.passed) in

@@ -68,7 +68,8 @@ above-absent f n (suc count) hi rest p q h =
     grind (arith, ih)
 
 -- the numbers of a run have the number that lies in it
-pub inside-present : (f n count hi : ℕ) (rest : List ℕ) → f < 2 ^ 48 → hi < 2 ^ 48 → n < 2 ^ 48 → distance f n ≤ distance f hi → distance f hi < distance f n + count
+pub inside-present : (f n count hi : ℕ) (rest : List ℕ) → f < 2 ^ 48 → hi < 2 ^ 48 → n < 2 ^ 48 → distance f n ≤ distance f hi
+    → distance f hi < distance f n + count
     → has (downwards count hi ++ rest) n ≡ true
 inside-present f n zero hi rest p q r h k = absurd (omega arith)
 inside-present f n (suc count) hi rest p q r h k =
@@ -83,7 +84,8 @@ inside-present f n (suc count) hi rest p q r h k =
     ]
 
 -- a raised floor keeps a run at or above it, and drops one below it
-pub kept-downwards : (f to count hi : ℕ) (rest : List ℕ) → f < 2 ^ 48 → to < 2 ^ 48 → hi < 2 ^ 48 → distance f hi < 2 ^ 47 → distance f to + count ≤ distance f hi + 1
+pub kept-downwards : (f to count hi : ℕ) (rest : List ℕ) → f < 2 ^ 48 → to < 2 ^ 48 → hi < 2 ^ 48 → distance f hi < 2 ^ 47
+    → distance f to + count ≤ distance f hi + 1
     → filter (is_from to) (downwards count hi ++ rest) ≡ downwards count hi ++ filter (is_from to) rest
 kept-downwards f to zero hi rest p q r b h = refl
 kept-downwards f to (suc zero) hi rest p q r b h =
@@ -97,7 +99,8 @@ kept-downwards f to (suc (suc count)) hi rest p q r b h =
     let keep : distance to hi < 2 ^ 47 = omega arith in
     grind (arith, ih)
 
-pub dropped-downwards : (f to count hi : ℕ) (rest : List ℕ) → f < 2 ^ 48 → to < 2 ^ 48 → hi < 2 ^ 48 → distance f to < 2 ^ 47 → distance f hi < distance f to → count ≤ distance f hi + 1
+pub dropped-downwards : (f to count hi : ℕ) (rest : List ℕ) → f < 2 ^ 48 → to < 2 ^ 48 → hi < 2 ^ 48 → distance f to < 2 ^ 47 → distance f hi < distance f to
+    → count ≤ distance f hi + 1
     → filter (is_from to) (downwards count hi ++ rest) ≡ filter (is_from to) rest
 dropped-downwards f to zero hi rest p q r b k h = refl
 dropped-downwards f to (suc zero) hi rest p q r b k h =

@@ -10,11 +10,13 @@ use Rattle.run_list.proofs.Steps.{down, down_fits, distance-down, up-down, up_di
 use Rattle.run_list.proofs.Laid.{laid_below}
 
 -- a number that the runs below do not touch begins a run
-pub begins-extended_by : (f n : ℕ) (ss : List Stretch) → f < 2 ^ 48 → n < 2 ^ 48 → distance f n < 2 ^ 47 → AreLaid f (distance f n - 1) ss → extended_by n ss ≡ stretch n 1 ∷ ss
+pub begins-extended_by : (f n : ℕ) (ss : List Stretch) → f < 2 ^ 48 → n < 2 ^ 48 → distance f n < 2 ^ 47 → AreLaid f (distance f n - 1) ss
+    → extended_by n ss ≡ stretch n 1 ∷ ss
 begins-extended_by f n [] p q r h = refl
 begins-extended_by f n (s ∷ ss) p q r h =
     let below : distance f s.hi < distance f n - 1 = h.0.below in
-    let ne : (residue (s.hi + 1) ≡ n) → ⊥ = λ e. let d : distance f n ≡ distance f s.hi + 1 = up_distance f s.hi n p h.0.fits e (omega arith) in absurd (omega arith) in
+    let ne : (residue (s.hi + 1) ≡ n) → ⊥ = λ e. let d : distance f n ≡ distance f s.hi + 1 = up_distance f s.hi n p h.0.fits e (omega arith) in
+    absurd (omega arith) in
     grind arith
 
 -- one that they touch extends the first
@@ -22,7 +24,8 @@ pub extends-extended_by : (n hi count : ℕ) (ss : List Stretch) → residue (hi
 extends-extended_by n hi count ss e = grind arith
 
 pub stretches-run : (f count hi : ℕ) (ss : List Stretch) → f < 2 ^ 48 → hi < 2 ^ 48 → distance f hi < 2 ^ 47 → suc count ≤ distance f hi + 1
-    → AreLaid f (distance f hi - suc count) ss → stretches (numbers_of ss) ≡ ss → stretches (downwards (suc count) hi ++ numbers_of ss) ≡ stretch hi (suc count) ∷ ss
+    → AreLaid f (distance f hi - suc count) ss → stretches (numbers_of ss) ≡ ss
+    → stretches (downwards (suc count) hi ++ numbers_of ss) ≡ stretch hi (suc count) ∷ ss
 stretches-run f zero hi ss p q r k h e = rw e (begins-extended_by f hi ss p q r h)
 stretches-run f (suc count) hi ss p q r k h e =
     let d : distance f (down hi) + 1 ≡ distance f hi = distance-down f hi p q (omega arith) in

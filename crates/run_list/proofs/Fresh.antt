@@ -39,7 +39,8 @@ abbrev pub chain_up : ℕ → List ℕ
 chain_up free = upwards (1024 - free) free
 
 -- the node below a chain comes before it
-pub chain_more : (nodes : List Node) (free next : ℕ) (x : Node) → length nodes ≡ 1024 → next + 1 ≡ free → free ≤ 1024 → x.next ≡ free → IsPath nodes free (chain_up free) 1024
+pub chain_more : (nodes : List Node) (free next : ℕ) (x : Node) → length nodes ≡ 1024 → next + 1 ≡ free → free ≤ 1024 → x.next ≡ free
+    → IsPath nodes free (chain_up free) 1024
     → IsPath (set nodes next x) next (chain_up next) 1024
 chain_more nodes free next x s e h k p =
     let count : 1024 - next ≡ suc (1024 - free) = omega arith in
@@ -59,7 +60,8 @@ chain_end nodes free h k =
     let R : ℕ → Type 0 = λ c. IsPath nodes free (upwards c free) 1024 in
     subst R (sym none) (omega arith)
 
-pub chain_linked : (nodes : List Node) (free : ℕ) → length nodes ≡ 1024 → free ≡ 0 → IsPath nodes free (chain_up free) 1024 → IsLinked nodes 1024 free × (runs_from nodes 1024 ≡ [])
+pub chain_linked : (nodes : List Node) (free : ℕ) → length nodes ≡ 1024 → free ≡ 0 → IsPath nodes free (chain_up free) 1024 → IsLinked nodes 1024 free
+    × (runs_from nodes 1024 ≡ [])
 chain_linked nodes free s e p =
     let all : length (chain_up free) ≡ 1024 - free = length-upwards (1024 - free) free in (
       record {

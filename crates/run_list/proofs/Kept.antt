@@ -13,15 +13,18 @@ use Rattle.run_list.proofs.Downs.{downwards-add, kept-downwards, dropped-downwar
 use Rattle.run_list.proofs.Laid.{split_at, numbers_of-append, laid_front, laid_back, bound_falls}
 
 -- the last run lies below the new floor
-pub last_dropped : (f to b : ℕ) (ss : List Stretch) (s : Stretch) → f < 2 ^ 48 → to < 2 ^ 48 → distance f to < 2 ^ 47 → AreLaid f b (ss ++ s ∷ []) → distance f s.hi < distance f to
+pub last_dropped : (f to b : ℕ) (ss : List Stretch) (s : Stretch) → f < 2 ^ 48 → to < 2 ^ 48 → distance f to < 2 ^ 47 → AreLaid f b (ss ++ s ∷ [])
+    → distance f s.hi < distance f to
     → filter (is_from to) (numbers_of (ss ++ s ∷ [])) ≡ filter (is_from to) (numbers_of ss)
 last_dropped f to b ss s p q r h k =
     let laid : AreLaid f (bound_after f b ss) (s ∷ []) = laid_back f b ss (s ∷ []) h in
     let gone : filter (is_from to) (downwards s.count s.hi ++ []) ≡ [] = dropped-downwards f to s.count s.hi [] p q laid.0.fits r k laid.0.above in
-    rw (numbers_of-append ss (s ∷ []), filter-append (is_from to) (numbers_of ss) (downwards s.count s.hi ++ []), gone) (append-nil (filter (is_from to) (numbers_of ss)))
+    rw (numbers_of-append ss (s ∷ []), filter-append (is_from to) (numbers_of ss) (downwards s.count s.hi ++ []), gone)
+    (append-nil (filter (is_from to) (numbers_of ss)))
 
 -- a run that the new floor cuts, or leaves whole
-pub run_cut : (f to count hi kept : ℕ) → f < 2 ^ 48 → to < 2 ^ 48 → hi < 2 ^ 48 → distance f hi < 2 ^ 47 → distance f to ≤ distance f hi → count ≤ distance f hi + 1
+pub run_cut : (f to count hi kept : ℕ) → f < 2 ^ 48 → to < 2 ^ 48 → hi < 2 ^ 48 → distance f hi < 2 ^ 47 → distance f to ≤ distance f hi
+    → count ≤ distance f hi + 1
     → kept ≡ min count (distance f hi - distance f to + 1) → filter (is_from to) (downwards count hi ++ []) ≡ downwards kept hi ++ []
 run_cut f to count hi kept p q r h k l e =
     elim (cases_lt (distance f hi - distance f to + 1) count) [
@@ -51,9 +54,11 @@ run_cut f to count hi kept p q r h k l e =
         ∙ ap (λ ns. downwards kept hi ++ ns) gone
 
 -- the last run lies above it, at least in part
-pub last_kept : (f to b count : ℕ) (ss : List Stretch) (s : Stretch) → f < 2 ^ 48 → to < 2 ^ 48 → b ≤ 2 ^ 47 → AreLaid f b (ss ++ s ∷ []) → distance f to ≤ distance f s.hi
+pub last_kept : (f to b count : ℕ) (ss : List Stretch) (s : Stretch) → f < 2 ^ 48 → to < 2 ^ 48 → b ≤ 2 ^ 47 → AreLaid f b (ss ++ s ∷ [])
+    → distance f to ≤ distance f s.hi
     → count ≡ min s.count (distance f s.hi - distance f to + 1)
-    → (filter (is_from to) (numbers_of (ss ++ s ∷ [])) ≡ numbers_of (ss ++ stretch s.hi count ∷ [])) × AreLaid to (b - distance f to) (ss ++ stretch s.hi count ∷ [])
+    → (filter (is_from to) (numbers_of (ss ++ s ∷ [])) ≡ numbers_of (ss ++ stretch s.hi count ∷ []))
+    × AreLaid to (b - distance f to) (ss ++ stretch s.hi count ∷ [])
 last_kept f to b count [] s p q r h k e =
     let near : distance to s.hi + distance f to ≡ distance f s.hi = distance_raised f to s.hi p q h.0.fits k in
     let below : distance f s.hi < b = h.0.below in

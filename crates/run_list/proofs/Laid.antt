@@ -18,7 +18,8 @@ with_number-falling f b n (m ∷ ms) h k = let le : distance f m < distance f n 
 -- the numbers of laid runs fall
 pub falling_numbers : (f b : ℕ) (ss : List Stretch) → f < 2 ^ 48 → AreLaid f b ss → AreFalling f b (numbers_of ss)
 falling_numbers f b [] p h = tt
-falling_numbers f b (s ∷ ss) p h = falling-run f b s.count s.hi (numbers_of ss) p h.0.fits h.0.below h.0.some h.0.above (falling_numbers f (bound_below f s) ss p h.1)
+falling_numbers f b (s ∷ ss) p h =
+    falling-run f b s.count s.hi (numbers_of ss) p h.0.fits h.0.below h.0.some h.0.above (falling_numbers f (bound_below f s) ss p h.1)
 
 -- there are at most half as many runs as numbers
 pub room_for_runs : (f b : ℕ) (ss : List Stretch) → AreLaid f b ss → 2 * length ss ≤ b + 1
@@ -31,7 +32,8 @@ room_for_runs f b (s ∷ ss) h =
 
 pub numbers_of-append : (ss ts : List Stretch) → numbers_of (ss ++ ts) ≡ numbers_of ss ++ numbers_of ts
 numbers_of-append [] ts = refl
-numbers_of-append (s ∷ ss) ts = ap (λ ns. downwards s.count s.hi ++ ns) (numbers_of-append ss ts) ∙ sym (append_assoc (downwards s.count s.hi) (numbers_of ss) (numbers_of ts))
+numbers_of-append (s ∷ ss) ts = ap (λ ns. downwards s.count s.hi ++ ns) (numbers_of-append ss ts)
+    ∙ sym (append_assoc (downwards s.count s.hi) (numbers_of ss) (numbers_of ts))
 
 -- runs in front, and runs behind them
 pub laid_front : (f b : ℕ) (ss ts : List Stretch) → AreLaid f b (ss ++ ts) → AreLaid f b ss
@@ -105,7 +107,8 @@ adds_alone f b n ss p q k h =
     }
 
 -- the run right below goes one up
-pub adds_up : (f b n : ℕ) (s : Stretch) (ss : List Stretch) → f < 2 ^ 48 → n < 2 ^ 48 → distance f n < b → AreLaid f b (s ∷ ss) → distance f s.hi + 1 ≡ distance f n
+pub adds_up : (f b n : ℕ) (s : Stretch) (ss : List Stretch) → f < 2 ^ 48 → n < 2 ^ 48 → distance f n < b → AreLaid f b (s ∷ ss)
+    → distance f s.hi + 1 ≡ distance f n
     → Adds f b n (s ∷ ss) (stretch n (s.count + 1) ∷ ss)
 adds_up f b n s ss p q k h e =
     let above : s.count ≤ distance f s.hi + 1 = h.0.above in
@@ -120,7 +123,8 @@ adds_up f b n s ss p q k h e =
     }
 
 -- the run right above goes one down
-pub adds_down : (f b n : ℕ) (s : Stretch) (ss : List Stretch) → f < 2 ^ 48 → n < 2 ^ 48 → AreLaid f b (s ∷ ss) → distance f n + s.count ≡ distance f s.hi → AreLaid f (distance f n - 1) ss
+pub adds_down : (f b n : ℕ) (s : Stretch) (ss : List Stretch) → f < 2 ^ 48 → n < 2 ^ 48 → AreLaid f b (s ∷ ss) → distance f n + s.count ≡ distance f s.hi
+    → AreLaid f (distance f n - 1) ss
     → Adds f b n (s ∷ ss) (stretch s.hi (s.count + 1) ∷ ss)
 adds_down f b n s ss p q h e k =
     let bound : distance f s.hi - (s.count + 1) ≡ distance f n - 1 = omega arith in
@@ -137,7 +141,8 @@ adds_down f b n s ss p q h e k =
     }
 
 -- and takes the run right below with it
-pub adds_between : (f b n : ℕ) (s t : Stretch) (ss : List Stretch) → f < 2 ^ 48 → n < 2 ^ 48 → AreLaid f b (s ∷ t ∷ ss) → distance f n + s.count ≡ distance f s.hi → distance f t.hi + 1 ≡ distance f n
+pub adds_between : (f b n : ℕ) (s t : Stretch) (ss : List Stretch) → f < 2 ^ 48 → n < 2 ^ 48 → AreLaid f b (s ∷ t ∷ ss)
+    → distance f n + s.count ≡ distance f s.hi → distance f t.hi + 1 ≡ distance f n
     → Adds f b n (s ∷ t ∷ ss) (stretch s.hi (s.count + 1 + t.count) ∷ ss)
 adds_between f b n s t ss p q h e k =
     let above : t.count ≤ distance f t.hi + 1 = h.1.0.above in
@@ -147,7 +152,8 @@ adds_between f b n s t ss p q h e k =
     let parts : downwards (s.count + suc t.count) s.hi ≡ downwards s.count s.hi ++ n ∷ downwards t.count (down n) =
     downwards-add s.count (suc t.count) s.hi n h.0.fits q (further f n s.hi s.count p q h.0.fits e) in
     let fall : AreFalling f (distance f t.hi + 1) (numbers_of (t ∷ ss)) =
-    falling-run f (distance f t.hi + 1) t.count t.hi (numbers_of ss) p h.1.0.fits (omega arith) h.1.0.some above (falling_numbers f (bound_below f t) ss p h.1.1) in
+    falling-run f (distance f t.hi + 1) t.count t.hi (numbers_of ss) p h.1.0.fits (omega arith) h.1.0.some above
+    (falling_numbers f (bound_below f t) ss p h.1.1) in
     record {
       laid = (record { fits = h.0.fits; some = omega arith; below = h.0.below; above = omega arith }, rw bound h.1.1);
       fresh = above-absent f n s.count s.hi (numbers_of (t ∷ ss)) p h.0.fits (omega arith)
@@ -203,6 +209,7 @@ pub room_for_one : (f n i : ℕ) (ss : List Stretch) → Adds f 2048 n ss (take 
 room_for_one f n i ss a =
     let most : 2 * length (take i ss ++ stretch n 1 ∷ drop i ss) ≤ 2048 + 1 = room_for_runs f 2048 (take i ss ++ stretch n 1 ∷ drop i ss) a.laid in
     let all : length (take i ss ++ drop i ss) ≡ length ss = ap length (take-append-drop i ss) in
-    let one : length (take i ss ++ stretch n 1 ∷ drop i ss) ≡ length (take i ss) + suc (length (drop i ss)) = length-append (take i ss) (stretch n 1 ∷ drop i ss) in
+    let one : length (take i ss ++ stretch n 1 ∷ drop i ss) ≡ length (take i ss) + suc (length (drop i ss)) =
+    length-append (take i ss) (stretch n 1 ∷ drop i ss) in
     let two : length (take i ss ++ drop i ss) ≡ length (take i ss) + length (drop i ss) = length-append (take i ss) (drop i ss) in
     omega arith

@@ -21,11 +21,13 @@ pub linked_runs : (nodes : List Node) (first free : ℕ) (l : IsLinked nodes fir
 linked_runs nodes first free l = let all = l.all in from-path nodes first l.used l.size (omega arith) l.used_path
 
 -- the used nodes are those before a place and those from it on
-pub linked_place : (nodes : List Node) (first free before at : ℕ) (l : IsLinked nodes first free) (p : IsPlace nodes first before at) → l.used ≡ p.passed ++ p.rest
+pub linked_place : (nodes : List Node) (first free before at : ℕ) (l : IsLinked nodes first free) (p : IsPlace nodes first before at)
+    → l.used ≡ p.passed ++ p.rest
 linked_place nodes first free before at l p =
     one_path nodes first l.used (p.passed ++ p.rest) l.used_path (path-append nodes first at 1024 p.passed p.rest p.passed_path p.rest_path)
 
-pub place_runs : (nodes : List Node) (first before at : ℕ) (p : IsPlace nodes first before at) → length nodes ≡ 1024 → runs_from nodes first ≡ runs_at nodes p.passed ++ runs_at nodes p.rest
+pub place_runs : (nodes : List Node) (first before at : ℕ) (p : IsPlace nodes first before at) → length nodes ≡ 1024
+    → runs_from nodes first ≡ runs_at nodes p.passed ++ runs_at nodes p.rest
 place_runs nodes first before at p s =
     let few = p.few in
     let both : length (p.passed ++ p.rest) ≡ length p.passed + length p.rest = length-append p.passed p.rest in
@@ -40,7 +42,8 @@ pub place_once : (nodes : List Node) (first free before at i : ℕ) (l : IsLinke
     → times_listed i p.passed + times_listed i p.rest + times_listed i l.spare ≡ 1
 place_once nodes first free before at i l p h =
     let once : times_listed i l.used + times_listed i l.spare ≡ 1 = l.once i h in
-    let parts : times_listed i l.used ≡ times_listed i (p.passed ++ p.rest) = ap (λ (js : List ℕ). times_listed i js) (linked_place nodes first free before at l p) in
+    let parts : times_listed i l.used ≡ times_listed i (p.passed ++ p.rest) =
+    ap (λ (js : List ℕ). times_listed i js) (linked_place nodes first free before at l p) in
     let both : times_listed i (p.passed ++ p.rest) ≡ times_listed i p.passed + times_listed i p.rest = times-append i p.passed p.rest in
     omega arith
 
@@ -67,11 +70,14 @@ laid_rest f before old all e laid =
     laid_back f 2048 before old (subst P e laid)
 
 -- a run of its own finds a free node
-pub link_room : (f n : ℕ) (nodes : List Node) (first free before at : ℕ) (l : IsLinked nodes first free) (p : IsPlace nodes first before at) → f < 2 ^ 48 → n < 2 ^ 48
-    → AreLaid f 2048 (runs_from nodes first) → distance f n < bound_after f 2048 (runs_at nodes p.passed) → AreLaid f (distance f n - 1) (runs_from nodes at) → free < 1024
+pub link_room : (f n : ℕ) (nodes : List Node) (first free before at : ℕ) (l : IsLinked nodes first free) (p : IsPlace nodes first before at) → f < 2 ^ 48
+    → n < 2 ^ 48
+    → AreLaid f 2048 (runs_from nodes first) → distance f n < bound_after f 2048 (runs_at nodes p.passed) → AreLaid f (distance f n - 1) (runs_from nodes at)
+    → free < 1024
 link_room f n nodes first free before at l p q r laid above below =
     let P : List Stretch → Type 0 = λ ts. AreLaid f (distance f n - 1) ts in
-    let alone = adds_alone f (bound_after f 2048 (runs_at nodes p.passed)) n (runs_at nodes p.rest) q r above (subst P (rest_runs nodes first before at p l.size) below) in
+    let alone = adds_alone f (bound_after f 2048 (runs_at nodes p.passed)) n (runs_at nodes p.rest) q r above
+    (subst P (rest_runs nodes first before at p l.size) below) in
     let adds = adds_runs f n (runs_at nodes p.passed) (runs_at nodes p.rest) (stretch n 1 ∷ runs_at nodes p.rest) (runs_from nodes first)
     (runs_at nodes p.passed ++ stretch n 1 ∷ runs_at nodes p.rest) q (place_runs nodes first before at p l.size) refl laid above alone in
     let most : 2 * length (runs_at nodes p.passed ++ stretch n 1 ∷ runs_at nodes p.rest) ≤ 2048 + 1 =
@@ -111,8 +117,10 @@ link_linked nodes new first new_first free before at x l p h e t =
     let tail : IsPath mid (node_at mid free).next p.rest 1024 =
     subst P (sym (ap (λ (n : Node). n.next) read ∙ e)) (path-set nodes free at 1024 x p.rest no_rest p.rest_path) in
     let apart : times_listed before (free ∷ p.rest) ≡ 0 = last_apart mid before free 1024 p.passed (free ∷ p.rest) p.last (refl, h, tail)
-    (λ i k. (let s = sums i k in let c : times_listed i (free ∷ p.rest) ≡ times_listed i (free ∷ []) + times_listed i p.rest = times-cons i free p.rest in omega arith)) in
-    let apart_spare : times_listed before spare ≡ 0 = last_apart nodes before follows 1024 p.passed spare p.last head.1 (λ i k. (let s = sums i k in omega arith)) in
+    (λ i k. (let s = sums i k in let c : times_listed i (free ∷ p.rest) ≡ times_listed i (free ∷ []) + times_listed i p.rest = times-cons i free p.rest in
+    omega arith)) in
+    let apart_spare : times_listed before spare ≡ 0 =
+    last_apart nodes before follows 1024 p.passed spare p.last head.1 (λ i k. (let s = sums i k in omega arith)) in
     let used_path : IsPath new new_first (p.passed ++ free ∷ p.rest) 1024 =
     path-append new new_first free 1024 p.passed (free ∷ p.rest) behind_passed (t.others free 1024 (free ∷ p.rest) apart (refl, h, tail)) in
     let new_size : length new ≡ 1024 = t.size ∙ length-set nodes free x ∙ l.size in
@@ -125,8 +133,10 @@ link_linked nodes new first new_first free before at x l p h e t =
         size = new_size;
         used_path = used_path;
         spare_path = t.others follows 1024 spare apart_spare (path-set nodes free follows 1024 x spare no_spare head.1);
-        once = λ i k. (let s = sums i k in let c : times_listed i (free ∷ p.rest) ≡ times_listed i (free ∷ []) + times_listed i p.rest = times-cons i free p.rest in
-            let d : times_listed i (p.passed ++ free ∷ p.rest) ≡ times_listed i p.passed + times_listed i (free ∷ p.rest) = times-append i p.passed (free ∷ p.rest) in omega arith);
+        once = λ i k. (let s = sums i k in let c : times_listed i (free ∷ p.rest) ≡ times_listed i (free ∷ []) + times_listed i p.rest =
+            times-cons i free p.rest in
+            let d : times_listed i (p.passed ++ free ∷ p.rest) ≡ times_listed i p.passed + times_listed i (free ∷ p.rest) =
+            times-append i p.passed (free ∷ p.rest) in omega arith);
         all = omega arith;
       },
       from-path new new_first (p.passed ++ free ∷ p.rest) new_size (omega arith) used_path
@@ -186,7 +196,8 @@ join_linked nodes first free before at next x y l p h e g d c =
     let head = path-head nodes at p.rest h p.rest_path in
     let Q : ℕ → Type 0 = λ k. IsPath nodes k (behind p.rest) 1024 in
     let second = path-head nodes next (behind p.rest) g (subst Q (sym e) head.1) in
-    let sums : (i : ℕ) → i < 1024 → times_listed i p.passed + times_listed i (at ∷ []) + (times_listed i (next ∷ []) + times_listed i rest) + times_listed i l.spare ≡ 1 = λ i k.
+    let sums : (i : ℕ) → i < 1024
+    → times_listed i p.passed + times_listed i (at ∷ []) + (times_listed i (next ∷ []) + times_listed i rest) + times_listed i l.spare ≡ 1 = λ i k.
     (let once = place_head nodes first free before at i l p h k in
     let one : times_listed i (behind p.rest) ≡ times_listed i (next ∷ rest) = ap (λ (js : List ℕ). times_listed i js) second.0 in
     let two : times_listed i (next ∷ rest) ≡ times_listed i (next ∷ []) + times_listed i rest = times-cons i next rest in
@@ -196,7 +207,8 @@ join_linked nodes first free before at next x y l p h e g d c =
     let here = sums at h in
     let there = sums next g in
     let cons : times_listed next (at ∷ rest) ≡ times_listed next (at ∷ []) + times_listed next rest = times-cons next at rest in
-    let both : times_listed next (p.passed ++ at ∷ rest) ≡ times_listed next p.passed + times_listed next (at ∷ rest) = times-append next p.passed (at ∷ rest) in
+    let both : times_listed next (p.passed ++ at ∷ rest) ≡ times_listed next p.passed + times_listed next (at ∷ rest) =
+    times-append next p.passed (at ∷ rest) in
     let free_of : times_listed next (p.passed ++ at ∷ rest) ≡ 0 = omega arith in
     let passed_next : times_listed next p.passed ≡ 0 = omega arith in
     let at_next : times_listed next (at ∷ rest) ≡ 0 = omega arith in
@@ -228,7 +240,8 @@ join_linked nodes first free before at next x y l p h e g d c =
         once = λ i k. (let s = sums i k in
             let a : times_listed i (next ∷ l.spare) ≡ times_listed i (next ∷ []) + times_listed i l.spare = times-cons i next l.spare in
             let b : times_listed i (at ∷ rest) ≡ times_listed i (at ∷ []) + times_listed i rest = times-cons i at rest in
-            let f : times_listed i (p.passed ++ at ∷ rest) ≡ times_listed i p.passed + times_listed i (at ∷ rest) = times-append i p.passed (at ∷ rest) in omega arith);
+            let f : times_listed i (p.passed ++ at ∷ rest) ≡ times_listed i p.passed + times_listed i (at ∷ rest) = times-append i p.passed (at ∷ rest) in
+            omega arith);
         all = omega arith;
       },
       from-path new first (p.passed ++ at ∷ rest) new_size (omega arith) used_path
@@ -268,7 +281,8 @@ parted_step nodes first free from x d h e =
         used_path = used_path;
         spare_path = (refl, h, subst R (sym (ap (λ (n : Node). n.next) read ∙ e)) (path-set nodes from free 1024 x d.spare no_spare d.spare_path));
         loose_path = path-set nodes from (node_at nodes from).next 1024 x loose no_loose head.1;
-        once = λ i k. (let s = sums i k in let a : times_listed i (from ∷ d.spare) ≡ times_listed i (from ∷ []) + times_listed i d.spare = times-cons i from d.spare in omega arith);
+        once = λ i k. (let s = sums i k in let a : times_listed i (from ∷ d.spare) ≡ times_listed i (from ∷ []) + times_listed i d.spare =
+            times-cons i from d.spare in omega arith);
         all = omega arith;
       },
       from-path new first d.used new_size (omega arith) used_path ∙ runs-set nodes from x d.used no_used
@@ -287,7 +301,8 @@ unfolding parted_step
 parted_falls nodes first free from x d h e =
     let next = (parted_step nodes first free from x d h e).0 in
     let old : length (runs_from nodes from) ≡ length d.loose = parted_left nodes first free from d in
-    let new : length (runs_from (set nodes from x) (node_at nodes from).next) ≡ length (behind d.loose) = parted_left (set nodes from x) first from (node_at nodes from).next next in
+    let new : length (runs_from (set nodes from x) (node_at nodes from).next) ≡ length (behind d.loose) =
+    parted_left (set nodes from x) first from (node_at nodes from).next next in
     let one : length d.loose ≡ suc (length (behind d.loose)) = ap (λ (js : List ℕ). length js) (path-head nodes from d.loose h d.loose_path).0 in
     omega arith
 
@@ -331,7 +346,8 @@ pub place_parts : (nodes : List Node) (first before at : ℕ) (p : IsPlace nodes
 place_parts nodes first before at p h = ap (λ (js : List ℕ). runs_at nodes js) (path-head nodes at p.rest h p.rest_path).0
 
 -- the run at a place is laid, with those behind it
-pub place_laid : (f : ℕ) (nodes : List Node) (first before at : ℕ) (p : IsPlace nodes first before at) → length nodes ≡ 1024 → at < 1024 → AreLaid f 2048 (runs_from nodes first)
+pub place_laid : (f : ℕ) (nodes : List Node) (first before at : ℕ) (p : IsPlace nodes first before at) → length nodes ≡ 1024 → at < 1024
+    → AreLaid f 2048 (runs_from nodes first)
     → AreLaid f (bound_after f 2048 (runs_at nodes p.passed)) (run_of (node_at nodes at) ∷ runs_at nodes (behind p.rest))
 place_laid f nodes first before at p s h laid =
     let P : List Stretch → Type 0 = λ ts. AreLaid f (bound_after f 2048 (runs_at nodes p.passed)) ts in
@@ -339,7 +355,8 @@ place_laid f nodes first before at p s h laid =
     (laid_rest f (runs_at nodes p.passed) (runs_at nodes p.rest) (runs_from nodes first) (place_runs nodes first before at p s) laid)
 
 -- what comes before a place is no higher than all
-pub place_bound : (f : ℕ) (nodes : List Node) (first before at : ℕ) (p : IsPlace nodes first before at) → length nodes ≡ 1024 → AreLaid f 2048 (runs_from nodes first)
+pub place_bound : (f : ℕ) (nodes : List Node) (first before at : ℕ) (p : IsPlace nodes first before at) → length nodes ≡ 1024
+    → AreLaid f 2048 (runs_from nodes first)
     → bound_after f 2048 (runs_at nodes p.passed) ≤ 2048
 place_bound f nodes first before at p s laid =
     let P : List Stretch → Type 0 = λ ts. AreLaid f 2048 ts in
@@ -347,9 +364,11 @@ place_bound f nodes first before at p s laid =
     (laid_front f 2048 (runs_at nodes p.passed) (runs_at nodes p.rest) (subst P (place_runs nodes first before at p s) laid))
 
 -- what an edit at a place adds
-pub adds_place : (f n : ℕ) (nodes : List Node) (first before at : ℕ) (p : IsPlace nodes first before at) (new made : List Stretch) → length nodes ≡ 1024 → f < 2 ^ 48 → at < 1024
+pub adds_place : (f n : ℕ) (nodes : List Node) (first before at : ℕ) (p : IsPlace nodes first before at) (new made : List Stretch) → length nodes ≡ 1024
+    → f < 2 ^ 48 → at < 1024
     → AreLaid f 2048 (runs_from nodes first) → distance f n < bound_after f 2048 (runs_at nodes p.passed) → made ≡ runs_at nodes p.passed ++ new
-    → Adds f (bound_after f 2048 (runs_at nodes p.passed)) n (run_of (node_at nodes at) ∷ runs_at nodes (behind p.rest)) new → Adds f 2048 n (runs_from nodes first) made
+    → Adds f (bound_after f 2048 (runs_at nodes p.passed)) n (run_of (node_at nodes at) ∷ runs_at nodes (behind p.rest)) new
+    → Adds f 2048 n (runs_from nodes first) made
 adds_place f n nodes first before at p new made s q h laid above e a =
     adds_runs f n (runs_at nodes p.passed) (run_of (node_at nodes at) ∷ runs_at nodes (behind p.rest)) new (runs_from nodes first) made q
     (place_runs nodes first before at p s ∙ ap (λ (ss : List Stretch). runs_at nodes p.passed ++ ss) (place_parts nodes first before at p h)) e laid above a
@@ -367,7 +386,8 @@ below_none nodes first before at p h k =
     ap (λ (js : List ℕ). runs_at nodes js) (path-end nodes (node_at nodes at).next (behind p.rest) k (path-head nodes at p.rest h p.rest_path).1)
 
 -- both runs, laid
-pub both_laid : (f : ℕ) (nodes : List Node) (first before at next : ℕ) (p : IsPlace nodes first before at) → length nodes ≡ 1024 → at < 1024 → next ≡ (node_at nodes at).next → next < 1024
+pub both_laid : (f : ℕ) (nodes : List Node) (first before at next : ℕ) (p : IsPlace nodes first before at) → length nodes ≡ 1024 → at < 1024
+    → next ≡ (node_at nodes at).next → next < 1024
     → AreLaid f 2048 (runs_from nodes first)
     → AreLaid f (bound_after f 2048 (runs_at nodes p.passed)) (run_of (node_at nodes at) ∷ run_of (node_at nodes next) ∷ runs_at nodes (behind (behind p.rest)))
 both_laid f nodes first before at next p s h e k laid =
@@ -375,7 +395,8 @@ both_laid f nodes first before at next p s h e k laid =
     subst P (below_parts nodes first before at next p h e k) (place_laid f nodes first before at p s h laid)
 
 -- a gap is left below a number under a run, where no run ends right below it
-pub gap_left : (f n : ℕ) (nodes : List Node) (first before at next : ℕ) (p : IsPlace nodes first before at) → length nodes ≡ 1024 → at < 1024 → next ≡ (node_at nodes at).next → next < 1024
+pub gap_left : (f n : ℕ) (nodes : List Node) (first before at next : ℕ) (p : IsPlace nodes first before at) → length nodes ≡ 1024 → at < 1024
+    → next ≡ (node_at nodes at).next → next < 1024
     → AreLaid f 2048 (runs_from nodes first) → distance f n + (node_at nodes at).count ≡ distance f (node_at nodes at).hi
     → ((distance f (node_at nodes next).hi + 1 ≡ distance f n) → ⊥) → AreLaid f (distance f n - 1) (runs_at nodes (behind p.rest))
 gap_left f n nodes first before at next p s h e k laid d ne =
@@ -383,7 +404,8 @@ gap_left f n nodes first before at next p s h e k laid d ne =
     let under : distance f (node_at nodes next).hi < bound_below f (run_of (node_at nodes at)) = both.1.0.below in
     let P : List Stretch → Type 0 = λ ts. AreLaid f (distance f n - 1) ts in
     subst P (sym (below_parts nodes first before at next p h e k))
-    (laid_below f (bound_below f (run_of (node_at nodes at))) (distance f n - 1) (run_of (node_at nodes next)) (runs_at nodes (behind (behind p.rest))) (omega arith) both.1)
+    (laid_below f (bound_below f (run_of (node_at nodes at))) (distance f n - 1) (run_of (node_at nodes next)) (runs_at nodes (behind (behind p.rest)))
+    (omega arith) both.1)
 
 -- what is below the place of a number: no run, one with a gap, or one that has it
 pub below_end : (f c : ℕ) (nodes : List Node) (at : ℕ) → length nodes ≡ 1024 → at ≡ 1024 → AreLaid f c (runs_from nodes at)
@@ -391,14 +413,17 @@ below_end f c nodes at s e =
     let P : List Stretch → Type 0 = λ ts. AreLaid f c ts in
     subst P (sym (from-path nodes at [] s (omega arith) e)) tt
 
-pub below_far : (f c : ℕ) (nodes : List Node) (first before at : ℕ) (p : IsPlace nodes first before at) → length nodes ≡ 1024 → at < 1024 → AreLaid f 2048 (runs_from nodes first)
+pub below_far : (f c : ℕ) (nodes : List Node) (first before at : ℕ) (p : IsPlace nodes first before at) → length nodes ≡ 1024 → at < 1024
+    → AreLaid f 2048 (runs_from nodes first)
     → distance f (node_at nodes at).hi < c → AreLaid f c (runs_from nodes at)
 below_far f c nodes first before at p s h laid d =
     let P : List Stretch → Type 0 = λ ts. AreLaid f c ts in
     subst P (sym (rest_runs nodes first before at p s ∙ place_parts nodes first before at p h))
-    (laid_below f (bound_after f 2048 (runs_at nodes p.passed)) c (run_of (node_at nodes at)) (runs_at nodes (behind p.rest)) d (place_laid f nodes first before at p s h laid))
+    (laid_below f (bound_after f 2048 (runs_at nodes p.passed)) c (run_of (node_at nodes at)) (runs_at nodes (behind p.rest)) d
+    (place_laid f nodes first before at p s h laid))
 
-pub present_in : (f n : ℕ) (nodes : List Node) (first before at : ℕ) (p : IsPlace nodes first before at) → length nodes ≡ 1024 → f < 2 ^ 48 → n < 2 ^ 48 → at < 1024
+pub present_in : (f n : ℕ) (nodes : List Node) (first before at : ℕ) (p : IsPlace nodes first before at) → length nodes ≡ 1024 → f < 2 ^ 48 → n < 2 ^ 48
+    → at < 1024
     → AreLaid f 2048 (runs_from nodes first) → distance f n < bound_after f 2048 (runs_at nodes p.passed) → distance f n ≤ distance f (node_at nodes at).hi
     → distance f (node_at nodes at).hi < distance f n + (node_at nodes at).count → has (numbers_of (runs_from nodes first)) n ≡ true
 present_in f n nodes first before at p s q r h laid above d k =

@@ -102,7 +102,8 @@ abbrev pub behind : List ℕ → List ℕ
 behind [] = []
 behind (j ∷ js) = js
 
-pub path-head : (nodes : List Node) (a : ℕ) (js : List ℕ) → a < 1024 → IsPath nodes a js 1024 → (js ≡ a ∷ behind js) × IsPath nodes (node_at nodes a).next (behind js) 1024
+pub path-head : (nodes : List Node) (a : ℕ) (js : List ℕ) → a < 1024 → IsPath nodes a js 1024 → (js ≡ a ∷ behind js)
+    × IsPath nodes (node_at nodes a).next (behind js) 1024
 path-head nodes a [] h p = absurd (omega arith)
 path-head nodes a (j ∷ js) h p =
     let P : ℕ → Type 0 = λ k. IsPath nodes (node_at nodes k).next js 1024 in
@@ -155,7 +156,8 @@ walked-path nodes (suc fuel) a (x ∷ xs) h p =
     let P : ℕ → Type 0 = λ k. run_of (node_at nodes k) ∷ walked fuel nodes (node_at nodes k).next ≡ run_of (node_at nodes x) ∷ runs_at nodes xs in
     rw test (subst P (sym p.0) (ap (λ (ss : List Stretch). run_of (node_at nodes x) ∷ ss) ih))
 
-pub from-path : (nodes : List Node) (a : ℕ) (xs : List ℕ) → length nodes ≡ 1024 → length xs ≤ 1024 → IsPath nodes a xs 1024 → runs_from nodes a ≡ runs_at nodes xs
+pub from-path : (nodes : List Node) (a : ℕ) (xs : List ℕ) → length nodes ≡ 1024 → length xs ≤ 1024 → IsPath nodes a xs 1024
+    → runs_from nodes a ≡ runs_at nodes xs
 from-path nodes a xs s h p = walked-path nodes (length nodes) a xs (omega arith) p
 
 -- an edit of a node that is not on the path
@@ -176,14 +178,16 @@ runs-set nodes i x (j ∷ js) h =
     ap (λ (n : Node). run_of n ∷ runs_at (set nodes i x) js) same ∙ ap (λ (ss : List Stretch). run_of (node_at nodes j) ∷ ss) (runs-set nodes i x js apart.1)
 
 -- an edit that keeps the link
-next-same : (nodes : List Node) (i j : ℕ) (x : Node) → i < length nodes → x.next ≡ (node_at nodes i).next → (node_at (set nodes i x) j).next ≡ (node_at nodes j).next
+next-same : (nodes : List Node) (i j : ℕ) (x : Node) → i < length nodes → x.next ≡ (node_at nodes i).next
+    → (node_at (set nodes i x) j).next ≡ (node_at nodes j).next
 next-same nodes i j x h e =
     elim (cases_eq j i) [
       | inl same ↦ ap (λ (n : Node). n.next) (get_or-set_at nodes i j x no_node same h) ∙ e ∙ ap (λ (k : ℕ). (node_at nodes k).next) (sym same)
       | inr other ↦ ap (λ (n : Node). n.next) (get_or-set_other nodes i j x no_node other)
     ]
 
-pub path-same : (nodes : List Node) (i a b : ℕ) (x : Node) (js : List ℕ) → i < length nodes → x.next ≡ (node_at nodes i).next → IsPath nodes a js b → IsPath (set nodes i x) a js b
+pub path-same : (nodes : List Node) (i a b : ℕ) (x : Node) (js : List ℕ) → i < length nodes → x.next ≡ (node_at nodes i).next → IsPath nodes a js b
+    → IsPath (set nodes i x) a js b
 path-same nodes i a b x [] h e p = p
 path-same nodes i a b x (j ∷ js) h e p =
     let ih = path-same nodes i (node_at nodes j).next b x js h e p.2 in
@@ -191,14 +195,16 @@ path-same nodes i a b x (j ∷ js) h e p =
     (p.0, p.1, subst P (sym (next-same nodes i j x h e)) ih)
 
 -- an edit that keeps the run
-run-same : (nodes : List Node) (i j : ℕ) (x : Node) → i < length nodes → run_of x ≡ run_of (node_at nodes i) → run_of (node_at (set nodes i x) j) ≡ run_of (node_at nodes j)
+run-same : (nodes : List Node) (i j : ℕ) (x : Node) → i < length nodes → run_of x ≡ run_of (node_at nodes i)
+    → run_of (node_at (set nodes i x) j) ≡ run_of (node_at nodes j)
 run-same nodes i j x h e =
     elim (cases_eq j i) [
       | inl same ↦ ap (λ (n : Node). run_of n) (get_or-set_at nodes i j x no_node same h) ∙ e ∙ ap (λ (k : ℕ). run_of (node_at nodes k)) (sym same)
       | inr other ↦ ap (λ (n : Node). run_of n) (get_or-set_other nodes i j x no_node other)
     ]
 
-pub runs-same : (nodes : List Node) (i : ℕ) (x : Node) (js : List ℕ) → i < length nodes → run_of x ≡ run_of (node_at nodes i) → runs_at (set nodes i x) js ≡ runs_at nodes js
+pub runs-same : (nodes : List Node) (i : ℕ) (x : Node) (js : List ℕ) → i < length nodes → run_of x ≡ run_of (node_at nodes i)
+    → runs_at (set nodes i x) js ≡ runs_at nodes js
 runs-same nodes i x [] h e = refl
 runs-same nodes i x (j ∷ js) h e =
     ap (λ (s : Stretch). s ∷ runs_at (set nodes i x) js) (run-same nodes i j x h e)

@@ -12,14 +12,16 @@ abbrev pub place_first : (nodes : List Node) (first : ℕ) → IsChained nodes f
 place_first nodes first k = record { passed = []; rest = k.chain; few = (let few = k.few in omega arith); passed_path = refl; rest_path = k.path; last = refl }
 
 -- one node further
-pub place_lengths : (nodes : List Node) (first before at : ℕ) (p : IsPlace nodes first before at) → at < 1024 → length (p.passed ++ at ∷ []) + length (behind p.rest) ≤ 1024
+pub place_lengths : (nodes : List Node) (first before at : ℕ) (p : IsPlace nodes first before at) → at < 1024
+    → length (p.passed ++ at ∷ []) + length (behind p.rest) ≤ 1024
 place_lengths nodes first before at p h =
     let few = p.few in
     let one : length p.rest ≡ suc (length (behind p.rest)) = ap (λ (js : List ℕ). length js) (path-head nodes at p.rest h p.rest_path).0 in
     let two : length (p.passed ++ at ∷ []) ≡ length p.passed + suc 0 = length-append p.passed (at ∷ []) in
     omega arith
 
-abbrev pub place_step : (nodes : List Node) (first before at : ℕ) (p : IsPlace nodes first before at) → at < 1024 → IsPlace nodes first at (node_at nodes at).next
+abbrev pub place_step : (nodes : List Node) (first before at : ℕ) (p : IsPlace nodes first before at) → at < 1024
+    → IsPlace nodes first at (node_at nodes at).next
 place_step nodes first before at p h =
     record {
       passed = p.passed ++ at ∷ [];
@@ -39,7 +41,8 @@ place_falls nodes first before at p s h =
     let old : length (runs_from nodes at) ≡ length p.rest =
     ap (λ (ss : List Stretch). length ss) (from-path nodes at p.rest s (omega arith) p.rest_path) ∙ length-runs nodes p.rest in
     let new : length (runs_from nodes (node_at nodes at).next) ≡ length (behind p.rest) =
-    ap (λ (ss : List Stretch). length ss) (from-path nodes (node_at nodes at).next (behind p.rest) s (omega arith) head.1) ∙ length-runs nodes (behind p.rest) in
+    ap (λ (ss : List Stretch). length ss) (from-path nodes (node_at nodes at).next (behind p.rest) s (omega arith) head.1)
+    ∙ length-runs nodes (behind p.rest) in
     omega arith
 
 bound-last : (f b : ℕ) (ss : List Stretch) (s : Stretch) → bound_after f b (ss ++ s ∷ []) ≡ bound_below f s
@@ -53,12 +56,14 @@ passed_first f n nodes first k h = record { place = place_first nodes first k; a
 pub passed_step : (f n : ℕ) (nodes : List Node) (first before at : ℕ) → IsPassed f n nodes first before at → at < 1024
     → distance f n + (node_at nodes at).count < distance f (node_at nodes at).hi → IsPassed f n nodes first at (node_at nodes at).next
 passed_step f n nodes first before at p h d =
-    let all : runs_at nodes (p.place.passed ++ at ∷ []) ≡ runs_at nodes p.place.passed ++ run_of (node_at nodes at) ∷ [] = runs-append nodes p.place.passed (at ∷ []) in
+    let all : runs_at nodes (p.place.passed ++ at ∷ []) ≡ runs_at nodes p.place.passed ++ run_of (node_at nodes at) ∷ [] =
+    runs-append nodes p.place.passed (at ∷ []) in
     let bound : bound_after f 2048 (runs_at nodes (p.place.passed ++ at ∷ [])) ≡ bound_below f (run_of (node_at nodes at)) =
     ap (λ (ss : List Stretch). bound_after f 2048 ss) all ∙ bound-last f 2048 (runs_at nodes p.place.passed) (run_of (node_at nodes at)) in
     record { place = place_step nodes first before at p.place h; above = omega arith }
 
-pub passed_end : (f n : ℕ) (nodes : List Node) (first before at : ℕ) → IsPassed f n nodes first before at → (at < 1024 → Touches f n (run_of (node_at nodes at)))
+pub passed_end : (f n : ℕ) (nodes : List Node) (first before at : ℕ)
+    → IsPassed f n nodes first before at → (at < 1024 → Touches f n (run_of (node_at nodes at)))
     → IsPlaceFor f n nodes first before at
 passed_end f n nodes first before at p t = record { place = p.place; above = p.above; touches = t }
 

@@ -85,13 +85,16 @@ has-raised set to m s =
   where
     all_from : (set : MarkedSet) (m : ℕ) → IsSound set → has set.numbers m ≡ (is_from set.floor m && has set.numbers m)
     all_from set m s = elim (cases_Bool (has set.numbers m)) [
-      | inl holds ↦ let near : is_from set.floor m ≡ true = lt-ltb (distance set.floor m) (2 ^ 47) (let d : distance set.floor m < 2048 = present_below set.floor 2048 m set.numbers s.falling holds in omega arith) in
+      | inl holds ↦ let near : is_from set.floor m ≡ true =
+          lt-ltb (distance set.floor m) (2 ^ 47)
+          (let d : distance set.floor m < 2048 = present_below set.floor 2048 m set.numbers s.falling holds in omega arith) in
           rw (holds, near) refl
       | inr fails ↦ rw fails (sym (and_right (is_from set.floor m) false refl))
     ]
 
 -- the numbers stay in order, each at the floor or above it
-pub falling-with_number : (f b n : ℕ) (ns : List ℕ) → f < 2 ^ 48 → n < 2 ^ 48 → distance f n < b → has ns n ≡ false → AreFalling f b ns → AreFalling f b (with_number f n ns)
+pub falling-with_number : (f b n : ℕ) (ns : List ℕ) → f < 2 ^ 48 → n < 2 ^ 48 → distance f n < b → has ns n ≡ false → AreFalling f b ns
+    → AreFalling f b (with_number f n ns)
 falling-with_number f b n [] p q d h s = (q, d, tt)
 falling-with_number f b n (m ∷ ms) p q d h s =
     let parts = or_parts (m == n) (has ms n) h in
@@ -103,7 +106,8 @@ falling-with_number f b n (m ∷ ms) p q d h s =
           rw test (q, d, (s.0, omega arith, s.2))
     ]
 
-pub falling-filter : (f to b : ℕ) (ns : List ℕ) → f < 2 ^ 48 → to < 2 ^ 48 → distance f to < 2 ^ 47 → b ≤ 2 ^ 47 → AreFalling f b ns → AreFalling to (b - distance f to) (filter (is_from to) ns)
+pub falling-filter : (f to b : ℕ) (ns : List ℕ) → f < 2 ^ 48 → to < 2 ^ 48 → distance f to < 2 ^ 47 → b ≤ 2 ^ 47 → AreFalling f b ns
+    → AreFalling to (b - distance f to) (filter (is_from to) ns)
 falling-filter f to b [] p q r l s = tt
 falling-filter f to b (n ∷ ns) p q r l s =
     let ih = falling-filter f to (distance f n) ns p q r (omega arith) s.2 in
@@ -113,7 +117,8 @@ falling-filter f to b (n ∷ ns) p q r l s =
       | inr ge ↦ kept ge ih
     ]
   where
-    kept : distance f to ≤ distance f n → AreFalling to (distance f n - distance f to) (filter (is_from to) ns) → AreFalling to (b - distance f to) (filter (is_from to) (n ∷ ns))
+    kept : distance f to ≤ distance f n → AreFalling to (distance f n - distance f to) (filter (is_from to) ns)
+        → AreFalling to (b - distance f to) (filter (is_from to) (n ∷ ns))
     kept ge ih =
         let near : distance to n + distance f to ≡ distance f n = distance_raised f to n p q s.0 ge in
         let bound : distance f n - distance f to ≡ distance to n = omega arith in
@@ -168,7 +173,8 @@ sound-marked set n s q =
         (raised_absent set (floor_under n) n (far_absent set n s far))
 
 -- the same numbers, the same newest one
-pub same_head : (f b m n : ℕ) (ms ns : List ℕ) → f < 2 ^ 48 → AreFalling f b (m ∷ ms) → AreFalling f b (n ∷ ns) → ((k : ℕ) → has (m ∷ ms) k ≡ has (n ∷ ns) k) → m ≡ n
+pub same_head : (f b m n : ℕ) (ms ns : List ℕ) → f < 2 ^ 48 → AreFalling f b (m ∷ ms) → AreFalling f b (n ∷ ns) → ((k : ℕ) → has (m ∷ ms) k ≡ has (n ∷ ns) k)
+    → m ≡ n
 same_head f b m n ms ns p s t h =
     elim (cases_order (distance f m) (distance f n)) [
       | inl level ↦ same_place f m n p s.0 t.0 level
@@ -183,7 +189,8 @@ same_head f b m n ms ns p s t h =
     ]
 
 -- and the same others
-pub same_rest : (f m n : ℕ) (ms ns : List ℕ) → m ≡ n → AreFalling f (distance f m) ms → AreFalling f (distance f m) ns → ((k : ℕ) → has (m ∷ ms) k ≡ has (n ∷ ns) k) → (k : ℕ) → has ms k ≡ has ns k
+pub same_rest : (f m n : ℕ) (ms ns : List ℕ) → m ≡ n → AreFalling f (distance f m) ms → AreFalling f (distance f m) ns
+    → ((k : ℕ) → has (m ∷ ms) k ≡ has (n ∷ ns) k) → (k : ℕ) → has ms k ≡ has ns k
 same_rest f m n ms ns e s t h k =
     elim (cases_eq m k) [
       | inl here ↦ rw (← here) (below-absent f (distance f m) m ms (omega arith) s ∙ sym (below-absent f (distance f m) m ns (omega arith) t))
@@ -252,7 +259,8 @@ raised_iff set to m s =
       λ k. parts ∙ and_from (is_from floor m) (has set.numbers m) (lt-ltb (distance floor m) (2 ^ 47) k.1) k.0,
     )
 
-pub set_same : (one other : MarkedSet) → IsSound one → IsSound other → one.floor ≡ other.floor → ((n : ℕ) → has one.numbers n ≡ has other.numbers n) → one ≡ other
+pub set_same : (one other : MarkedSet) → IsSound one → IsSound other → one.floor ≡ other.floor → ((n : ℕ) → has one.numbers n ≡ has other.numbers n)
+    → one ≡ other
 set_same one other s t e h =
     let numbers : one.numbers ≡ other.numbers = falling_same one.floor 2048 one.numbers other.numbers s.floor_fits s.falling (rw e t.falling) h in
     ap (λ (f : ℕ). record { floor = f; numbers = one.numbers }) e ∙ ap (λ (ns : List ℕ). record { floor = other.floor; numbers = ns }) numbers

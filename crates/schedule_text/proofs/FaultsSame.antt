@@ -41,15 +41,18 @@ unless-same : (column : ℕ) (cause : LineWhy) (fits : Bool) → flaw_fault colu
 unless-same column cause true = refl
 unless-same column cause false = let here : 0 + column ≡ column = omega arith in ap (λ (c : ℕ). Some (fault_at c cause)) here
 
-absent-same : (absent : Bool) (missing : LineFault) (a b : Option LineFault) → a ≡ b → (if absent then Some missing else a) ≡ (if absent then Some missing else b)
+absent-same : (absent : Bool) (missing : LineFault) (a b : Option LineFault) → a ≡ b
+    → (if absent then Some missing else a) ≡ (if absent then Some missing else b)
 absent-same true missing a b is = refl
 absent-same false missing a b is = is
 
 -- a word of a kind that finds something in it is judged as the table has it
 word-same : (cause : LineWhy) (fits : Bool) (word : WordAt)
-    → (if length word.text == 0 then Some (fault_at word.column why.Missing) else flaw_fault word.column (flaw_unless fits (flaw_behind 0 cause))) ≡ word_fault cause fits word
+    → (if length word.text == 0 then Some (fault_at word.column why.Missing) else flaw_fault word.column (flaw_unless fits (flaw_behind 0 cause)))
+    ≡ word_fault cause fits word
 word-same cause fits word =
-    absent-same (length word.text == 0) (fault_at word.column why.Missing) (flaw_fault word.column (flaw_unless fits (flaw_behind 0 cause))) (unless fits (fault_at word.column cause))
+    absent-same (length word.text == 0) (fault_at word.column why.Missing) (flaw_fault word.column (flaw_unless fits (flaw_behind 0 cause)))
+    (unless fits (fault_at word.column cause))
     (unless-same word.column cause fits)
 
 side-same : (left : WordsLeft) → judged_word side_kind.flaw (first_word left) ≡ a_side left
@@ -86,22 +89,26 @@ name-by column (letter ∷ index) = letter-same column (letter == 99 || letter =
 name-same : (left : WordsLeft) → judged_word frame_kind.flaw (first_word left) ≡ a_name left
 name-same left =
     let word = first_word left in
-    absent-same (length word.text == 0) (fault_at word.column why.Missing) (flaw_fault word.column (name_flaw word.text)) (unless (names_frame word.text) (fault_at word.column (name_cause word.text)))
+    absent-same (length word.text == 0) (fault_at word.column why.Missing) (flaw_fault word.column (name_flaw word.text))
+    (unless (names_frame word.text) (fault_at word.column (name_cause word.text)))
     (name-by word.column word.text)
 
 bad-same : (word : WordAt) (place : Option ℕ) → flaw_fault word.column (bad_hex place) ≡ bad_digit word place
 bad-same word None = refl
-bad-same word (Some place) = let turned : place + word.column ≡ word.column + place = omega arith in ap (λ (column : ℕ). Some (fault_at column why.BadHex)) turned
+bad-same word (Some place) = let turned : place + word.column ≡ word.column + place = omega arith in
+    ap (λ (column : ℕ). Some (fault_at column why.BadHex)) turned
 
 pub digits-same : (word : WordAt) → judged_word hex_kind.flaw word ≡ digits_fault word
 digits-same word =
-    absent-same (length word.text == 0) (fault_at word.column why.Missing) (flaw_fault word.column (bad_hex (digits_flaw word.text))) (bad_digit word (digits_flaw word.text))
+    absent-same (length word.text == 0) (fault_at word.column why.Missing) (flaw_fault word.column (bad_hex (digits_flaw word.text)))
+    (bad_digit word (digits_flaw word.text))
     (bad-same word (digits_flaw word.text))
 
 some-length : (byte : ℕ) (bytes : List ℕ) → (length (byte ∷ bytes) == 0) ≡ false
 some-length byte bytes = grind (arith, nat_tests)
 
-dash-by : (word : WordAt) (dash : Bool) → flaw_fault word.column (if dash then None else bad_hex (digits_flaw word.text)) ≡ (if dash then None else bad_digit word (digits_flaw word.text))
+dash-by : (word : WordAt) (dash : Bool)
+    → flaw_fault word.column (if dash then None else bad_hex (digits_flaw word.text)) ≡ (if dash then None else bad_digit word (digits_flaw word.text))
 dash-by word true = refl
 dash-by word false = bad-same word (digits_flaw word.text)
 
@@ -110,12 +117,15 @@ under-test true a b c is = refl
 under-test false a b c is = is
 
 -- the same word, with its text apart
-dash-text : (column : ℕ) (text : List ℕ) → judged_word dash_kind.flaw (record { column = column; text = text }) ≡ (if bytes_eq text (codes "-") then None else digits_fault (record { column = column; text = text }))
+dash-text : (column : ℕ) (text : List ℕ)
+    → judged_word dash_kind.flaw (record { column = column; text = text })
+    ≡ (if bytes_eq text (codes "-") then None else digits_fault (record { column = column; text = text }))
 dash-text column [] = refl
 dash-text column (byte ∷ bytes) =
     let word : WordAt = record { column = column; text = byte ∷ bytes } in
     let some = some-length byte bytes in
-    if-false (length (byte ∷ bytes) == 0) (Some (fault_at column why.Missing)) (flaw_fault column (if bytes_eq (byte ∷ bytes) (codes "-") then None else bad_hex (digits_flaw (byte ∷ bytes)))) some
+    if-false (length (byte ∷ bytes) == 0) (Some (fault_at column why.Missing))
+    (flaw_fault column (if bytes_eq (byte ∷ bytes) (codes "-") then None else bad_hex (digits_flaw (byte ∷ bytes)))) some
     ∙ dash-by word (bytes_eq (byte ∷ bytes) (codes "-"))
     ∙ sym (under-test (bytes_eq (byte ∷ bytes) (codes "-")) None (digits_fault word) (bad_digit word (digits_flaw (byte ∷ bytes)))
     (if-false (length (byte ∷ bytes) == 0) (Some (fault_at column why.Missing)) (bad_digit word (digits_flaw (byte ∷ bytes))) some))
@@ -161,30 +171,39 @@ pub said-some : {A : Type 0} (r : Result A LineFault) → fault_in r ≡ None �
 said-some (Ok x) none = (x, refl)
 said-some (Err fault) none = cc none
 
-list-same : (left : WordsLeft) → (side_kind ▷ place_kind ▷ feature_kind ▷ values_kind ▷ end_row).fault left ≡ words_fault (a_side ∷ (a_place ∷ (a_feature ∷ (some_values ∷ [])))) left
+list-same : (left : WordsLeft)
+    → (side_kind ▷ place_kind ▷ feature_kind ▷ values_kind ▷ end_row).fault left ≡ words_fault (a_side ∷ (a_place ∷ (a_feature ∷ (some_values ∷ [])))) left
 list-same left =
     let two = later left in
     let three = later two in
     let four = later three in
     let over = nothing_more (later four).words in
     let last = then-same (judged_word values_kind.flaw (first_word four)) (some_values four) over over (values-same four) refl in
-    let third = then-same (judged_word feature_kind.flaw (first_word three)) (a_feature three) (first_or (judged_word values_kind.flaw (first_word four)) over) (first_or (some_values four) over) (feature-same three) last in
-    let second = then-same (judged_word place_kind.flaw (first_word two)) (a_place two) (first_or (judged_word feature_kind.flaw (first_word three)) (first_or (judged_word values_kind.flaw (first_word four)) over))
+    let third = then-same (judged_word feature_kind.flaw (first_word three)) (a_feature three) (first_or (judged_word values_kind.flaw (first_word four)) over)
+    (first_or (some_values four) over) (feature-same three) last in
+    let second = then-same (judged_word place_kind.flaw (first_word two)) (a_place two)
+    (first_or (judged_word feature_kind.flaw (first_word three)) (first_or (judged_word values_kind.flaw (first_word four)) over))
     (first_or (a_feature three) (first_or (some_values four) over)) (place-same two) third in
     then-same (judged_word side_kind.flaw (first_word left)) (a_side left)
-    (first_or (judged_word place_kind.flaw (first_word two)) (first_or (judged_word feature_kind.flaw (first_word three)) (first_or (judged_word values_kind.flaw (first_word four)) over)))
+    (first_or (judged_word place_kind.flaw (first_word two))
+    (first_or (judged_word feature_kind.flaw (first_word three)) (first_or (judged_word values_kind.flaw (first_word four)) over)))
     (first_or (a_place two) (first_or (a_feature three) (first_or (some_values four) over))) (side-same left) second
 
-offer-same : (left : WordsLeft) → (side_kind ▷ place_kind ▷ feature_kind ▷ flag_row (codes "mandatory")).fault left ≡ words_fault (a_side ∷ (a_place ∷ (a_feature ∷ (maybe_mandatory ∷ [])))) left
+offer-same : (left : WordsLeft)
+    → (side_kind ▷ place_kind ▷ feature_kind ▷ flag_row (codes "mandatory")).fault left ≡ words_fault
+    (a_side ∷ (a_place ∷ (a_feature ∷ (maybe_mandatory ∷ [])))) left
 offer-same left =
     let two = later left in
     let three = later two in
     let four = later three in
     let flag = flag_fault (codes "mandatory") four.words in
     let last = first_or (maybe_mandatory four) (nothing_more (later four).words) in
-    let third = then-same (judged_word feature_kind.flaw (first_word three)) (a_feature three) flag last (feature-same three) (flag-same four.words four.absent) in
-    let second = then-same (judged_word place_kind.flaw (first_word two)) (a_place two) (first_or (judged_word feature_kind.flaw (first_word three)) flag) (first_or (a_feature three) last) (place-same two) third in
-    then-same (judged_word side_kind.flaw (first_word left)) (a_side left) (first_or (judged_word place_kind.flaw (first_word two)) (first_or (judged_word feature_kind.flaw (first_word three)) flag))
+    let third = then-same (judged_word feature_kind.flaw (first_word three)) (a_feature three) flag last (feature-same three)
+    (flag-same four.words four.absent) in
+    let second = then-same (judged_word place_kind.flaw (first_word two)) (a_place two) (first_or (judged_word feature_kind.flaw (first_word three)) flag)
+    (first_or (a_feature three) last) (place-same two) third in
+    then-same (judged_word side_kind.flaw (first_word left)) (a_side left)
+    (first_or (judged_word place_kind.flaw (first_word two)) (first_or (judged_word feature_kind.flaw (first_word three)) flag))
     (first_or (a_place two) (first_or (a_feature three) last)) (side-same left) second
 
 -- what a word is found as, where it spells that
@@ -262,8 +281,10 @@ row-same form.Plain left = plain-same (nothing_more left.words) (nothing_more le
 row-same form.Iss left =
     let two = later left in
     let over = nothing_more (later two).words in
-    plain-same (first_or (judged_word side_kind.flaw (first_word left)) (first_or (judged_word sequence_kind.flaw (first_word two)) over)) (words_fault (judges_of form.Iss) left)
-    (then-same (judged_word side_kind.flaw (first_word left)) (a_side left) (first_or (judged_word sequence_kind.flaw (first_word two)) over) (first_or (a_number two) over) (side-same left)
+    plain-same (first_or (judged_word side_kind.flaw (first_word left)) (first_or (judged_word sequence_kind.flaw (first_word two)) over))
+    (words_fault (judges_of form.Iss) left)
+    (then-same (judged_word side_kind.flaw (first_word left)) (a_side left) (first_or (judged_word sequence_kind.flaw (first_word two)) over)
+    (first_or (a_number two) over) (side-same left)
     (then-same (judged_word sequence_kind.flaw (first_word two)) (a_number two) over over (number-same two) refl))
 row-same form.Set left = set-same left
 row-same form.Offer left = offered-same left
@@ -275,15 +296,20 @@ row-same form.Deliver left =
 row-same form.Send left =
     let two = later left in
     let over = nothing_more (later two).words in
-    plain-same (first_or (judged_word side_kind.flaw (first_word left)) (first_or (judged_word dash_kind.flaw (first_word two)) over)) (words_fault (judges_of form.Send) left)
-    (then-same (judged_word side_kind.flaw (first_word left)) (a_side left) (first_or (judged_word dash_kind.flaw (first_word two)) over) (first_or (some_bytes two) over) (side-same left)
+    plain-same (first_or (judged_word side_kind.flaw (first_word left)) (first_or (judged_word dash_kind.flaw (first_word two)) over))
+    (words_fault (judges_of form.Send) left)
+    (then-same (judged_word side_kind.flaw (first_word left)) (a_side left) (first_or (judged_word dash_kind.flaw (first_word two)) over)
+    (first_or (some_bytes two) over) (side-same left)
     (then-same (judged_word dash_kind.flaw (first_word two)) (some_bytes two) over over (bytes-same two) refl))
-row-same form.Prefer left = plain-same ((side_kind ▷ place_kind ▷ feature_kind ▷ values_kind ▷ end_row).fault left) (words_fault (judges_of form.Prefer) left) (list-same left)
+row-same form.Prefer left =
+    plain-same ((side_kind ▷ place_kind ▷ feature_kind ▷ values_kind ▷ end_row).fault left) (words_fault (judges_of form.Prefer) left) (list-same left)
 row-same form.Timer left =
     let two = later left in
     let over = nothing_more (later two).words in
-    plain-same (first_or (judged_word side_kind.flaw (first_word left)) (first_or (judged_word timer_kind.flaw (first_word two)) over)) (words_fault (judges_of form.Timer) left)
-    (then-same (judged_word side_kind.flaw (first_word left)) (a_side left) (first_or (judged_word timer_kind.flaw (first_word two)) over) (first_or (a_timer two) over) (side-same left)
+    plain-same (first_or (judged_word side_kind.flaw (first_word left)) (first_or (judged_word timer_kind.flaw (first_word two)) over))
+    (words_fault (judges_of form.Timer) left)
+    (then-same (judged_word side_kind.flaw (first_word left)) (a_side left) (first_or (judged_word timer_kind.flaw (first_word two)) over)
+    (first_or (a_timer two) over) (side-same left)
     (then-same (judged_word timer_kind.flaw (first_word two)) (a_timer two) over over (timer-same two) refl))
 row-same form.Close left =
     let over = nothing_more (later left).words in
@@ -307,7 +333,8 @@ spoken-same left =
     (chosen_fault rows (form_kind.reads word.text) (later left)) (form_fault (form_named word.text) (later left))
     (word-same why.UnknownWord (is_some (form_named word.text)) word) (chosen-same (form_named word.text) (later left))
 
-clean-fault : (nothing : Bool) (left : WordsLeft) → fault_in (if nothing then Ok line.Nothing else line_row.said left) ≡ (if nothing then None else spoken_fault left)
+clean-fault : (nothing : Bool) (left : WordsLeft)
+    → fault_in (if nothing then Ok line.Nothing else line_row.said left) ≡ (if nothing then None else spoken_fault left)
 clean-fault true left = refl
 clean-fault false left = line-is.first left ∙ spoken-same left
 

@@ -30,7 +30,8 @@ digits-are : IsExactRow (hex_kind ▷ end_row)
 digits-are = both-is hex_kind end_row hex-is end-is
 
 frame-is : (seal : Bool) → IsExactRow (frame_row seal)
-frame-is seal = as-is (digits_frame seal) (judged_row 0 (size_judged seal) (hex_kind ▷ end_row)) (checked-is 0 (size_judged seal) (hex_kind ▷ end_row) digits-are)
+frame-is seal = as-is (digits_frame seal) (judged_row 0 (size_judged seal) (hex_kind ▷ end_row))
+    (checked-is 0 (size_judged seal) (hex_kind ▷ end_row) digits-are)
 
 pub replay-is : IsExactRow replay_row
 replay-is = after-is (codes "seal") (frame_row true) (frame_row false) refl (frame-is true) (frame-is false)
@@ -95,7 +96,8 @@ found-by seal (digits ∷ more) frame is =
       is = is.1;
     }
 
-frame-from : (text : List ℕ) (seal : Bool) (words : List (List ℕ)) (frame : FrameLine) (found : IsFound seal words frame) → text ≡ joined (frame_words seal found.digits) → IsFrameOf text frame
+frame-from : (text : List ℕ) (seal : Bool) (words : List (List ℕ)) (frame : FrameLine) (found : IsFound seal words frame)
+    → text ≡ joined (frame_words seal found.digits) → IsFrameOf text frame
 frame-from text seal words frame found parted =
     let size = found.sized in
     subst (λ (f : FrameLine). IsFrameOf text f) found.is
@@ -139,12 +141,17 @@ digits-seal digits bytes spells =
     false-unless (bytes_eq digits (codes "seal")) (λ is.
     never-seal bytes (subst (λ (d : List ℕ). AreDigitsOf d bytes) ((bytes_decides digits (codes "seal")).0 is) spells))
 
-row-spells : (seal : Bool) (digits : List ℕ) (frame : FrameLine) → frame.seal ≡ seal → AreDigitsOf digits frame.bytes → 1 ≤ length frame.bytes → length frame.bytes ≤ 2044
+row-spells : (seal : Bool) (digits : List ℕ) (frame : FrameLine) → frame.seal ≡ seal → AreDigitsOf digits frame.bytes → 1 ≤ length frame.bytes
+    → length frame.bytes ≤ 2044
     → (frame.seal ≡ true → 8 ≤ length frame.bytes) → (frame_row seal).Spells frame (digits ∷ [])
-row-spells seal digits frame is spells some few covered =
-    ((frame.bytes, tt), ap (λ (s : Bool). frame_line s frame.bytes) (sym is), (((some, spells), refl), sized-back seal (length frame.bytes) few (λ seals. covered (is ∙ seals))))
+row-spells seal digits frame is spells some few covered = (
+  (frame.bytes, tt),
+  ap (λ (s : Bool). frame_line s frame.bytes) (sym is),
+  (((some, spells), refl), sized-back seal (length frame.bytes) few (λ seals. covered (is ∙ seals))),
+)
 
-spoken-by : (text : List ℕ) (frame : FrameLine) (seal : Bool) → frame.seal ≡ seal → (is : IsFrameOf text frame) → text ≡ joined (frame_words seal is.digits) → IsSpokenLine replay_row text frame
+spoken-by : (text : List ℕ) (frame : FrameLine) (seal : Bool) → frame.seal ≡ seal → (is : IsFrameOf text frame) → text ≡ joined (frame_words seal is.digits)
+    → IsSpokenLine replay_row text frame
 spoken-by text frame true seals is words =
     let size = (spelled-pairs is.digits frame.bytes is.spells).size in
     let few = is.few in
@@ -164,7 +171,8 @@ spoken-by text frame false seals is words =
     record {
       words = is.digits ∷ [];
       spells =
-          subst (λ (test : Bool). ByTest test ((frame_row true).Spells frame []) ((frame_row false).Spells frame (is.digits ∷ []))) (sym (digits-seal is.digits frame.bytes is.spells))
+          subst (λ (test : Bool). ByTest test ((frame_row true).Spells frame []) ((frame_row false).Spells frame (is.digits ∷ [])))
+          (sym (digits-seal is.digits frame.bytes is.spells))
           (row-spells false is.digits frame seals is.spells is.some is.few is.covered);
       parted = words;
       says = ap says_nothing words ∙ digits-say is.digits frame.bytes is.spells is.some;
@@ -200,7 +208,8 @@ covered-words (word ∷ rest) frame is = covered-when (bytes_eq word (codes "sea
 pub frame-covered : (left : WordsLeft) (frame : FrameLine) → replay_row.said left ≡ Ok frame → frame.seal ≡ true → 8 ≤ length frame.bytes
 frame-covered left frame is = covered-words (texts_of left.words) frame (replay-is.spelled left frame is)
 
-sealed-by : (text : List ℕ) (r : Result (Option FrameLine) LineFault) → read_frame text ≡ r → IfOk r (λ said. IfSome said (λ frame. frame.seal ≡ true → 8 ≤ length frame.bytes))
+sealed-by : (text : List ℕ) (r : Result (Option FrameLine) LineFault) → read_frame text ≡ r
+    → IfOk r (λ said. IfSome said (λ frame. frame.seal ≡ true → 8 ≤ length frame.bytes))
 sealed-by text (Ok None) is = tt
 sealed-by text (Ok (Some frame)) is = (frame-spelled text (Some frame) is).covered
 sealed-by text (Err fault) is = tt
@@ -220,7 +229,8 @@ size-by column false false = refl
 size-same : (seal : Bool) (column : ℕ) (bytes : List ℕ) → cause_at column (size_cause seal (length bytes)) ≡ size_fault seal column bytes
 size-same seal column bytes = size-by column (nat_lt 2044 (length bytes)) (seal && nat_lt (length bytes) 8)
 
-bytes-said : (words : List WordAt) (absent : ℕ) (s : List ℕ × Unit {0}) → AreBoth hex_kind.Spells end_row.Spells s (texts_of words) → bytes_of_digits (first_word (words_left words absent)).text ≡ s.0
+bytes-said : (words : List WordAt) (absent : ℕ) (s : List ℕ × Unit {0}) → AreBoth hex_kind.Spells end_row.Spells s (texts_of words)
+    → bytes_of_digits (first_word (words_left words absent)).text ≡ s.0
 bytes-said [] absent s is = absurd is
 bytes-said (word ∷ words) absent s is = (spelled-pairs word.text s.0 is.0.1).bytes_are
 
@@ -240,7 +250,8 @@ frame-fault seal left =
     ∙ ap (λ (here : Option LineFault). first_or here (first_or over size)) (digits-same (first_word left))
 
 seal-by : (seal : Bool) (left : WordsLeft)
-    → (if seal then (frame_row true).fault (later left) else (frame_row false).fault left) ≡ (if seal then digits_line_fault true (later left) else digits_line_fault false left)
+    → (if seal then (frame_row true).fault (later left) else (frame_row false).fault left)
+    ≡ (if seal then digits_line_fault true (later left) else digits_line_fault false left)
 seal-by true left = frame-fault true (later left)
 seal-by false left = frame-fault false left
 
@@ -250,7 +261,8 @@ said-by false a b is = is
 
 fault-same : (text : List ℕ) → first_fault replay_row text ≡ frame_fault text
 fault-same text =
-    ap (λ (words : Option LineFault). first_or (if nat_lt 4096 (length text) then Some (fault_at 4097 why.LineTooLong) else None) (first_or (no_text (first_other text)) words))
+    ap (λ (words : Option LineFault). first_or (if nat_lt 4096 (length text) then Some (fault_at 4097 why.LineTooLong) else None)
+    (first_or (no_text (first_other text)) words))
     (said-by (says_nothing text) (replay_row.fault (words_of text)) (replayed_fault (words_of text)) (seal-by (seals (words_of text)) (words_of text)))
 
 -- a line is refused for its first fault, and for no other

@@ -77,7 +77,8 @@ list-are (a ∷ (b ∷ (c ∷ (d ∷ more)))) s is =
     (cc (one, two, three, four, over), is.1.1.1.0.1)
 
 offer-are : (rest : List (List ℕ)) (s : Side × (Place × (Feature × Bool)))
-    → AreBoth side_kind.Spells (AreBoth place_kind.Spells (AreBoth feature_kind.Spells (λ flag words. words ≡ (if flag then codes "mandatory" ∷ [] else [])))) s rest
+    → AreBoth side_kind.Spells
+    (AreBoth place_kind.Spells (AreBoth feature_kind.Spells (λ flag words. words ≡ (if flag then codes "mandatory" ∷ [] else [])))) s rest
     → rest ≡ side_name s.0 ∷ (place_name s.1.0 ∷ (decimal (feature_number s.1.1.0) ∷ mandatory_words s.1.1.1))
 offer-are [] s is = absurd is
 offer-are (a ∷ []) s is = absurd is.1
@@ -105,7 +106,8 @@ timer-are [] s is = absurd is
 timer-are (a ∷ []) s is = absurd is.1
 timer-are (a ∷ (b ∷ more)) s is = let one = is.0 in let two = is.1.0 in let over = is.1.1 in cc (one, two, over)
 
-name-are : (rest : List (List ℕ)) (s : (Side × ℕ) × Unit {0}) → AreBoth frame_kind.Spells end_row.Spells s rest → (rest ≡ frame_name s.0.0 s.0.1 ∷ []) × (s.0.1 < 2 ^ 47)
+name-are : (rest : List (List ℕ)) (s : (Side × ℕ) × Unit {0}) → AreBoth frame_kind.Spells end_row.Spells s rest → (rest ≡ frame_name s.0.0 s.0.1 ∷ [])
+    × (s.0.1 < 2 ^ 47)
 name-are [] s is = absurd is
 name-are (a ∷ more) s is = let one = is.0.0 in let over = is.1 in (cc (one, over), is.0.1)
 
@@ -119,7 +121,8 @@ record AreSent (rest : List (List ℕ)) (side : Side) (payload : List ℕ) : Typ
   pub spells : AreDigitsOrDash digits payload
   pub rest_is : rest ≡ side_name side ∷ (digits ∷ [])
 
-send-are : (rest : List (List ℕ)) (s : Side × (List ℕ × Unit {0})) → AreBoth side_kind.Spells (AreBoth dash_kind.Spells end_row.Spells) s rest → AreSent rest s.0 s.1.0
+send-are : (rest : List (List ℕ)) (s : Side × (List ℕ × Unit {0})) → AreBoth side_kind.Spells (AreBoth dash_kind.Spells end_row.Spells) s rest
+    → AreSent rest s.0 s.1.0
 send-are [] s is = absurd is
 send-are (a ∷ []) s is = absurd is.1
 send-are (a ∷ (b ∷ more)) s is =
@@ -135,7 +138,8 @@ send-length : (side : Side) (digits : List ℕ) → length (joined (codes "send"
 send-length Client digits = omega arith
 send-length Server digits = omega arith
 
-send-line : (text : List ℕ) (side : Side) (payload : List ℕ) (rest : List (List ℕ)) → text ≡ joined (codes "send" ∷ rest) → length text ≤ 4096 → AreSent rest side payload
+send-line : (text : List ℕ) (side : Side) (payload : List ℕ) (rest : List (List ℕ)) → text ≡ joined (codes "send" ∷ rest) → length text ≤ 4096
+    → AreSent rest side payload
     → IsLine text (line.Event (event.Send side payload))
 send-line text side payload rest words short are =
     let whole = behind text (codes "send") rest (side_name side ∷ (are.digits ∷ [])) words are.rest_is in
@@ -155,13 +159,15 @@ form-line form.Iss text rest said words short is =
 form-line form.Set text rest said words short is =
     let are = list-are rest is.0 is.2.0 in
     subst (λ (s : Line). IsLine text s) is.1 (
-      behind text (codes "set") rest (side_name is.0.0 ∷ (place_name is.0.1.0 ∷ (decimal (feature_number is.0.1.1.0) ∷ (values_text is.0.1.1.1.0 ∷ [])))) words are.0,
+      behind text (codes "set") rest
+          (side_name is.0.0 ∷ (place_name is.0.1.0 ∷ (decimal (feature_number is.0.1.1.0) ∷ (values_text is.0.1.1.1.0 ∷ [])))) words are.0,
       (are.1, wish-is (wish_of is.0.1.1.0 is.0.1.0 is.0.1.1.1.0) is.2.1),
     )
 form-line form.Offer text rest said words short is =
     let are = offer-are rest is.0 is.2.0 in
     subst (λ (s : Line). IsLine text s) is.1 (
-      behind text (codes "offer") rest (side_name is.0.0 ∷ (place_name is.0.1.0 ∷ (decimal (feature_number is.0.1.1.0) ∷ mandatory_words is.0.1.1.1))) words are,
+      behind text (codes "offer") rest
+          (side_name is.0.0 ∷ (place_name is.0.1.0 ∷ (decimal (feature_number is.0.1.1.0) ∷ mandatory_words is.0.1.1.1))) words are,
       offer-by (is_ours is.0.1.1.0 is.0.1.0) is.2.1,
     )
 form-line form.Open text rest said words short is = subst (λ (s : Line). IsLine text s) is.1 (behind text (codes "open") rest [] words is.2)
@@ -172,8 +178,11 @@ form-line form.Send text rest said words short is =
     subst (λ (s : Line). IsLine text s) is.1 (send-line text is.0.0 is.0.1.0 rest words short (send-are rest is.0 is.2))
 form-line form.Prefer text rest said words short is =
     let are = list-are rest is.0 is.2 in
-    subst (λ (s : Line). IsLine text s) is.1
-    (behind text (codes "prefer") rest (side_name is.0.0 ∷ (place_name is.0.1.0 ∷ (decimal (feature_number is.0.1.1.0) ∷ (values_text is.0.1.1.1.0 ∷ [])))) words are.0, are.1)
+    subst (λ (s : Line). IsLine text s) is.1 (
+      behind text (codes "prefer") rest
+          (side_name is.0.0 ∷ (place_name is.0.1.0 ∷ (decimal (feature_number is.0.1.1.0) ∷ (values_text is.0.1.1.1.0 ∷ [])))) words are.0,
+      are.1,
+    )
 form-line form.Timer text rest said words short is =
     subst (λ (s : Line). IsLine text s) is.1 (behind text (codes "timer") rest (side_name is.0.0 ∷ (timer_name is.0.1.0 ∷ [])) words (timer-are rest is.0 is.2))
 form-line form.Close text rest said words short is =
@@ -181,12 +190,14 @@ form-line form.Close text rest said words short is =
 form-line form.Abort text rest said words short is =
     subst (λ (s : Line). IsLine text s) is.1 (behind text (codes "abort") rest (side_name is.0.0 ∷ []) words (one-are rest is.0.0 is.0.1 is.2))
 
-chosen-line : (text : List ℕ) (words : List (List ℕ)) (said : Line) → text ≡ joined words → length text ≤ 4096 → AreChosen form_kind rows said words → IsLine text said
+chosen-line : (text : List ℕ) (words : List (List ℕ)) (said : Line) → text ≡ joined words → length text ≤ 4096 → AreChosen form_kind rows said words
+    → IsLine text said
 chosen-line text [] said parted short is = absurd is
 chosen-line text (name ∷ rest) said parted short is =
     form-line is.0 text rest said (parted ∙ ap (λ (n : List ℕ). joined (n ∷ rest)) is.1) short is.2
 
-line-by : (text : List ℕ) (said : Line) (nothing : Bool) → says_nothing text ≡ nothing → IsClean text → (if nothing then Ok line.Nothing else line_row.said (words_of text)) ≡ Ok said → IsLine text said
+line-by : (text : List ℕ) (said : Line) (nothing : Bool) → says_nothing text ≡ nothing → IsClean text
+    → (if nothing then Ok line.Nothing else line_row.said (words_of text)) ≡ Ok said → IsLine text said
 line-by text said true says whole is =
     let same : line.Nothing ≡ said = cc is in
     subst (λ (s : Line). IsLine text s) same (says, whole.short, whole.all)
@@ -220,24 +231,29 @@ words-read text which rest said parted spells few says =
     ∙ if-false (says_nothing text) (Ok line.Nothing) (line_row.said (words_of text)) (ap says_nothing parted ∙ says)
     ∙ line-is.read_back (words_of text) said (subst (λ (ts : List (List ℕ)). AreChosen form_kind rows said ts) (sym texts) chosen)
 
-send-read : (text digits : List ℕ) (side : Side) (payload : List ℕ) → AreDigitsOrDash digits payload → text ≡ joined (codes "send" ∷ (side_name side ∷ (digits ∷ []))) → length payload ≤ 2042
+send-read : (text digits : List ℕ) (side : Side) (payload : List ℕ) → AreDigitsOrDash digits payload
+    → text ≡ joined (codes "send" ∷ (side_name side ∷ (digits ∷ []))) → length payload ≤ 2042
     → read_line text ≡ Ok (line.Event (event.Send side payload))
 send-read text digits side [] spells words few =
     let one = side-length side in
     let dash : length digits ≡ 1 = ap length spells in
-    words-read text form.Send (side_name side ∷ (digits ∷ [])) (line.Event (event.Send side [])) words ((side, ([], tt)), refl, (refl, (spells, refl))) (omega arith) refl
+    words-read text form.Send (side_name side ∷ (digits ∷ [])) (line.Event (event.Send side [])) words ((side, ([], tt)), refl, (refl, (spells, refl)))
+    (omega arith) refl
 send-read text digits side (byte ∷ payload) spells words few =
     let one = side-length side in
     let size = (spelled-pairs digits (byte ∷ payload) spells).size in
-    words-read text form.Send (side_name side ∷ (digits ∷ [])) (line.Event (event.Send side (byte ∷ payload))) words ((side, (byte ∷ payload, tt)), refl, (refl, (spells, refl))) (omega arith) refl
+    words-read text form.Send (side_name side ∷ (digits ∷ [])) (line.Event (event.Send side (byte ∷ payload))) words
+    ((side, (byte ∷ payload, tt)), refl, (refl, (spells, refl))) (omega arith) refl
 
-offer-read : (text : List ℕ) (side : Side) (place : Place) (feature : Feature) (mandatory : Bool) → text ≡ joined (line_words (line.Offer side place feature mandatory)) → is_ours feature place ≡ true
+offer-read : (text : List ℕ) (side : Side) (place : Place) (feature : Feature) (mandatory : Bool)
+    → text ≡ joined (line_words (line.Offer side place feature mandatory)) → is_ours feature place ≡ true
     → read_line text ≡ Ok (line.Offer side place feature mandatory)
 offer-read text side place feature true words ours =
     let one = side-length side in
     let two = place-length place in
     let three = feature-length feature in
-    words-read text form.Offer (side_name side ∷ (place_name place ∷ (decimal (feature_number feature) ∷ (codes "mandatory" ∷ [])))) (line.Offer side place feature true) words
+    words-read text form.Offer (side_name side ∷ (place_name place ∷ (decimal (feature_number feature) ∷ (codes "mandatory" ∷ []))))
+    (line.Offer side place feature true) words
     ((side, (place, (feature, true))), refl, ((refl, (refl, (refl, refl))), offer-back (is_ours feature place) ours)) (omega arith) refl
 offer-read text side place feature false words ours =
     let one = side-length side in
@@ -255,7 +271,8 @@ spelled-line text line.Plain is = words-read text form.Plain [] line.Plain is (t
 spelled-line text (line.Iss side number) is =
     let one = side-length side in
     let two = number-length number is.1 in
-    words-read text form.Iss (side_name side ∷ (decimal number ∷ [])) (line.Iss side number) is.0 ((side, (number, tt)), refl, (refl, ((refl, is.1), refl))) (omega arith) refl
+    words-read text form.Iss (side_name side ∷ (decimal number ∷ [])) (line.Iss side number) is.0 ((side, (number, tt)), refl, (refl, ((refl, is.1), refl)))
+    (omega arith) refl
 spelled-line text (line.Set side place feature values) is =
     let one = side-length side in
     let two = place-length place in
@@ -263,13 +280,16 @@ spelled-line text (line.Set side place feature values) is =
     let are : AreValues values = is.1.0 in
     let four = values-length values are.below in
     let few = are.few in
-    words-read text form.Set (side_name side ∷ (place_name place ∷ (decimal (feature_number feature) ∷ (values_text values ∷ [])))) (line.Set side place feature values) is.0
-    ((side, (place, (feature, (values, tt)))), refl, ((refl, (refl, (refl, ((refl, are), refl)))), wish-back (wish_of feature place values) is.1.1)) (omega arith) refl
+    words-read text form.Set (side_name side ∷ (place_name place ∷ (decimal (feature_number feature) ∷ (values_text values ∷ []))))
+    (line.Set side place feature values) is.0
+    ((side, (place, (feature, (values, tt)))), refl, ((refl, (refl, (refl, ((refl, are), refl)))), wish-back (wish_of feature place values) is.1.1))
+    (omega arith) refl
 spelled-line text (line.Offer side place feature mandatory) is = offer-read text side place feature mandatory is.0 is.1
 spelled-line text (line.Event event.Open) is = words-read text form.Open [] (line.Event event.Open) is (tt, refl, refl) (omega arith) refl
 spelled-line text (line.Event (event.Deliver from index)) is =
     let one = name-length from index is.1 in
-    words-read text form.Deliver (frame_name from index ∷ []) (line.Event (event.Deliver from index)) is.0 (((from, index), tt), refl, ((refl, is.1), refl)) (omega arith) refl
+    words-read text form.Deliver (frame_name from index ∷ []) (line.Event (event.Deliver from index)) is.0 (((from, index), tt), refl, ((refl, is.1), refl))
+    (omega arith) refl
 spelled-line text (line.Event (event.Send side payload)) is = send-read text is.digits side payload is.spells is.words is.few
 spelled-line text (line.Event (event.SendEarly side payload)) is = absurd is
 spelled-line text (line.Event (event.Prefer side feature place values)) is =
@@ -279,12 +299,14 @@ spelled-line text (line.Event (event.Prefer side feature place values)) is =
     let are : AreValues values = is.1 in
     let four = values-length values are.below in
     let few = are.few in
-    words-read text form.Prefer (side_name side ∷ (place_name place ∷ (decimal (feature_number feature) ∷ (values_text values ∷ [])))) (line.Event (event.Prefer side feature place values)) is.0
+    words-read text form.Prefer (side_name side ∷ (place_name place ∷ (decimal (feature_number feature) ∷ (values_text values ∷ []))))
+    (line.Event (event.Prefer side feature place values)) is.0
     ((side, (place, (feature, (values, tt)))), refl, (refl, (refl, (refl, ((refl, are), refl))))) (omega arith) refl
 spelled-line text (line.Event (event.Timer side which)) is =
     let one = side-length side in
     let two = timer-length which in
-    words-read text form.Timer (side_name side ∷ (timer_name which ∷ [])) (line.Event (event.Timer side which)) is ((side, (which, tt)), refl, (refl, (refl, refl))) (omega arith) refl
+    words-read text form.Timer (side_name side ∷ (timer_name which ∷ [])) (line.Event (event.Timer side which)) is
+    ((side, (which, tt)), refl, (refl, (refl, refl))) (omega arith) refl
 spelled-line text (line.Event (event.Close side)) is =
     let one = side-length side in
     words-read text form.Close (side_name side ∷ []) (line.Event (event.Close side)) is ((side, tt), refl, (refl, refl)) (omega arith) refl

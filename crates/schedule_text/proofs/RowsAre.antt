@@ -155,7 +155,8 @@ numbered-by : (n number : ℕ) (x y : Feature) (rest : Option Feature) (test : B
 numbered-by n number x y rest true means is_number is others = let same : x ≡ y = cc is in means refl ∙ is_number ∙ ap feature_number same
 numbered-by n number x y rest false means is_number is others = others is
 
-numbered : (n number : ℕ) (x y : Feature) (rest : Option Feature) → number ≡ feature_number x → (if n == number then Some x else rest) ≡ Some y → (rest ≡ Some y → n ≡ feature_number y) → n ≡ feature_number y
+numbered : (n number : ℕ) (x y : Feature) (rest : Option Feature) → number ≡ feature_number x → (if n == number then Some x else rest) ≡ Some y
+    → (rest ≡ Some y → n ≡ feature_number y) → n ≡ feature_number y
 numbered n number x y rest is_number is others = numbered-by n number x y rest (n == number) (same-number n number) is_number is others
 
 numbered-feature : (n : ℕ) (feature : Feature) → feature_numbered n ≡ Some feature → n ≡ feature_number feature
@@ -268,7 +269,8 @@ values-some (value ∷ values) some below =
     let small : value < 2 ^ 48 = All-head (λ v. v < 2 ^ 48) value values below in
     join-some 44 (decimal value) (map decimal values) (decimal_nonempty value (omega arith))
 
-with-some : (number : ℕ) (others : Option (List ℕ)) (numbers : List ℕ) → number_and_rest number others ≡ Some numbers → (rest : List ℕ) × (others ≡ Some rest) × (number ∷ rest ≡ numbers)
+with-some : (number : ℕ) (others : Option (List ℕ)) (numbers : List ℕ) → number_and_rest number others ≡ Some numbers → (rest : List ℕ) × (others ≡ Some rest)
+    × (number ∷ rest ≡ numbers)
 with-some number None numbers is = cc is
 with-some number (Some rest) numbers is = (rest, refl, cc is)
 
@@ -290,7 +292,8 @@ numbers-spelled (part ∷ parts) numbers is =
       below = All-cons (λ v. v < 2 ^ 48) first.0 others.0 number.1 rest.below;
     })
 
-nine-by : (numbers values : List ℕ) (test : Bool) → (test ≡ true → length numbers ≤ 9) → (if test then Some numbers else None) ≡ Some values → (numbers ≡ values) × (length numbers ≤ 9)
+nine-by : (numbers values : List ℕ) (test : Bool) → (test ≡ true → length numbers ≤ 9) → (if test then Some numbers else None) ≡ Some values
+    → (numbers ≡ values) × (length numbers ≤ 9)
 nine-by numbers values true few is = (cc is, few refl)
 nine-by numbers values false few is = cc is
 
@@ -376,7 +379,8 @@ values-is =
 
 -- Frames' names
 
-sent-flaw : (from : Side) (found : Option ℕ) → flaw_in (from_sender from (found_or why.BadNumber found)) ≡ flaw_unless (is_some found) (flaw_behind 0 why.BadNumber)
+sent-flaw : (from : Side) (found : Option ℕ)
+    → flaw_in (from_sender from (found_or why.BadNumber found)) ≡ flaw_unless (is_some found) (flaw_behind 0 why.BadNumber)
 sent-flaw from None = refl
 sent-flaw from (Some index) = refl
 
@@ -391,7 +395,8 @@ name-flaws : (text : List ℕ) → flaw_in (frame_named text) ≡ name_flaw text
 name-flaws [] = refl
 name-flaws (letter ∷ index) = letter-flaw index (letter == 99) (letter == 115)
 
-sent-ok : (from : Side) (index text : List ℕ) (found : Option ℕ) (frame : Side × ℕ) → number_below indices index ≡ found → ((n : ℕ) → index ≡ decimal n → text ≡ frame_name from n)
+sent-ok : (from : Side) (index text : List ℕ) (found : Option ℕ) (frame : Side × ℕ) → number_below indices index ≡ found
+    → ((n : ℕ) → index ≡ decimal n → text ≡ frame_name from n)
     → from_sender from (found_or why.BadNumber found) ≡ Ok frame → (text ≡ frame_name frame.0 frame.1) × (frame.1 < 2 ^ 47)
 sent-ok from index text None frame is spells read = cc read
 sent-ok from index text (Some n) frame is spells read =

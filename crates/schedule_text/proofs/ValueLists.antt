@@ -22,7 +22,8 @@ at_most_many numbers many =
     ap (λ (test : Bool). if test then Some numbers else None) is
 
 -- all is read
-pub values_done : (values : List ℕ) (all : Option (List ℕ)) → preceded values (Some []) ≡ all → length values ≤ 9 → Some values ≡ option_and_then at_most_nine all
+pub values_done : (values : List ℕ) (all : Option (List ℕ)) → preceded values (Some []) ≡ all → length values ≤ 9
+    → Some values ≡ option_and_then at_most_nine all
 values_done values all is few =
     sym (ap (option_and_then at_most_nine) (sym is) ∙ ap at_most_nine (append-nil values) ∙ at_most_few values few)
 
@@ -44,7 +45,8 @@ values_bad values text texts all is bad =
     ap (option_and_then at_most_nine)
     (sym (ap (λ (found : Option ℕ). preceded values (option_and_then (λ (n : ℕ). number_and_rest n (numbers_read texts)) found)) bad) ∙ is)
 
-many_by : (values : List ℕ) (number : ℕ) (rest : Option (List ℕ)) → length values ≡ 9 → option_and_then at_most_nine (preceded values (number_and_rest number rest)) ≡ None
+many_by : (values : List ℕ) (number : ℕ) (rest : Option (List ℕ)) → length values ≡ 9
+    → option_and_then at_most_nine (preceded values (number_and_rest number rest)) ≡ None
 many_by values number None nine = refl
 many_by values number (Some numbers) nine = at_most_many (values ++ number ∷ numbers) (omega (arith, length-append values (number ∷ numbers)))
 

@@ -14,7 +14,8 @@ use Rattle.tool_forms.specs.Settings.{settings_of}
 use Rattle.tool_forms.specs.Commands.{IsReadBy, bare_command, command_of, has_dashes, rule_for, with_settings}
 
 -- one setting more
-one-with : (a b : App) (setting : Setting) (settings : List Setting) → b ≡ with_rule a (rule_for setting) → with_settings a (setting ∷ settings) ≡ with_settings b settings
+one-with : (a b : App) (setting : Setting) (settings : List Setting) → b ≡ with_rule a (rule_for setting)
+    → with_settings a (setting ∷ settings) ≡ with_settings b settings
 one-with a b setting settings is = ap (λ (x : App). with_settings x settings) (sym is)
 
 pub figures-are : (a b d e f : App) → a ≡ bare_command → b ≡ with_rule a (rule_for First) → d ≡ with_rule b (rule_for Seeds)

@@ -63,7 +63,8 @@ module _ {X : Type 0} (judge : List Row → Option X) where
 seed-at : (pairs : Pairs) → Option SeedRun
 seed-at pairs = seed_run_from (number_at pairs Seed) (number_at pairs Events)
 
-seed-owned : (setting : Setting) → owns table.Seed setting ≡ true → (pairs : Pairs) (text : Text) → text_at setting pairs ≡ Some text → value_of setting text ≡ None
+seed-owned : (setting : Setting) → owns table.Seed setting ≡ true → (pairs : Pairs) (text : Text) → text_at setting pairs ≡ Some text
+    → value_of setting text ≡ None
     → number_at pairs setting ≡ None
 seed-owned Seed is pairs text at bad = ap (option_and_then (number_for Seed)) at ∙ unvalued Seed text refl bad
 seed-owned Events is pairs text at bad = ap (option_and_then (number_for Events)) at ∙ unvalued Events text refl bad
@@ -98,13 +99,15 @@ seed-needed pairs true false f g = sym (none-of-seed Events (number_at pairs) re
 seed-read : (pairs : Pairs) → seed_run_in (rows pairs) ≡ seed-at pairs
 unfolding seed-at
 seed-read pairs =
-    ap₂ (λ (a b : Option Text). seed_run_from (option_and_then (number_for Seed) a) (option_and_then (number_for Events) b)) (first-of Seed pairs) (first-of Events pairs)
+    ap₂ (λ (a b : Option Text). seed_run_from (option_and_then (number_for Seed) a) (option_and_then (number_for Events) b)) (first-of Seed pairs)
+    (first-of Events pairs)
 
 pub seed-ends : (pairs : Pairs) → Distinct pairs → Owned table.Seed pairs
     → verdict seed_run_in (shape table.Seed) (rests (rows pairs) None) [] ≡ seed_means (gave pairs)
 seed-ends pairs distinct owned =
     last-turn seed_run_in (shape table.Seed) (rests (rows pairs) None)
-    ∙ seed-closes seed_run_in (rows pairs) (has Seed pairs) (has Events pairs) (has-row Seed pairs) (has-row Events pairs) (is-given Seed pairs) (is-given Events pairs)
+    ∙ seed-closes seed_run_in (rows pairs) (has Seed pairs) (has Events pairs) (has-row Seed pairs) (has-row Events pairs) (is-given Seed pairs)
+    (is-given Events pairs)
     ∙ ap (λ (found : Option SeedRun). if has Seed pairs && has Events pairs then found else None) (seed-read pairs)
     ∙ seed-needed pairs (has Seed pairs) (has Events pairs) refl refl
     ∙ seed-gave pairs distinct owned
@@ -121,7 +124,8 @@ no-flow-side (Some n) = refl
 pub flow-once : (setting : Setting) (text : Text) (all : Option (List Assignment)) (pairs : Pairs) → owns table.Frames setting ≡ true → has setting pairs ≡ true
     → flow_means (onto pairs (preceded (assigned setting text) all)) ≡ None
 flow-once Flow text all pairs is twice = rw (twice-none Flow text all pairs twice) refl
-flow-once Side text all pairs is twice = rw (twice-none Side text all pairs twice) (no-flow-side (number_once Flow (onto pairs (preceded (assigned Side text) all))))
+flow-once Side text all pairs is twice =
+    rw (twice-none Side text all pairs twice) (no-flow-side (number_once Flow (onto pairs (preceded (assigned Side text) all))))
 flow-once First text all pairs is twice = cc is
 flow-once Seeds text all pairs is twice = cc is
 flow-once Events text all pairs is twice = cc is
@@ -134,7 +138,8 @@ flow-once Seed text all pairs is twice = cc is
 module _ {X : Type 0} (judge : List Row → Option X) where
   flow-closes : (rs : List Row) (a b : Bool) → has_row (codes "flow") rs ≡ a → has_row (codes "side") rs ≡ b → is_given (codes "flow") rs ≡ a
       → is_given (codes "side") rs ≡ b
-      → passed (closes (shape table.Frames) (holding rs None)) (judge (finished (shape table.Frames).rules (holding rs None))) ≡ (if a && b then judge rs else None)
+      → passed (closes (shape table.Frames) (holding rs None)) (judge (finished (shape table.Frames).rules (holding rs None)))
+      ≡ (if a && b then judge rs else None)
   unfolding defaults_fault
   flow-closes rs true true f g h i = rw (f, g, h, i) refl
   flow-closes rs true false f g h i = rw (f, g, h, i) refl
@@ -156,7 +161,8 @@ side-found : (found : Option Text) → side_given (Some (option_and_then (value_
 side-found None = refl
 side-found (Some text) = side-of (side_in text)
 
-side-gave : (pairs : Pairs) (all : List Assignment) → Distinct pairs → gave pairs ≡ Some all → side_given (option_and_then (once Side) (gave pairs)) ≡ side_at pairs
+side-gave : (pairs : Pairs) (all : List Assignment) → Distinct pairs → gave pairs ≡ Some all
+    → side_given (option_and_then (once Side) (gave pairs)) ≡ side_at pairs
 side-gave pairs all distinct is =
     ap side_given (once-gave Side pairs distinct ∙ ap (λ (a : Option (List Assignment)). option_and_then (λ _. Some (found_at Side pairs)) a) is)
     ∙ side-found (text_at Side pairs)
@@ -166,7 +172,8 @@ no-side-in None none = refl
 no-side-in (Some side) none = cc none
 
 -- a text that is no value makes the whole none
-flow-bad : (pairs : Pairs) (setting : Setting) (text : Text) → owns table.Frames setting ≡ true → text_at setting pairs ≡ Some text → value_of setting text ≡ None
+flow-bad : (pairs : Pairs) (setting : Setting) (text : Text) → owns table.Frames setting ≡ true → text_at setting pairs ≡ Some text
+    → value_of setting text ≡ None
     → flow-at pairs ≡ None
 unfolding flow-at
 flow-bad pairs Flow text own at bad =
@@ -211,7 +218,8 @@ pub flow-ends : (pairs : Pairs) → Distinct pairs → Owned table.Frames pairs
     → verdict flow_side_in (shape table.Frames) (rests (rows pairs) None) [] ≡ flow_means (gave pairs)
 flow-ends pairs distinct owned =
     last-turn flow_side_in (shape table.Frames) (rests (rows pairs) None)
-    ∙ flow-closes flow_side_in (rows pairs) (has Flow pairs) (has Side pairs) (has-row Flow pairs) (has-row Side pairs) (is-given Flow pairs) (is-given Side pairs)
+    ∙ flow-closes flow_side_in (rows pairs) (has Flow pairs) (has Side pairs) (has-row Flow pairs) (has-row Side pairs) (is-given Flow pairs)
+    (is-given Side pairs)
     ∙ ap (λ (found : Option FlowSide). if has Flow pairs && has Side pairs then found else None) (flow-read pairs)
     ∙ flow-needed pairs (has Flow pairs) (has Side pairs) refl refl
     ∙ flow-gave pairs distinct owned

@@ -30,7 +30,8 @@ use Rattle.tool_forms.proofs.Reading.{Owned, owns, shape}
 -- ---- campaign
 
 abbrev pub chain : Option ℕ → Option ℕ → Option ℕ → Option ℕ → Option Campaign
-chain a b e d = option_and_then (λ first. option_and_then (λ seeds. option_and_then (λ events. option_and_then (λ workers. campaign_from first seeds events workers) d) e) b) a
+chain a b e d = option_and_then
+    (λ first. option_and_then (λ seeds. option_and_then (λ events. option_and_then (λ workers. campaign_from first seeds events workers) d) e) b) a
 
 abbrev pub number_once : Setting → Option (List Assignment) → Option ℕ
 number_once setting all = number_among (option_and_then (once setting) all)
@@ -67,7 +68,8 @@ one-none Most figure is none = cc is
 one-none Seed figure is none = cc is
 one-none Flow figure is none = cc is
 
-pub campaign-once : (setting : Setting) (text : Text) (all : Option (List Assignment)) (pairs : Pairs) → owns table.Campaign setting ≡ true → has setting pairs ≡ true
+pub campaign-once : (setting : Setting) (text : Text) (all : Option (List Assignment)) (pairs : Pairs) → owns table.Campaign setting ≡ true
+    → has setting pairs ≡ true
     → campaign_means (onto pairs (preceded (assigned setting text) all)) ≡ None
 campaign-once setting text all pairs is twice =
     one-none setting (λ s. number_once s (onto pairs (preceded (assigned setting text) all))) is (ap number_among (twice-none setting text all pairs twice))
@@ -135,7 +137,8 @@ some-bad (pair ∷ pairs) distinct none = go (value_of pair.0 pair.1) refl (gave
             let never : Some found.text ≡ None = sym found.at ∙ lacks-text found.setting pairs gone in cc never
         by false other = rw other found.at
 
-    go : (v : Option Value) → value_of pair.0 pair.1 ≡ v → (all : Option (List Assignment)) → gave pairs ≡ all → (gave pairs ≡ None → Bad pairs) → Bad (pair ∷ pairs)
+    go : (v : Option Value) → value_of pair.0 pair.1 ≡ v → (all : Option (List Assignment)) → gave pairs ≡ all → (gave pairs ≡ None → Bad pairs)
+        → Bad (pair ∷ pairs)
     go None is all more rest = record { setting = pair.0; text = pair.1; at = rw (is-itself pair.0) refl; bad = is; own = λ t owned. owned.0.0 }
     go (Some v) is None more rest = later (rest more)
     go (Some v) is (Some all) more rest = let never : Some ((record { setting = pair.0; value = v }) ∷ all) ≡ None = rw (is, more) at none in cc never
@@ -146,7 +149,8 @@ is_figure Side = false
 is_figure Plain = false
 is_figure _ = true
 
-figure-value : (setting : Setting) (text : Text) → is_figure setting ≡ true → value_of setting text ≡ option_and_then (λ n. Some (value.Number n)) (number_for setting text)
+figure-value : (setting : Setting) (text : Text) → is_figure setting ≡ true
+    → value_of setting text ≡ option_and_then (λ n. Some (value.Number n)) (number_for setting text)
 figure-value First text is = refl
 figure-value Seeds text is = refl
 figure-value Events text is = refl
@@ -219,23 +223,28 @@ all-needed pairs true true true true f g h i = refl
 all-needed pairs false b e d f g h i = sym (one-none First (number_at pairs) refl (ap (option_and_then (number_for First)) (lacks-text First pairs f)))
 all-needed pairs true false e d f g h i = sym (one-none Seeds (number_at pairs) refl (ap (option_and_then (number_for Seeds)) (lacks-text Seeds pairs g)))
 all-needed pairs true true false d f g h i = sym (one-none Events (number_at pairs) refl (ap (option_and_then (number_for Events)) (lacks-text Events pairs h)))
-all-needed pairs true true true false f g h i = sym (one-none Workers (number_at pairs) refl (ap (option_and_then (number_for Workers)) (lacks-text Workers pairs i)))
+all-needed pairs true true true false f g h i =
+    sym (one-none Workers (number_at pairs) refl (ap (option_and_then (number_for Workers)) (lacks-text Workers pairs i)))
 
 judged-at : (pairs : Pairs) → campaign_in (rows pairs) ≡ chain-at pairs
 unfolding chain-at
 judged-at pairs =
-    ap₂ (λ (a b : Option Text). chain (option_and_then (number_for First) a) (option_and_then (number_for Seeds) b) (figure_in Events (rows pairs)) (figure_in Workers (rows pairs)))
+    ap₂ (λ (a b : Option Text). chain (option_and_then (number_for First) a) (option_and_then (number_for Seeds) b) (figure_in Events (rows pairs))
+    (figure_in Workers (rows pairs)))
     (first-of First pairs) (first-of Seeds pairs)
-    ∙ ap₂ (λ (e d : Option Text). chain (number_at pairs First) (number_at pairs Seeds) (option_and_then (number_for Events) e) (option_and_then (number_for Workers) d))
+    ∙ ap₂ (λ (e d : Option Text). chain (number_at pairs First) (number_at pairs Seeds) (option_and_then (number_for Events) e)
+    (option_and_then (number_for Workers) d))
     (first-of Events pairs) (first-of Workers pairs)
 
 pub campaign-ends : (pairs : Pairs) → Distinct pairs → Owned table.Campaign pairs
     → verdict campaign_in (shape table.Campaign) (rests (rows pairs) None) [] ≡ campaign_means (gave pairs)
 campaign-ends pairs distinct owned =
     last-turn campaign_in (shape table.Campaign) (rests (rows pairs) None)
-    ∙ campaign-closes campaign_in (rows pairs) (has First pairs) (has Seeds pairs) (has Events pairs) (has Workers pairs) (has-row First pairs) (has-row Seeds pairs)
+    ∙ campaign-closes campaign_in (rows pairs) (has First pairs) (has Seeds pairs) (has Events pairs) (has Workers pairs) (has-row First pairs)
+    (has-row Seeds pairs)
     (has-row Events pairs) (has-row Workers pairs) (is-given First pairs) (is-given Seeds pairs) (is-given Events pairs) (is-given Workers pairs)
-    ∙ ap (λ (found : Option Campaign). if has First pairs && (has Seeds pairs && (has Events pairs && has Workers pairs)) then found else None) (judged-at pairs)
+    ∙ ap (λ (found : Option Campaign). if has First pairs && (has Seeds pairs && (has Events pairs && has Workers pairs)) then found else None)
+    (judged-at pairs)
     ∙ all-needed pairs (has First pairs) (has Seeds pairs) (has Events pairs) (has Workers pairs) refl refl refl refl
     ∙ chain-gave pairs distinct owned
 
@@ -251,10 +260,12 @@ only-most setting is = go (is_same Most setting) refl is
     go true same is = sym (same-settings Most setting same)
     go false other is = let never : false ≡ true = rw other at is in cc never
 
-pub listen-once : (setting : Setting) (text : Text) (all : Option (List Assignment)) (pairs : Pairs) → owns table.Listen setting ≡ true → has setting pairs ≡ true
+pub listen-once : (setting : Setting) (text : Text) (all : Option (List Assignment)) (pairs : Pairs) → owns table.Listen setting ≡ true
+    → has setting pairs ≡ true
     → listen_means (onto pairs (preceded (assigned setting text) all)) ≡ None
 listen-once setting text all pairs is twice =
-    subst (λ (s : Setting). listener_for (number_among (option_and_then (once s) (onto pairs (preceded (assigned setting text) all)))) ≡ None) (only-most setting is)
+    subst (λ (s : Setting). listener_for (number_among (option_and_then (once s) (onto pairs (preceded (assigned setting text) all)))) ≡ None)
+    (only-most setting is)
     (ap (λ (found : Option (Option Value)). listener_for (number_among found)) (twice-none setting text all pairs twice))
 
 module _ {X : Type 0} (judge : List Row → Option X) where
@@ -286,7 +297,8 @@ listen-ends pairs distinct owned =
     ∙ ap listener_for (most-gave pairs distinct owned)
   where
     needed : (b : Bool) → has Most pairs ≡ b
-        → (if b then listener_for (option_and_then (number_for Most) (text_at Most pairs)) else None) ≡ listener_for (option_and_then (number_for Most) (text_at Most pairs))
+        → (if b then listener_for (option_and_then (number_for Most) (text_at Most pairs)) else None) ≡ listener_for
+        (option_and_then (number_for Most) (text_at Most pairs))
     needed true some = refl
     needed false none = sym (ap (λ (text : Option Text). listener_for (option_and_then (number_for Most) text)) (lacks-text Most pairs none))
 
@@ -304,11 +316,18 @@ no-buffer None side = refl
 no-buffer (Some plain) None = refl
 no-buffer (Some plain) (Some side) = refl
 
-pub replay-once : (setting : Setting) (text : Text) (all : Option (List Assignment)) (pairs : Pairs) → owns table.Replay setting ≡ true → has setting pairs ≡ true
+pub replay-once : (setting : Setting) (text : Text) (all : Option (List Assignment)) (pairs : Pairs) → owns table.Replay setting ≡ true
+    → has setting pairs ≡ true
     → replay_means (onto pairs (preceded (assigned setting text) all)) ≡ None
-replay-once Side text all pairs is twice = rw (twice-none Side text all pairs twice) (no-side (option_and_then (once Plain) (onto pairs (preceded (assigned Side text) all))) (option_and_then (once Buffer) (onto pairs (preceded (assigned Side text) all))))
+replay-once Side text all pairs is twice =
+    rw (twice-none Side text all pairs twice)
+    (no-side (option_and_then (once Plain) (onto pairs (preceded (assigned Side text) all)))
+    (option_and_then (once Buffer) (onto pairs (preceded (assigned Side text) all))))
 replay-once Plain text all pairs is twice = rw (twice-none Plain text all pairs twice) refl
-replay-once Buffer text all pairs is twice = rw (twice-none Buffer text all pairs twice) (no-buffer (option_and_then (once Plain) (onto pairs (preceded (assigned Buffer text) all))) (side_given (option_and_then (once Side) (onto pairs (preceded (assigned Buffer text) all)))))
+replay-once Buffer text all pairs is twice =
+    rw (twice-none Buffer text all pairs twice)
+    (no-buffer (option_and_then (once Plain) (onto pairs (preceded (assigned Buffer text) all)))
+    (side_given (option_and_then (once Side) (onto pairs (preceded (assigned Buffer text) all)))))
 replay-once First text all pairs is twice = cc is
 replay-once Seeds text all pairs is twice = cc is
 replay-once Events text all pairs is twice = cc is
@@ -373,7 +392,8 @@ has-text : (setting : Setting) (pairs : Pairs) → is_some (text_at setting pair
 has-text setting [] = refl
 has-text setting (pair ∷ pairs) = go (is_same pair.0 setting) refl (has-text setting pairs)
   where
-    go : (b : Bool) → is_same pair.0 setting ≡ b → is_some (text_at setting pairs) ≡ has setting pairs → is_some (text_at setting (pair ∷ pairs)) ≡ has setting (pair ∷ pairs)
+    go : (b : Bool) → is_same pair.0 setting ≡ b → is_some (text_at setting pairs) ≡ has setting pairs
+        → is_some (text_at setting (pair ∷ pairs)) ≡ has setting (pair ∷ pairs)
     go true same rest = rw same refl
     go false other rest = rw other rest
 
@@ -403,7 +423,8 @@ no-default way.Mark name rs b has is = cc is
 
 replay-finished : (rs : List Row) → finished (shape table.Replay).rules (holding rs None) ≡ with_default rs (argument Plain)
 replay-finished rs =
-    ap (λ (r : List Row). with_default (with_default r (argument Buffer)) (argument Plain)) (no-default way.Needed (codes "side") rs (has_row (codes "side") rs) refl refl)
+    ap (λ (r : List Row). with_default (with_default r (argument Buffer)) (argument Plain))
+    (no-default way.Needed (codes "side") rs (has_row (codes "side") rs) refl refl)
     ∙ ap (λ (r : List Row). with_default r (argument Plain)) (no-default way.Chosen (codes "buffer") rs (has_row (codes "buffer") rs) refl refl)
 
 module _ {X : Type 0} (judge : List Row → Option X) where
@@ -436,33 +457,40 @@ side-needed pairs true some = refl
 side-needed pairs false none = sym (ap (λ (side : Option Text). replay_from side (has Plain pairs) (text_at Buffer pairs)) (lacks-text Side pairs none))
 
 replay-closed : (pairs : Pairs) → Owned table.Replay pairs
-    → passed (closes (shape table.Replay) (holding (rows pairs) None)) (replay_in (finished (shape table.Replay).rules (holding (rows pairs) None))) ≡ replay_at pairs
+    → passed (closes (shape table.Replay) (holding (rows pairs) None)) (replay_in (finished (shape table.Replay).rules (holding (rows pairs) None)))
+    ≡ replay_at pairs
 unfolding unmarked
 replay-closed pairs owned = go (has Plain pairs) refl
   where
     go : (b : Bool) → has Plain pairs ≡ b
-        → passed (closes (shape table.Replay) (holding (rows pairs) None)) (replay_in (finished (shape table.Replay).rules (holding (rows pairs) None))) ≡ replay_at pairs
+        → passed (closes (shape table.Replay) (holding (rows pairs) None)) (replay_in (finished (shape table.Replay).rules (holding (rows pairs) None)))
+        ≡ replay_at pairs
     go true some =
         replay-closes replay_in (rows pairs) (rows pairs) (has Side pairs)
-        (ap (λ (b : Bool). if b then rows pairs else default_rows (codes "plain") (reading_by (argument Plain)) (codes "false" ∷ []) (rows pairs)) (has-row Plain pairs ∙ some))
+        (ap (λ (b : Bool). if b then rows pairs else default_rows (codes "plain") (reading_by (argument Plain)) (codes "false" ∷ []) (rows pairs))
+        (has-row Plain pairs ∙ some))
         (is-given Side pairs)
         ∙ ap (λ (found : Option Form). if has Side pairs then found else None)
-        (replay-read pairs (rows pairs) (first-of Side pairs) (ap is_yes (first-of Plain pairs ∙ plain-text pairs owned some) ∙ sym some) (first-of Buffer pairs))
+        (replay-read pairs (rows pairs) (first-of Side pairs) (ap is_yes (first-of Plain pairs ∙ plain-text pairs owned some) ∙ sym some)
+        (first-of Buffer pairs))
         ∙ side-needed pairs (has Side pairs) refl
     go false none =
-        replay-closes replay_in (rows pairs) (rows pairs ++ unmarked ∷ []) (has Side pairs) (with-unmarked pairs none) (given-before Side (unmarked ∷ []) pairs refl)
+        replay-closes replay_in (rows pairs) (rows pairs ++ unmarked ∷ []) (has Side pairs) (with-unmarked pairs none)
+        (given-before Side (unmarked ∷ []) pairs refl)
         ∙ ap (λ (found : Option Form). if has Side pairs then found else None)
         (replay-read pairs (rows pairs ++ unmarked ∷ []) (first-before Side (unmarked ∷ []) pairs refl)
         (ap is_yes (first-behind Plain (unmarked ∷ []) pairs none) ∙ sym none) (first-before Buffer (unmarked ∷ []) pairs refl))
         ∙ side-needed pairs (has Side pairs) refl
 
 -- each text of pairs that give something is a value
-all-good : (setting : Setting) (text : Text) (all : List Assignment) (pairs : Pairs) → gave pairs ≡ Some all → text_at setting pairs ≡ Some text → value_of setting text ≡ None → ⊥
+all-good : (setting : Setting) (text : Text) (all : List Assignment) (pairs : Pairs) → gave pairs ≡ Some all → text_at setting pairs ≡ Some text
+    → value_of setting text ≡ None → ⊥
 all-good setting text all [] is stands bad = let never : None ≡ Some text = stands in cc never
 all-good setting text all (pair ∷ pairs) is stands bad =
     go (value_of pair.0 pair.1) refl (gave pairs) refl (is_same pair.0 setting) refl (λ rest more behind. all-good setting text rest pairs more behind bad)
   where
-    go : (found : Option Value) → value_of pair.0 pair.1 ≡ found → (rest : Option (List Assignment)) → gave pairs ≡ rest → (b : Bool) → is_same pair.0 setting ≡ b
+    go : (found : Option Value) → value_of pair.0 pair.1 ≡ found → (rest : Option (List Assignment)) → gave pairs ≡ rest → (b : Bool)
+        → is_same pair.0 setting ≡ b
         → ((all : List Assignment) → gave pairs ≡ Some all → text_at setting pairs ≡ Some text → ⊥) → ⊥
     go None none rest more b same further = let never : None ≡ Some all = rw none at is in cc never
     go (Some v) some None more b same further = let never : None ≡ Some all = rw (some, more) at is in cc never
@@ -476,7 +504,8 @@ all-good setting text all (pair ∷ pairs) is stands bad =
 -- what three texts come to, of which that of the buffer is a value, if it is there
 replay-joined : (side plain buffer : Option Text) → ((text : Text) → buffer ≡ Some text → number_for Buffer text ≡ None → ⊥)
     → replay_from side (is_some plain) buffer
-    ≡ replays (Some (option_and_then (value_of Plain) plain)) (side_given (Some (option_and_then (value_of Side) side))) (Some (option_and_then (value_of Buffer) buffer))
+    ≡ replays (Some (option_and_then (value_of Plain) plain)) (side_given (Some (option_and_then (value_of Side) side)))
+    (Some (option_and_then (value_of Buffer) buffer))
 replay-joined None plain buffer good = refl
 replay-joined (Some s) plain buffer good = go (side_in s) refl
   where
@@ -499,16 +528,19 @@ replay-joined (Some s) plain buffer good = go (side_in s) refl
         by (Some n) is = rw is refl
 
     go : (found : Option EndSide) → side_in s ≡ found → replay_from (Some s) (is_some plain) buffer
-        ≡ replays (Some (option_and_then (value_of Plain) plain)) (side_given (Some (option_and_then (value_of Side) (Some s)))) (Some (option_and_then (value_of Buffer) buffer))
+        ≡ replays (Some (option_and_then (value_of Plain) plain)) (side_given (Some (option_and_then (value_of Side) (Some s))))
+        (Some (option_and_then (value_of Buffer) buffer))
     go None none = rw none refl
     go (Some side) is = rw is (capacity side plain buffer good)
 
-no-capacity : (side : Option EndSide) (plain : Bool) → option_and_then (λ side. option_and_then (λ buffer. Some (replay_with side plain buffer)) None) side ≡ None
+no-capacity : (side : Option EndSide) (plain : Bool)
+    → option_and_then (λ side. option_and_then (λ buffer. Some (replay_with side plain buffer)) None) side ≡ None
 no-capacity None plain = refl
 no-capacity (Some side) plain = refl
 
 -- a text that is no value makes the whole none
-replay-bad : (pairs : Pairs) (setting : Setting) (text : Text) → owns table.Replay setting ≡ true → text_at setting pairs ≡ Some text → value_of setting text ≡ None
+replay-bad : (pairs : Pairs) (setting : Setting) (text : Text) → owns table.Replay setting ≡ true → text_at setting pairs ≡ Some text
+    → value_of setting text ≡ None
     → replay_at pairs ≡ None
 replay-bad pairs Side text own at bad =
     ap (λ (side : Option Text). replay_from side (has Plain pairs) (text_at Buffer pairs)) at ∙ go (side_in text) refl bad
@@ -519,7 +551,8 @@ replay-bad pairs Side text own at bad =
 replay-bad pairs Plain text own at bad = cc bad
 replay-bad pairs Buffer text own at bad =
     ap (λ (buffer : Option Text). replay_from (text_at Side pairs) (has Plain pairs) buffer) at
-    ∙ ap (λ (n : Option ℕ). option_and_then (λ side. option_and_then (λ buffer. Some (replay_with side (has Plain pairs) buffer)) (option_and_then (λ n. Some (Some n)) n))
+    ∙ ap (λ (n : Option ℕ). option_and_then
+    (λ side. option_and_then (λ buffer. Some (replay_with side (has Plain pairs) buffer)) (option_and_then (λ n. Some (Some n)) n))
     (option_and_then side_in (text_at Side pairs))) (unvalued Buffer text refl bad)
     ∙ no-capacity (option_and_then side_in (text_at Side pairs)) (has Plain pairs)
 replay-bad pairs First text own at bad = cc own
@@ -533,7 +566,8 @@ replay-bad pairs Flow text own at bad = cc own
 replay-gave : (pairs : Pairs) → Distinct pairs → Owned table.Replay pairs → replay_at pairs ≡ replay_means (gave pairs)
 replay-gave pairs distinct owned = go (gave pairs) refl
   where
-    at : (setting : Setting) (all : List Assignment) → gave pairs ≡ Some all → option_and_then (once setting) (gave pairs) ≡ Some (option_and_then (value_of setting) (text_at setting pairs))
+    at : (setting : Setting) (all : List Assignment) → gave pairs ≡ Some all
+        → option_and_then (once setting) (gave pairs) ≡ Some (option_and_then (value_of setting) (text_at setting pairs))
     at setting all is = once-gave setting pairs distinct ∙ ap (λ (a : Option (List Assignment)). option_and_then (λ _. Some (found_at setting pairs)) a) is
 
     go : (all : Option (List Assignment)) → gave pairs ≡ all → replay_at pairs ≡ replay_means (gave pairs)
@@ -541,12 +575,14 @@ replay-gave pairs distinct owned = go (gave pairs) refl
         ap (λ (plain : Bool). replay_from (text_at Side pairs) plain (text_at Buffer pairs)) (sym (has-text Plain pairs))
         ∙ replay-joined (text_at Side pairs) (text_at Plain pairs) (text_at Buffer pairs)
         (λ text some none. all-good Buffer text all pairs is some (ap (option_and_then (λ n. Some (value.Number n))) none))
-        ∙ sym (ap₂ (λ (plain side : Option (Option Value)). replays plain (side_given side) (option_and_then (once Buffer) (gave pairs))) (at Plain all is) (at Side all is)
+        ∙ sym (ap₂ (λ (plain side : Option (Option Value)). replays plain (side_given side) (option_and_then (once Buffer) (gave pairs))) (at Plain all is)
+        (at Side all is)
         ∙ ap (λ (buffer : Option (Option Value)). replays (Some (found_at Plain pairs)) (side_given (Some (found_at Side pairs))) buffer) (at Buffer all is))
     go None is =
         let found = some-bad pairs distinct is in
         replay-bad pairs found.setting found.text (found.own table.Replay owned) found.at found.bad ∙ sym (ap replay_means is)
 
-pub replay-ends : (pairs : Pairs) → Distinct pairs → Owned table.Replay pairs → verdict replay_in (shape table.Replay) (rests (rows pairs) None) [] ≡ replay_means (gave pairs)
+pub replay-ends : (pairs : Pairs) → Distinct pairs → Owned table.Replay pairs
+    → verdict replay_in (shape table.Replay) (rests (rows pairs) None) [] ≡ replay_means (gave pairs)
 replay-ends pairs distinct owned =
     last-turn replay_in (shape table.Replay) (rests (rows pairs) None) ∙ replay-closed pairs owned ∙ replay-gave pairs distinct owned

@@ -42,7 +42,8 @@ whole-name : (xs : List ℕ) → has_byte 61 xs ≡ false → before_first is_eq
 whole-name [] none = refl
 whole-name (x ∷ xs) none = go (x == 61) refl none (whole-name xs)
   where
-    go : (b : Bool) → (x == 61) ≡ b → has_byte 61 (x ∷ xs) ≡ false → (has_byte 61 xs ≡ false → before_first is_equals xs ≡ xs) → before_first is_equals (x ∷ xs) ≡ x ∷ xs
+    go : (b : Bool) → (x == 61) ≡ b → has_byte 61 (x ∷ xs) ≡ false → (has_byte 61 xs ≡ false → before_first is_equals xs ≡ xs)
+        → before_first is_equals (x ∷ xs) ≡ x ∷ xs
     go true is none rest = let no : true ≡ false = rw is at none in cc no
     go false is none rest = let less : has_byte 61 xs ≡ false = rw is at none in before-cons x xs is ∙ ap (λ (more : List ℕ). x ∷ more) (rest less)
 
@@ -73,13 +74,15 @@ shape-of (y ∷ xs) = go (y == 45) refl
     go true is = let same : y ≡ 45 = grind (arith, nat_tests) in subst (λ (z : ℕ). Shapes (z ∷ xs)) (sym same) (shape-2 xs)
     go false is = inr (rw is refl)
 
-joined-read : (t : Table) (word : List ℕ) (words : List (List ℕ)) → is_joined word ≡ true → all_given t (word ∷ words) ≡ preceded (joined_given t word) (all_given t words)
+joined-read : (t : Table) (word : List ℕ) (words : List (List ℕ)) → is_joined word ≡ true
+    → all_given t (word ∷ words) ≡ preceded (joined_given t word) (all_given t words)
 joined-read t word [] joined = rw joined
 joined-read t word (next ∷ words) joined = rw joined
 
 -- `--name=value`
 pub joined-dashed : (t : Table) (x : ℕ) (xs : List ℕ) (words : List (List ℕ)) → has_byte 61 (x ∷ xs) ≡ true
-    → all_given t (dashed x xs ∷ words) ≡ preceded (given_of t (45 ∷ (45 ∷ before_first is_equals (x ∷ xs))) (after_first is_equals (x ∷ xs))) (all_given t words)
+    → all_given t (dashed x xs ∷ words) ≡ preceded (given_of t (45 ∷ (45 ∷ before_first is_equals (x ∷ xs))) (after_first is_equals (x ∷ xs)))
+    (all_given t words)
 joined-dashed t x xs words has = joined-read t (dashed x xs) words is
     ∙ ap₂ (λ (name text : List ℕ). preceded (given_of t name text) (all_given t words))
     (before-cons 45 (45 ∷ (x ∷ xs)) refl ∙ ap (λ (more : List ℕ). 45 ∷ more) (before-cons 45 (x ∷ xs) refl))
@@ -104,7 +107,8 @@ apart-dashed t x xs next words none mark = rw (whole-dashed x xs none, mark) ref
 pub alone-dashed : (t : Table) (x : ℕ) (xs : List ℕ) → has_byte 61 (x ∷ xs) ≡ false → is_mark t (dashed x xs) ≡ false → all_given t (dashed x xs ∷ []) ≡ None
 alone-dashed t x xs none mark = rw (whole-dashed x xs none, mark) refl
 
-pub long-joined : (x : ℕ) (xs : List ℕ) → has_byte 61 (x ∷ xs) ≡ true → long_of (dashed x xs) ≡ Some (before_first is_equals (x ∷ xs), Some (after_first is_equals (x ∷ xs)))
+pub long-joined : (x : ℕ) (xs : List ℕ) → has_byte 61 (x ∷ xs) ≡ true
+    → long_of (dashed x xs) ≡ Some (before_first is_equals (x ∷ xs), Some (after_first is_equals (x ∷ xs)))
 long-joined x xs has = rw has refl
 
 pub long-whole : (x : ℕ) (xs : List ℕ) → has_byte 61 (x ∷ xs) ≡ false → long_of (dashed x xs) ≡ Some (x ∷ xs, None)
@@ -227,7 +231,8 @@ dashes-none t (word ∷ (next ∷ words)) some = go (bytes_eq word (codes "--"))
         → (list_any (λ word. bytes_eq word (codes "--")) words ≡ true → all_given t words ≡ None) → preceded (given_of t word next) (all_given t words) ≡ None
     apart true is some rest = ap (λ (first : Option Assignment). preceded first (all_given t words)) (value-none t word next is)
     apart false is some rest =
-        let behind : list_any (λ word. bytes_eq word (codes "--")) words ≡ true = rw is at some in nothing-before (given_of t word next) (all_given t words) (rest behind)
+        let behind : list_any (λ word. bytes_eq word (codes "--")) words ≡ true = rw is at some in
+        nothing-before (given_of t word next) (all_given t words) (rest behind)
 
     parts : (j : Bool) → is_joined word ≡ j → (m : Bool) → is_mark t word ≡ m → list_any (λ word. bytes_eq word (codes "--")) (next ∷ words) ≡ true
         → all_given t (next ∷ words) ≡ None

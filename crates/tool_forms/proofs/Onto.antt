@@ -113,7 +113,8 @@ whichever : (given : Assignment) (all : Option (List Assignment)) (found : Optio
 whichever given None found = refl
 whichever given (Some all) found = refl
 
-unless-gave : (setting : Setting) (v : Value) (pairs : Pairs) → has setting pairs ≡ false → option_and_then (unless_again setting v) (gave pairs) ≡ wherever pairs (Some v)
+unless-gave : (setting : Setting) (v : Value) (pairs : Pairs) → has setting pairs ≡ false
+    → option_and_then (unless_again setting v) (gave pairs) ≡ wherever pairs (Some v)
 unless-gave setting v [] none = refl
 unless-gave setting v (pair ∷ pairs) none = go (value_of pair.0 pair.1) refl (is_same pair.0 setting) refl none (unless-gave setting v pairs)
   where
@@ -125,7 +126,8 @@ unless-gave setting v (pair ∷ pairs) none = go (value_of pair.0 pair.1) refl (
     go (Some w) is false same none rest =
         let behind : has setting pairs ≡ false = rw same at none in
         let one : Assignment = record { setting = pair.0; value = w } in
-        rw is (unless-step setting v (record { setting = pair.0; value = w }) _ false same ∙ rest behind ∙ whichever (record { setting = pair.0; value = w }) (gave pairs) (Some v))
+        rw is (unless-step setting v (record { setting = pair.0; value = w }) _ false same ∙ rest behind
+        ∙ whichever (record { setting = pair.0; value = w }) (gave pairs) (Some v))
 
 pub once-gave : (setting : Setting) (pairs : Pairs) → Distinct pairs → option_and_then (once setting) (gave pairs) ≡ wherever pairs (found_at setting pairs)
 once-gave setting [] distinct = refl

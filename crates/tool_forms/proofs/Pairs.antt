@@ -132,7 +132,8 @@ pub has-row : (setting : Setting) (pairs : Pairs) → has_row (bare_name setting
 has-row setting [] = refl
 has-row setting (pair ∷ pairs) = go (is_same pair.0 setting) refl (has-row setting pairs)
   where
-    go : (b : Bool) → is_same pair.0 setting ≡ b → has_row (bare_name setting) (rows pairs) ≡ has setting pairs → has_row (bare_name setting) (rows (pair ∷ pairs)) ≡ has setting (pair ∷ pairs)
+    go : (b : Bool) → is_same pair.0 setting ≡ b → has_row (bare_name setting) (rows pairs) ≡ has setting pairs
+        → has_row (bare_name setting) (rows (pair ∷ pairs)) ≡ has setting (pair ∷ pairs)
     go true same rest = rw same refl
     go false other rest = rw other rest
 
@@ -140,7 +141,8 @@ pub is-given : (setting : Setting) (pairs : Pairs) → is_given (bare_name setti
 is-given setting [] = refl
 is-given setting (pair ∷ pairs) = go (is_same pair.0 setting) refl (is-given setting pairs)
   where
-    go : (b : Bool) → is_same pair.0 setting ≡ b → is_given (bare_name setting) (rows pairs) ≡ has setting pairs → is_given (bare_name setting) (rows (pair ∷ pairs)) ≡ has setting (pair ∷ pairs)
+    go : (b : Bool) → is_same pair.0 setting ≡ b → is_given (bare_name setting) (rows pairs) ≡ has setting pairs
+        → is_given (bare_name setting) (rows (pair ∷ pairs)) ≡ has setting (pair ∷ pairs)
     go true same rest = rw same refl
     go false other rest = rw other rest
 
@@ -148,7 +150,8 @@ pub first-of : (setting : Setting) (pairs : Pairs) → first_of (bare_name setti
 first-of setting [] = refl
 first-of setting (pair ∷ pairs) = go (is_same pair.0 setting) refl (first-of setting pairs)
   where
-    go : (b : Bool) → is_same pair.0 setting ≡ b → first_of (bare_name setting) (rows pairs) ≡ text_at setting pairs → first_of (bare_name setting) (rows (pair ∷ pairs)) ≡ text_at setting (pair ∷ pairs)
+    go : (b : Bool) → is_same pair.0 setting ≡ b → first_of (bare_name setting) (rows pairs) ≡ text_at setting pairs
+        → first_of (bare_name setting) (rows (pair ∷ pairs)) ≡ text_at setting (pair ∷ pairs)
     go true same rest = rw same refl
     go false other rest = rw other rest
 
@@ -233,9 +236,15 @@ module _ {X : Type 0} (judge : List Row → Option X) (s : Shape) (again : s.arg
           (verdict judge s (rests (used (argument setting) (values_for setting text) (rows pairs)) None) words)
           ≡ (if has setting pairs then None else found_with (with_pair pairs setting text) words)
       go true twice = rw (again, faults-by (way_of setting) (bare_name setting) text (rows pairs) true (has-row setting pairs ∙ twice), twice) refl
-      go false once = rw (again, faults-by (way_of setting) (bare_name setting) text (rows pairs) false (has-row setting pairs ∙ once), used-once setting text pairs fits once, once) refl
+      go false once = rw (
+        again,
+        faults-by (way_of setting) (bare_name setting) text (rows pairs) false (has-row setting pairs ∙ once),
+        used-once setting text pairs fits once,
+        once,
+      ) refl
 
-  pub given-with : (setting : Setting) (text : Text) (values : List Text) (pairs : Pairs) (words : List Text) → values_for setting text ≡ values → FitsRow setting text
+  pub given-with : (setting : Setting) (text : Text) (values : List Text) (pairs : Pairs) (words : List Text) → values_for setting text ≡ values
+      → FitsRow setting text
       → passed (use_fault s.args_override_self (argument setting) values (rows pairs))
       (verdict judge s (rests (used (argument setting) values (rows pairs)) None) words)
       ≡ (if has setting pairs then None else found_with (with_pair pairs setting text) words)
@@ -244,7 +253,8 @@ module _ {X : Type 0} (judge : List Row → Option X) (s : Shape) (again : s.arg
       (verdict judge s (rests (used (argument setting) vs (rows pairs)) None) words)
       ≡ (if has setting pairs then None else found_with (with_pair pairs setting text) words)) are (given-once setting text pairs words fits)
 
-has-with : (one setting : Setting) (text : Text) (pairs : Pairs) → has one (with_pair pairs setting text) ≡ (if has one pairs then true else is_same setting one)
+has-with : (one setting : Setting) (text : Text) (pairs : Pairs)
+    → has one (with_pair pairs setting text) ≡ (if has one pairs then true else is_same setting one)
 has-with one setting text [] = go (is_same setting one)
   where
     go : (b : Bool) → (if b then true else false) ≡ b
@@ -267,7 +277,8 @@ other-way one other apart = go (is_same other one) refl
     go false other = other
 
 -- none has it in the front, nor behind
-none-in : (setting : Setting) (pair : Setting × Text) (pairs : Pairs) → has setting (pair ∷ pairs) ≡ false → (is_same pair.0 setting ≡ false) × (has setting pairs ≡ false)
+none-in : (setting : Setting) (pair : Setting × Text) (pairs : Pairs) → has setting (pair ∷ pairs) ≡ false → (is_same pair.0 setting ≡ false)
+    × (has setting pairs ≡ false)
 none-in setting pair pairs none = go (is_same pair.0 setting) refl
   where
     go : (b : Bool) → is_same pair.0 setting ≡ b → (is_same pair.0 setting ≡ false) × (has setting pairs ≡ false)

@@ -83,14 +83,17 @@ long-is way.Needed id name = or-false (bytes_eq id name)
 long-is way.Chosen id name = or-false (bytes_eq id name)
 long-is way.Mark id name = or-false (bytes_eq id name)
 
-known-argument : (settings : List Setting) (name : Text) → arg_by_long (map argument settings) name ≡ option_map argument (named_among settings (45 ∷ (45 ∷ name)))
+known-argument : (settings : List Setting) (name : Text)
+    → arg_by_long (map argument settings) name ≡ option_map argument (named_among settings (45 ∷ (45 ∷ name)))
 known-argument [] name = refl
 known-argument (s ∷ settings) name =
-    ap (λ (b : Bool). if b then Some (argument s) else arg_by_long (map argument settings) name) (long-is (way_of s) (bare_name s) name ∙ either-way (bare_name s) name)
+    ap (λ (b : Bool). if b then Some (argument s) else arg_by_long (map argument settings) name)
+    (long-is (way_of s) (bare_name s) name ∙ either-way (bare_name s) name)
     ∙ by (bytes_eq name (bare_name s)) (known-argument settings name)
   where
     by : (b : Bool) → arg_by_long (map argument settings) name ≡ option_map argument (named_among settings (45 ∷ (45 ∷ name)))
-        → (if b then Some (argument s) else arg_by_long (map argument settings) name) ≡ option_map argument (if b then Some s else named_among settings (45 ∷ (45 ∷ name)))
+        → (if b then Some (argument s) else arg_by_long (map argument settings) name) ≡ option_map argument
+        (if b then Some s else named_among settings (45 ∷ (45 ∷ name)))
     by true rest = refl
     by false rest = rest
 
@@ -117,7 +120,8 @@ named-owned (s ∷ settings) name setting is = go (bytes_eq name (dashed_name s)
         → (named_among settings name ≡ Some setting → is_among setting settings ≡ true) → is_among setting (s ∷ settings) ≡ true
     go true same is rest =
         let found : Some s ≡ Some setting = rw same at is in
-        ap (λ (b : Bool). if b then true else is_among setting settings) (subst (λ (other : Setting). is_same s other ≡ true) (some-is s setting found) (is-itself s))
+        ap (λ (b : Bool). if b then true else is_among setting settings)
+        (subst (λ (other : Setting). is_same s other ≡ true) (some-is s setting found) (is-itself s))
     go false other is rest = let behind : named_among settings name ≡ Some setting = rw other at is in either (is_same s setting) (rest behind)
 
 argument-by-id : (settings : List Setting) (setting : Setting) → is_among setting settings ≡ true
@@ -129,7 +133,8 @@ argument-by-id (s ∷ settings) setting is = go (is_same s setting) refl is (arg
     ids = ap₂ bytes_eq (id-is (way_of s) (bare_name s)) (id-is (way_of setting) (bare_name setting))
 
     found : (b : Bool) → is_same s setting ≡ b
-        → arg_by_id (map argument (s ∷ settings)) (argument setting).id ≡ (if b then Some (argument s) else arg_by_id (map argument settings) (argument setting).id)
+        → arg_by_id (map argument (s ∷ settings)) (argument setting).id
+        ≡ (if b then Some (argument s) else arg_by_id (map argument settings) (argument setting).id)
     found b is = ap (λ (b : Bool). if b then Some (argument s) else arg_by_id (map argument settings) (argument setting).id) (ids ∙ is)
 
     go : (b : Bool) → is_same s setting ≡ b → is_among setting (s ∷ settings) ≡ true
@@ -158,11 +163,13 @@ owned-with t setting text (pair ∷ pairs) owned is fits = (owned.0, owned-with 
 -- what a setting with a value gives is what it is assigned
 assigns : (setting : Setting) (text : Text) → is_marking (way_of setting) ≡ false → value_given_to (Some setting) text ≡ assigned setting text
 assigns setting text is =
-    ap (λ (found : Option Value). option_and_then (λ v. Some (record { setting = setting; value = v })) found) (sym (value-valued (way_of setting) setting text is))
+    ap (λ (found : Option Value). option_and_then (λ v. Some (record { setting = setting; value = v })) found)
+    (sym (value-valued (way_of setting) setting text is))
 
 refuses : (setting : Setting) (text : Text) → is_marking (way_of setting) ≡ false → setting_value setting text ≡ None → assigned setting text ≡ None
 refuses setting text is none =
-    ap (λ (found : Option Value). option_and_then (λ v. Some (record { setting = setting; value = v })) found) (value-valued (way_of setting) setting text is ∙ none)
+    ap (λ (found : Option Value). option_and_then (λ v. Some (record { setting = setting; value = v })) found)
+    (value-valued (way_of setting) setting text is ∙ none)
 
 -- a mark gives nothing but itself
 marks : (setting : Setting) (text : Text) → is_marking (way_of setting) ≡ true → assigned setting text ≡ Some (record { setting = setting; value = value.Mark })
@@ -197,14 +204,18 @@ module _ {X : Type 0} (judge : List Row → Option X) (t : Table) (means : Optio
   nothing-given : (pairs : Pairs) (all : Option (List Assignment)) → all ≡ None → means (onto pairs all) ≡ None
   nothing-given pairs all none = ap (λ (a : Option (List Assignment)). means (onto pairs a)) none ∙ ap means (onto-none pairs) ∙ means-none
 
-  one-more : (setting : Setting) (text : Text) (words : List Text) (pairs : Pairs) → Agreed words → Distinct pairs → Owned t pairs → owns t setting ≡ true → FitsRow setting text
-      → (if has setting pairs then None else reads (with_pair pairs setting text) words) ≡ means (onto pairs (preceded (assigned setting text) (all_given t words)))
+  one-more : (setting : Setting) (text : Text) (words : List Text) (pairs : Pairs) → Agreed words → Distinct pairs → Owned t pairs → owns t setting ≡ true
+      → FitsRow setting text
+      → (if has setting pairs then None else reads (with_pair pairs setting text) words) ≡ means
+      (onto pairs (preceded (assigned setting text) (all_given t words)))
   one-more setting text words pairs agreed distinct owned is fits = go (has setting pairs) refl
     where
       go : (b : Bool) → has setting pairs ≡ b
-          → (if has setting pairs then None else reads (with_pair pairs setting text) words) ≡ means (onto pairs (preceded (assigned setting text) (all_given t words)))
+          → (if has setting pairs then None else reads (with_pair pairs setting text) words) ≡ means
+          (onto pairs (preceded (assigned setting text) (all_given t words)))
       go true twice = rw twice (sym (means-once setting text (all_given t words) pairs is twice))
-      go false once = rw once (agreed (with_pair pairs setting text) (distinct-with setting text pairs distinct once) (owned-with t setting text pairs owned is fits)
+      go false once = rw once
+          (agreed (with_pair pairs setting text) (distinct-with setting text pairs distinct once) (owned-with t setting text pairs owned is fits)
           ∙ ap means (onto-with pairs setting text (all_given t words)))
 
   -- a name and its value in one word
@@ -250,7 +261,8 @@ module _ {X : Type 0} (judge : List Row → Option X) (t : Table) (means : Optio
 
   -- a name alone in its word
   whole-agrees : (x : ℕ) (xs : List ℕ) (words : List Text) (pairs : Pairs) → has_byte 61 (x ∷ xs) ≡ false → bytes_eq (dashed x xs) (45 ∷ 45 ∷ []) ≡ false
-      → Clear words → Agreed words → ((v : Text) (behind : List Text) → words ≡ v ∷ behind → Agreed behind) → Distinct pairs → Owned t pairs → Agrees pairs (dashed x xs ∷ words)
+      → Clear words → Agreed words → ((v : Text) (behind : List Text) → words ≡ v ∷ behind → Agreed behind) → Distinct pairs → Owned t pairs
+      → Agrees pairs (dashed x xs ∷ words)
   whole-agrees x xs words pairs whole apart clear agreed behind_agreed distinct owned = go (setting_named t (dashed x xs)) refl
     where
       long : long_of (dashed x xs) ≡ Some (x ∷ xs, None)
@@ -259,7 +271,8 @@ module _ {X : Type 0} (judge : List Row → Option X) (t : Table) (means : Optio
       arg : (found : Option Setting) → setting_named t (dashed x xs) ≡ found → arg_by_long (shape t).rules (x ∷ xs) ≡ option_map argument found
       arg found is = arg-known t (x ∷ xs) ∙ ap (option_map argument) is
 
-      marked : (found : Option Setting) → setting_named t (dashed x xs) ≡ found → is_mark t (dashed x xs) ≡ option_map_or (λ s. is_marking (way_of s)) found false
+      marked : (found : Option Setting) → setting_named t (dashed x xs) ≡ found
+          → is_mark t (dashed x xs) ≡ option_map_or (λ s. is_marking (way_of s)) found false
       marked found is = ap (λ (f : Option Setting). option_map_or (λ s. is_marking (way_of s)) f false) is
 
       unknown : (words : List Text) → setting_named t (dashed x xs) ≡ None → all_given t (dashed x xs ∷ words) ≡ None
@@ -270,14 +283,17 @@ module _ {X : Type 0} (judge : List Row → Option X) (t : Table) (means : Optio
       valued : (setting : Setting) → setting_named t (dashed x xs) ≡ Some setting → is_marking (way_of setting) ≡ false → (words : List Text) → Clear words
           → ((v : Text) (behind : List Text) → words ≡ v ∷ behind → Agreed behind) → Agrees pairs (dashed x xs ∷ words)
       valued setting is unmarked [] clear behind_agreed =
-          alone-refused judge (shape t) (no-short t) (no-index t) (argument setting) (by-id t setting (named-owned (settings_of t) _ setting is)) (name-is-itself setting)
+          alone-refused judge (shape t) (no-short t) (no-index t) (argument setting) (by-id t setting (named-owned (settings_of t) _ setting is))
+          (name-is-itself setting)
           (is-valued (way_of setting) (bare_name setting) unmarked).1 (is-valued (way_of setting) (bare_name setting) unmarked).0
           (is-valued (way_of setting) (bare_name setting) unmarked).2 (rows pairs) (dashed x xs) (x ∷ xs) apart long (arg (Some setting) is)
           ∙ sym (nothing-given pairs _ (alone-dashed t x xs whole (marked (Some setting) is ∙ unmarked)))
       valued setting is unmarked (text ∷ behind) clear behind_agreed = judged
-          (apart-judged judge (shape t) (no-short t) (no-index t) (argument setting) (by-id t setting (named-owned (settings_of t) _ setting is)) (name-is-itself setting)
+          (apart-judged judge (shape t) (no-short t) (no-index t) (argument setting) (by-id t setting (named-owned (settings_of t) _ setting is))
+          (name-is-itself setting)
           (is-valued (way_of setting) (bare_name setting) unmarked).1 (is-valued (way_of setting) (bare_name setting) unmarked).0
-          (is-valued (way_of setting) (bare_name setting) unmarked).2 (rows pairs) (dashed x xs) (x ∷ xs) text behind apart long (arg (Some setting) is) clear.0 clear.1)
+          (is-valued (way_of setting) (bare_name setting) unmarked).2 (rows pairs) (dashed x xs) (x ∷ xs) text behind apart long
+          (arg (Some setting) is) clear.0 clear.1)
         where
           own : all_given t (dashed x xs ∷ (text ∷ behind)) ≡ preceded (assigned setting text) (all_given t behind)
           own = apart-dashed t x xs text behind whole (marked (Some setting) is ∙ unmarked)
@@ -291,16 +307,19 @@ module _ {X : Type 0} (judge : List Row → Option X) (t : Table) (means : Optio
           judged (inl refusal) = refusal.0 ∙ sym (nothing-given pairs _ (own
               ∙ ap (λ (first : Option Assignment). preceded first (all_given t behind)) (refuses setting text unmarked (flag-value setting text refusal.1))))
           judged (inr taken) = taken
-              ∙ given-with judge (shape t) (no-again t) setting text (text ∷ []) pairs behind (values-valued (way_of setting) text unmarked) (fits-valued (way_of setting) text unmarked)
+              ∙ given-with judge (shape t) (no-again t) setting text (text ∷ []) pairs behind (values-valued (way_of setting) text unmarked)
+              (fits-valued (way_of setting) text unmarked)
               ∙ one-more setting text behind pairs (behind_agreed text behind refl) distinct owned (named-owned (settings_of t) _ setting is)
               (fits-valued (way_of setting) text unmarked)
               ∙ ap (λ (all : Option (List Assignment)). means (onto pairs all)) (sym own)
 
-      taken : (setting : Setting) → setting_named t (dashed x xs) ≡ Some setting → (b : Bool) → is_marking (way_of setting) ≡ b → Agrees pairs (dashed x xs ∷ words)
+      taken : (setting : Setting) → setting_named t (dashed x xs) ≡ Some setting → (b : Bool) → is_marking (way_of setting) ≡ b
+          → Agrees pairs (dashed x xs ∷ words)
       taken setting is true mark =
           mark-taken judge (shape t) (no-short t) (no-index t) (argument setting) (rows pairs) (dashed x xs) (x ∷ xs) words apart long
           (arg (Some setting) is) (is-marked (way_of setting) (bare_name setting) mark)
-          ∙ given-with judge (shape t) (no-again t) setting (codes "true") [] pairs words (values-marked (way_of setting) (codes "true") mark) (fits-marked (way_of setting) mark)
+          ∙ given-with judge (shape t) (no-again t) setting (codes "true") [] pairs words (values-marked (way_of setting) (codes "true") mark)
+          (fits-marked (way_of setting) mark)
           ∙ one-more setting (codes "true") words pairs agreed distinct owned (named-owned (settings_of t) _ setting is) (fits-marked (way_of setting) mark)
           ∙ ap (λ (all : Option (List Assignment)). means (onto pairs all))
           (sym (mark-dashed t x xs words whole (marked (Some setting) is ∙ mark)
@@ -318,14 +337,16 @@ module _ {X : Type 0} (judge : List Row → Option X) (t : Table) (means : Optio
       → ((v : Text) (behind : List Text) → words ≡ v ∷ behind → Agreed behind) → Distinct pairs → Owned t pairs → Agrees pairs (word ∷ words)
   word-agrees word words pairs apart clear agreed behind distinct owned = go (shape-of word)
     where
-      dashes : (x : ℕ) (xs : List ℕ) → bytes_eq (dashed x xs) (45 ∷ 45 ∷ []) ≡ false → (b : Bool) → has_byte 61 (x ∷ xs) ≡ b → Agrees pairs (dashed x xs ∷ words)
+      dashes : (x : ℕ) (xs : List ℕ) → bytes_eq (dashed x xs) (45 ∷ 45 ∷ []) ≡ false → (b : Bool) → has_byte 61 (x ∷ xs) ≡ b
+          → Agrees pairs (dashed x xs ∷ words)
       dashes x xs apart true joined = joined-agrees x xs words pairs joined apart agreed distinct owned
       dashes x xs apart false whole = whole-agrees x xs words pairs whole apart clear agreed behind distinct owned
 
       go : ((x : ℕ) × (xs : List ℕ) × (word ≡ dashed x xs)) ⊎ (long_of word ≡ None) → Agrees pairs (word ∷ words)
       go (inl is) = subst (λ (w : Text). Agrees pairs (w ∷ words)) (sym is.2)
           (dashes is.0 is.1 (subst (λ (w : Text). bytes_eq w (45 ∷ 45 ∷ []) ≡ false) is.2 apart) (has_byte 61 (is.0 ∷ is.1)) refl)
-      go (inr none) = stray-refused judge (shape t) (no-short t) (no-index t) (rows pairs) word words apart none ∙ sym (nothing-given pairs _ (none-dashed t word words none))
+      go (inr none) = stray-refused judge (shape t) (no-short t) (no-index t) (rows pairs) word words apart none
+          ∙ sym (nothing-given pairs _ (none-dashed t word words none))
 
   module _ (ends : (pairs : Pairs) → Distinct pairs → Owned t pairs → reads pairs [] ≡ means (onto pairs (Some []))) where
     pub all-agree : (words : List Text) → Clear words → Agreed words

@@ -56,11 +56,13 @@ module _ {X : Type 0} (judge : List Row → Option X) where
 
   -- a command without subcommands has the faults of its one level
   by-level : (s : Shape) (words : List Text)
-      → (if is_empty (built_fault (record { top = s; subs = [] }) nothing_held words) then judge (rows_after s.rules [] words) else None) ≡ verdict judge s (rests [] None) words
+      → (if is_empty (built_fault (record { top = s; subs = [] }) nothing_held words) then judge (rows_after s.rules [] words) else None) ≡ verdict judge s
+      (rests [] None) words
   by-level s words = go (walk s.rules [] nothing_held words).stopped refl
     where
       go : (stop : Option (Text × List Text)) → (walk s.rules [] nothing_held words).stopped ≡ stop
-          → (if is_empty (built_fault (record { top = s; subs = [] }) nothing_held words) then judge (rows_after s.rules [] words) else None) ≡ verdict judge s (rests [] None) words
+          → (if is_empty (built_fault (record { top = s; subs = [] }) nothing_held words) then judge (rows_after s.rules [] words) else None) ≡ verdict judge s
+          (rests [] None) words
       go None is = by-kinds (built_fault (record { top = s; subs = [] }) nothing_held words) _ ∙ rw is refl
       go (Some stop) is = by-kinds (built_fault (record { top = s; subs = [] }) nothing_held words) _ ∙ rw is refl
 
@@ -123,7 +125,8 @@ module _ {X : Type 0} (judge : List Row → Option X) (t : Table) (means : Optio
   unfolding read_by
   all-read words = go (list_any is_dashes (map string_bytes words)) refl
     where
-      go : (b : Bool) → list_any is_dashes (map string_bytes words) ≡ b → read_by (command t) judge (map string_bytes words) ≡ means (all_given t (map string_bytes words))
+      go : (b : Bool) → list_any is_dashes (map string_bytes words) ≡ b
+          → read_by (command t) judge (map string_bytes words) ≡ means (all_given t (map string_bytes words))
       go true some = rw some (sym (ap means (dashes-none t (map string_bytes words) some) ∙ none))
       go false clear_of = rw clear_of (one-level judge t (map string_bytes words)
           ∙ all-agree judge t means none once ends (map string_bytes words) (clear (map string_bytes words) clear_of) [] tt tt)

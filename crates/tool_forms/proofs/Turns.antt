@@ -38,7 +38,8 @@ module _ {X : Type 0} (judge : List Row → Option X) where
   abbrev pub verdict : Shape → Walk → List Text → Option X
   verdict s w words = passed (run_fault s w words) (judge (finished s.rules (fold (walked s.rules []) w words).held))
 
-  first-passed : (first more last : Kinds) (found : Option X) → passed (or_else (or_else first more) last) found ≡ passed first (passed (or_else more last) found)
+  first-passed : (first more last : Kinds) (found : Option X)
+      → passed (or_else (or_else first more) last) found ≡ passed first (passed (or_else more last) found)
   first-passed [] more last found = refl
   first-passed (k ∷ ks) more last found = refl
 
@@ -61,10 +62,12 @@ module _ (s : Shape) (short : (x : ℕ) → arg_by_short s.rules x ≡ None) (in
   abbrev pub Turns : List Row → Option (Text × List Text) → Text → Type 0
   Turns rows p word =
       ((is_empty (turn_fault s [] (rests rows p) word) ≡ false) × (is_empty (turn_fault s [] (rests (settled_rows s.rules p rows) None) word) ≡ false))
-      ⊎ ((turn_fault s [] (rests rows p) word ≡ or_else (settle_fault s.rules s.args_override_self (holding rows p)) (turn_fault s [] (rests (settled_rows s.rules p rows) None) word))
+      ⊎ ((turn_fault s [] (rests rows p) word ≡ or_else (settle_fault s.rules s.args_override_self (holding rows p))
+      (turn_fault s [] (rests (settled_rows s.rules p rows) None) word))
       × (walked s.rules [] (rests rows p) word ≡ walked s.rules [] (rests (settled_rows s.rules p rows) None) word))
 
-  pub stray : (rows : List Row) (p : Option (Text × List Text)) (word : Text) → bytes_eq word (45 ∷ 45 ∷ []) ≡ false → long_of word ≡ None → short_of word ≡ None
+  pub stray : (rows : List Row) (p : Option (Text × List Text)) (word : Text) → bytes_eq word (45 ∷ 45 ∷ []) ≡ false → long_of word ≡ None
+      → short_of word ≡ None
       → is_empty (turn_fault s [] (rests rows p) word) ≡ false
   stray rows p word apart long none = go s.is_leaf refl
     where
@@ -96,7 +99,8 @@ module _ (s : Shape) (short : (x : ℕ) → arg_by_short s.rules x ≡ None) (in
   unfolding walked
   named rows p word name v apart is = go (arg_by_long s.rules name) refl v is
     where
-      kind : (a : Rule) → arg_by_long s.rules name ≡ Some a → (b : Bool) → takes_values a ≡ b → (v : Option Text) → long_of word ≡ Some (name, v) → Turns rows p word
+      kind : (a : Rule) → arg_by_long s.rules name ≡ Some a → (b : Bool) → takes_values a ≡ b → (v : Option Text) → long_of word ≡ Some (name, v)
+          → Turns rows p word
       kind a known true takes (Some v) is = inr (rw (apart, is, known, takes) (counted-first _ _), rw (apart, is, known, takes) refl)
       kind a known true takes None is = inr (rw (apart, is, known, takes) refl, rw (apart, is, known, takes) refl)
       kind a known false takes (Some v) is = inl (rw (apart, is, known, takes) refl, rw (apart, is, known, takes) refl)

@@ -106,7 +106,8 @@ module _ {X : Type 0} (judge : List Row → Option X) (s : Shape) (short : (x : 
       go (Some flags) is = refuses _ word words (bundled s short index rows None word flags apart long is)
 
   -- `--name`, and its value behind it
-  module _ (a : Rule) (by_id : arg_by_id s.rules a.id ≡ Some a) (same : bytes_eq a.id a.id ≡ true) (range : unwrap_or_range a.range ≡ one) (takes : takes_values a ≡ true) (most : most_values a ≡ 1) where
+  module _ (a : Rule) (by_id : arg_by_id s.rules a.id ≡ Some a) (same : bytes_eq a.id a.id ≡ true) (range : unwrap_or_range a.range ≡ one)
+      (takes : takes_values a ≡ true) (most : most_values a ≡ 1) where
     named-waits : (rows : List Row) (word name : Text) (words : List Text) → bytes_eq word (45 ∷ 45 ∷ []) ≡ false
         → long_of word ≡ Some (name, None) → arg_by_long s.rules name ≡ Some a
         → verdict judge s (rests rows None) (word ∷ words) ≡ verdict judge s (waits_for rows a.id) words
@@ -133,9 +134,11 @@ module _ {X : Type 0} (judge : List Row → Option X) (s : Shape) (short : (x : 
 
     -- a value that begins with a hyphen is refused, or taken as any other
     abbrev pub IsRefusedOrTaken : List Row → Text → List Text → Type 0
-    IsRefusedOrTaken rows v words = (verdict judge s (waits_for rows a.id) (v ∷ words) ≡ None) ⊎ (verdict judge s (waits_for rows a.id) (v ∷ words) ≡ taken-with rows v words)
+    IsRefusedOrTaken rows v words = (verdict judge s (waits_for rows a.id) (v ∷ words) ≡ None)
+        ⊎ (verdict judge s (waits_for rows a.id) (v ∷ words) ≡ taken-with rows v words)
 
-    flags-judged : (rows : List Row) (v flags : Text) (words : List Text) → bytes_eq v (45 ∷ 45 ∷ []) ≡ false → long_of v ≡ None → short_of v ≡ Some flags → Clear words
+    flags-judged : (rows : List Row) (v flags : Text) (words : List Text) → bytes_eq v (45 ∷ 45 ∷ []) ≡ false → long_of v ≡ None → short_of v ≡ Some flags
+        → Clear words
         → IsRefusedOrTaken rows v words
     unfolding walked flags_fault bundle_met
     flags-judged rows v [] words apart long is clear =

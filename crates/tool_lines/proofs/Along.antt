@@ -60,7 +60,8 @@ module _ {P V : Type 0} (job : Job P V) (first : V) where
   line-told None = refl
   line-told (Some deed) = sym (append-nil (job.told deed))
 
-  told-more : (written text after front : List ℕ) (deeds : List P) (deed : Option P) → written ++ text ≡ front ++ flat_map job.told deeds → after ≡ text ++ line_text job deed
+  told-more : (written text after front : List ℕ) (deeds : List P) (deed : Option P) → written ++ text ≡ front ++ flat_map job.told deeds
+      → after ≡ text ++ line_text job deed
       → written ++ after ≡ front ++ flat_map job.told (deeds ++ deeds_of deed)
   told-more written text after front deeds deed told put =
       ap (λ (more : List ℕ). written ++ more) put
@@ -70,7 +71,8 @@ module _ {P V : Type 0} (job : Job P V) (first : V) where
       ∙ ap (λ (more : List ℕ). front ++ (flat_map job.told deeds ++ more)) (line-told deed)
       ∙ ap (λ (more : List ℕ). front ++ more) (sym (flat_map-append job.told deeds (deeds_of deed)))
 
-  accepted-by : (state next : V) (number given further : ℕ) (left behind : Option (List ℕ)) (front text after : List ℕ) (before taken : Option (List ℕ)) (input : List ℕ)
+  accepted-by : (state next : V) (number given further : ℕ) (left behind : Option (List ℕ)) (front text after : List ℕ) (before taken : Option (List ℕ))
+      (input : List ℕ)
       (along : Along job first state number given left front text before taken input) (rest : List (List ℕ)) (verdict : Verdict P V)
       → behind ≡ Some (drop further input) → lines_of (drop further input) ≡ rest
       → gone_from job state number given (lines_of (drop given input)) ≡ gone_by state number given verdict (λ v. gone_from job v (number + 1) further rest)
@@ -91,25 +93,32 @@ module _ {P V : Type 0} (job : Job P V) (first : V) where
   }
 
   -- a line was accepted
-  pub along-line : (state next : V) (number given further : ℕ) (left behind : Option (List ℕ)) (line front text after : List ℕ) (before taken : Option (List ℕ)) (input : List ℕ)
+  pub along-line : (state next : V) (number given further : ℕ) (left behind : Option (List ℕ)) (line front text after : List ℕ) (before taken : Option (List ℕ))
+      (input : List ℕ)
       → Along job first state number given left front text before taken input → further ≡ given + length line
       → IfSome left (λ bytes. (next_in_bytes given bytes ≡ Line line) × (behind ≡ Some (drop (length line) bytes)))
       → Judges job (job.judged state number (text_of line)) text after next (Ok tt)
       → Along job first next (number + 1) further behind front after before taken input
   along-line state next number given further left behind line front text after before taken input along counts stands judges =
       let bytes = drop given input in
-      let here = subst (λ (known : Option (List ℕ)). IfSome known (λ all. (next_in_bytes given all ≡ Line line) × (behind ≡ Some (drop (length line) all)))) along.rest_is stands in
+      let here = subst (λ (known : Option (List ℕ)). IfSome known
+      (λ all. (next_in_bytes given all ≡ Line line) × (behind ≡ Some (drop (length line) all)))) along.rest_is stands in
       let line_is = is-line given bytes line here.0 in
       let moved : drop (length line) bytes ≡ drop further input = drop-drop (length line) given input ∙ ap (λ (n : ℕ). drop n input) (sym counts) in
       let rest : lines_of (drop (length line) bytes) ≡ lines_of (drop further input) = ap lines_of moved in
       let goes : gone_from job state number given (lines_of bytes)
       ≡ gone_by state number given (job.judged state number (text_of line)) (λ v. gone_from job v (number + 1) further (lines_of (drop further input))) =
       gone-cut job state number given bytes line_is.0
-      ∙ ap (λ (l : List ℕ). gone_by state number given (by_next job state number (next_in_bytes given bytes)) (λ (v : V). gone_from job v (number + 1) (given + length l) (lines_of (drop (length l) bytes)))) line_is.1
-      ∙ ap (λ n. gone_by state number given (by_next job state number n) (λ (v : V). gone_from job v (number + 1) (given + length line) (lines_of (drop (length line) bytes)))) here.0
-      ∙ ap (λ (m : ℕ). gone_by state number given (job.judged state number (text_of line)) (λ (v : V). gone_from job v (number + 1) m (lines_of (drop (length line) bytes)))) (sym counts)
-      ∙ ap (λ (ls : List (List ℕ)). gone_by state number given (job.judged state number (text_of line)) (λ (v : V). gone_from job v (number + 1) further ls)) rest in
-      accepted-by state next number given further left behind front text after before taken input along (lines_of (drop further input)) (job.judged state number (text_of line))
+      ∙ ap (λ (l : List ℕ). gone_by state number given (by_next job state number (next_in_bytes given bytes))
+      (λ (v : V). gone_from job v (number + 1) (given + length l) (lines_of (drop (length l) bytes)))) line_is.1
+      ∙ ap (λ n. gone_by state number given (by_next job state number n)
+      (λ (v : V). gone_from job v (number + 1) (given + length line) (lines_of (drop (length line) bytes)))) here.0
+      ∙ ap (λ (m : ℕ). gone_by state number given (job.judged state number (text_of line))
+      (λ (v : V). gone_from job v (number + 1) m (lines_of (drop (length line) bytes)))) (sym counts)
+      ∙ ap (λ (ls : List (List ℕ)). gone_by state number given (job.judged state number (text_of line))
+      (λ (v : V). gone_from job v (number + 1) further ls)) rest in
+      accepted-by state next number given further left behind front text after before taken input along (lines_of (drop further input))
+      (job.judged state number (text_of line))
       (here.1 ∙ ap Some moved) refl goes judges
 
   -- the text of what is left stands behind that of what was done
@@ -131,22 +140,26 @@ module _ {P V : Type 0} (job : Job P V) (first : V) where
       ∙ ap (λ (told : List ℕ). told ++ text_of_job job rest) (sym along.told)
       ∙ append_assoc along.written text (text_of_job job rest)
 
-  module _ (Keeps : V → ℕ → Type 0) (state : V) (number given : ℕ) (left known : Option (List ℕ)) (front text : List ℕ) (before after later : Option (List ℕ)) (input : List ℕ)
+  module _ (Keeps : V → ℕ → Type 0) (state : V) (number given : ℕ) (left known : Option (List ℕ)) (front text : List ℕ) (before after later : Option (List ℕ))
+      (input : List ℕ)
       (result : Status) (along : Along job first state number given left front text before after input) where
     -- the job ended early
     pub through-early : IsCutOff result → HasBegun after later text → GoesThrough job Keeps first front input result known before later
     through-early off begun =
         let rest = gone_from job state number given (lines_of (drop given input)) in
         record {
-          answers = answers-early (front ++ text_of_job job (gone_through job first input)) (is_some (gone_through job first input).refusal) result known before later off
+          answers = answers-early (front ++ text_of_job job (gone_through job first input))
+              (is_some (gone_through job first input).refusal) result known before later off
               (subst (HasBegun before later) (sym (whole-text rest state number given left front text before after input along refl))
-              (begun-behind before after later along.written (text ++ text_of_job job rest) along.taken_is (begun-longer after later text (text_of_job job rest) begun)));
+              (begun-behind before after later along.written (text ++ text_of_job job rest) along.taken_is
+              (begun-longer after later text (text_of_job job rest) begun)));
           past = λ is. absurd (not-both result (inr is) off);
           kept = λ answered. absurd (not-both result answered off);
         }
 
     -- behind the last turn the rest of the text was left, and the last lines
-    through-last : (refusal : Option LineFault) → gone_from job state number given (lines_of (drop given input)) ≡ gone_so_far state number given refusal → Keeps state number
+    through-last : (refusal : Option LineFault) → gone_from job state number given (lines_of (drop given input)) ≡ gone_so_far state number given refusal
+        → Keeps state number
         → Leaves (text ++ last_lines job state number refusal) (is_some refusal) result after later
         → (result ≡ status.Done → known ≡ Some []) → (result ≡ status.Input → GivesAtMost 16384 (Some (drop given input)) known)
         → GoesThrough job Keeps first front input result known before later
@@ -160,11 +173,13 @@ module _ {P V : Type 0} (job : Job P V) (first : V) where
             whole = λ answered.
                 leaves.whole answered ∙ ap (λ (known : Option (List ℕ)). append_known known (text ++ text_of_job job rest)) along.taken_is
                 ∙ append-twice before along.written (text ++ text_of_job job rest) ∙ ap (append_known before) (sym parts);
-            front = λ off. subst (HasBegun before later) (sym parts) (begun-behind before after later along.written (text ++ text_of_job job rest) along.taken_is (leaves.front off));
+            front = λ off. subst (HasBegun before later) (sym parts)
+                (begun-behind before after later along.written (text ++ text_of_job job rest) along.taken_is (leaves.front off));
             done = λ done. (refused ∙ leaves.done done, none done);
             input = λ is_input. refused ∙ leaves.input is_input;
           };
-          past = λ is_input. subst (λ (n : ℕ). GivesAtMost 16384 (Some (drop n input)) known) (sym (ap (λ (gone : Gone P V). gone.accepted) whole)) (far is_input);
+          past = λ is_input. subst (λ (n : ℕ). GivesAtMost 16384 (Some (drop n input)) known) (sym (ap (λ (gone : Gone P V). gone.accepted) whole))
+              (far is_input);
           kept = λ _. (number, subst (λ (last : V). Keeps last number) (sym (ap (λ (gone : Gone P V). gone.last) whole)) kept);
         }
 
@@ -191,5 +206,6 @@ module _ {P V : Type 0} (job : Job P V) (first : V) where
     through-refused fault kept past refused leaves =
         let bytes = drop given input in
         let far = subst (λ (all : Option (List ℕ)). IfSome all (λ bs. GivesAtMost 12289 (Some bs) known)) along.rest_is past in
-        let here = subst (λ (all : Option (List ℕ)). IfSome all (λ bs. by_next job state number (next_in_bytes given bs) ≡ Refused fault)) along.rest_is refused in
+        let here = subst (λ (all : Option (List ℕ)). IfSome all
+        (λ bs. by_next job state number (next_in_bytes given bs) ≡ Refused fault)) along.rest_is refused in
         through-last (Some fault) (refused-by bytes fault here) kept leaves (λ is. cc (leaves.done is)) (λ _. (far.0, omega (arith, far.1), far.2))

@@ -25,4 +25,5 @@ gone-cut {P} {V} job state number given bytes some =
     let next : next_in_lines given (first_line bytes ∷ behind) ≡ next_in_bytes given bytes =
     sym (ap (next_in_lines given) cut) ∙ sym (next-first given bytes) in
     ap (gone_from job state number given) cut
-    ∙ ap (λ (n : Next). gone_by state number given (by_next job state number n) (λ (after : V). gone_from job after (number + 1) (given + length (first_line bytes)) behind)) next
+    ∙ ap (λ (n : Next). gone_by state number given (by_next job state number n)
+    (λ (after : V). gone_from job after (number + 1) (given + length (first_line bytes)) behind)) next

@@ -54,7 +54,8 @@ module _ {S K P V : Type 0} (left : S → Option (List ℕ)) (faults lender : S 
   module _ (state : V) (old : LinesState S) (output : K) (text : List ℕ) (number : ℕ)
       (before : InLoop left faults lender taken failed empty job Keeps start state first old opened output front text number) where
     -- a front of the text was written
-    pub moved-on : {A E : Type 0} (later : K) (kept : List ℕ) (flushed : Result A E) → OnOk flushed (IsMovedOut (taken output) (taken later) text kept) → is_err flushed ≡ false
+    pub moved-on : {A E : Type 0} (later : K) (kept : List ℕ) (flushed : Result A E) → OnOk flushed (IsMovedOut (taken output) (taken later) text kept)
+        → is_err flushed ≡ false
         → failed output ≤ failed later → empty output ≤ empty later
         → InLoop left faults lender taken failed empty job Keeps start state first old opened later front kept number
     moved-on later kept flushed moved fine failed_rise empty_rise = record {
@@ -77,17 +78,20 @@ module _ {S K P V : Type 0} (left : S → Option (List ℕ)) (faults lender : S 
     unmoved later flushed taken_front failing =
         let begun = on-err flushed (TakesFront (taken output) (taken later) text) taken_front failing in
         IfSome_then (rest_of_input left first) before.along (λ (input : List ℕ) along.
-        through-early job start Keeps state number old.given (rest_of_input left old) (left old.source) front text (taken opened) (taken output) (taken later) input status.Write along
+        through-early job start Keeps state number old.given (rest_of_input left old) (left old.source) front text (taken opened) (taken output)
+        (taken later) input status.Write along
         (inr (inl refl)) (begun.0, begun.2))
 
     -- no memory was left
     pub out-of-memory : (source : S) → Through source (taken output) status.Memory
     out-of-memory source =
         IfSome_then (rest_of_input left first) before.along (λ (input : List ℕ) along.
-        through-early job start Keeps state number old.given (rest_of_input left old) (left source) front text (taken opened) (taken output) (taken output) input status.Memory along
+        through-early job start Keeps state number old.given (rest_of_input left old) (left source) front text (taken opened) (taken output)
+        (taken output) input status.Memory along
         (inr (inr refl)) (unwritten text (taken output) (taken output) refl))
 
-    module _ (new : LinesState S) (next : V) (written : List ℕ) (t : Turn) (turns : TakesTurn left faults lender job Keeps number old new state next text written (Ok t)) where
+    module _ (new : LinesState S) (next : V) (written : List ℕ) (t : Turn)
+        (turns : TakesTurn left faults lender job Keeps number old new state next text written (Ok t)) where
       pub turned-on : t ≡ turn.Accepted → InLoop left faults lender taken failed empty job Keeps start next first new opened output front written (number + 1)
       turned-on is =
           let accepted = subst (λ (s : Turn). TakesTurn left faults lender job Keeps number old new state next text written (Ok s)) is turns in
@@ -104,7 +108,8 @@ module _ {S K P V : Type 0} (left : S → Option (List ℕ)) (faults lender : S 
             sink_faults = before.sink_faults;
             empty_takes = before.empty_takes;
             along = IfSome_then (rest_of_input left first) before.along (λ (input : List ℕ) along.
-                along-line job start state next number old.given new.given (rest_of_input left old) (rest_of_input left new) new.line front text written (taken opened) (taken output) input
+                along-line job start state next number old.given new.given (rest_of_input left old) (rest_of_input left new) new.line front text written
+                (taken opened) (taken output) input
                 along given gives.next accepted.1);
           }
 
@@ -116,7 +121,8 @@ module _ {S K P V : Type 0} (left : S → Option (List ℕ)) (faults lender : S 
           let same = subst (λ (v : V). Leaves (text ++ job.ending v) false result (taken output) later) ended.1
           (subst (λ (w : List ℕ). Leaves (w ++ job.ending next) false result (taken output) later) ended.2 leaves) in
           IfSome_then (rest_of_input left first) before.along (λ (input : List ℕ) along.
-          through-end job start Keeps state number old.given (rest_of_input left old) (left new.source) front text (taken opened) (taken output) later input result along
+          through-end job start Keeps state number old.given (rest_of_input left old) (left new.source) front text (taken opened)
+          (taken output) later input result along
           new.pending before.kept ended.0.answer.next same)
 
       -- what stands next is refused
@@ -126,14 +132,17 @@ module _ {S K P V : Type 0} (left : S → Option (List ℕ)) (faults lender : S 
           let refused = subst (λ (s : Turn). TakesTurn left faults lender job Keeps number old new state next text written (Ok s)) is turns in
           let same = subst (λ (w : List ℕ). Leaves (w ++ refusal_line number fault) true result (taken output) later) refused.1 leaves in
           IfSome_then (rest_of_input left first) before.along (λ (input : List ℕ) along.
-          through-refused job start Keeps state number old.given (rest_of_input left old) (left new.source) front text (taken opened) (taken output) later input result along
+          through-refused job start Keeps state number old.given (rest_of_input left old) (left new.source) front text (taken opened)
+          (taken output) later input result along
           fault before.kept refused.0.past refused.0.refused same)
 
       -- the source failed
-      pub turned-off : (later : Option (List ℕ)) (out : List ℕ) (result : Status) → t ≡ turn.Failed → out ≡ written → result ≡ status.Read → HasBegun (taken output) later out
+      pub turned-off : (later : Option (List ℕ)) (out : List ℕ) (result : Status) → t ≡ turn.Failed → out ≡ written → result ≡ status.Read
+          → HasBegun (taken output) later out
           → Through new.source later result
       turned-off later out result is same read begun =
           let ended = subst (λ (s : Turn). TakesTurn left faults lender job Keeps number old new state next text written (Ok s)) is turns in
           IfSome_then (rest_of_input left first) before.along (λ (input : List ℕ) along.
-          through-early job start Keeps state number old.given (rest_of_input left old) (left new.source) front text (taken opened) (taken output) later input result along
+          through-early job start Keeps state number old.given (rest_of_input left old) (left new.source) front text (taken opened)
+          (taken output) later input result along
           (inl read) (subst (HasBegun (taken output) later) (same ∙ ended.1) begun))

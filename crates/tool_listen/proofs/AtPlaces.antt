@@ -23,7 +23,8 @@ pub none_there : (flows : Flows) (place : ℕ) → slice_get (keys_of flows) pla
 none_there flows place key = none-by (slice_get flows place) (sym (keys-at flows place) ∙ key)
 
 flow-by : (flows : Flows) (place : ℕ) (peer : Peer) (e : Option FlowEnd) (found : Option (Peer × FlowEnd)) → AreInOrder flows → slice_get flows place ≡ found
-    → option_map (λ (flow : Peer × FlowEnd). flow.0) found ≡ Some peer → end_of_peer flows peer ≡ e → (e ≡ None → ⊥) × ((end : FlowEnd) → e ≡ Some end → found ≡ Some (peer, end))
+    → option_map (λ (flow : Peer × FlowEnd). flow.0) found ≡ Some peer → end_of_peer flows peer ≡ e → (e ≡ None → ⊥)
+    × ((end : FlowEnd) → e ≡ Some end → found ≡ Some (peer, end))
 flow-by flows place peer e None ordered there key has = cc key
 flow-by flows place peer e (Some flow) ordered there key has =
     let same : flow.0 ≡ peer = cc key in
@@ -41,7 +42,8 @@ flow_there flows place peer end ordered key has =
     (flow-by flows place peer (Some end) (slice_get flows place) ordered refl (sym (keys-at flows place) ∙ key) has).1 end refl
 
 -- who stands there has an end
-pub always_there : (flows : Flows) (place : ℕ) (peer : Peer) → AreInOrder flows → slice_get (keys_of flows) place ≡ Some peer → end_of_peer flows peer ≡ None → ⊥
+pub always_there : (flows : Flows) (place : ℕ) (peer : Peer) → AreInOrder flows → slice_get (keys_of flows) place ≡ Some peer → end_of_peer flows peer ≡ None
+    → ⊥
 always_there flows place peer ordered key has =
     (flow-by flows place peer None (slice_get flows place) ordered refl (sym (keys-at flows place) ∙ key) has).0 refl
 

@@ -49,7 +49,8 @@ v4-joined a b c d =
     let dot : List ℕ = 46 ∷ [] in
     append_assoc (decimal a ++ dot ++ decimal b ++ dot ++ decimal c) (46 ∷ []) (decimal d)
     ∙ ap (λ (front : List ℕ). front ++ (46 ∷ decimal d))
-    (append_assoc (decimal a ++ dot ++ decimal b) (46 ∷ []) (decimal c) ∙ ap (λ (front : List ℕ). front ++ (46 ∷ decimal c)) (append_assoc (decimal a) (46 ∷ []) (decimal b))
+    (append_assoc (decimal a ++ dot ++ decimal b) (46 ∷ []) (decimal c)
+    ∙ ap (λ (front : List ℕ). front ++ (46 ∷ decimal c)) (append_assoc (decimal a) (46 ∷ []) (decimal b))
     ∙ append_assoc (decimal a) (46 ∷ decimal b) (46 ∷ decimal c))
     ∙ append_assoc (decimal a) (46 ∷ (decimal b ++ (46 ∷ decimal c))) (46 ∷ decimal d)
     ∙ ap (λ (behind : List ℕ). decimal a ++ (46 ∷ behind)) (append_assoc (decimal b) (46 ∷ decimal c) (46 ∷ decimal d))
@@ -224,7 +225,8 @@ address-by (a ∷ (b ∷ (c ∷ (d ∷ [])))) four bytes =
 -- all bytes of a peer
 peer-all : (p : ℕ → Bool) → ((byte : ℕ) → is_digit byte ≡ true → p byte ≡ true) → p 46 ≡ true → (a b c d : ℕ) → AreSmall a b c d
     → list_all p (v4_text (a ∷ b ∷ c ∷ d ∷ [])) ≡ true
-peer-all p weaker dot a b c d small = ap (list_all p) (v4-joined a b c d) ∙ joined-all p 46 (decimal a) (decimal b ∷ decimal c ∷ decimal d ∷ []) dot (four-all p weaker a b c d small)
+peer-all p weaker dot a b c d small = ap (list_all p) (v4-joined a b c d)
+    ∙ joined-all p 46 (decimal a) (decimal b ∷ decimal c ∷ decimal d ∷ []) dot (four-all p weaker a b c d small)
 
 written-read : (a b c d port : ℕ) → AreSmall a b c d → port < 65536
     → peer_of (v4_text (a ∷ b ∷ c ∷ d ∷ []) ++ (58 ∷ decimal port)) ≡ Some (record { address = a ∷ b ∷ c ∷ d ∷ []; port = port })

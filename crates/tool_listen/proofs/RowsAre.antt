@@ -31,7 +31,8 @@ arrival-is = as-is (λ frame. call.Frame frame) replay_row replay-is
 
 call-is : IsExactRow call_row
 call-is =
-    after-is (codes "send") send_row (after_word (codes "timer") timer_row (after_word (codes "close") close_row (after_word (codes "abort") abort_row arrival_row)))
+    after-is (codes "send") send_row
+    (after_word (codes "timer") timer_row (after_word (codes "close") close_row (after_word (codes "abort") abort_row arrival_row)))
     refl send-is
     (after-is (codes "timer") timer_row (after_word (codes "close") close_row (after_word (codes "abort") abort_row arrival_row)) refl timing-is
     (after-is (codes "close") close_row (after_word (codes "abort") abort_row arrival_row) refl close-is

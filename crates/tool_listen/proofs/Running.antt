@@ -70,7 +70,8 @@ runs-by s number given (Accepted (Some x) next) rest ordered leads runs =
     subst (λ (l : Listening). IsTurn l next.listener (turned x)) leads.0 (subst (λ (l : Listening). IsTurn x.before l (turned x)) (sym leads.1) turn.0) in
     (next.listener, here, runs next (subst (λ (l : Listening). AreInOrder l.flows) (sym leads.1) turn.1))
 
-runs-on : (s : Serving) (number given : ℕ) (lines : List (List ℕ)) → AreInOrder s.listener.flows → RunsFrom s.listener (gone_from listen_job s number given lines)
+runs-on : (s : Serving) (number given : ℕ) (lines : List (List ℕ)) → AreInOrder s.listener.flows
+    → RunsFrom s.listener (gone_from listen_job s number given lines)
 runs-on s number given [] ordered = refl
 runs-on s number given (line ∷ lines) ordered =
     runs-by s number given (by_next listen_job s number (next_in_lines given (line ∷ lines)))

@@ -53,7 +53,8 @@ both-sealed (Ok x) (Err fault) is = tt
 both-sealed (Err fault) rest is = tt
 
 line-sealed : (checked : Result (Unit {0}) LineFault) (nothing : Bool) (found : Result (Peer × PeerCall) LineFault) → IfOk found (λ s. SealsInFull s.1)
-    → IfOk {T = Option (Peer × PeerCall)} (checked >> (if nothing then Ok None else (found >>= (λ x. Ok (Some x))))) (λ said. IfSome said (λ s. SealsInFull s.1))
+    → IfOk {T = Option (Peer × PeerCall)} (checked >> (if nothing then Ok None else (found >>= (λ x. Ok (Some x)))))
+    (λ said. IfSome said (λ s. SealsInFull s.1))
 line-sealed (Ok _) true found is = tt
 line-sealed (Ok _) false (Ok s) is = is
 line-sealed (Ok _) false (Err fault) is = tt

@@ -23,7 +23,8 @@ left-by status.Write words read write = absurd (write refl)
 left-by status.Memory words read write = inr refl
 
 -- the last of the text was left to the sink
-pub ends-left : (result : Status) (source sink : Type 0) → result ≢ status.Words → result ≢ status.Read → (result ≡ status.Write → sink) → EndsForCause result source sink
+pub ends-left : (result : Status) (source sink : Type 0) → result ≢ status.Words → result ≢ status.Read → (result ≡ status.Write → sink)
+    → EndsForCause result source sink
 ends-left result source sink words read write = record {
   read = λ is. absurd (read is);
   write = write;

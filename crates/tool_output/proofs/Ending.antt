@@ -15,13 +15,15 @@ begun-by (Ok _) before after text whole front =
     (length text, whole ∙ ap (append_known before) (sym (take_all (length text) text (omega arith))))
 begun-by (Err _) before after text whole front = (front.0, front.2)
 
-pub whole-by : {A E : Type 0} (result : Result A E) (before after : Option (List ℕ)) (text : List ℕ) (failed : Type 0) → OnOk result (HasTaken before after text)
+pub whole-by : {A E : Type 0} (result : Result A E) (before after : Option (List ℕ)) (text : List ℕ) (failed : Type 0)
+    → OnOk result (HasTaken before after text)
     → OnErr result failed → (failed → ⊥) → HasTaken before after text
 whole-by (Ok _) before after text failed whole cause fine = whole
 whole-by (Err _) before after text failed whole cause fine = absurd (fine cause)
 
 -- as far as the sink took it
-pub written-by : {A E : Type 0} (result : Result A E) (before after : Option (List ℕ)) (text : List ℕ) (failed : Type 0) → OnOk result (HasTaken before after text)
+pub written-by : {A E : Type 0} (result : Result A E) (before after : Option (List ℕ)) (text : List ℕ) (failed : Type 0)
+    → OnOk result (HasTaken before after text)
     → OnErr result (TakesFront before after text) → OnErr result failed → IsWritten text before after failed
 written-by result before after text failed whole front cause = record {
   front = begun-by result before after text whole front;

@@ -16,4 +16,5 @@ data-told bytes (SentReset code detail) within = tt
 -- four pieces, put one behind the other
 pub in-turn : (old a b c d : List ℕ) → old ++ a ++ b ++ c ++ d ≡ old ++ (a ++ b ++ c ++ d)
 in-turn old a b c d =
-    ap (λ (text : List ℕ). text ++ c ++ d) (append_assoc old a b) ∙ ap (λ (text : List ℕ). text ++ d) (append_assoc old (a ++ b) c) ∙ append_assoc old (a ++ b ++ c) d
+    ap (λ (text : List ℕ). text ++ c ++ d) (append_assoc old a b) ∙ ap (λ (text : List ℕ). text ++ d) (append_assoc old (a ++ b) c)
+    ∙ append_assoc old (a ++ b ++ c) d

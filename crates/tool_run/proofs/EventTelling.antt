@@ -84,16 +84,20 @@ event-told w event.Open said step is =
     (call-told (arrived step.world event.Open) (λ fault. refusal.NotFresh) (opens w.client.end).answer)
 event-told w (event.Deliver from index) said step is = delivery-told w from index (slice_get (half_of w from).frames index) step refl is
 event-told w (event.Send side payload) said step is =
-    called-told w side (half_steps (half_of w side) None (input.Sends payload said.may_send)) (is_full (half_of w side)) step (arrived step.world (event.Send side payload)) is
+    called-told w side (half_steps (half_of w side) None (input.Sends payload said.may_send)) (is_full (half_of w side)) step
+    (arrived step.world (event.Send side payload)) is
     (call-told (arrived step.world (event.Send side payload)) send_refusal_of (sends_payload (half_of w side).end payload said.may_send).answer)
 event-told w (event.SendEarly side payload) said step is =
-    called-told w side (half_steps (half_of w side) None (input.SendsEarly payload said.may_send)) (is_full (half_of w side)) step (arrived step.world (event.SendEarly side payload)) is
+    called-told w side (half_steps (half_of w side) None (input.SendsEarly payload said.may_send)) (is_full (half_of w side)) step
+    (arrived step.world (event.SendEarly side payload)) is
     (call-told (arrived step.world (event.SendEarly side payload)) send_refusal_of (sends_early (half_of w side).end payload said.may_send).answer)
 event-told w (event.Prefer side feature place values) said step is =
-    called-told w side (half_steps (half_of w side) None (input.Prefers (feature, place) values)) (is_full (half_of w side)) step (arrived step.world (event.Prefer side feature place values)) is
+    called-told w side (half_steps (half_of w side) None (input.Prefers (feature, place) values)) (is_full (half_of w side)) step
+    (arrived step.world (event.Prefer side feature place values)) is
     (call-told (arrived step.world (event.Prefer side feature place values)) refusal_of (prefers (half_of w side).end (feature, place) values).answer)
 event-told w (event.Timer side timer) said step is =
-    called-told w side (half_steps (half_of w side) None (input.Fires timer said.in_flight)) (is_full (half_of w side)) step (arrived step.world (event.Timer side timer)) is tt
+    called-told w side (half_steps (half_of w side) None (input.Fires timer said.in_flight)) (is_full (half_of w side)) step
+    (arrived step.world (event.Timer side timer)) is tt
 event-told w (event.Close side) said step is =
     called-told w side (half_steps (half_of w side) None input.Closes) (is_full (half_of w side)) step (arrived step.world (event.Close side)) is
     (call-told (arrived step.world (event.Close side)) (λ fault. refusal.NotOpen) (closes (half_of w side).end).answer)

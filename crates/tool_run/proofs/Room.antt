@@ -124,13 +124,15 @@ shown-few number before after event old new answer n shows fine few = by (happen
   by (Err fault.FarShort) is shown = absurd (cc (sym fine ∙ shown.1))
   by (Err fault.NoMemory) is shown = absurd (cc (sym fine ∙ shown.1))
 
-pub few-at : (client server : Config) (world : Option (Controlled Both)) (n : ℕ) → IfSome world (λ w. SentFew w n) → SentFew (world_or_start client server world) n
+pub few-at : (client server : Config) (world : Option (Controlled Both)) (n : ℕ) → IfSome world (λ w. SentFew w n)
+    → SentFew (world_or_start client server world) n
 few-at client server None n few Client = omega arith
 few-at client server None n few Server = omega arith
 few-at client server (Some w) n few side = few side
 
 -- a schedule behind the line of an event
-pub playable-behind : (old made : Play) (after : Controlled Both) → made ≡ record old { world = Some (world_of old) } → IsPlayable old → SentFew after (old.events + 1)
+pub playable-behind : (old made : Play) (after : Controlled Both) → made ≡ record old { world = Some (world_of old) } → IsPlayable old
+    → SentFew after (old.events + 1)
     → IsPlayable (record made { events = made.events + 1; world = Some after })
 playable-behind old made after is_made playable few =
     subst (λ (p : Play). IsPlayable (record p { events = p.events + 1; world = Some after })) (sym is_made) (record { peers = playable.peers; few = few })
@@ -151,7 +153,8 @@ room-behind play (Accepted None next) turns room = record {
   events = omega (arith, turns.events, room.events);
 }
 room-behind play (Accepted (Some scene) next) turns room =
-    let few = one-more-frame (world_of play) scene.event scene.step play.events (few-at play.client play.server play.world play.events room.few) turns.takes_place in
+    let few = one-more-frame (world_of play) scene.event scene.step play.events
+    (few-at play.client play.server play.world play.events room.few) turns.takes_place in
     record {
       few =
           subst (λ (n : ℕ). IfSome next.world (λ w. SentFew w n)) (sym turns.events)
@@ -168,7 +171,8 @@ room-by rest number given later play room (Refused why) turns = room
 room-last : (lines : List (List ℕ)) (number given : ℕ) (play : Play) → Room play → Room (gone_from run_job play number given lines).last
 room-last [] number given play room = room
 room-last (line ∷ lines) number given play room =
-    room-by (λ next. gone_from run_job next (number + 1) (given + length line) lines) number given (room-last lines (number + 1) (given + length line)) play room
+    room-by (λ next. gone_from run_job next (number + 1) (given + length line) lines) number given
+    (room-last lines (number + 1) (given + length line)) play room
     (by_next run_job play number (next_in_lines given (line ∷ lines))) (next-turns play number (next_in_lines given (line ∷ lines)))
 
 pub never-full : (input : List ℕ) (event : Event) → happens_to kinds_control (world_of (performed input).last) event ≢ Err fault.Full

@@ -94,7 +94,8 @@ said-turns play number (Err fault) = tt
 said-turns play number (Ok line.Nothing) = record { world = refl; events = refl; configured = λ _. (refl, refl) }
 said-turns play number (Ok (line.Version version)) = version-turns play version
 said-turns play number (Ok line.Plain) = configures-turns play says_plain refl refl
-said-turns play number (Ok (line.Iss side iss)) = configures-turns play (with_iss side iss) (config-world side _ (with_header play)) (config-events side _ (with_header play))
+said-turns play number (Ok (line.Iss side iss)) =
+    configures-turns play (with_iss side iss) (config-world side _ (with_header play)) (config-events side _ (with_header play))
 said-turns play number (Ok (line.Set side place feature values)) =
     configures-turns play (with_set side feature place values) (config-world side _ (with_header play)) (config-events side _ (with_header play))
 said-turns play number (Ok (line.Offer side place feature mandatory)) =
@@ -116,7 +117,8 @@ abbrev RunsOn : Controlled Both → Play → Gone Scene Play → Type 0
 RunsOn w play whole = IsRun w whole.deeds (world_of whole.last) × Configured play whole.last
 
 runs-by : (rest : Play → Gone Scene Play) (number given : ℕ) → ((next : Play) (w : Controlled Both) → next.world ≡ Some w → RunsOn w next (rest next))
-    → (play : Play) (w : Controlled Both) → play.world ≡ Some w → (verdict : Verdict Scene Play) → Turns play verdict → RunsOn w play (gone_by play number given verdict rest)
+    → (play : Play) (w : Controlled Both) → play.world ≡ Some w → (verdict : Verdict Scene Play) → Turns play verdict
+    → RunsOn w play (gone_by play number given verdict rest)
 runs-by rest number given on play w is (Accepted None next) turns =
     let same = turns.configured (ap is_some is) in
     let more = on next w (turns.world ∙ is) in
@@ -129,7 +131,8 @@ runs-by rest number given on play w is (Accepted (Some scene) next) turns =
     )
 runs-by rest number given on play w is (Refused fault) turns = (ap (world_or_start play.client play.server) is, (refl, refl))
 
-runs-on : (lines : List (List ℕ)) (number given : ℕ) (play : Play) (w : Controlled Both) → play.world ≡ Some w → RunsOn w play (gone_from run_job play number given lines)
+runs-on : (lines : List (List ℕ)) (number given : ℕ) (play : Play) (w : Controlled Both) → play.world ≡ Some w
+    → RunsOn w play (gone_from run_job play number given lines)
 runs-on [] number given play w is = (ap (world_or_start play.client play.server) is, (refl, refl))
 runs-on (line ∷ lines) number given play w is =
     runs-by (λ next. gone_from run_job next (number + 1) (given + length line) lines) number given (runs-on lines (number + 1) (given + length line)) play w is
@@ -170,11 +173,13 @@ one-more : (w : Controlled Both) (scene : Scene) (events : List Event) → happe
     → plays kinds_control scene.step.after events ≡ plays kinds_control w (scene.event ∷ events)
 one-more w scene events is = ap (λ (r : Result (ControlledStep Both) WorldFault). plays kinds_control (controlled_after w r) events) (sym is)
 
-pub run-last : (first : Controlled Both) (scenes : List Scene) (last : Controlled Both) → IsRun first scenes last → last ≡ plays kinds_control first (scene_events scenes)
+pub run-last : (first : Controlled Both) (scenes : List Scene) (last : Controlled Both) → IsRun first scenes last
+    → last ≡ plays kinds_control first (scene_events scenes)
 run-last first [] last run = run
 run-last first (scene ∷ scenes) last (before, is, rest) = run-last scene.step.after scenes last rest ∙ one-more first scene (scene_events scenes) is
 
-pub run-nth : (first : Controlled Both) (scenes : List Scene) (last : Controlled Both) → IsRun first scenes last → (n : ℕ) (scene : Scene) → slice_get scenes n ≡ Some scene
+pub run-nth : (first : Controlled Both) (scenes : List Scene) (last : Controlled Both) → IsRun first scenes last → (n : ℕ) (scene : Scene)
+    → slice_get scenes n ≡ Some scene
     → scene.before ≡ plays kinds_control first (take n (scene_events scenes))
 run-nth first [] last run n scene is = cc is
 run-nth first (here ∷ scenes) last (before, is, rest) zero scene found =
@@ -195,12 +200,14 @@ run-text input is =
     let whole = performed input in
     ap (λ (refusal : Option LineFault). flat_map scene_text whole.deeds ++ last_lines run_job whole.last whole.number refusal)
     (refused-none whole.refusal is)
-    ∙ ap (λ (w : Controlled Both). flat_map scene_text whole.deeds ++ end_lines w) (run-last (world_at_first whole) whole.deeds (world_of whole.last) (every-run input))
+    ∙ ap (λ (w : Controlled Both). flat_map scene_text whole.deeds ++ end_lines w)
+    (run-last (world_at_first whole) whole.deeds (world_of whole.last) (every-run input))
 
 -- the law of two_ends
 abbrev pub RunsAreSafe : Type 0
 RunsAreSafe =
-    (client server : Config) (for_client for_server : Both) (events : List Event) → client.role ≡ role.Client → server.role ≡ role.Server → Fits client → Fits server
+    (client server : Config) (for_client for_server : Both) (events : List Event) → client.role ≡ role.Client → server.role ≡ role.Server → Fits client
+    → Fits server
     → Safe kinds_control (plays kinds_control (begins_with kinds_control client server for_client for_server) events)
 
 -- between two safe worlds
@@ -220,7 +227,8 @@ run-safe first (scene ∷ scenes) last (before, is, rest) safe =
     (All-cons BetweenSafe scene scenes here more.0, more.1)
 
 -- The worlds of a schedule are safe, whose configurations at last are those of a client and a server.
-pub safe-run : RunsAreSafe → (first : Play) → first ≡ first_play → (input : List ℕ) → (number : ℕ) × IsPlayable (gone_through run_job first input).last → SafeThroughout input
+pub safe-run : RunsAreSafe → (first : Play) → first ≡ first_play → (input : List ℕ) → (number : ℕ) × IsPlayable (gone_through run_job first input).last
+    → SafeThroughout input
 safe-run law first start input (number, playable) =
     let whole = performed input in
     let peers = (subst (λ (p : Play). IsPlayable (gone_through run_job p input).last) start playable).peers in

@@ -140,7 +140,8 @@ lines-stay (line ∷ lines) number given vectors play settled have =
 
 data Opens (play : Play) (vectors : Vectors → Vectors) : Verdict Scene Play → Type 0 where
   Waits : ((later : Vectors) → vectors later ≡ later) → Opens play vectors (Accepted None play)
-  Settles : (deed : Option Scene) (next : Play) → IsSettled next → ((later : Vectors) → HaveVectors (vectors later) next) → Opens play vectors (Accepted deed next)
+  Settles : (deed : Option Scene) (next : Play) → IsSettled next → ((later : Vectors) → HaveVectors (vectors later) next)
+      → Opens play vectors (Accepted deed next)
   Stops : (fault : LineFault) → ((later : Vectors) → vectors later ≡ One) → Opens play vectors (Refused fault)
 
 configures-opens : (play : Play) (change : Play → Play) → IsUnsaid play → Keeps (with_header play) (change (with_header play))
@@ -168,7 +169,8 @@ scene-opens play (Err fault) unsaid = Stops fault (λ later. refl)
 
 event-opens : (play : Play) (number : ℕ) (event : Event) → IsUnsaid play → Opens play (λ later. One) (says_event play number event)
 event-opens play number event unsaid = by (nat_lt play.events most_events) where
-  by : (few : Bool) → Opens play (λ later. One) (if few then by_scene play (event_shown number (world_of play) event) else Refused (whole_line why.TooManyEvents))
+  by : (few : Bool) → Opens play (λ later. One)
+      (if few then by_scene play (event_shown number (world_of play) event) else Refused (whole_line why.TooManyEvents))
   by true = scene-opens play (event_shown number (world_of play) event) unsaid
   by false = Stops _ (λ later. refl)
 

@@ -64,7 +64,8 @@ some-wrong format number given [] why is = cc is
 some-wrong format number given (byte ∷ bytes) why is = omega arith
 
 -- a record was shown
-pub along-turn : (format : Format) (number given : ℕ) (left next : Option (List ℕ)) (tally : Tally) (text : List ℕ) (before after : Option (List ℕ)) (whole : Captured)
+pub along-turn : (format : Format) (number given : ℕ) (left next : Option (List ℕ)) (tally : Tally) (text : List ℕ) (before after : Option (List ℕ))
+    (whole : Captured)
     (input : List ℕ) (entry : RecordParts) → Along format number given left tally text before after whole input
     → IfSome left (λ bytes. (next_of format number given bytes ≡ Ok (Some entry)) × (next ≡ Some (drop (16 + length entry.bytes) bytes)))
     → Along format (number + 1) (given + (16 + length entry.bytes)) next (tallied tally entry) (text ++ record_text tally entry) before after whole input
@@ -72,13 +73,15 @@ along-turn format number given left next tally text before after whole input ent
     let used = 16 + length entry.bytes in
     let now = drop along.done input in
     let behind = drop (along.done + used) input in
-    let here = subst (λ (known : Option (List ℕ)). IfSome known (λ bytes. (next_of format number given bytes ≡ Ok (Some entry)) × (next ≡ Some (drop used bytes)))) along.rest_is stands in
+    let here = subst (λ (known : Option (List ℕ)). IfSome known
+    (λ bytes. (next_of format number given bytes ≡ Ok (Some entry)) × (next ≡ Some (drop used bytes)))) along.rest_is stands in
     let moved : drop used now ≡ behind = drop-drop used along.done input in
     let others = records_from format 0 (number + 1) (given + used) behind in
     let same : records_from format 0 number given now ≡ before_others entry others =
     records-next format number given now entry (some-for format number given now entry here.0) here.0
     ∙ ap (λ (bytes : List ℕ). before_others entry (records_from format 0 (number + 1) (given + used) bytes)) moved in
-    let size : size_of whole.records ≡ along.done + (used + size_of others.records) = along.size_is ∙ ap (λ (c : Captured). along.done + size_of c.records) same in
+    let size : size_of whole.records ≡ along.done + (used + size_of others.records) = along.size_is
+    ∙ ap (λ (c : Captured). along.done + size_of c.records) same in
     record {
       done = along.done + used;
       written = along.written;
@@ -93,7 +96,8 @@ along-turn format number given left next tally text before after whole input ent
     }
 
 -- a front of the text was written
-pub along-moved : (format : Format) (number given : ℕ) (left : Option (List ℕ)) (tally : Tally) (text kept : List ℕ) (before after later : Option (List ℕ)) (whole : Captured)
+pub along-moved : (format : Format) (number given : ℕ) (left : Option (List ℕ)) (tally : Tally) (text kept : List ℕ) (before after later : Option (List ℕ))
+    (whole : Captured)
     (input : List ℕ) → Along format number given left tally text before after whole input → IsMovedOut after later text kept
     → Along format number given left tally kept before later whole input
 along-moved format number given left tally text kept before after later whole input along (moved, taken, parts) =
@@ -113,16 +117,19 @@ along-moved format number given left tally text kept before after later whole in
     }
 
 -- the same of an input that is known or not, where the call succeeded
-pub along-flushed : {A E : Type 0} (all : Option (List ℕ)) (records : List ℕ → Captured) (format : Format) (number given : ℕ) (left : Option (List ℕ)) (tally : Tally)
+pub along-flushed : {A E : Type 0} (all : Option (List ℕ)) (records : List ℕ → Captured) (format : Format) (number given : ℕ) (left : Option (List ℕ))
+    (tally : Tally)
     (text kept : List ℕ) (before after later : Option (List ℕ)) (flushed : Result A E)
     → IfSome all (λ bytes. Along format number given left tally text before after (records bytes) bytes) → OnOk flushed (IsMovedOut after later text kept)
     → is_err flushed ≡ false → IfSome all (λ bytes. Along format number given left tally kept before later (records bytes) bytes)
 along-flushed all records format number given left tally text kept before after later flushed along moved fine =
     IfSome_then all along (λ (bytes : List ℕ) here.
-    along-moved format number given left tally text kept before after later (records bytes) bytes here (on-ok flushed (IsMovedOut after later text kept) moved fine))
+    along-moved format number given left tally text kept before after later (records bytes) bytes here
+    (on-ok flushed (IsMovedOut after later text kept) moved fine))
 
 -- the job ended early
-pub along-begun : (format : Format) (number given : ℕ) (left : Option (List ℕ)) (tally : Tally) (text : List ℕ) (before after later : Option (List ℕ)) (whole : Captured)
+pub along-begun : (format : Format) (number given : ℕ) (left : Option (List ℕ)) (tally : Tally) (text : List ℕ) (before after later : Option (List ℕ))
+    (whole : Captured)
     (input : List ℕ) → Along format number given left tally text before after whole input → HasBegun after later text → HasBegun before later (shown_text whole)
 along-begun format number given left tally text before after later whole input along begun =
     let rest = rest_text tally (records_from format 0 number given (drop along.done input)) in
@@ -163,7 +170,8 @@ over-closed tally text end before after later left whole result over closes none
 
 -- the input ended between two records
 pub shown-end : (format : Format) (number given : ℕ) (left known : Option (List ℕ)) (pending : List ℕ) (tally : Tally) (text : List ℕ)
-    (before after later : Option (List ℕ)) (whole : Captured) (input : List ℕ) (result : Status) → Along format number given left tally text before after whole input
+    (before after later : Option (List ℕ)) (whole : Captured) (input : List ℕ) (result : Status)
+    → Along format number given left tally text before after whole input
     → IfSome left (λ bytes. (bytes ≡ []) × (prepend_known pending known ≡ Some [])) → Closes (text ++ last_line tally None) None result after later
     → ShowsRecords whole input result known before later
 shown-end format number given left known pending tally text before after later whole input result along ends closes =
@@ -175,9 +183,11 @@ shown-end format number given left known pending tally text before after later w
     }
 
 -- a fault ended the records
-pub shown-fault : (format : Format) (number given : ℕ) (left known : Option (List ℕ)) (tally : Tally) (text : List ℕ) (before after later : Option (List ℕ)) (whole : Captured)
+pub shown-fault : (format : Format) (number given : ℕ) (left known : Option (List ℕ)) (tally : Tally) (text : List ℕ) (before after later : Option (List ℕ))
+    (whole : Captured)
     (input : List ℕ) (why : CaptureFault) (result : Status) → Along format number given left tally text before after whole input
-    → IfSome left (λ bytes. next_of format number given bytes ≡ Err why) → Passed 262160 left known → Closes (text ++ last_line tally (Some why)) (Some why) result after later
+    → IfSome left (λ bytes. next_of format number given bytes ≡ Err why) → Passed 262160 left known
+    → Closes (text ++ last_line tally (Some why)) (Some why) result after later
     → ShowsRecords whole input result known before later
 shown-fault format number given left known tally text before after later whole input why result along stands past closes =
     let now = drop along.done input in
@@ -191,7 +201,8 @@ shown-fault format number given left known tally text before after later whole i
       past = λ _. subst (λ (all : Option (List ℕ)). Passed 262160 all known) (along.rest_is ∙ ap (λ (n : ℕ). Some (drop n input)) (sym size)) past;
     }
 
-pub shown-early : (format : Format) (number given : ℕ) (left known : Option (List ℕ)) (tally : Tally) (text : List ℕ) (before after later : Option (List ℕ)) (whole : Captured)
+pub shown-early : (format : Format) (number given : ℕ) (left known : Option (List ℕ)) (tally : Tally) (text : List ℕ) (before after later : Option (List ℕ))
+    (whole : Captured)
     (input : List ℕ) (result : Status) → IsCutOff result → Along format number given left tally text before after whole input → HasBegun after later text
     → ShowsRecords whole input result known before later
 shown-early format number given left known tally text before after later whole input result off along begun = record {
@@ -224,8 +235,10 @@ passed-whole bytes format result left before after told shows is =
     (passed-in (records_from format 0 0 24 (drop 24 bytes)).records bytes left (shows.past is))
 
 -- the turns of the loop, by what the reader says of them
-pub turned : {S : Type 0} (left : S → Option (List ℕ)) (faults lender : S → ℕ) (old new : CapturesState S) (entry : RecordParts) (tally next : Tally) (text written : List ℕ)
-    (before after : Option (List ℕ)) (whole : Captured) (input : List ℕ) → Along old.format old.number old.given (rest left old) tally text before after whole input
+pub turned : {S : Type 0} (left : S → Option (List ℕ)) (faults lender : S → ℕ) (old new : CapturesState S) (entry : RecordParts) (tally next : Tally)
+    (text written : List ℕ)
+    (before after : Option (List ℕ)) (whole : Captured) (input : List ℕ)
+    → Along old.format old.number old.given (rest left old) tally text before after whole input
     → Advances left faults lender old new (Ok (Some entry)) → next ≡ tallied tally entry → written ≡ text ++ record_text tally entry
     → Along new.format new.number new.given (rest left new) next written before after whole input
 turned left faults lender old new entry tally next text written before after whole input along advances counts puts =
@@ -238,7 +251,8 @@ pub ended : {S : Type 0} (left : S → Option (List ℕ)) (faults lender : S →
     → Along old.format old.number old.given (rest left old) tally text before after whole input → Advances left faults lender old new (Ok None)
     → Closes (text ++ last_line tally None) None result after later → ShowsRecords whole input result (left new.source) before later
 ended left faults lender old new tally text before after later whole input result along advances closes =
-    shown-end old.format old.number old.given (rest left old) (left new.source) new.pending tally text before after later whole input result along advances.answer.next closes
+    shown-end old.format old.number old.given (rest left old)
+    (left new.source) new.pending tally text before after later whole input result along advances.answer.next closes
 
 blamed : {S : Type 0} (left : S → Option (List ℕ)) (faults : S → ℕ) (old new : CapturesState S) (why : CaptureFault) → old.fault ≡ None → (why ≡ ReadFault → ⊥)
     → ((old.fault ≡ Some why) × (new ≡ old)) ⊎ ((old.fault ≡ None) × Blames left faults old new why)
@@ -266,7 +280,8 @@ pub source-failed : {S : Type 0} (left : S → Option (List ℕ)) (faults lender
 source-failed left faults lender old new unended advances = rose-by left faults old new unended advances.answer.cause
 
 -- the last line was not written whole
-pub closes-cut : (text more : List ℕ) (end : Option CaptureFault) (before middle after : Option (List ℕ)) → middle ≡ append_known before text → HasBegun middle after more
+pub closes-cut : (text more : List ℕ) (end : Option CaptureFault) (before middle after : Option (List ℕ)) → middle ≡ append_known before text
+    → HasBegun middle after more
     → Closes (text ++ more) end status.Write before after
 closes-cut text more end before middle after first begun = record {
   whole = λ answered. absurd (not-both status.Write answered (inr (inl refl)));
@@ -277,7 +292,8 @@ closes-cut text more end before middle after first begun = record {
 
 -- a refused file header, by its fault
 pub refused-as : (why : CaptureFault) (result : Status) (before after : Option (List ℕ)) → (why ≡ ReadFault → ⊥) → (why ≡ NoMemory → ⊥)
-    → (result ≢ status.Words) × (result ≢ status.Read) × Closes (fault_line first_tally why) (Some why) result before after → ShowsHeaderFault why result before after
+    → (result ≢ status.Words) × (result ≢ status.Read) × Closes (fault_line first_tally why) (Some why) result before after
+    → ShowsHeaderFault why result before after
 refused-as BadMagic result before after read memory closes = closes
 refused-as BadVersion result before after read memory closes = closes
 refused-as BadLink result before after read memory closes = closes
@@ -305,14 +321,17 @@ pub record Refuses (bytes : List ℕ) (result : Status) (left before after : Opt
   pub answers : Answers (capture_text bytes) (is_faulty bytes) result left before after
   pub past : result ≡ status.Input → Passed 524288 (Some (drop (records_end bytes) bytes)) left
 
-refuses-fault : (why : CaptureFault) (bytes : List ℕ) (result : Status) (left before after : Option (List ℕ)) → opened bytes ≡ Err why → Passed 262144 (Some bytes) left
-    → (result ≢ status.Words) × (result ≢ status.Read) × Closes (fault_line first_tally why) (Some why) result before after → Refuses bytes result left before after
+refuses-fault : (why : CaptureFault) (bytes : List ℕ) (result : Status) (left before after : Option (List ℕ)) → opened bytes ≡ Err why
+    → Passed 262144 (Some bytes) left
+    → (result ≢ status.Words) × (result ≢ status.Read) × Closes (fault_line first_tally why) (Some why) result before after
+    → Refuses bytes result left before after
 refuses-fault why bytes result left before after told past closes = record {
   answers = refused-whole why bytes result left before after told closes.2;
   past = λ _. refused-past why bytes left told past;
 }
 
-refuses-early : (bytes : List ℕ) (result : Status) (left before after : Option (List ℕ)) → IsCutOff result → after ≡ before → Refuses bytes result left before after
+refuses-early : (bytes : List ℕ) (result : Status) (left before after : Option (List ℕ)) → IsCutOff result → after ≡ before
+    → Refuses bytes result left before after
 refuses-early bytes result left before after off same = record {
   answers = answers-early (capture_text bytes) (is_faulty bytes) result left before after off (unwritten (capture_text bytes) before after same);
   past = λ is. absurd (not-both result (inr is) off);
@@ -334,7 +353,8 @@ refuses left faults source handed CutShort bytes result before after told past c
     refuses-fault CutShort bytes result (left handed) before after (subst (λ (o : Option (List ℕ)). IfSome o (λ all. opened all ≡ Err CutShort)) told cause)
     (subst (λ (o : Option (List ℕ)). Passed 262144 o (left handed)) told past) closes
 refuses left faults source handed RecordTooLong bytes result before after told past cause closes =
-    refuses-fault RecordTooLong bytes result (left handed) before after (subst (λ (o : Option (List ℕ)). IfSome o (λ all. opened all ≡ Err RecordTooLong)) told cause)
+    refuses-fault RecordTooLong bytes result (left handed) before after
+    (subst (λ (o : Option (List ℕ)). IfSome o (λ all. opened all ≡ Err RecordTooLong)) told cause)
     (subst (λ (o : Option (List ℕ)). Passed 262144 o (left handed)) told past) closes
 refuses left faults source handed TooLarge bytes result before after told past cause closes =
     refuses-fault TooLarge bytes result (left handed) before after (subst (λ (o : Option (List ℕ)). IfSome o (λ all. opened all ≡ Err TooLarge)) told cause)
@@ -360,7 +380,8 @@ over left faults lender old new tally next text written before after later whole
     (subst (λ (front : List ℕ). Closes (front ++ last_line next (Some why)) (Some why) result after later) puts closes))
 
 -- each record is counted once
-counted-one : (tally : Tally) (shown : Shown) (flows : List Flow) → (counted_record tally shown flows).shown + (counted_record tally shown flows).skipped ≡ tally.shown + tally.skipped + 1
+counted-one : (tally : Tally) (shown : Shown) (flows : List Flow)
+    → (counted_record tally shown flows).shown + (counted_record tally shown flows).skipped ≡ tally.shown + tally.skipped + 1
 counted-one tally Line flows = omega arith
 counted-one tally Skipped flows = omega arith
 

@@ -12,7 +12,8 @@ digit_behind old front all number some small front_is all_is =
     ∙ append_assoc old (decimal (number / 10)) ((48 + number % 10) ∷ [])
     ∙ ap (λ (text : List ℕ). old ++ text) (sym (decimal_step number some (omega (arith, small))))
 
-dotted : (old piece before after digits : List ℕ) → before ≡ old ++ piece → after ≡ before ++ (codes "." ++ digits) → after ≡ old ++ ((piece ++ codes ".") ++ digits)
+dotted : (old piece before after digits : List ℕ) → before ≡ old ++ piece → after ≡ before ++ (codes "." ++ digits)
+    → after ≡ old ++ ((piece ++ codes ".") ++ digits)
 dotted old piece before after digits before_is after_is =
     after_is
     ∙ ap (λ (text : List ℕ). text ++ (codes "." ++ digits)) before_is

@@ -42,7 +42,8 @@ worked-out (suc (suc (suc (suc (suc (suc (suc (suc (suc (suc (suc (suc (suc (suc
 worked-out (suc (suc (suc (suc (suc (suc (suc (suc (suc (suc (suc (suc (suc (suc (suc (suc value)))))))))))))))) small = absurd (omega arith)
 
 pub lanes-digits : (values : List ℕ) (count : ℕ) → length values ≡ count → Each1 (λ value. value < 16) values
-    → zip2 plus (zip2 plus values (replicate count 48)) (sel_l (map (top 7) (zip2 below (replicate count 9) values)) (replicate count 39) (replicate count 0)) ≡ map digit_at values
+    → zip2 plus (zip2 plus values (replicate count 48)) (sel_l (map (top 7) (zip2 below (replicate count 9) values)) (replicate count 39) (replicate count 0))
+    ≡ map digit_at values
 lanes-digits [] count long small = refl
 lanes-digits (value ∷ values) zero long small = absurd (omega arith)
 lanes-digits (value ∷ values) (suc count) long small = λ i. worked-out value small.0 i ∷ lanes-digits values count (omega arith) small.1 i
@@ -54,11 +55,13 @@ high a b = a / 2 ^ b
 
 pub highs-small : (bytes : List ℕ) (count : ℕ) → Each1 (λ byte. byte < 256) bytes → Each1 (λ value. value < 16) (zip2 high bytes (replicate count 4))
 highs-small bytes count bytes_fit =
-    Each1-zip2 high (λ value. value < 16) bytes (replicate count 4) (Each2-splat (λ a b. high a b < 16) bytes count 4 (Each1-weaker (λ a. a < 256) (λ a. a / 16 < 16) (λ a small. omega arith) bytes bytes_fit))
+    Each1-zip2 high (λ value. value < 16) bytes (replicate count 4)
+    (Each2-splat (λ a b. high a b < 16) bytes count 4 (Each1-weaker (λ a. a < 256) (λ a. a / 16 < 16) (λ a small. omega arith) bytes bytes_fit))
 
 pub lows-small : (bytes : List ℕ) (count : ℕ) → Each1 (λ value. value < 16) (zip2 bit_and bytes (replicate count 15))
 lows-small bytes count =
-    Each1-zip2 bit_and (λ value. value < 16) bytes (replicate count 15) (Each2-splat (λ a b. bit_and a b < 16) bytes count 15 (Each1-all (λ a. bit_and a 15 < 16) (λ a. omega (arith, and_mask a 4)) bytes))
+    Each1-zip2 bit_and (λ value. value < 16) bytes (replicate count 15)
+    (Each2-splat (λ a b. bit_and a b < 16) bytes count 15 (Each1-all (λ a. bit_and a 15 < 16) (λ a. omega (arith, and_mask a 4)) bytes))
 
 abbrev both_halves : List ℕ → List ℕ → List ℕ
 both_halves highs lows =
@@ -68,13 +71,16 @@ both_halves highs lows =
 abbrev listed : List ℕ → List ℕ
 listed xs = pick_l 0 xs (0 ∷ 1 ∷ 2 ∷ 3 ∷ 4 ∷ 5 ∷ 6 ∷ 7 ∷ 8 ∷ 9 ∷ 10 ∷ 11 ∷ 12 ∷ 13 ∷ 14 ∷ 15 ∷ [])
 
-woven-listed : (bytes : List ℕ) → both_halves (map (λ byte. digit_at (byte / 16)) (listed bytes)) (map (λ byte. digit_at (byte % 16)) (listed bytes)) ≡ encode_lower (listed bytes)
+woven-listed : (bytes : List ℕ)
+    → both_halves (map (λ byte. digit_at (byte / 16)) (listed bytes)) (map (λ byte. digit_at (byte % 16)) (listed bytes)) ≡ encode_lower (listed bytes)
 unfolding encode_with
 woven-listed bytes = refl
 
-woven : (bytes : List ℕ) → length bytes ≡ 16 → both_halves (map (λ byte. digit_at (byte / 16)) bytes) (map (λ byte. digit_at (byte % 16)) bytes) ≡ encode_lower bytes
+woven : (bytes : List ℕ) → length bytes ≡ 16
+    → both_halves (map (λ byte. digit_at (byte / 16)) bytes) (map (λ byte. digit_at (byte % 16)) bytes) ≡ encode_lower bytes
 woven bytes long =
-    subst (λ (xs : List ℕ). both_halves (map (λ byte. digit_at (byte / 16)) xs) (map (λ byte. digit_at (byte % 16)) xs) ≡ encode_lower xs) (pick_l_whole 0 bytes 16 long) (woven-listed bytes)
+    subst (λ (xs : List ℕ). both_halves (map (λ byte. digit_at (byte / 16)) xs) (map (λ byte. digit_at (byte % 16)) xs) ≡ encode_lower xs)
+    (pick_l_whole 0 bytes 16 long) (woven-listed bytes)
 
 map-high : (bytes : List ℕ) → map digit_at (map (λ byte. high byte 4) bytes) ≡ map (λ byte. digit_at (byte / 16)) bytes
 map-high [] = refl
@@ -85,7 +91,8 @@ map-low [] = refl
 map-low (byte ∷ bytes) = λ i. digit_at (and_mask byte 4 i) ∷ map-low bytes i
 
 -- a block's digits
-pub block-digits : (bytes highs lows : List ℕ) → length bytes ≡ 16 → highs ≡ map digit_at (zip2 high bytes (replicate 16 4)) → lows ≡ map digit_at (zip2 bit_and bytes (replicate 16 15))
+pub block-digits : (bytes highs lows : List ℕ) → length bytes ≡ 16 → highs ≡ map digit_at (zip2 high bytes (replicate 16 4))
+    → lows ≡ map digit_at (zip2 bit_and bytes (replicate 16 15))
     → both_halves highs lows ≡ encode_lower bytes
 block-digits bytes highs lows long above below =
     let first = above ∙ ap (map digit_at) (zip2_splat high bytes 16 4 long) ∙ map-high bytes in
@@ -95,7 +102,8 @@ block-digits bytes highs lows long above below =
 -- Blocks
 
 -- one block more is written
-pub block-written : (bytes room first second : List ℕ) (done : ℕ) → length room ≡ 2 * length bytes → done + 16 ≤ length bytes → length first ≡ 16 → length second ≡ 16
+pub block-written : (bytes room first second : List ℕ) (done : ℕ) → length room ≡ 2 * length bytes → done + 16 ≤ length bytes → length first ≡ 16
+    → length second ≡ 16
     → take (2 * done) room ≡ encode_lower (take done bytes) → first ++ second ≡ encode_lower (chunk done 16 bytes)
     → take (2 * (done + 16)) (put_chunk (2 * done + 16) (put_chunk (2 * done) room first) second) ≡ encode_lower (take (done + 16) bytes)
 block-written bytes room first second done sized within few some before is =
@@ -112,7 +120,8 @@ pub still-sized : (room first second : List ℕ) (here behind size : ℕ) → le
 still-sized room first second here behind size sized = length-put_chunk behind (put_chunk here room first) second ∙ length-put_chunk here room first ∙ sized
 
 -- the rest is written
-pub rest-written : (bytes room rest : List ℕ) (done : ℕ) → length room ≡ 2 * length bytes → done ≤ length bytes → take (2 * done) room ≡ encode_lower (take done bytes)
+pub rest-written : (bytes room rest : List ℕ) (done : ℕ) → length room ≡ 2 * length bytes → done ≤ length bytes
+    → take (2 * done) room ≡ encode_lower (take done bytes)
     → rest ≡ encode_lower (take (length bytes - done) (drop done bytes)) → put_mid (2 * done) (length room - 2 * done) room rest ≡ encode_lower bytes
 rest-written bytes room rest done sized within before is =
     let held = length-drop (2 * done) room in
@@ -120,6 +129,7 @@ rest-written bytes room rest done sized within before is =
     let over : post_of (2 * done) (length room - 2 * done) room ≡ [] = drop_all (length room - 2 * done) (drop (2 * done) room) (omega (arith, held)) in
     ap (λ (front : List ℕ). front ++ (rest ++ post_of (2 * done) (length room - 2 * done) room)) before
     ∙ ap (λ (more : List ℕ). encode_lower (take done bytes) ++ (rest ++ more)) over
-    ∙ ap (λ (more : List ℕ). encode_lower (take done bytes) ++ more) (append-nil rest ∙ is ∙ ap encode_lower (take_all (length bytes - done) (drop done bytes) (omega (arith, left))))
+    ∙ ap (λ (more : List ℕ). encode_lower (take done bytes) ++ more)
+    (append-nil rest ∙ is ∙ ap encode_lower (take_all (length bytes - done) (drop done bytes) (omega (arith, left))))
     ∙ sym (encode-append (take done bytes) (drop done bytes))
     ∙ ap encode_lower (take-append-drop done bytes)

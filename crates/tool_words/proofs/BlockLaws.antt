@@ -17,7 +17,8 @@ position-test : (test : Bool) (a b : Option ℕ) (from : ℕ) → test ≡ false
 position-test true a b from is same = cc is
 position-test false a b from is same = same
 
-moved-test : (test : Bool) (count from : ℕ) (a b : Option ℕ) → a ≡ moved_by count b → cond test (Some (count + from)) a ≡ moved_by count (cond test (Some from) b)
+moved-test : (test : Bool) (count from : ℕ) (a b : Option ℕ) → a ≡ moved_by count b
+    → cond test (Some (count + from)) a ≡ moved_by count (cond test (Some from) b)
 moved-test true count from a b is = refl
 moved-test false count from a b is = is
 
@@ -29,7 +30,8 @@ take-none (suc count) = refl
 tail_whole : (text : List ℕ) (count : ℕ) → take (length text - count) (drop count text) ≡ drop count text
 tail_whole text count = grind (arith, common_steps)
 
-further : (p : ℕ → Bool) (count more : ℕ) (xs : List ℕ) → list_all p (take count xs) ≡ true → list_all p (take more (drop count xs)) ≡ true → list_all p (take (count + more) xs) ≡ true
+further : (p : ℕ → Bool) (count more : ℕ) (xs : List ℕ) → list_all p (take count xs) ≡ true → list_all p (take more (drop count xs)) ≡ true
+    → list_all p (take (count + more) xs) ≡ true
 further p zero more xs all block =
     let same : 0 + more ≡ more = omega arith in
     ap (λ (n : ℕ). list_all p (take n xs)) same ∙ block
@@ -47,7 +49,8 @@ block_further t count size text all block =
     let same : size ≡ count + size - count = omega arith in
     further (λ byte. not (t byte)) count size text all (ap (λ (n : ℕ). list_all (λ byte. not (t byte)) (take n (drop count text))) same ∙ block)
 
-passed : (t : ℕ → Bool) (count from : ℕ) (xs : List ℕ) → list_all (λ x. not (t x)) (take count xs) ≡ true → position_from t from xs ≡ position_from t (from + count) (drop count xs)
+passed : (t : ℕ → Bool) (count from : ℕ) (xs : List ℕ) → list_all (λ x. not (t x)) (take count xs) ≡ true
+    → position_from t from xs ≡ position_from t (from + count) (drop count xs)
 passed t zero from xs all = let same : from ≡ from + 0 = omega arith in ap (λ (n : ℕ). position_from t n xs) same
 passed t (suc count) from [] all = refl
 passed t (suc count) from (x ∷ xs) all =
@@ -76,7 +79,8 @@ found_behind t count text found all is =
     ∙ moved t count 0 (drop count text)
     )
 
-pub none_behind : (t : ℕ → Bool) (count : ℕ) (text : List ℕ) → list_all (λ byte. not (t byte)) (take count text) ≡ true → None ≡ position_from t 0 (take (length text - count) (drop count text))
+pub none_behind : (t : ℕ → Bool) (count : ℕ) (text : List ℕ) → list_all (λ byte. not (t byte)) (take count text) ≡ true
+    → None ≡ position_from t 0 (take (length text - count) (drop count text))
     → None ≡ position_from t 0 text
 none_behind t count text all is = found_behind t count text None all is
 
@@ -84,7 +88,8 @@ pub some_behind : (t : ℕ → Bool) (count place : ℕ) (text : List ℕ) → l
     → Some place ≡ position_from t 0 (take (length text - count) (drop count text)) → Some (count + place) ≡ position_from t 0 text
 some_behind t count place text all is = found_behind t count text (Some place) all is
 
-found-test : (test : Bool) (a b : Option ℕ) (from place : ℕ) → (a ≡ Some place → b ≡ Some place) → cond test (Some from) a ≡ Some place → cond test (Some from) b ≡ Some place
+found-test : (test : Bool) (a b : Option ℕ) (from place : ℕ) → (a ≡ Some place → b ≡ Some place) → cond test (Some from) a ≡ Some place
+    → cond test (Some from) b ≡ Some place
 found-test true a b from place more is = is
 found-test false a b from place more is = more is
 

@@ -88,7 +88,8 @@ split-word mark [] rest all =
     ap (λ (test : Bool). cond test ([] ∷ slice_split (λ byte. byte == mark) rest) (onto_first mark (slice_split (λ byte. byte == mark) rest))) (same mark)
 split-word mark (byte ∷ w) rest all =
     let both = both-true (lacks mark byte) (list_all (lacks mark) w) all in
-    ap (λ (test : Bool). cond test ([] ∷ slice_split (λ b. b == mark) (w ++ (mark ∷ rest))) (onto_first byte (slice_split (λ b. b == mark) (w ++ (mark ∷ rest)))))
+    ap (λ (test : Bool). cond test ([] ∷ slice_split (λ b. b == mark) (w ++ (mark ∷ rest)))
+    (onto_first byte (slice_split (λ b. b == mark) (w ++ (mark ∷ rest)))))
     (other-by (byte == mark) both.0)
     ∙ ap (onto_first byte) (split-word mark w rest both.1)
 
@@ -100,7 +101,8 @@ split-whole mark (byte ∷ w) all =
     ∙ ap (onto_first byte) (split-whole mark w both.1)
 
 -- pieces that are joined are parted again
-pub joined-parts : (mark : ℕ) (w : List ℕ) (ws : List (List ℕ)) → list_all (list_all (lacks mark)) (w ∷ ws) ≡ true → slice_split (λ byte. byte == mark) (join_with_byte mark (w ∷ ws)) ≡ w ∷ ws
+pub joined-parts : (mark : ℕ) (w : List ℕ) (ws : List (List ℕ)) → list_all (list_all (lacks mark)) (w ∷ ws) ≡ true
+    → slice_split (λ byte. byte == mark) (join_with_byte mark (w ∷ ws)) ≡ w ∷ ws
 joined-parts mark w [] all = split-whole mark w (both-true (list_all (lacks mark) w) true all).0
 joined-parts mark w (next ∷ ws) all =
     let both = both-true (list_all (lacks mark) w) (list_all (list_all (lacks mark)) (next ∷ ws)) all in

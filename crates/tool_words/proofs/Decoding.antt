@@ -32,7 +32,8 @@ two-more : (high low : ℕ) (digits : List ℕ) (place : ℕ) → get_or (high �
 two-more high low digits place = let same : 2 * suc place ≡ suc (suc (2 * place)) = omega arith in ap (λ (n : ℕ). get_or (high ∷ (low ∷ digits)) n 0) same
 
 three-more : (high low : ℕ) (digits : List ℕ) (place : ℕ) → get_or (high ∷ (low ∷ digits)) (2 * suc place + 1) 0 ≡ get_or digits (2 * place + 1) 0
-three-more high low digits place = let same : 2 * suc place + 1 ≡ suc (suc (2 * place + 1)) = omega arith in ap (λ (n : ℕ). get_or (high ∷ (low ∷ digits)) n 0) same
+three-more high low digits place = let same : 2 * suc place + 1 ≡ suc (suc (2 * place + 1)) = omega arith in
+    ap (λ (n : ℕ). get_or (high ∷ (low ∷ digits)) n 0) same
 
 -- a byte is that of the two digits at its place
 pub byte_at : (text : List ℕ) (place : ℕ) → 2 * place + 1 < length text
@@ -61,15 +62,19 @@ pair-at (suc count) (suc place) (high ∷ (low ∷ digits)) sized within =
 pub record IsPair (text : List ℕ) (place : ℕ) (pair : List ℕ) : Type 0 where
   pub high : digit_value (slice_index pair 0) < 16
   pub low : digit_value (slice_index pair 1) < 16
-  pub byte : 16 * digit_value (slice_index pair 0) + digit_value (slice_index pair 1) ≡ 16 * digit_value (slice_index text (2 * place)) + digit_value (slice_index text (2 * place + 1))
+  pub byte : 16 * digit_value (slice_index pair 0) + digit_value (slice_index pair 1) ≡ 16 * digit_value (slice_index text (2 * place)) + digit_value
+      (slice_index text (2 * place + 1))
 
-pub is_pair : (text : List ℕ) (pairs : List (List ℕ)) (place : ℕ) → ArePairs text → 2 * place + 1 < length text → pairs ≡ first_chunks 2 (length text / 2) text → IsPair text place (get_or pairs place [])
+pub is_pair : (text : List ℕ) (pairs : List (List ℕ)) (place : ℕ) → ArePairs text → 2 * place + 1 < length text → pairs ≡ first_chunks 2 (length text / 2) text
+    → IsPair text place (get_or pairs place [])
 is_pair text pairs place are within front =
     let at = ap (λ (them : List (List ℕ)). get_or them place []) front ∙ pair-at (length text / 2) place text (omega arith) (omega arith) in
     let high = digit_small text (2 * place) are (omega arith) in
     let low = digit_small text (2 * place + 1) are within in
-    let first : digit_value (slice_index (get_or pairs place []) 0) ≡ digit_value (get_or text (2 * place) 0) = ap (λ (pair : List ℕ). digit_value (slice_index pair 0)) at in
-    let second : digit_value (slice_index (get_or pairs place []) 1) ≡ digit_value (get_or text (2 * place + 1) 0) = ap (λ (pair : List ℕ). digit_value (slice_index pair 1)) at in
+    let first : digit_value (slice_index (get_or pairs place []) 0) ≡ digit_value (get_or text (2 * place) 0) =
+    ap (λ (pair : List ℕ). digit_value (slice_index pair 0)) at in
+    let second : digit_value (slice_index (get_or pairs place []) 1) ≡ digit_value (get_or text (2 * place + 1) 0) =
+    ap (λ (pair : List ℕ). digit_value (slice_index pair 1)) at in
     record { high = omega arith; low = omega arith; byte = omega arith }
 
 -- Two digits as one number, `256 * low + high`: what is done to the number is done to both
@@ -103,8 +108,10 @@ side_by_side high low above below =
     omega arith
 
 -- one byte more is decoded
-pub one_decoded : (text room : List ℕ) (place byte : ℕ) → ArePairs text → length text ≡ 2 * length room → place < length room → take place room ≡ take place (bytes_of_digits text)
-    → byte ≡ 16 * digit_value (slice_index text (2 * place)) + digit_value (slice_index text (2 * place + 1)) → take (place + 1) (slice_set room place byte) ≡ take (place + 1) (bytes_of_digits text)
+pub one_decoded : (text room : List ℕ) (place byte : ℕ) → ArePairs text → length text ≡ 2 * length room → place < length room
+    → take place room ≡ take place (bytes_of_digits text)
+    → byte ≡ 16 * digit_value (slice_index text (2 * place)) + digit_value (slice_index text (2 * place + 1))
+    → take (place + 1) (slice_set room place byte) ≡ take (place + 1) (bytes_of_digits text)
 one_decoded text room place byte are sized within done is =
     let size = bytes_length text are in
     take_more_set room place byte within
@@ -116,7 +123,8 @@ take_whole : (xs : List ℕ) (count : ℕ) → length xs ≤ count → take coun
 take_whole xs count many = grind (arith, common_steps)
 
 -- all bytes are decoded
-pub all_decoded : (text room : List ℕ) (place : ℕ) → ArePairs text → length text ≡ 2 * length room → length room ≤ place → take place room ≡ take place (bytes_of_digits text) → room ≡ bytes_of_digits text
+pub all_decoded : (text room : List ℕ) (place : ℕ) → ArePairs text → length text ≡ 2 * length room → length room ≤ place
+    → take place room ≡ take place (bytes_of_digits text) → room ≡ bytes_of_digits text
 all_decoded text room place are sized over done =
     let size = bytes_length text are in
     sym (take_whole room place over) ∙ done ∙ take_whole (bytes_of_digits text) place (omega arith)

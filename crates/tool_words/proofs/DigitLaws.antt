@@ -30,7 +30,8 @@ lower-digit c value low high is = record { formula = omega arith; small = omega 
 figure-digit : (c value : ℕ) → 48 ≤ c → c ≤ 57 → c - 48 ≡ value → IsDigit c value
 figure-digit c value low high is = record { formula = omega arith; small = omega arith; word = word-byte c (omega arith) (omega arith) }
 
-digit-by : (c value : ℕ) (upper lower figure : Bool) → (upper ≡ true → (65 ≤ c) × (c ≤ 70)) → (lower ≡ true → (97 ≤ c) × (c ≤ 102)) → (figure ≡ true → (48 ≤ c) × (c ≤ 57))
+digit-by : (c value : ℕ) (upper lower figure : Bool) → (upper ≡ true → (65 ≤ c) × (c ≤ 70)) → (lower ≡ true → (97 ≤ c) × (c ≤ 102))
+    → (figure ≡ true → (48 ≤ c) × (c ≤ 57))
     → (if upper then Some (c - 55) else if lower then Some (c - 87) else if figure then Some (c - 48) else None) ≡ Some value → IsDigit c value
 digit-by c value true lower figure u l f is = upper-digit c value (u refl).0 (u refl).1 (cc is)
 digit-by c value false true figure u l f is = lower-digit c value (l refl).0 (l refl).1 (cc is)
@@ -39,7 +40,8 @@ digit-by c value false false false u l f is = cc is
 
 digit-is : (c value : ℕ) → hex_digit_value c ≡ Some value → IsDigit c value
 digit-is c value is =
-    digit-by c value (nat_le 65 c && nat_le c 70) (nat_le 97 c && nat_le c 102) (nat_le 48 c && nat_le c 57) (between 65 70 c) (between 97 102 c) (between 48 57 c) is
+    digit-by c value (nat_le 65 c && nat_le c 70) (nat_le 97 c && nat_le c 102) (nat_le 48 c && nat_le c 57) (between 65 70 c) (between 97 102 c)
+    (between 48 57 c) is
 
 -- a digit's value
 has-value-by : (c : ℕ) (value : Option ℕ) → hex_digit_value c ≡ value → is_some value ≡ true → hex_digit_value c ≡ Some (digit_value c)

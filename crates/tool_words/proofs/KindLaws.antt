@@ -107,7 +107,8 @@ hex-is = record {
   are_words = λ text bytes spells. digits-words text bytes spells.0 spells.1;
 }
 
-dash-flaw : (text : List ℕ) (dash : Bool) → flaw_in {A = List ℕ} (if dash then Ok [] else digits_or_bad text (digits_flaw text)) ≡ (if dash then None else bad_hex (digits_flaw text))
+dash-flaw : (text : List ℕ) (dash : Bool)
+    → flaw_in {A = List ℕ} (if dash then Ok [] else digits_or_bad text (digits_flaw text)) ≡ (if dash then None else bad_hex (digits_flaw text))
 dash-flaw text true = refl
 dash-flaw text false = bad-flaw text (digits_flaw text)
 
@@ -128,7 +129,8 @@ no-dash text bytes spells =
 dash-back : (text bytes : List ℕ) → AreDigitsOrDash text bytes → (if bytes_eq text (codes "-") then Ok [] else digits_or_bad text (digits_flaw text)) ≡ Ok bytes
 dash-back text [] dash = subst (λ (t : List ℕ). (if bytes_eq t (codes "-") then Ok [] else digits_or_bad t (digits_flaw t)) ≡ Ok []) (sym dash) refl
 dash-back text (byte ∷ bytes) spells =
-    if-false (bytes_eq text (codes "-")) (Ok []) (digits_or_bad text (digits_flaw text)) (no-dash text (byte ∷ bytes) spells) ∙ digits-back text (byte ∷ bytes) spells
+    if-false (bytes_eq text (codes "-")) (Ok []) (digits_or_bad text (digits_flaw text)) (no-dash text (byte ∷ bytes) spells)
+    ∙ digits-back text (byte ∷ bytes) spells
 
 dash-words : (text bytes : List ℕ) → AreDigitsOrDash text bytes → is_whole_word text ≡ true
 dash-words text [] dash = ap is_whole_word dash

@@ -20,7 +20,8 @@ not-text None = refl
 not-text (Some place) = refl
 
 pub clean-by : (place : Option ℕ) (long : Bool)
-    → fault_in {A = Unit {0}} (if long then Err (fault_at 4097 why.LineTooLong) else text_or_other place) ≡ first_or (if long then Some (fault_at 4097 why.LineTooLong) else None) (no_text place)
+    → fault_in {A = Unit {0}} (if long then Err (fault_at 4097 why.LineTooLong) else text_or_other place) ≡ first_or
+    (if long then Some (fault_at 4097 why.LineTooLong) else None) (no_text place)
 clean-by place true = refl
 clean-by place false = not-text place
 
@@ -137,7 +138,8 @@ line-idle {A = A} said line = (
 )
 
 -- no words make an empty line
-joined-says : {A : Type 0} (row : Row A) (line : List ℕ) (x : A) (words : List (List ℕ)) → line ≡ joined words → says_nothing line ≡ false → (first : List ℕ) × (rest : List (List ℕ)) × (words ≡ first ∷ rest)
+joined-says : {A : Type 0} (row : Row A) (line : List ℕ) (x : A) (words : List (List ℕ)) → line ≡ joined words → says_nothing line ≡ false → (first : List ℕ)
+    × (rest : List (List ℕ)) × (words ≡ first ∷ rest)
 joined-says row line x [] parted says = cc (sym (ap says_nothing parted) ∙ says)
 joined-says row line x (first ∷ rest) parted says = (first, rest, refl)
 
@@ -155,7 +157,8 @@ module _ {A : Type 0} (row : Row A) (is_row : IsExactRow row) where
         short = whole.short;
       }
 
-  words-back : (line : List ℕ) (x : A) (first : List ℕ) (rest : List (List ℕ)) → line ≡ joined (first ∷ rest) → row.Spells x (first ∷ rest) → says_nothing line ≡ false → length line ≤ 4096
+  words-back : (line : List ℕ) (x : A) (first : List ℕ) (rest : List (List ℕ)) → line ≡ joined (first ∷ rest) → row.Spells x (first ∷ rest)
+      → says_nothing line ≡ false → length line ≤ 4096
       → line_read row.said line ≡ Ok (Some x)
   words-back line x first rest parted spells says short =
       let all = is_row.are_words (first ∷ rest) x spells in

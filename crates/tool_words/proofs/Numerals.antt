@@ -31,7 +31,8 @@ module _ (limit : ℕ) (top : limit ≤ 2 ^ 48) where
       ∙ ap (λ (m : ℕ). decimal m ++ ((48 + (10 * n + (byte - 48)) % 10) ∷ [])) tens
       ∙ ap (λ (last : ℕ). decimal n ++ (last ∷ [])) ones
 
-  digit-then : (n byte whole : ℕ) (rest : List ℕ) → 0 < n → 48 ≤ byte → byte ≤ 57 → 10 * n + (byte - 48) < limit → Spells (10 * n + (byte - 48)) rest whole limit → Spells n (byte ∷ rest) whole limit
+  digit-then : (n byte whole : ℕ) (rest : List ℕ) → 0 < n → 48 ≤ byte → byte ≤ 57 → 10 * n + (byte - 48) < limit
+      → Spells (10 * n + (byte - 48)) rest whole limit → Spells n (byte ∷ rest) whole limit
   digit-then n byte whole rest some low high fits spells = record {
     digits = spells.digits ∙ ap (λ (front : List ℕ). front ++ rest) (decimal-grows n byte some low high fits) ∙ append_assoc (decimal n) (byte ∷ []) rest;
     fits = spells.fits;
@@ -81,17 +82,20 @@ module _ (limit : ℕ) (top : limit ≤ 2 ^ 48) where
       let below = digit-fits 0 byte both.0 in
       let some = above-zero byte other.0 low in
       let first : 10 * 0 + (byte - 48) ≡ byte - 48 = omega arith in
-      let spells = spelled-on (byte - 48) (next ∷ rest) n (omega arith) (omega arith) (subst (λ (front : ℕ). digits_after limit front (next ∷ rest) ≡ Some n) first both.1) in
+      let spells = spelled-on (byte - 48) (next ∷ rest) n (omega arith) (omega arith)
+      (subst (λ (front : ℕ). digits_after limit front (next ∷ rest) ≡ Some n) first both.1) in
       (sym (spells.digits ∙ ap (λ (front : List ℕ). front ++ (next ∷ rest)) (one-digit byte low high)), spells.fits)
 
   snoc-by : {A : Type 0} (test : Bool) (x y z : Option A) (m : A) → (if test then x else None) ≡ Some m → (x ≡ Some m → y ≡ z) → (if test then y else None) ≡ z
   snoc-by true x y z m read then_same = then_same read
   snoc-by false x y z m read then_same = cc read
 
-  digits-snoc : (n : ℕ) (bytes : List ℕ) (byte m : ℕ) → digits_after limit n bytes ≡ Some m → digits_after limit n (bytes ++ byte ∷ []) ≡ digits_after limit m (byte ∷ [])
+  digits-snoc : (n : ℕ) (bytes : List ℕ) (byte m : ℕ) → digits_after limit n bytes ≡ Some m
+      → digits_after limit n (bytes ++ byte ∷ []) ≡ digits_after limit m (byte ∷ [])
   digits-snoc n [] byte m read = let same : n ≡ m = cc read in ap (λ (front : ℕ). digits_after limit front (byte ∷ [])) same
   digits-snoc n (first ∷ bytes) byte m read =
-      snoc-by (is_digit first && nat_lt (10 * n + (first - 48)) limit) (digits_after limit (10 * n + (first - 48)) bytes) (digits_after limit (10 * n + (first - 48)) (bytes ++ byte ∷ []))
+      snoc-by (is_digit first && nat_lt (10 * n + (first - 48)) limit) (digits_after limit (10 * n + (first - 48)) bytes)
+      (digits_after limit (10 * n + (first - 48)) (bytes ++ byte ∷ []))
       (digits_after limit m (byte ∷ [])) m read (λ more. digits-snoc (10 * n + (first - 48)) bytes byte m more)
 
   last-digit : (n digit whole : ℕ) → digit < 10 → 10 * n + digit ≡ whole → whole < limit → digits_after limit n ((48 + digit) ∷ []) ≡ Some whole
@@ -104,10 +108,12 @@ module _ (limit : ℕ) (top : limit ≤ 2 ^ 48) where
   decimal-read n small =
       decimal_by_steps (λ m ds. m < limit → digits_after limit 0 ds ≡ Some m)
       (λ m low fits. last-digit 0 m m low (omega arith) fits)
-      (λ m ds many before fits. digits-snoc 0 ds (48 + m % 10) (m / 10) (before (omega arith)) ∙ last-digit (m / 10) (m % 10) m (omega arith) (omega arith) fits)
+      (λ m ds many before fits. digits-snoc 0 ds (48 + m % 10) (m / 10) (before (omega arith))
+      ∙ last-digit (m / 10) (m % 10) m (omega arith) (omega arith) fits)
       n (omega arith) small
 
-  number-by : (bytes : List ℕ) (n : ℕ) → digits_after limit 0 bytes ≡ Some n → 0 < length bytes → (1 < length bytes → 48 < get_or bytes 0 0) → number_below limit bytes ≡ Some n
+  number-by : (bytes : List ℕ) (n : ℕ) → digits_after limit 0 bytes ≡ Some n → 0 < length bytes → (1 < length bytes → 48 < get_or bytes 0 0)
+      → number_below limit bytes ≡ Some n
   number-by [] n read some first = absurd (omega arith)
   number-by (byte ∷ []) n read some first = read
   number-by (byte ∷ (next ∷ rest)) n read some first =

@@ -10,7 +10,8 @@ record IsCut {X : Type 0} (p : X → Bool) (from : ℕ) (xs : List X) (place : �
   pub at : place ≡ from + count
   pub pieces : slice_split p xs ≡ take count xs ∷ slice_split p (drop (suc count) xs)
 
-cut_by : {X : Type 0} (p : X → Bool) (from : ℕ) (x : X) (xs : List X) (place : ℕ) (test : Bool) → p x ≡ test → cond test (Some from) (position_from p (from + 1) xs) ≡ Some place
+cut_by : {X : Type 0} (p : X → Bool) (from : ℕ) (x : X) (xs : List X) (place : ℕ) (test : Bool) → p x ≡ test
+    → cond test (Some from) (position_from p (from + 1) xs) ≡ Some place
     → (position_from p (from + 1) xs ≡ Some place → IsCut p (from + 1) xs place) → IsCut p from (x ∷ xs) place
 cut_by p from x xs place true passes found more = record {
   count = 0;
@@ -31,7 +32,8 @@ cut_from : {X : Type 0} (p : X → Bool) (from : ℕ) (xs : List X) (place : ℕ
 cut_from p from [] place found = cc found
 cut_from p from (x ∷ xs) place found = cut_by p from x xs place (p x) refl found (cut_from p (from + 1) xs place)
 
-whole_by : {X : Type 0} (p : X → Bool) (from : ℕ) (x : X) (xs : List X) (test : Bool) → p x ≡ test → cond test (Some from) (position_from p (from + 1) xs) ≡ None
+whole_by : {X : Type 0} (p : X → Bool) (from : ℕ) (x : X) (xs : List X) (test : Bool) → p x ≡ test
+    → cond test (Some from) (position_from p (from + 1) xs) ≡ None
     → (position_from p (from + 1) xs ≡ None → slice_split p xs ≡ xs ∷ []) → slice_split p (x ∷ xs) ≡ (x ∷ xs) ∷ []
 whole_by p from x xs true passes none more = cc none
 whole_by p from x xs false passes none more =
@@ -60,7 +62,8 @@ begun : {X : Type 0} (x : X) (parts : List (List X)) → (first : List X) × (ot
 begun x [] = (x ∷ [], [], refl)
 begun x (part ∷ parts) = (x ∷ part, parts, refl)
 
-begun_by : {X : Type 0} (p : X → Bool) (x : X) (xs : List X) (test : Bool) → p x ≡ test → (first : List X) × (others : List (List X)) × (slice_split p (x ∷ xs) ≡ first ∷ others)
+begun_by : {X : Type 0} (p : X → Bool) (x : X) (xs : List X) (test : Bool) → p x ≡ test → (first : List X) × (others : List (List X))
+    × (slice_split p (x ∷ xs) ≡ first ∷ others)
 begun_by p x xs true is = ([], slice_split p xs, ap (λ (test : Bool). cond test ([] ∷ slice_split p xs) (onto_first x (slice_split p xs))) is)
 begun_by p x xs false is =
     let onto = begun x (slice_split p xs) in

@@ -18,7 +18,8 @@ drop-front : (front rest : List ℕ) → drop (length front) (front ++ rest) ≡
 drop-front [] rest = refl
 drop-front (byte ∷ front) rest = drop-front front rest
 
-one-stands : (front text rest : List ℕ) (column : ℕ) → column ≡ length front + 1 → list_all (lacks 32) text ≡ true → StandsIn (front ++ (text ++ rest)) (word_at_column column text)
+one-stands : (front text rest : List ℕ) (column : ℕ) → column ≡ length front + 1 → list_all (lacks 32) text ≡ true
+    → StandsIn (front ++ (text ++ rest)) (word_at_column column text)
 one-stands front text rest column at whole = record {
   from_one = omega arith;
   text =
@@ -49,11 +50,13 @@ all-stand front column (part ∷ (next ∷ parts)) at whole =
     (subst (λ (text : List ℕ). All (StandsIn text) (placed (column + length part + 1) (next ∷ parts))) line
     (all-stand begun (column + length part + 1) (next ∷ parts) (omega arith) both.1))
 
-onto-lacks : (byte : ℕ) (parts : List (List ℕ)) → lacks 32 byte ≡ true → list_all (list_all (lacks 32)) parts ≡ true → list_all (list_all (lacks 32)) (onto_first byte parts) ≡ true
+onto-lacks : (byte : ℕ) (parts : List (List ℕ)) → lacks 32 byte ≡ true → list_all (list_all (lacks 32)) parts ≡ true
+    → list_all (list_all (lacks 32)) (onto_first byte parts) ≡ true
 onto-lacks byte [] other whole = and-true (lacks 32 byte && true) true (and-true (lacks 32 byte) true other refl) refl
 onto-lacks byte (part ∷ parts) other whole =
     let both = both-true (list_all (lacks 32) part) (list_all (list_all (lacks 32)) parts) whole in
-    and-true (lacks 32 byte && list_all (lacks 32) part) (list_all (list_all (lacks 32)) parts) (and-true (lacks 32 byte) (list_all (lacks 32) part) other both.0) both.1
+    and-true (lacks 32 byte && list_all (lacks 32) part) (list_all (list_all (lacks 32)) parts)
+    (and-true (lacks 32 byte) (list_all (lacks 32) part) other both.0) both.1
 
 lacks-by : (byte : ℕ) (rest : List ℕ) (test : Bool) → (byte == 32) ≡ test → list_all (list_all (lacks 32)) (parted_by 32 rest) ≡ true
     → list_all (list_all (lacks 32)) (cond test ([] ∷ parted_by 32 rest) (onto_first byte (parted_by 32 rest))) ≡ true

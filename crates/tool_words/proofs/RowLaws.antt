@@ -55,7 +55,8 @@ word-by true missing r flaw is = refl
 word-by false missing r flaw is = is
 
 -- a word is refused for its fault
-pub word-first : {A : Type 0} (reads : List ℕ → Result A Flaw) (flaw : List ℕ → Option Flaw) → ((text : List ℕ) → flaw_in (reads text) ≡ flaw text) → (word : WordAt)
+pub word-first : {A : Type 0} (reads : List ℕ → Result A Flaw) (flaw : List ℕ → Option Flaw) → ((text : List ℕ) → flaw_in (reads text) ≡ flaw text)
+    → (word : WordAt)
     → fault_in (word_read reads word) ≡ judged_word flaw word
 word-first reads flaw flaws word =
     word-by (length word.text == 0) (fault_at word.column why.Missing) (read_at word.column (reads word.text)) (flaw_fault word.column (flaw word.text))
@@ -83,7 +84,8 @@ word-back-by : {A : Type 0} (column : ℕ) (r : Result A Flaw) (x : A) (absent :
 word-back-by column r x true some is = cc some
 word-back-by column r x false some is = ap (read_at column) is
 
-pub word-back : {A : Type 0} (reads : List ℕ → Result A Flaw) (word : WordAt) (x : A) → (length word.text == 0) ≡ false → reads word.text ≡ Ok x → word_read reads word ≡ Ok x
+pub word-back : {A : Type 0} (reads : List ℕ → Result A Flaw) (word : WordAt) (x : A) → (length word.text == 0) ≡ false → reads word.text ≡ Ok x
+    → word_read reads word ≡ Ok x
 word-back reads word x some is = word-back-by word.column (reads word.text) x (length word.text == 0) some is
 
 -- the end
@@ -110,13 +112,15 @@ end-is = record {
 
 -- a word, and then a row
 module _ {A B : Type 0} (kind : Kind A) (row : Row B) (is_kind : IsExactKind kind) (is_row : IsExactRow row) where
-  both-first : (left : WordsLeft) → fault_in {A = A × B} (then_row kind.reads row.said left) ≡ first_or (judged_word kind.flaw (first_word left)) (row.fault (later left))
+  both-first : (left : WordsLeft)
+      → fault_in {A = A × B} (then_row kind.reads row.said left) ≡ first_or (judged_word kind.flaw (first_word left)) (row.fault (later left))
   both-first left =
       bind-fault {B = A × B} (word_read kind.reads (first_word left)) (λ x. row.said (later left) >>= (λ y. Ok (x, y)))
       (judged_word kind.flaw (first_word left)) (row.fault (later left)) (word-first kind.reads kind.flaw is_kind.flaws (first_word left))
       (λ x read. last-fault {B = A × B} (row.said (later left)) (λ y. (x, y)) ∙ is_row.first (later left))
 
-  both-spelled : (words : List WordAt) (absent : ℕ) (x : A × B) → then_row kind.reads row.said (words_left words absent) ≡ Ok x → AreBoth kind.Spells row.Spells x (texts_of words)
+  both-spelled : (words : List WordAt) (absent : ℕ) (x : A × B) → then_row kind.reads row.said (words_left words absent) ≡ Ok x
+      → AreBoth kind.Spells row.Spells x (texts_of words)
   both-spelled [] absent x is = cc is
   both-spelled (word ∷ words) absent x is =
       let first = bind-ok {B = A × B} (word_read kind.reads word) (λ a. row.said (words_left words absent) >>= (λ b. Ok (a, b))) x is in
@@ -126,7 +130,8 @@ module _ {A B : Type 0} (kind : Kind A) (row : Row B) (is_kind : IsExactKind kin
       subst (λ (y : A × B). AreBoth kind.Spells row.Spells y (word.text ∷ texts_of words)) equal
       (is_kind.spelled word.text first.0 read.some read.read, is_row.spelled (words_left words absent) rest.0 rest.1)
 
-  both-back : (words : List WordAt) (absent : ℕ) (x : A × B) → AreBoth kind.Spells row.Spells x (texts_of words) → then_row kind.reads row.said (words_left words absent) ≡ Ok x
+  both-back : (words : List WordAt) (absent : ℕ) (x : A × B) → AreBoth kind.Spells row.Spells x (texts_of words)
+      → then_row kind.reads row.said (words_left words absent) ≡ Ok x
   both-back [] absent x is = absurd is
   both-back (word ∷ words) absent x is =
       let some = word-some word.text (is_kind.are_words word.text x.0 is.0) in
@@ -136,7 +141,8 @@ module _ {A B : Type 0} (kind : Kind A) (row : Row B) (is_kind : IsExactKind kin
 
   both-words : (words : List (List ℕ)) (x : A × B) → AreBoth kind.Spells row.Spells x words → list_all is_whole_word words ≡ true
   both-words [] x is = absurd is
-  both-words (word ∷ words) x is = and-true (is_whole_word word) (list_all is_whole_word words) (is_kind.are_words word x.0 is.0) (is_row.are_words words x.1 is.1)
+  both-words (word ∷ words) x is =
+      and-true (is_whole_word word) (list_all is_whole_word words) (is_kind.are_words word x.0 is.0) (is_row.are_words words x.1 is.1)
 
   pub both-is : IsExactRow (kind ▷ row)
   both-is = record {
@@ -184,7 +190,8 @@ module _ {A B : Type 0} (kind : Kind A) (rows : A → Row B) (is_kind : IsExactK
       (word-first kind.reads kind.flaw is_kind.flaws (first_word left))
       (λ which read. chosen-by (kind.reads (first_word left).text) which (later left) (word-ok kind.reads (first_word left) which read).read)
 
-  choice-spelled : (words : List WordAt) (absent : ℕ) (y : B) → (choice kind rows).said (words_left words absent) ≡ Ok y → AreChosen kind rows y (texts_of words)
+  choice-spelled : (words : List WordAt) (absent : ℕ) (y : B) → (choice kind rows).said (words_left words absent) ≡ Ok y
+      → AreChosen kind rows y (texts_of words)
   choice-spelled [] absent y is = cc is
   choice-spelled (word ∷ words) absent y is =
       let first = bind-ok (word_read kind.reads word) (λ which. (rows which).said (words_left words absent)) y is in
@@ -201,7 +208,8 @@ module _ {A B : Type 0} (kind : Kind A) (rows : A → Row B) (is_kind : IsExactK
 
   choice-words : (words : List (List ℕ)) (y : B) → AreChosen kind rows y words → list_all is_whole_word words ≡ true
   choice-words [] y is = absurd is
-  choice-words (word ∷ words) y is = and-true (is_whole_word word) (list_all is_whole_word words) (is_kind.are_words word is.0 is.1) ((are_rows is.0).are_words words y is.2)
+  choice-words (word ∷ words) y is =
+      and-true (is_whole_word word) (list_all is_whole_word words) (is_kind.are_words word is.0 is.1) ((are_rows is.0).are_words words y is.2)
 
   pub choice-is : IsExactRow (choice kind rows)
   choice-is = record {
@@ -217,11 +225,13 @@ test-fault : {A : Type 0} (test : Bool) (r s : Result A LineFault) (one other : 
 test-fault true r s one other p q = p
 test-fault false r s one other p q = q
 
-test-spelled : {A : Type 0} (test : Bool) (r s : Result A LineFault) (x : A) (P Q : Type 0) → (r ≡ Ok x → P) → (s ≡ Ok x → Q) → (if test then r else s) ≡ Ok x → ByTest test P Q
+test-spelled : {A : Type 0} (test : Bool) (r s : Result A LineFault) (x : A) (P Q : Type 0) → (r ≡ Ok x → P) → (s ≡ Ok x → Q) → (if test then r else s) ≡ Ok x
+    → ByTest test P Q
 test-spelled true r s x P Q p q is = p is
 test-spelled false r s x P Q p q is = q is
 
-test-back : {A : Type 0} (test : Bool) (r s : Result A LineFault) (x : A) (P Q : Type 0) → (P → r ≡ Ok x) → (Q → s ≡ Ok x) → ByTest test P Q → (if test then r else s) ≡ Ok x
+test-back : {A : Type 0} (test : Bool) (r s : Result A LineFault) (x : A) (P Q : Type 0) → (P → r ≡ Ok x) → (Q → s ≡ Ok x) → ByTest test P Q
+    → (if test then r else s) ≡ Ok x
 test-back true r s x P Q p q is = p is
 test-back false r s x P Q p q is = q is
 
@@ -234,7 +244,8 @@ no-name [] is = cc is
 no-name (byte ∷ name) is = refl
 
 module _ {A : Type 0} (name : List ℕ) (row other : Row A) (is_name : is_whole_word name ≡ true) (is_row : IsExactRow row) (is_other : IsExactRow other) where
-  after-spelled : (words : List WordAt) (absent : ℕ) (x : A) → (after_word name row other).said (words_left words absent) ≡ Ok x → AreAfter name row.Spells other.Spells x (texts_of words)
+  after-spelled : (words : List WordAt) (absent : ℕ) (x : A) → (after_word name row other).said (words_left words absent) ≡ Ok x
+      → AreAfter name row.Spells other.Spells x (texts_of words)
   after-spelled [] absent x is =
       is_other.spelled (words_left [] absent) x
       (sym (ap (λ (test : Bool). if test then row.said (words_left [] absent) else other.said (words_left [] absent)) (no-name name is_name)) ∙ is)
@@ -243,7 +254,8 @@ module _ {A : Type 0} (name : List ℕ) (row other : Row A) (is_name : is_whole_
       (row.Spells x (texts_of words)) (other.Spells x (word.text ∷ texts_of words))
       (is_row.spelled (words_left words absent) x) (is_other.spelled (words_left (word ∷ words) absent) x) is
 
-  after-back : (words : List WordAt) (absent : ℕ) (x : A) → AreAfter name row.Spells other.Spells x (texts_of words) → (after_word name row other).said (words_left words absent) ≡ Ok x
+  after-back : (words : List WordAt) (absent : ℕ) (x : A) → AreAfter name row.Spells other.Spells x (texts_of words)
+      → (after_word name row other).said (words_left words absent) ≡ Ok x
   after-back [] absent x is =
       ap (λ (test : Bool). if test then row.said (words_left [] absent) else other.said (words_left [] absent)) (no-name name is_name)
       ∙ is_other.read_back (words_left [] absent) x is
@@ -256,12 +268,14 @@ module _ {A : Type 0} (name : List ℕ) (row other : Row A) (is_name : is_whole_
   after-words [] x is = refl
   after-words (word ∷ words) x is =
       test-words (bytes_eq word name) (list_all is_whole_word (word ∷ words)) (row.Spells x words) (other.Spells x (word ∷ words))
-      (λ equal spells. and-true (is_whole_word word) (list_all is_whole_word words) (ap is_whole_word ((bytes_decides word name).0 equal) ∙ is_name) (is_row.are_words words x spells))
+      (λ equal spells. and-true (is_whole_word word) (list_all is_whole_word words) (ap is_whole_word ((bytes_decides word name).0 equal) ∙ is_name)
+      (is_row.are_words words x spells))
       (is_other.are_words (word ∷ words) x) is
 
   pub after-is : IsExactRow (after_word name row other)
   after-is = record {
-    first = λ left. test-fault (bytes_eq (first_word left).text name) (row.said (later left)) (other.said left) (row.fault (later left)) (other.fault left) (is_row.first (later left)) (is_other.first left);
+    first = λ left. test-fault (bytes_eq (first_word left).text name) (row.said (later left)) (other.said left) (row.fault (later left)) (other.fault left)
+        (is_row.first (later left)) (is_other.first left);
     spelled = λ left x is. after-spelled left.words left.absent x is;
     read_back = λ left x is. after-back left.words left.absent x is;
     are_words = after-words;
@@ -282,7 +296,8 @@ module _ {A : Type 0} (place : ℕ) (judge : A → Option LineWhy) (row : Row A)
 
   checked-first : (left : WordsLeft) → fault_in ((judged_row place judge row).said left) ≡ (judged_row place judge row).fault left
   checked-first left =
-      bind-fault (row.said left) (λ x. allowed (word_at place left).column x (judge x)) (row.fault left) (refused_at (word_at place left).column judge (row.said left))
+      bind-fault (row.said left) (λ x. allowed (word_at place left).column x (judge x)) (row.fault left)
+      (refused_at (word_at place left).column judge (row.said left))
       (is_row.first left) (λ x read. checked-by (word_at place left).column (row.said left) x read)
 
   checked-spelled : (left : WordsLeft) (x : A) → (judged_row place judge row).said left ≡ Ok x → row.Spells x (texts_of left.words) × (judge x ≡ None)
@@ -305,7 +320,8 @@ module _ {A : Type 0} (place : ℕ) (judge : A → Option LineWhy) (row : Row A)
   }
 
 -- a word that may be left out
-flag-flaw-by : (test : Bool) → flaw_in {A = Unit {0}} (if test then Ok tt else Err (flaw_behind 0 why.UnknownWord)) ≡ (if test then None else Some (flaw_behind 0 why.UnknownWord))
+flag-flaw-by : (test : Bool)
+    → flaw_in {A = Unit {0}} (if test then Ok tt else Err (flaw_behind 0 why.UnknownWord)) ≡ (if test then None else Some (flaw_behind 0 why.UnknownWord))
 flag-flaw-by true = refl
 flag-flaw-by false = refl
 
@@ -315,11 +331,13 @@ flag-flaws name text = flag-flaw-by (bytes_eq text name)
 flag-first : (name : List ℕ) (words : List WordAt) → fault_in (flag_said name words) ≡ flag_fault name words
 flag-first name [] = refl
 flag-first name (word ∷ words) =
-    bind-fault {B = Bool} (word_read (flag_read name) word) (λ is. none_left words >>= (λ over. Ok true)) (judged_word (flag_flaw name) word) (nothing_more words)
+    bind-fault {B = Bool} (word_read (flag_read name) word) (λ is. none_left words >>= (λ over. Ok true)) (judged_word (flag_flaw name) word)
+    (nothing_more words)
     (word-first (flag_read name) (flag_flaw name) (flag-flaws name) word)
     (λ x read. last-fault {B = Bool} (none_left words) (λ over. true) ∙ end-first words)
 
-flag-named-by : (text name : List ℕ) (x : Unit {0}) (test : Bool) → (test ≡ true → text ≡ name) → (if test then Ok tt else Err (flaw_behind 0 why.UnknownWord)) ≡ Ok x → text ≡ name
+flag-named-by : (text name : List ℕ) (x : Unit {0}) (test : Bool) → (test ≡ true → text ≡ name)
+    → (if test then Ok tt else Err (flaw_behind 0 why.UnknownWord)) ≡ Ok x → text ≡ name
 flag-named-by text name x true means is = means refl
 flag-named-by text name x false means is = cc is
 
@@ -350,7 +368,8 @@ flag-reads-by false is = cc is
 flag-reads : (name text : List ℕ) → text ≡ name → flag_read name text ≡ Ok tt
 flag-reads name text is = flag-reads-by (bytes_eq text name) ((bytes_decides text name).1 is)
 
-flag-back : (name : List ℕ) → is_whole_word name ≡ true → (words : List WordAt) (flag : Bool) → texts_of words ≡ flag_words name flag → flag_said name words ≡ Ok flag
+flag-back : (name : List ℕ) → is_whole_word name ≡ true → (words : List WordAt) (flag : Bool) → texts_of words ≡ flag_words name flag
+    → flag_said name words ≡ Ok flag
 flag-back name is_name [] true is = cc is
 flag-back name is_name [] false is = refl
 flag-back name is_name (word ∷ words) false is = cc is
@@ -358,10 +377,12 @@ flag-back name is_name (word ∷ words) true is =
     let text : word.text ≡ name = cc is in
     let over : texts_of words ≡ [] = cc is in
     let some = word-some word.text (ap is_whole_word text ∙ is_name) in
-    bind-read {B = Bool} (word_read (flag_read name) word) (λ found. none_left words >>= (λ over. Ok true)) tt (word-back (flag_read name) word tt some (flag-reads name word.text text))
+    bind-read {B = Bool} (word_read (flag_read name) word) (λ found. none_left words >>= (λ over. Ok true)) tt
+    (word-back (flag_read name) word tt some (flag-reads name word.text text))
     ∙ bind-read {B = Bool} (none_left words) (λ over. Ok true) tt (end-back words tt over)
 
-flag-are-words : (name : List ℕ) → is_whole_word name ≡ true → (words : List (List ℕ)) (flag : Bool) → words ≡ flag_words name flag → list_all is_whole_word words ≡ true
+flag-are-words : (name : List ℕ) → is_whole_word name ≡ true → (words : List (List ℕ)) (flag : Bool) → words ≡ flag_words name flag
+    → list_all is_whole_word words ≡ true
 flag-are-words name is_name words true is = ap (list_all is_whole_word) is ∙ and-true (is_whole_word name) true is_name refl
 flag-are-words name is_name words false is = ap (list_all is_whole_word) is
 

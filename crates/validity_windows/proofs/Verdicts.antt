@@ -45,7 +45,8 @@ window_acks : (w : Marks) (ack : Option ℕ) → IsWhole w → InRange w → IsA
     → IsTrue (is_ack_within (ack_low (residues w)) (ack_high (residues w)) (residue_of ack)) ↔ AckLies (whole_ack_low w) w.gss ack
 window_acks w None whole range turn = (λ is. tt, λ is. refl)
 window_acks w (Some ack) whole range turn =
-    let counts = ack-count (residues w) w.iss w.gss ack (same-range w range) refl refl (omega (arith, whole.acknowledged, whole.sent)) whole.few_sent turn.0 turn.1 in
+    let counts = ack-count (residues w) w.iss w.gss ack (same-range w range) refl refl
+    (omega (arith, whole.acknowledged, whole.sent)) whole.few_sent turn.0 turn.1 in
     let test = within-test (residue ack) (ack_low (residues w)) (ack_high (residues w)) in
     (λ is. counts.0 (test.0 is), λ lies. test.1 (counts.1 lies))
 
@@ -61,7 +62,8 @@ later_acks w (Some ack) whole turn =
 valid_in_window : (w : Marks) (n : ℕ) (ack : Option ℕ) → IsWhole w → InRange w → w.isr ≤ n → n < w.isr + 2 ^ 48 → IsAckOfTurn w.iss ack
     → (by_window (residues w) (residue n) (residue_of ack) ≡ Valid) ↔ LiesInWindow w n ack
 valid_in_window w n ack whole range after near turn =
-    let both = both_tests (is_in_window (residues w) (residue n)) (is_ack_within (ack_low (residues w)) (ack_high (residues w)) (residue_of ack)) (SyncFor (residue n)) (sync_is_other (residue n)) in
+    let both = both_tests (is_in_window (residues w) (residue n)) (is_ack_within (ack_low (residues w)) (ack_high (residues w)) (residue_of ack))
+    (SyncFor (residue n)) (sync_is_other (residue n)) in
     let counts = sequence-count (residues w) w.isr w.gsr n (same-range w range) refl refl whole.received whole.few_received after near in
     let test = within-test (residue n) (sequence_low (residues w)) (sequence_high (residues w)) in
     let acks = window_acks w ack whole range turn in (
@@ -72,7 +74,8 @@ valid_in_window w n ack whole range after near turn =
 valid_after_greatest : (w : Marks) (n : ℕ) (ack : Option ℕ) (answer : ℕ) → IsWhole w → InRange w → w.isr ≤ n → n < w.isr + 2 ^ 48 → IsAckOfTurn w.iss ack
     → (by_greatest (residues w) (residue n) (residue_of ack) answer ≡ Valid) ↔ LiesAfterGreatest w n ack
 valid_after_greatest w n ack answer whole range after near turn =
-    let both = both_tests (is_after_greatest (residues w) (residue n)) (is_ack_within (residue w.gar) (ack_high (residues w)) (residue_of ack)) (SyncFor answer) (sync_is_other answer) in
+    let both = both_tests (is_after_greatest (residues w) (residue n)) (is_ack_within (residue w.gar) (ack_high (residues w)) (residue_of ack)) (SyncFor answer)
+    (sync_is_other answer) in
     let counts = greatest-count (residues w) w.isr w.gsr n (same-range w range) refl whole.received whole.few_received after near in
     let test = within-test (residue n) (residue (residue w.gsr + 1)) (sequence_high (residues w)) in
     let acks = later_acks w ack whole turn in (
@@ -83,7 +86,8 @@ valid_after_greatest w n ack answer whole range after near turn =
 valid_from_low_end : (w : Marks) (n : ℕ) (ack : Option ℕ) → IsWhole w → InRange w → w.isr ≤ n → n < w.isr + 2 ^ 48 → IsAckOfTurn w.iss ack
     → (by_low_end (residues w) (residue n) (residue_of ack) ≡ Valid) ↔ LiesFromLowEnd w n ack
 valid_from_low_end w n ack whole range after near turn =
-    let both = both_tests (is_not_old (residues w) (residue n)) (is_ack_within (ack_low (residues w)) (ack_high (residues w)) (residue_of ack)) Drop drop_is_other in
+    let both = both_tests (is_not_old (residues w) (residue n))
+    (is_ack_within (ack_low (residues w)) (ack_high (residues w)) (residue_of ack)) Drop drop_is_other in
     let counts = no_end-count (residues w) w.isr w.gsr n (same-range w range) refl refl whole.received whole.few_received after near in
     let test = within-test (residue n) (sequence_low (residues w)) (open_end (sequence_low (residues w))) in
     let acks = window_acks w ack whole range turn in (
@@ -104,7 +108,8 @@ valid_by_whole w types.Reset n ack whole range after near turn = valid_after_gre
 valid_by_whole w types.Sync n ack whole range after near turn = valid_from_low_end w n ack whole range after near turn
 valid_by_whole w types.SyncAck n ack whole range after near turn = valid_from_low_end w n ack whole range after near turn
 
-pub otherwise_refused : (m : Marks) (kind : PacketType) (number : ℕ) (ack : Option ℕ) → verdict m kind number ack ≢ Valid → verdict m kind number ack ≡ refusal m kind number
+pub otherwise_refused : (m : Marks) (kind : PacketType) (number : ℕ) (ack : Option ℕ) → verdict m kind number ack ≢ Valid
+    → verdict m kind number ack ≡ refusal m kind number
 otherwise_refused m types.Request number ack never = other_answer (is_in_window m number && is_ack_within (ack_low m) (ack_high m) ack) (SyncFor number) never
 otherwise_refused m types.Response number ack never = other_answer (is_in_window m number && is_ack_within (ack_low m) (ack_high m) ack) (SyncFor number) never
 otherwise_refused m types.Data number ack never = other_answer (is_in_window m number && is_ack_within (ack_low m) (ack_high m) ack) (SyncFor number) never

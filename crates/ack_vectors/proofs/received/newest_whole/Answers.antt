@@ -13,7 +13,8 @@ returns-then-is_whole_at c =
     let r = c.in-Some.record.now in let items = c.args.records.now.items in
     let there : slice_get items (c.loop-index.index - 1) ≡ Some r = search rules in
     let fits : is_whole_at c.args.n r ≡ true = search rules in
-    let one : newest_whole c.args.n (take (c.loop-index.index - 1 + 1) items) ≡ Some r = rw fits at (newest_whole-step c.args.n (c.loop-index.index - 1) items r there) in
+    let one : newest_whole c.args.n (take (c.loop-index.index - 1 + 1) items) ≡ Some r =
+    rw fits at (newest_whole-step c.args.n (c.loop-index.index - 1) items r there) in
     sym (subst (λ (k : ℕ). newest_whole c.args.n (take k items) ≡ Some r) (omega arith) one) ∙ c.loop-index.invariant
 
 pub loop-index-preserved-else-span-distance : goal.loop-index-preserved-else-span-distance
@@ -21,7 +22,8 @@ loop-index-preserved-else-span-distance c =
     let r = c.in-Some.record.now in let items = c.args.records.now.items in let left = newest_whole c.args.n (take (c.loop-index.index - 1) items) in
     let there : slice_get items (c.loop-index.index - 1) ≡ Some r = search rules in
     let other : is_whole_at c.args.n r ≡ false = search rules in
-    let one : newest_whole c.args.n (take (c.loop-index.index - 1 + 1) items) ≡ left = rw other at (newest_whole-step c.args.n (c.loop-index.index - 1) items r there) in
+    let one : newest_whole c.args.n (take (c.loop-index.index - 1 + 1) items) ≡ left =
+    rw other at (newest_whole-step c.args.n (c.loop-index.index - 1) items r there) in
     sym (subst (λ (k : ℕ). newest_whole c.args.n (take k items) ≡ left) (omega arith) one) ∙ c.loop-index.invariant
 
 -- no record before one that the number is too far below has it
@@ -31,7 +33,8 @@ returns-then-span-distance c =
     let there : slice_get items (c.loop-index.index - 1) ≡ Some r = search rules in
     let past : c.args.span < distance c.args.n r.number = search rules in
     let low : c.args.span < 2 ^ 48 = omega (arith, past) in
-    let one : newest_whole c.args.n (take (suc (c.loop-index.index - 1)) items) ≡ None = none_to c.args.n c.args.span (c.loop-index.index - 1) items r there (c.requires low) past in
+    let one : newest_whole c.args.n (take (suc (c.loop-index.index - 1)) items) ≡ None =
+    none_to c.args.n c.args.span (c.loop-index.index - 1) items r there (c.requires low) past in
     let here : suc (c.loop-index.index - 1) ≡ c.loop-index.index = omega arith in
     sym (subst (λ (k : ℕ). newest_whole c.args.n (take k items) ≡ None) here one) ∙ c.loop-index.invariant
 

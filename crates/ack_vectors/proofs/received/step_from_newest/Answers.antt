@@ -4,7 +4,8 @@ use Rattle.ack_vectors.proofs.received.step_from_newest.Goals as goal
 
 pub returns-in-Some : goal.returns-in-Some
 returns-in-Some c = record {
-  near = λ span near. rw c.distance.ensures.value (near_after span c.args.number c.args.records.now.items c.in-Some.newest.now (search rules) (search rules) near);
+  near = λ span near. rw c.distance.ensures.value
+      (near_after span c.args.number c.args.records.now.items c.in-Some.newest.now (search rules) (search rules) near);
 }
 
 pub returns-in-None : goal.returns-in-None

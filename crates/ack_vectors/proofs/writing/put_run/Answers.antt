@@ -6,7 +6,8 @@ use Rattle.ack_vectors.proofs.writing.put_run.Goals as goal
 pub returns-then-len-room-clause-cut : goal.returns-then-len-room-clause-cut
 returns-then-len-room-clause-cut c =
     let full : length c.loop-left.out.items ≡ c.args.room = omega arith in
-    sym (ap (λ xs. take c.args.room xs) (sym c.loop-left.invariant.joins) ∙ take_full c.args.room c.loop-left.out.items (pieces c.args.state c.loop-left.left) full)
+    sym (ap (λ xs. take c.args.room xs) (sym c.loop-left.invariant.joins)
+    ∙ take_full c.args.room c.loop-left.out.items (pieces c.args.state c.loop-left.left) full)
 
 pub loop-left-preserved : goal.loop-left-preserved
 loop-left-preserved c =
@@ -14,5 +15,6 @@ loop-left-preserved c =
     let same : c.min-length.result ≡ min c.loop-left.left 64 = c.min-length.ensures in
     record {
       fits = omega (arith, c.push.ensures.len, c.loop-left.invariant.fits);
-      joins = rw (c.push.ensures.items, append_assoc c.loop-left.out.items _ _, same) (ap (λ xs. c.loop-left.out.items ++ xs) (sym step) ∙ c.loop-left.invariant.joins);
+      joins = rw (c.push.ensures.items, append_assoc c.loop-left.out.items _ _, same)
+          (ap (λ xs. c.loop-left.out.items ++ xs) (sym step) ∙ c.loop-left.invariant.joins);
     }

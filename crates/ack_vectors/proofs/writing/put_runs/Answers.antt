@@ -16,7 +16,8 @@ returns-then-not-put_both-clause-bytes c =
     let joins = rw cons at c.loop-run.invariant.joins in
     let top : c.distance-top.result + 1 ≡ distance c.args.floor c.in-Some.run'.hi + 1 = omega arith in
     let bottom : c.distance-top.result + 1 - c.from.result ≡ c.distance-top.result + 1 - c.in-Some.run'.count = omega arith in
-    (step_cut c.args.room c.args.floor c.loop-run.left (c.distance-top.result + 1) (c.distance-top.result + 1 - c.from.result) c.min-top.result c.loop-run.out.items c.put_both.new.out.items
+    (step_cut c.args.room c.args.floor c.loop-run.left (c.distance-top.result + 1)
+    (c.distance-top.result + 1 - c.from.result) c.min-top.result c.loop-run.out.items c.put_both.new.out.items
     (bytes_by_runs c.args.floor c.args.left c.args.runs) c.in-Some.run' c.next.new.self top bottom c.if-bottom-left.true c.min-top.ensures
     c.if-not-put_both.ensures.cut c.if-not-put_both.ensures.long joins).0
 
@@ -33,7 +34,8 @@ loop-run-preserved-then-bottom-left c =
       finite = tt;
       laid = laid_wider c.args.floor (bound_below c.args.floor c.in-Some.run') 2048 c.next.new.self (omega arith) laid.1;
       fits = c.if-not-put_both.ensures.fits;
-      joins = step_joins c.args.floor c.loop-run.left (c.distance-top.result + 1) (c.distance-top.result + 1 - c.from.result) c.min-top.result c.loop-run.out.items c.put_both.new.out.items
+      joins = step_joins c.args.floor c.loop-run.left (c.distance-top.result + 1)
+          (c.distance-top.result + 1 - c.from.result) c.min-top.result c.loop-run.out.items c.put_both.new.out.items
           (bytes_by_runs c.args.floor c.args.left c.args.runs) c.in-Some.run' c.next.new.self top bottom c.if-bottom-left.true c.min-top.ensures
           c.if-not-put_both.ensures.whole joins;
     }

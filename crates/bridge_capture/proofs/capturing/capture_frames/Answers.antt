@@ -14,13 +14,16 @@ returns-clause-captured g c = λ bytes told.
     let header : c.put_file_header.new.text.items ≡ file_header false =
     on-ok c.put_file_header.result _ c.put_file_header.ensures (sym c.is_err.ensures.value ∙ c.if-is_err.false)
     ∙ ap (λ (front : List ℕ). front ++ file_header false) c.new-text.ensures.items in
-    subst (λ (first : Clock). Answers (file_header false ++ text_of_job capture_job (gone_through capture_job first bytes)) (is_some (gone_through capture_job first bytes).refusal)
+    subst (λ (first : Clock). Answers (file_header false ++ text_of_job capture_job (gone_through capture_job first bytes))
+    (is_some (gone_through capture_job first bytes).refusal)
     c.run_lines.result (g.S.Source.left c.run_lines.new.input) (g.K.Sink.taken c.args.output.now) (g.K.Sink.taken c.run_lines.new.output)) c.new-clock.ensures
-    (subst (λ (front : List ℕ). Answers (front ++ text_of_job capture_job (gone_through capture_job c.new-clock.result bytes)) (is_some (gone_through capture_job c.new-clock.result bytes).refusal)
+    (subst (λ (front : List ℕ). Answers (front ++ text_of_job capture_job (gone_through capture_job c.new-clock.result bytes))
+    (is_some (gone_through capture_job c.new-clock.result bytes).refusal)
     c.run_lines.result (g.S.Source.left c.run_lines.new.input) (g.K.Sink.taken c.args.output.now) (g.K.Sink.taken c.run_lines.new.output)) header
     (c.run_lines.ensures.through bytes told).answers)
 
 pub returns-clause-past : goal.returns-clause-past
 returns-clause-past g c = λ bytes told.
-    subst (λ (first : Clock). StopsWithin 16384 (gone_through capture_job first bytes).accepted bytes c.run_lines.result (g.S.Source.left c.run_lines.new.input))
+    subst (λ (first : Clock). StopsWithin 16384 (gone_through capture_job first bytes).accepted bytes c.run_lines.result
+    (g.S.Source.left c.run_lines.new.input))
     c.new-clock.ensures (c.run_lines.ensures.through bytes told).past

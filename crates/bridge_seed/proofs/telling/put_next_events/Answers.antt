@@ -12,7 +12,8 @@ play-requires c =
 
 pub loop-preserved : goal.loop-preserved
 loop-preserved c =
-    told-more c.args.more c.loop.counter c.args.run.now c.loop.run c.draw-event.new.self c.play.new.self c.draw-event.result c.args.text.now.items c.loop.text.items
+    told-more c.args.more c.loop.counter c.args.run.now c.loop.run c.draw-event.new.self c.play.new.self c.draw-event.result c.args.text.now.items
+    c.loop.text.items
     c.put_event_line.new.text.items (search rules) c.draw-event.ensures.event c.draw-event.ensures.rest c.in_ok-play.ensures c.in_ok-put_event_line.ensures
     c.loop.invariant
 

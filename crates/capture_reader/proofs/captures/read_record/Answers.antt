@@ -12,10 +12,13 @@ returns-in-Ok-clause-read g c =
     let header = c.in-Some.header in
     let left = g.S.Source.left in
     let middle = ahead_of c.read_header.new.ahead (left c.read_header.new.source) in
-    let first : HeaderRead left g.S.Source.faults c.args.order c.args.room c.args.ahead.now c.read_header.new.ahead c.args.source.now c.read_header.new.source (Ok (Some header)) =
-    subst (λ (found : Option RecordHeader). HeaderRead left g.S.Source.faults c.args.order c.args.room c.args.ahead.now c.read_header.new.ahead c.args.source.now c.read_header.new.source (Ok found))
+    let first : HeaderRead left g.S.Source.faults c.args.order c.args.room c.args.ahead.now c.read_header.new.ahead c.args.source.now c.read_header.new.source
+    (Ok (Some header)) =
+    subst (λ (found : Option RecordHeader). HeaderRead left g.S.Source.faults c.args.order c.args.room c.args.ahead.now c.read_header.new.ahead
+    c.args.source.now c.read_header.new.source (Ok found))
     c.in-Some.is c.in_ok-header.ensures.read in
-    let body : BodyRead left g.S.Source.faults header.captured (c.args.room - 16) c.read_header.new.ahead c.read_body.new.ahead c.read_header.new.source c.read_body.new.source (Ok c.in-Ok.field-0) =
+    let body : BodyRead left g.S.Source.faults header.captured
+    (c.args.room - 16) c.read_header.new.ahead c.read_body.new.ahead c.read_header.new.source c.read_body.new.source (Ok c.in-Ok.field-0) =
     c.in-Ok.ensures.read in (
       omega (arith, first.0, body.1),
       body.2,
@@ -30,10 +33,13 @@ returns-in-Err-clause-read g c =
     let all = ahead_of c.args.ahead.now (left c.args.source.now) in
     let middle = ahead_of c.read_header.new.ahead (left c.read_header.new.source) in
     let why = c.in-Err.fault in
-    let first : HeaderRead left g.S.Source.faults c.args.order c.args.room c.args.ahead.now c.read_header.new.ahead c.args.source.now c.read_header.new.source (Ok (Some header)) =
-    subst (λ (found : Option RecordHeader). HeaderRead left g.S.Source.faults c.args.order c.args.room c.args.ahead.now c.read_header.new.ahead c.args.source.now c.read_header.new.source (Ok found))
+    let first : HeaderRead left g.S.Source.faults c.args.order c.args.room c.args.ahead.now c.read_header.new.ahead c.args.source.now c.read_header.new.source
+    (Ok (Some header)) =
+    subst (λ (found : Option RecordHeader). HeaderRead left g.S.Source.faults c.args.order c.args.room c.args.ahead.now c.read_header.new.ahead
+    c.args.source.now c.read_header.new.source (Ok found))
     c.in-Some.is c.in_ok-header.ensures.read in
-    let body : BodyRead left g.S.Source.faults header.captured (c.args.room - 16) c.read_header.new.ahead c.read_body.new.ahead c.read_header.new.source c.read_body.new.source (Err why) =
+    let body : BodyRead left g.S.Source.faults header.captured
+    (c.args.room - 16) c.read_header.new.ahead c.read_body.new.ahead c.read_header.new.source c.read_body.new.source (Err why) =
     c.in-Err.ensures.read in (
       body.0,
       (16, omega arith, c.in-Err.ensures.same ∙ first.1),

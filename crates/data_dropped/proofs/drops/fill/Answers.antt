@@ -17,7 +17,8 @@ loop-index-preserved c =
           let items : List DropEntry = c.args.drops.now.items in
           let there : slice_get items c.loop-index.index ≡ Some w.in-Some.entry.now = search rules in
           w.table-is ∙ w.note.ensures.noted
-          ∙ table-step items c.loop-index.index w.in-Some.entry.now c.args.ack c.loop-index.table there w.note.ensures.number_fits w.note.ensures.ack_fits c.loop-index.invariant
+          ∙ table-step items c.loop-index.index w.in-Some.entry.now c.args.ack c.loop-index.table there w.note.ensures.number_fits w.note.ensures.ack_fits
+          c.loop-index.invariant
       | in_default w ↦
           let items : List DropEntry = c.args.drops.now.items in
           let none : ◌≡◌ {A = Option DropEntry} (slice_get items c.loop-index.index) None = search rules in

@@ -16,7 +16,8 @@ loop-byte-preserved c =
     let inside : c.loop-byte.byte-index < length c.args.bytes.now = omega arith in
     let size = length-byte c.args.bytes.now c.loop-byte.byte-index c.numbers_in-count.result inside c.numbers_in-count.ensures in
     record {
-      same = behind-byte c.args.bytes.now c.loop-byte.byte-index c.numbers_in-count.result inside c.numbers_in-count.ensures c.loop-byte.left c.if-left-count.false
+      same = behind-byte c.args.bytes.now c.loop-byte.byte-index c.numbers_in-count.result inside c.numbers_in-count.ensures c.loop-byte.left
+          c.if-left-count.false
           ∙ c.loop-byte.invariant.same;
       passed = omega (arith, size, c.loop-byte.invariant.passed, c.if-left-count.false);
     }

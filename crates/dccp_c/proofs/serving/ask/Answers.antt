@@ -6,5 +6,6 @@ use Rattle.dccp_c.proofs.serving.ask.Goals as goal
 
 pub returns : goal.returns
 returns c =
-    done_as c.args.listener.now c.act.new.self (call_turn c.args.peer (call_of c.args.act) c.act.new.out c.act.result) c.act.new.out (Stepped (seen_if c.act.result))
+    done_as c.args.listener.now c.act.new.self (call_turn c.args.peer (call_of c.args.act) c.act.new.out c.act.result) c.act.new.out
+    (Stepped (seen_if c.act.result))
     c.act.ensures.turn c.act.ensures.computed

@@ -5,8 +5,10 @@ use Rattle.dccp_sum.proofs.packet_sum.add_covered.Goals as goal
 
 pub returns-then-covered-lt-AFTER_CHECKSUM : goal.returns-then-covered-lt-AFTER_CHECKSUM
 returns-then-covered-lt-AFTER_CHECKSUM c =
-    same-short c.args.bytes.now c.args.covered c.min.result c.args.start c.add_words.result c.requires.whole (omega arith) (omega arith) c.add_words.ensures.value
+    same-short c.args.bytes.now c.args.covered c.min.result c.args.start c.add_words.result c.requires.whole (omega arith)
+    (omega arith) c.add_words.ensures.value
 
 pub returns : goal.returns
 returns c =
-    same-long c.args.bytes.now c.args.covered c.args.start c.add_words-before.result c.add_words-2.result c.requires.whole (omega arith) c.add_words-before.ensures.value c.add_words-2.ensures.value
+    same-long c.args.bytes.now c.args.covered c.args.start c.add_words-before.result c.add_words-2.result c.requires.whole
+    (omega arith) c.add_words-before.ensures.value c.add_words-2.ensures.value

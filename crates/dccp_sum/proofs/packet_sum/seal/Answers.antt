@@ -7,4 +7,5 @@ use Rattle.dccp_sum.proofs.packet_sum.seal.Goals as goal
 pub returns-clause-accepted : goal.returns-clause-accepted
 returns-clause-accepted c = λ _.
     ap (checked c.args.pseudo.now) c.write_checksum.ensures
-    ∙ checked-sealed c.args.pseudo.now c.args.bytes.now c.in-Some.covered c.checksum-sum.result c.requires.low (sym c.covered.ensures ∙ c.in-Some.is) c.checksum-sum.ensures (omega arith)
+    ∙ checked-sealed c.args.pseudo.now c.args.bytes.now c.in-Some.covered c.checksum-sum.result c.requires.low
+    (sym c.covered.ensures ∙ c.in-Some.is) c.checksum-sum.ensures (omega arith)

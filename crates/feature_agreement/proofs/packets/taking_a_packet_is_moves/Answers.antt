@@ -11,4 +11,5 @@ pub returns-clause-asks : goal.returns-clause-asks
 returns-clause-asks c = λ p fits few is. asks p.iss p.greatest p.count p.row p.there p.frames is.newer is.sound is.begun p.events is.heard fits few
 
 pub returns-clause-offers : goal.returns-clause-offers
-returns-clause-offers c = λ p confirmed fits few is. offers p.iss p.greatest p.count p.row p.there p.frames is.newer is.sound is.begun p.events is.heard confirmed fits few
+returns-clause-offers c =
+    λ p confirmed fits few is. offers p.iss p.greatest p.count p.row p.there p.frames is.newer is.sound is.begun p.events is.heard confirmed fits few

@@ -12,7 +12,8 @@ loop-free-preserved c =
     rw c.from.ensures record {
       size = length-set nodes (free - 1) made ∙ c.loop-free.invariant.size;
       fits = omega (arith, c.loop-free.invariant.fits);
-      path = chain_more nodes free (free - 1) made c.loop-free.invariant.size (omega (arith, c.loop-free-test.true)) c.loop-free.invariant.fits refl c.loop-free.invariant.path;
+      path = chain_more nodes free (free - 1) made c.loop-free.invariant.size
+          (omega (arith, c.loop-free-test.true)) c.loop-free.invariant.fits refl c.loop-free.invariant.path;
     }
 
 pub returns-clause-linked : goal.returns-clause-linked

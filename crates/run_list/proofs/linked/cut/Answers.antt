@@ -13,7 +13,8 @@ use Rattle.run_list.proofs.linked.cut.Goals as goal
 pub index-last-requires : goal.index-last-requires
 index-last-requires c =
     let place = c.place_below-before.ensures.place.place in
-    let fits : c.place_below-before.result.before ≤ 1024 = last-fits c.deref.result.now c.args.runs.now.first c.place_below-before.result.at c.place_below-before.result.before
+    let fits : c.place_below-before.result.before ≤ 1024 =
+    last-fits c.deref.result.now c.args.runs.now.first c.place_below-before.result.at c.place_below-before.result.before
     place.passed place.passed_path place.last in
     omega (arith, c.requires.linked.size)
 
@@ -21,10 +22,14 @@ pub overflow_sub-left : goal.overflow_sub-left
 overflow_sub-left c =
     let nodes = c.args.runs.now.nodes.items in
     let before = c.place_below-before.result.before in
-    let cuts : IsPlaceBelow c.args.floor c.distance-rise.result nodes c.args.runs.now.first before c.place_below-before.result.at = rw c.deref.ensures.value at c.place_below-before.ensures.place in
-    let fits : before ≤ 1024 = last-fits nodes c.args.runs.now.first c.place_below-before.result.at before cuts.place.passed cuts.place.passed_path cuts.place.last in
-    let read : c.index-last.result.now ≡ node_at nodes before = read_at nodes c.from.result before c.index-last.result.now c.index-last.ensures c.from.ensures (omega (arith, c.requires.linked.size)) in
-    let hi : distance c.args.floor c.index-last.result.now.hi ≡ distance c.args.floor (node_at nodes before).hi = ap (λ (n : Node). distance c.args.floor n.hi) read in
+    let cuts : IsPlaceBelow c.args.floor c.distance-rise.result nodes c.args.runs.now.first before c.place_below-before.result.at =
+    rw c.deref.ensures.value at c.place_below-before.ensures.place in
+    let fits : before ≤ 1024 =
+    last-fits nodes c.args.runs.now.first c.place_below-before.result.at before cuts.place.passed cuts.place.passed_path cuts.place.last in
+    let read : c.index-last.result.now ≡ node_at nodes before =
+    read_at nodes c.from.result before c.index-last.result.now c.index-last.ensures c.from.ensures (omega (arith, c.requires.linked.size)) in
+    let hi : distance c.args.floor c.index-last.result.now.hi ≡ distance c.args.floor (node_at nodes before).hi =
+    ap (λ (n : Node). distance c.args.floor n.hi) read in
     let kept : c.distance-rise.result ≤ distance c.args.floor (node_at nodes before).hi = cuts.kept (omega arith) in
     omega arith
 
@@ -32,17 +37,24 @@ pub overflow_cast-min : goal.overflow_cast-min
 overflow_cast-min c =
     let nodes = c.args.runs.now.nodes.items in
     let before = c.place_below-before.result.before in
-    let cuts : IsPlaceBelow c.args.floor c.distance-rise.result nodes c.args.runs.now.first before c.place_below-before.result.at = rw c.deref.ensures.value at c.place_below-before.ensures.place in
-    let fits : before ≤ 1024 = last-fits nodes c.args.runs.now.first c.place_below-before.result.at before cuts.place.passed cuts.place.passed_path cuts.place.last in
-    let read : c.index-last.result.now ≡ node_at nodes before = read_at nodes c.from.result before c.index-last.result.now c.index-last.ensures c.from.ensures (omega (arith, c.requires.linked.size)) in
-    let hi : distance c.args.floor c.index-last.result.now.hi ≡ distance c.args.floor (node_at nodes before).hi = ap (λ (n : Node). distance c.args.floor n.hi) read in
-    let low : distance c.args.floor (node_at nodes before).hi < 2048 = cut_low c.args.floor nodes c.args.runs.now.first before c.place_below-before.result.at cuts.place c.requires.linked.size (omega arith) c.requires.laid in
+    let cuts : IsPlaceBelow c.args.floor c.distance-rise.result nodes c.args.runs.now.first before c.place_below-before.result.at =
+    rw c.deref.ensures.value at c.place_below-before.ensures.place in
+    let fits : before ≤ 1024 =
+    last-fits nodes c.args.runs.now.first c.place_below-before.result.at before cuts.place.passed cuts.place.passed_path cuts.place.last in
+    let read : c.index-last.result.now ≡ node_at nodes before =
+    read_at nodes c.from.result before c.index-last.result.now c.index-last.ensures c.from.ensures (omega (arith, c.requires.linked.size)) in
+    let hi : distance c.args.floor c.index-last.result.now.hi ≡ distance c.args.floor (node_at nodes before).hi =
+    ap (λ (n : Node). distance c.args.floor n.hi) read in
+    let low : distance c.args.floor (node_at nodes before).hi < 2048 =
+    cut_low c.args.floor nodes c.args.runs.now.first before c.place_below-before.result.at cuts.place c.requires.linked.size
+    (omega arith) c.requires.laid in
     omega arith
 
 pub index_mut-requires : goal.index_mut-requires
 index_mut-requires c =
     let place = c.place_below-before.ensures.place.place in
-    let fits : c.place_below-before.result.before ≤ 1024 = last-fits c.deref.result.now c.args.runs.now.first c.place_below-before.result.at c.place_below-before.result.before
+    let fits : c.place_below-before.result.before ≤ 1024 =
+    last-fits c.deref.result.now c.args.runs.now.first c.place_below-before.result.at c.place_below-before.result.before
     place.passed place.passed_path place.last in
     omega (arith, c.requires.linked.size)
 
@@ -54,15 +66,20 @@ release-requires c =
     let first = c.args.runs.now.first in
     let free = c.args.runs.now.free in
     let rise : c.distance-rise.result ≡ distance c.args.floor c.args.to = c.distance-rise.ensures.value in
-    let cuts : IsPlaceBelow c.args.floor (distance c.args.floor c.args.to) nodes first before at = rw (c.deref.ensures.value, rise) at c.place_below-before.ensures.place in
+    let cuts : IsPlaceBelow c.args.floor (distance c.args.floor c.args.to) nodes first before at =
+    rw (c.deref.ensures.value, rise) at c.place_below-before.ensures.place in
     let fits : before ≤ 1024 = last-fits nodes first at before cuts.place.passed cuts.place.passed_path cuts.place.last in
     elim c.if-before-eq-NONE.branch [
       | goal.then-before-eq-NONE w ↦ rw w.runs-is record {
-        parted = (cut_first c.args.floor c.args.to nodes first free before at c.requires.linked cuts w.if-before-eq-NONE.true (search rules) (search rules) (omega arith) c.requires.laid).0;
+        parted = (cut_first c.args.floor c.args.to nodes first free before at c.requires.linked cuts w.if-before-eq-NONE.true (search rules) (search rules)
+            (omega arith) c.requires.laid).0;
       }
       | goal.else-before-eq-NONE w ↦
           let made : Node = record { hi = w.index-last.result.now.hi; count = w.min.result; next = 1024 } in
-          rw (w.runs-is, w.from-else-before-eq-NONE-2.ensures) record { parted = (cut_parted nodes first free before at made c.requires.linked cuts.place (omega arith) refl).0 }
+          rw (w.runs-is, w.from-else-before-eq-NONE-2.ensures) record {
+            parted =
+                (cut_parted nodes first free before at made c.requires.linked cuts.place (omega arith) refl).0;
+          }
     ]
 
 pub returns-clause-laid : goal.returns-clause-laid
@@ -73,19 +90,25 @@ returns-clause-laid c =
     let first = c.args.runs.now.first in
     let free = c.args.runs.now.free in
     let rise : c.distance-rise.result ≡ distance c.args.floor c.args.to = c.distance-rise.ensures.value in
-    let cuts : IsPlaceBelow c.args.floor (distance c.args.floor c.args.to) nodes first before at = rw (c.deref.ensures.value, rise) at c.place_below-before.ensures.place in
+    let cuts : IsPlaceBelow c.args.floor (distance c.args.floor c.args.to) nodes first before at =
+    rw (c.deref.ensures.value, rise) at c.place_below-before.ensures.place in
     let fits : before ≤ 1024 = last-fits nodes first at before cuts.place.passed cuts.place.passed_path cuts.place.last in
     rw c.release.ensures.stays (elim c.if-before-eq-NONE.branch [
       | goal.then-before-eq-NONE w ↦ rw w.runs-is
-          (rw (cut_first c.args.floor c.args.to nodes first free before at c.requires.linked cuts w.if-before-eq-NONE.true (search rules) (search rules) (omega arith) c.requires.laid).1 tt)
+          (rw (cut_first c.args.floor c.args.to nodes first free before at c.requires.linked cuts w.if-before-eq-NONE.true (search rules) (search rules)
+          (omega arith) c.requires.laid).1 tt)
       | goal.else-before-eq-NONE w ↦
-          let read : w.index-last.result.now ≡ node_at nodes before = read_at nodes w.from.result before w.index-last.result.now w.index-last.ensures w.from.ensures (omega (arith, c.requires.linked.size)) in
+          let read : w.index-last.result.now ≡ node_at nodes before =
+          read_at nodes w.from.result before w.index-last.result.now w.index-last.ensures w.from.ensures (omega (arith, c.requires.linked.size)) in
           let made : Node = record { hi = w.index-last.result.now.hi; count = w.min.result; next = 1024 } in
           let kept : List Stretch = runs_at nodes (front cuts.place.passed) in
-          let hi : distance c.args.floor w.index-last.result.now.hi ≡ distance c.args.floor (node_at nodes before).hi = ap (λ (n : Node). distance c.args.floor n.hi) read in
+          let hi : distance c.args.floor w.index-last.result.now.hi ≡ distance c.args.floor (node_at nodes before).hi =
+          ap (λ (n : Node). distance c.args.floor n.hi) read in
           let count : w.index-last.result.now.count ≡ (node_at nodes before).count = ap (λ (n : Node). n.count) read in
-          let few : w.min.result ≡ min (node_at nodes before).count (distance c.args.floor (node_at nodes before).hi - distance c.args.floor c.args.to + 1) = omega arith in
-          let both = cut_behind c.args.floor c.args.to w.min.result nodes first free before at c.requires.linked cuts (omega arith) (search rules) (search rules) (omega arith) c.requires.laid few in
+          let few : w.min.result ≡ min (node_at nodes before).count (distance c.args.floor (node_at nodes before).hi - distance c.args.floor c.args.to + 1) =
+          omega arith in
+          let both = cut_behind c.args.floor c.args.to w.min.result nodes first free before at c.requires.linked cuts (omega arith) (search rules)
+          (search rules) (omega arith) c.requires.laid few in
           let P : Node → Type 0 = λ n. AreLaid c.args.to 2048 (kept ++ stretch n.hi w.min.result ∷ []) in
           rw (w.runs-is, w.from-else-before-eq-NONE-2.ensures)
           (rw (cut_parted nodes first free before at made c.requires.linked cuts.place (omega arith) refl).1 (subst P (sym read) both.0))
@@ -99,21 +122,28 @@ returns-clause-numbers c =
     let first = c.args.runs.now.first in
     let free = c.args.runs.now.free in
     let rise : c.distance-rise.result ≡ distance c.args.floor c.args.to = c.distance-rise.ensures.value in
-    let cuts : IsPlaceBelow c.args.floor (distance c.args.floor c.args.to) nodes first before at = rw (c.deref.ensures.value, rise) at c.place_below-before.ensures.place in
+    let cuts : IsPlaceBelow c.args.floor (distance c.args.floor c.args.to) nodes first before at =
+    rw (c.deref.ensures.value, rise) at c.place_below-before.ensures.place in
     let fits : before ≤ 1024 = last-fits nodes first at before cuts.place.passed cuts.place.passed_path cuts.place.last in
     rw c.release.ensures.stays (elim c.if-before-eq-NONE.branch [
       | goal.then-before-eq-NONE w ↦
-          let all = cut_first c.args.floor c.args.to nodes first free before at c.requires.linked cuts w.if-before-eq-NONE.true (search rules) (search rules) (omega arith) c.requires.laid in
+          let all = cut_first c.args.floor c.args.to nodes first free before at c.requires.linked cuts w.if-before-eq-NONE.true (search rules) (search rules)
+          (omega arith) c.requires.laid in
           rw w.runs-is (ap (λ (ss : List Stretch). numbers_of ss) all.1 ∙ sym all.2)
       | goal.else-before-eq-NONE w ↦
-          let read : w.index-last.result.now ≡ node_at nodes before = read_at nodes w.from.result before w.index-last.result.now w.index-last.ensures w.from.ensures (omega (arith, c.requires.linked.size)) in
+          let read : w.index-last.result.now ≡ node_at nodes before =
+          read_at nodes w.from.result before w.index-last.result.now w.index-last.ensures w.from.ensures (omega (arith, c.requires.linked.size)) in
           let made : Node = record { hi = w.index-last.result.now.hi; count = w.min.result; next = 1024 } in
           let kept : List Stretch = runs_at nodes (front cuts.place.passed) in
-          let hi : distance c.args.floor w.index-last.result.now.hi ≡ distance c.args.floor (node_at nodes before).hi = ap (λ (n : Node). distance c.args.floor n.hi) read in
+          let hi : distance c.args.floor w.index-last.result.now.hi ≡ distance c.args.floor (node_at nodes before).hi =
+          ap (λ (n : Node). distance c.args.floor n.hi) read in
           let count : w.index-last.result.now.count ≡ (node_at nodes before).count = ap (λ (n : Node). n.count) read in
-          let few : w.min.result ≡ min (node_at nodes before).count (distance c.args.floor (node_at nodes before).hi - distance c.args.floor c.args.to + 1) = omega arith in
-          let both = cut_behind c.args.floor c.args.to w.min.result nodes first free before at c.requires.linked cuts (omega arith) (search rules) (search rules) (omega arith) c.requires.laid few in
+          let few : w.min.result ≡ min (node_at nodes before).count (distance c.args.floor (node_at nodes before).hi - distance c.args.floor c.args.to + 1) =
+          omega arith in
+          let both = cut_behind c.args.floor c.args.to w.min.result nodes first free before at c.requires.linked cuts (omega arith) (search rules)
+          (search rules) (omega arith) c.requires.laid few in
           let P : Node → Type 0 = λ n. numbers_of (kept ++ stretch n.hi w.min.result ∷ []) ≡ filter (is_from c.args.to) (numbers_of (runs_from nodes first)) in
           rw (w.runs-is, w.from-else-before-eq-NONE-2.ensures)
-          (ap (λ (ss : List Stretch). numbers_of ss) (cut_parted nodes first free before at made c.requires.linked cuts.place (omega arith) refl).1 ∙ subst P (sym read) both.1)
+          (ap (λ (ss : List Stretch). numbers_of ss) (cut_parted nodes first free before at made c.requires.linked cuts.place (omega arith) refl).1
+          ∙ subst P (sym read) both.1)
     ])

@@ -15,7 +15,8 @@ pub overflow_add-node : goal.overflow_add-node
 overflow_add-node c =
     let nodes = c.args.runs.now.nodes.items in
     let place = c.requires.place.place in
-    let read : c.index-node.result.now ≡ node_at nodes c.args.at = read_at nodes c.from.result c.args.at c.index-node.result.now c.index-node.ensures c.from.ensures (omega (arith, c.requires.linked.size)) in
+    let read : c.index-node.result.now ≡ node_at nodes c.args.at =
+    read_at nodes c.from.result c.args.at c.index-node.result.now c.index-node.ensures c.from.ensures (omega (arith, c.requires.linked.size)) in
     let count : c.index-node.result.now.count ≡ (node_at nodes c.args.at).count = ap (λ (n : Node). n.count) read in
     let laid = (place_laid c.args.floor nodes c.args.runs.now.first c.args.before c.args.at place c.requires.linked.size c.requires.within c.requires.laid).0 in
     let bound = place_bound c.args.floor nodes c.args.runs.now.first c.args.before c.args.at place c.requires.linked.size c.requires.laid in
@@ -26,12 +27,15 @@ overflow_add-node-then-distance c =
     let nodes = c.args.runs.now.nodes.items in
     let place = c.requires.place.place in
     let next = c.index-node.result.now.next in
-    let read : c.index-node.result.now ≡ node_at nodes c.args.at = read_at nodes c.from.result c.args.at c.index-node.result.now c.index-node.ensures c.from.ensures (omega (arith, c.requires.linked.size)) in
-    let read_next : c.index-below.result.now ≡ node_at nodes next = read_at nodes c.from-then-node-lt-NONE.result next c.index-below.result.now c.index-below.ensures c.from-then-node-lt-NONE.ensures
+    let read : c.index-node.result.now ≡ node_at nodes c.args.at =
+    read_at nodes c.from.result c.args.at c.index-node.result.now c.index-node.ensures c.from.ensures (omega (arith, c.requires.linked.size)) in
+    let read_next : c.index-below.result.now ≡ node_at nodes next =
+    read_at nodes c.from-then-node-lt-NONE.result next c.index-below.result.now c.index-below.ensures c.from-then-node-lt-NONE.ensures
     (omega (arith, c.requires.linked.size)) in
     let count : c.index-node.result.now.count ≡ (node_at nodes c.args.at).count = ap (λ (n : Node). n.count) read in
     let count_next : c.index-below.result.now.count ≡ (node_at nodes next).count = ap (λ (n : Node). n.count) read_next in
-    let laid = both_laid c.args.floor nodes c.args.runs.now.first c.args.before c.args.at next place c.requires.linked.size c.requires.within (ap (λ (n : Node). n.next) read) (omega arith) c.requires.laid in
+    let laid = both_laid c.args.floor nodes c.args.runs.now.first c.args.before c.args.at next place c.requires.linked.size c.requires.within
+    (ap (λ (n : Node). n.next) read) (omega arith) c.requires.laid in
     let bound = place_bound c.args.floor nodes c.args.runs.now.first c.args.before c.args.at place c.requires.linked.size c.requires.laid in
     omega (arith, laid.0.above, laid.0.below, laid.1.0.above, laid.1.0.below)
 
@@ -39,12 +43,25 @@ pub returns-then-distance-clause-linked : goal.returns-then-distance-clause-link
 returns-then-distance-clause-linked c =
     let nodes = c.args.runs.now.nodes.items in
     let next = c.index-node.result.now.next in
-    let read : c.index-node.result.now ≡ node_at nodes c.args.at = read_at nodes c.from.result c.args.at c.index-node.result.now c.index-node.ensures c.from.ensures (omega (arith, c.requires.linked.size)) in
-    let read_next : c.index-below.result.now ≡ node_at nodes next = read_at nodes c.from-then-node-lt-NONE.result next c.index-below.result.now c.index-below.ensures c.from-then-node-lt-NONE.ensures
+    let read : c.index-node.result.now ≡ node_at nodes c.args.at =
+    read_at nodes c.from.result c.args.at c.index-node.result.now c.index-node.ensures c.from.ensures (omega (arith, c.requires.linked.size)) in
+    let read_next : c.index-below.result.now ≡ node_at nodes next =
+    read_at nodes c.from-then-node-lt-NONE.result next c.index-below.result.now c.index-below.ensures c.from-then-node-lt-NONE.ensures
     (omega (arith, c.requires.linked.size)) in
-    let made : Node = record { hi = c.index-node.result.now.hi; count = c.index-node.result.now.count + 1 + c.index-below.result.now.count; next = c.index-below.result.now.next } in
-    let freed : Node = record { hi = c.index_mut-then-distance.result.now.hi; count = c.index_mut-then-distance.result.now.count; next = c.args.runs.now.free } in
-    rw (c.from-then-distance.ensures, c.from-then-distance-2.ensures) (join_linked nodes c.args.runs.now.first c.args.runs.now.free c.args.before c.args.at next made freed
+    let made : Node = record {
+      hi = c.index-node.result.now.hi;
+      count = c.index-node.result.now.count + 1 + c.index-below.result.now.count;
+      next =
+          c.index-below.result.now.next;
+    } in
+    let freed : Node = record {
+      hi = c.index_mut-then-distance.result.now.hi;
+      count = c.index_mut-then-distance.result.now.count;
+      next =
+          c.args.runs.now.free;
+    } in
+    rw (c.from-then-distance.ensures, c.from-then-distance-2.ensures)
+    (join_linked nodes c.args.runs.now.first c.args.runs.now.free c.args.before c.args.at next made freed
     c.requires.linked c.requires.place.place c.requires.within (ap (λ (n : Node). n.next) read) (omega arith) (ap (λ (n : Node). n.next) read_next) refl).0
 
 pub returns-then-distance-clause-adds : goal.returns-then-distance-clause-adds
@@ -53,17 +70,32 @@ returns-then-distance-clause-adds c =
     let first = c.args.runs.now.first in
     let place = c.requires.place.place in
     let next = c.index-node.result.now.next in
-    let read : c.index-node.result.now ≡ node_at nodes c.args.at = read_at nodes c.from.result c.args.at c.index-node.result.now c.index-node.ensures c.from.ensures (omega (arith, c.requires.linked.size)) in
-    let read_next : c.index-below.result.now ≡ node_at nodes next = read_at nodes c.from-then-node-lt-NONE.result next c.index-below.result.now c.index-below.ensures c.from-then-node-lt-NONE.ensures
+    let read : c.index-node.result.now ≡ node_at nodes c.args.at =
+    read_at nodes c.from.result c.args.at c.index-node.result.now c.index-node.ensures c.from.ensures (omega (arith, c.requires.linked.size)) in
+    let read_next : c.index-below.result.now ≡ node_at nodes next =
+    read_at nodes c.from-then-node-lt-NONE.result next c.index-below.result.now c.index-below.ensures c.from-then-node-lt-NONE.ensures
     (omega (arith, c.requires.linked.size)) in
-    let made : Node = record { hi = c.index-node.result.now.hi; count = c.index-node.result.now.count + 1 + c.index-below.result.now.count; next = c.index-below.result.now.next } in
-    let freed : Node = record { hi = c.index_mut-then-distance.result.now.hi; count = c.index_mut-then-distance.result.now.count; next = c.args.runs.now.free } in
+    let made : Node = record {
+      hi = c.index-node.result.now.hi;
+      count = c.index-node.result.now.count + 1 + c.index-below.result.now.count;
+      next =
+          c.index-below.result.now.next;
+    } in
+    let freed : Node = record {
+      hi = c.index_mut-then-distance.result.now.hi;
+      count = c.index_mut-then-distance.result.now.count;
+      next =
+          c.args.runs.now.free;
+    } in
     let link : next ≡ (node_at nodes c.args.at).next = ap (λ (n : Node). n.next) read in
     let all = join_linked nodes first c.args.runs.now.free c.args.before c.args.at next made freed
     c.requires.linked place c.requires.within link (omega arith) (ap (λ (n : Node). n.next) read_next) refl in
-    let laid = both_laid c.args.floor nodes first c.args.before c.args.at next place c.requires.linked.size c.requires.within link (omega arith) c.requires.laid in
-    let hi : distance c.args.floor c.index-below.result.now.hi ≡ distance c.args.floor (node_at nodes next).hi = ap (λ (n : Node). distance c.args.floor n.hi) read_next in
-    let adds = adds_between c.args.floor (bound_after c.args.floor 2048 (runs_at nodes place.passed)) c.args.n (run_of (node_at nodes c.args.at)) (run_of (node_at nodes next))
+    let laid = both_laid c.args.floor nodes first c.args.before c.args.at next place c.requires.linked.size c.requires.within link
+    (omega arith) c.requires.laid in
+    let hi : distance c.args.floor c.index-below.result.now.hi ≡ distance c.args.floor (node_at nodes next).hi =
+    ap (λ (n : Node). distance c.args.floor n.hi) read_next in
+    let adds = adds_between c.args.floor (bound_after c.args.floor 2048 (runs_at nodes place.passed)) c.args.n (run_of (node_at nodes c.args.at))
+    (run_of (node_at nodes next))
     (runs_at nodes (behind (behind place.rest))) (search rules) (search rules) laid c.requires.right_above (omega arith) in
     let rest = runs_at nodes (behind (behind place.rest)) in
     let b = bound_after c.args.floor 2048 (runs_at nodes place.passed) in
@@ -73,7 +105,8 @@ returns-then-distance-clause-adds c =
     let R : Node → Type 0 = λ m. Adds c.args.floor b c.args.n (here ∷ there ∷ rest)
     (stretch c.index-node.result.now.hi (c.index-node.result.now.count + 1 + m.count) ∷ rest) in
     rw (c.from-then-distance.ensures, c.from-then-distance-2.ensures)
-    (adds_place c.args.floor c.args.n nodes first c.args.before c.args.at place (run_of made ∷ runs_at nodes (behind (behind place.rest))) _ c.requires.linked.size (search rules)
+    (adds_place c.args.floor c.args.n nodes first c.args.before c.args.at place
+    (run_of made ∷ runs_at nodes (behind (behind place.rest))) _ c.requires.linked.size (search rules)
     c.requires.within c.requires.laid c.requires.place.above all.1
     (rw (below_parts nodes first c.args.before c.args.at next place c.requires.within link (omega arith)) (subst R (sym read_next) (subst Q (sym read) adds))))
 
@@ -81,7 +114,8 @@ pub overflow_add-node-2 : goal.overflow_add-node-2
 overflow_add-node-2 c =
     let nodes = c.args.runs.now.nodes.items in
     let place = c.requires.place.place in
-    let read : c.index-node.result.now ≡ node_at nodes c.args.at = read_at nodes c.from.result c.args.at c.index-node.result.now c.index-node.ensures c.from.ensures (omega (arith, c.requires.linked.size)) in
+    let read : c.index-node.result.now ≡ node_at nodes c.args.at =
+    read_at nodes c.from.result c.args.at c.index-node.result.now c.index-node.ensures c.from.ensures (omega (arith, c.requires.linked.size)) in
     let count : c.index-node.result.now.count ≡ (node_at nodes c.args.at).count = ap (λ (n : Node). n.count) read in
     let laid = (place_laid c.args.floor nodes c.args.runs.now.first c.args.before c.args.at place c.requires.linked.size c.requires.within c.requires.laid).0 in
     let bound = place_bound c.args.floor nodes c.args.runs.now.first c.args.before c.args.at place c.requires.linked.size c.requires.laid in
@@ -90,7 +124,8 @@ overflow_add-node-2 c =
 pub returns-clause-linked : goal.returns-clause-linked
 returns-clause-linked c =
     let nodes = c.args.runs.now.nodes.items in
-    let read : c.index-node.result.now ≡ node_at nodes c.args.at = read_at nodes c.from.result c.args.at c.index-node.result.now c.index-node.ensures c.from.ensures (omega (arith, c.requires.linked.size)) in
+    let read : c.index-node.result.now ≡ node_at nodes c.args.at =
+    read_at nodes c.from.result c.args.at c.index-node.result.now c.index-node.ensures c.from.ensures (omega (arith, c.requires.linked.size)) in
     rw c.from-2.ensures (edit_linked nodes c.args.runs.now.first c.args.runs.now.free c.args.before c.args.at
     (record { hi = c.index-node.result.now.hi; count = c.index-node.result.now.count + 1; next = c.index-node.result.now.next })
     c.requires.linked c.requires.place.place c.requires.within (ap (λ (n : Node). n.next) read)).0
@@ -101,7 +136,8 @@ returns-clause-adds c =
     let first = c.args.runs.now.first in
     let place = c.requires.place.place in
     let next = c.index-node.result.now.next in
-    let read : c.index-node.result.now ≡ node_at nodes c.args.at = read_at nodes c.from.result c.args.at c.index-node.result.now c.index-node.ensures c.from.ensures (omega (arith, c.requires.linked.size)) in
+    let read : c.index-node.result.now ≡ node_at nodes c.args.at =
+    read_at nodes c.from.result c.args.at c.index-node.result.now c.index-node.ensures c.from.ensures (omega (arith, c.requires.linked.size)) in
     let link : next ≡ (node_at nodes c.args.at).next = ap (λ (n : Node). n.next) read in
     let new : Node = record { hi = c.index-node.result.now.hi; count = c.index-node.result.now.count + 1; next = c.index-node.result.now.next } in
     let laid = place_laid c.args.floor nodes first c.args.before c.args.at place c.requires.linked.size c.requires.within c.requires.laid in
@@ -109,18 +145,23 @@ returns-clause-adds c =
     let below : AreLaid c.args.floor (distance c.args.floor c.args.n - 1) (runs_at nodes (behind place.rest)) =
     elim c.if-node-lt-NONE.branch [
       | then-node-lt-NONE+else-distance w ↦
-          let read_next : w.index-below.result.now ≡ node_at nodes next = read_at nodes w.from-then-node-lt-NONE.result next w.index-below.result.now w.index-below.ensures w.from-then-node-lt-NONE.ensures
+          let read_next : w.index-below.result.now ≡ node_at nodes next =
+          read_at nodes w.from-then-node-lt-NONE.result next w.index-below.result.now w.index-below.ensures w.from-then-node-lt-NONE.ensures
           (omega (arith, c.requires.linked.size)) in
-          let hi : distance c.args.floor w.index-below.result.now.hi ≡ distance c.args.floor (node_at nodes next).hi = ap (λ (n : Node). distance c.args.floor n.hi) read_next in
-          gap_left c.args.floor c.args.n nodes first c.args.before c.args.at next place c.requires.linked.size c.requires.within link (omega arith) c.requires.laid c.requires.right_above
+          let hi : distance c.args.floor w.index-below.result.now.hi ≡ distance c.args.floor (node_at nodes next).hi =
+          ap (λ (n : Node). distance c.args.floor n.hi) read_next in
+          gap_left c.args.floor c.args.n nodes first c.args.before c.args.at next place c.requires.linked.size c.requires.within link
+          (omega arith) c.requires.laid c.requires.right_above
           (λ e. absurd (omega arith))
       | else-node-lt-NONE w ↦ subst P (sym (below_none nodes first c.args.before c.args.at place c.requires.within (omega arith))) tt
     ] in
-    let adds = adds_down c.args.floor (bound_after c.args.floor 2048 (runs_at nodes place.passed)) c.args.n (run_of (node_at nodes c.args.at)) (runs_at nodes (behind place.rest))
+    let adds = adds_down c.args.floor (bound_after c.args.floor 2048 (runs_at nodes place.passed)) c.args.n (run_of (node_at nodes c.args.at))
+    (runs_at nodes (behind place.rest))
     (search rules) (search rules) laid c.requires.right_above below in
     let Q : Node → Type 0 = λ m. Adds c.args.floor (bound_after c.args.floor 2048 (runs_at nodes place.passed)) c.args.n
     (run_of (node_at nodes c.args.at) ∷ runs_at nodes (behind place.rest)) (stretch m.hi (m.count + 1) ∷ runs_at nodes (behind place.rest)) in
-    rw c.from-2.ensures (adds_place c.args.floor c.args.n nodes first c.args.before c.args.at place (run_of new ∷ runs_at nodes (behind place.rest)) _ c.requires.linked.size (search rules)
+    rw c.from-2.ensures (adds_place c.args.floor c.args.n nodes first c.args.before c.args.at place
+    (run_of new ∷ runs_at nodes (behind place.rest)) _ c.requires.linked.size (search rules)
     c.requires.within c.requires.laid c.requires.place.above
     (edit_linked nodes first c.args.runs.now.free c.args.before c.args.at new c.requires.linked place c.requires.within link).1
     (subst Q (sym read) adds))

@@ -12,7 +12,8 @@ pub overflow_add-node : goal.overflow_add-node
 overflow_add-node c =
     let nodes = c.args.runs.now.nodes.items in
     let place = c.requires.place.place in
-    let read : c.index-node.result.now ≡ node_at nodes c.args.at = read_at nodes c.from.result c.args.at c.index-node.result.now c.index-node.ensures c.from.ensures (omega (arith, c.requires.linked.size)) in
+    let read : c.index-node.result.now ≡ node_at nodes c.args.at =
+    read_at nodes c.from.result c.args.at c.index-node.result.now c.index-node.ensures c.from.ensures (omega (arith, c.requires.linked.size)) in
     let count : c.index-node.result.now.count ≡ (node_at nodes c.args.at).count = ap (λ (n : Node). n.count) read in
     let laid = (place_laid c.args.floor nodes c.args.runs.now.first c.args.before c.args.at place c.requires.linked.size c.requires.within c.requires.laid).0 in
     let bound = place_bound c.args.floor nodes c.args.runs.now.first c.args.before c.args.at place c.requires.linked.size c.requires.laid in
@@ -21,23 +22,28 @@ overflow_add-node c =
 pub returns-clause-linked : goal.returns-clause-linked
 returns-clause-linked c =
     let nodes = c.args.runs.now.nodes.items in
-    let read : c.index-node.result.now ≡ node_at nodes c.args.at = read_at nodes c.from.result c.args.at c.index-node.result.now c.index-node.ensures c.from.ensures (omega (arith, c.requires.linked.size)) in
+    let read : c.index-node.result.now ≡ node_at nodes c.args.at =
+    read_at nodes c.from.result c.args.at c.index-node.result.now c.index-node.ensures c.from.ensures (omega (arith, c.requires.linked.size)) in
     rw c.from-2.ensures (edit_linked nodes c.args.runs.now.first c.args.runs.now.free c.args.before c.args.at
-    (record { hi = c.args.n; count = c.index-node.result.now.count + 1; next = c.index-node.result.now.next }) c.requires.linked c.requires.place.place c.requires.within (ap (λ (n : Node). n.next) read)).0
+    (record { hi = c.args.n; count = c.index-node.result.now.count + 1; next = c.index-node.result.now.next }) c.requires.linked c.requires.place.place
+    c.requires.within (ap (λ (n : Node). n.next) read)).0
 
 pub returns-clause-adds : goal.returns-clause-adds
 returns-clause-adds c =
     let nodes = c.args.runs.now.nodes.items in
     let place = c.requires.place.place in
     let first = c.args.runs.now.first in
-    let read : c.index-node.result.now ≡ node_at nodes c.args.at = read_at nodes c.from.result c.args.at c.index-node.result.now c.index-node.ensures c.from.ensures (omega (arith, c.requires.linked.size)) in
+    let read : c.index-node.result.now ≡ node_at nodes c.args.at =
+    read_at nodes c.from.result c.args.at c.index-node.result.now c.index-node.ensures c.from.ensures (omega (arith, c.requires.linked.size)) in
     let new : Node = record { hi = c.args.n; count = c.index-node.result.now.count + 1; next = c.index-node.result.now.next } in
     let laid = place_laid c.args.floor nodes first c.args.before c.args.at place c.requires.linked.size c.requires.within c.requires.laid in
-    let adds = adds_up c.args.floor (bound_after c.args.floor 2048 (runs_at nodes place.passed)) c.args.n (run_of (node_at nodes c.args.at)) (runs_at nodes (behind place.rest))
+    let adds = adds_up c.args.floor (bound_after c.args.floor 2048 (runs_at nodes place.passed)) c.args.n (run_of (node_at nodes c.args.at))
+    (runs_at nodes (behind place.rest))
     (search rules) (search rules) c.requires.place.above laid c.requires.right_below in
     let P : Node → Type 0 = λ m. Adds c.args.floor (bound_after c.args.floor 2048 (runs_at nodes place.passed)) c.args.n
     (run_of (node_at nodes c.args.at) ∷ runs_at nodes (behind place.rest)) (stretch c.args.n (m.count + 1) ∷ runs_at nodes (behind place.rest)) in
-    rw c.from-2.ensures (adds_place c.args.floor c.args.n nodes first c.args.before c.args.at place (run_of new ∷ runs_at nodes (behind place.rest)) _ c.requires.linked.size (search rules)
+    rw c.from-2.ensures (adds_place c.args.floor c.args.n nodes first c.args.before c.args.at place
+    (run_of new ∷ runs_at nodes (behind place.rest)) _ c.requires.linked.size (search rules)
     c.requires.within c.requires.laid c.requires.place.above
     (edit_linked nodes first c.args.runs.now.free c.args.before c.args.at new c.requires.linked place c.requires.within (ap (λ (n : Node). n.next) read)).1
     (subst P (sym read) adds))

@@ -12,19 +12,22 @@ use Rattle.run_list.proofs.linked.link.Goals as goal
 
 pub index-requires : goal.index-requires
 index-requires c =
-    let room : c.args.runs.now.free < 1024 = link_room c.args.floor c.args.n c.args.runs.now.nodes.items c.args.runs.now.first c.args.runs.now.free c.args.before c.args.at
+    let room : c.args.runs.now.free < 1024 =
+    link_room c.args.floor c.args.n c.args.runs.now.nodes.items c.args.runs.now.first c.args.runs.now.free c.args.before c.args.at
     c.requires.linked c.requires.place.place (search rules) (search rules) c.requires.laid c.requires.place.above c.requires.below in
     omega (arith, c.requires.linked.size)
 
 pub index_mut-requires : goal.index_mut-requires
 index_mut-requires c =
-    let room : c.args.runs.now.free < 1024 = link_room c.args.floor c.args.n c.args.runs.now.nodes.items c.args.runs.now.first c.args.runs.now.free c.args.before c.args.at
+    let room : c.args.runs.now.free < 1024 =
+    link_room c.args.floor c.args.n c.args.runs.now.nodes.items c.args.runs.now.first c.args.runs.now.free c.args.before c.args.at
     c.requires.linked c.requires.place.place (search rules) (search rules) c.requires.laid c.requires.place.above c.requires.below in
     omega (arith, c.requires.linked.size)
 
 pub point-requires-clause-within : goal.point-requires-clause-within
 point-requires-clause-within c =
-    last-fits c.args.runs.now.nodes.items c.args.runs.now.first c.args.at c.args.before c.requires.place.place.passed c.requires.place.place.passed_path c.requires.place.place.last
+    last-fits c.args.runs.now.nodes.items c.args.runs.now.first c.args.at c.args.before c.requires.place.place.passed c.requires.place.place.passed_path
+    c.requires.place.place.last
 
 pub returns-clause-linked : goal.returns-clause-linked
 returns-clause-linked c =
@@ -35,8 +38,10 @@ returns-clause-linked c =
     let node : Node = record { hi = c.args.n; count = 1; next = c.args.at } in
     let points : Points (set nodes free node) c.point.new.runs.nodes.items c.args.runs.now.first c.point.new.runs.first c.args.before free =
     rw c.from-2.ensures at c.point.ensures.points in
-    let read : c.index.result.now ≡ node_at nodes free = read_at nodes c.from.result free c.index.result.now c.index.ensures c.from.ensures (omega (arith, c.requires.linked.size)) in
-    rw (c.point.ensures.free, read) (link_linked nodes c.point.new.runs.nodes.items c.args.runs.now.first c.point.new.runs.first free c.args.before c.args.at node
+    let read : c.index.result.now ≡ node_at nodes free =
+    read_at nodes c.from.result free c.index.result.now c.index.ensures c.from.ensures (omega (arith, c.requires.linked.size)) in
+    rw (c.point.ensures.free, read)
+    (link_linked nodes c.point.new.runs.nodes.items c.args.runs.now.first c.point.new.runs.first free c.args.before c.args.at node
     c.requires.linked c.requires.place.place room refl points).0
 
 pub returns-clause-adds : goal.returns-clause-adds

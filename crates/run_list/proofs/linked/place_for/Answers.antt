@@ -10,14 +10,18 @@ use Rattle.run_list.proofs.linked.place_for.Goals as goal
 pub loop-at-smaller : goal.loop-at-smaller
 loop-at-smaller c =
     let read : c.index-nodes-from.result ≡ node_at c.args.nodes.now c.loop-at.at =
-    read_at c.args.nodes.now c.from.result c.loop-at.at c.index-nodes-from.result c.index-nodes-from.is c.from.ensures (omega (arith, c.requires.chained.size)) in
-    rw (ap (λ (n : Node). n.next) read) (place_falls c.args.nodes.now c.args.first c.loop-at.before c.loop-at.at c.loop-at.invariant.place c.requires.chained.size c.loop-at-test.true)
+    read_at c.args.nodes.now c.from.result c.loop-at.at c.index-nodes-from.result c.index-nodes-from.is c.from.ensures
+    (omega (arith, c.requires.chained.size)) in
+    rw (ap (λ (n : Node). n.next) read)
+    (place_falls c.args.nodes.now c.args.first c.loop-at.before c.loop-at.at c.loop-at.invariant.place c.requires.chained.size c.loop-at-test.true)
 
 pub loop-at-preserved : goal.loop-at-preserved
 loop-at-preserved c =
     let read : c.index-nodes-from.result ≡ node_at c.args.nodes.now c.loop-at.at =
-    read_at c.args.nodes.now c.from.result c.loop-at.at c.index-nodes-from.result c.index-nodes-from.is c.from.ensures (omega (arith, c.requires.chained.size)) in
-    let hi : distance c.args.floor c.index-nodes-from.result.hi ≡ distance c.args.floor (node_at c.args.nodes.now c.loop-at.at).hi = ap (λ (n : Node). distance c.args.floor n.hi) read in
+    read_at c.args.nodes.now c.from.result c.loop-at.at c.index-nodes-from.result c.index-nodes-from.is c.from.ensures
+    (omega (arith, c.requires.chained.size)) in
+    let hi : distance c.args.floor c.index-nodes-from.result.hi ≡ distance c.args.floor (node_at c.args.nodes.now c.loop-at.at).hi =
+    ap (λ (n : Node). distance c.args.floor n.hi) read in
     let count : c.index-nodes-from.result.count ≡ (node_at c.args.nodes.now c.loop-at.at).count = ap (λ (n : Node). n.count) read in
     rw (ap (λ (n : Node). n.next) read)
     (passed_step c.args.floor c.args.n c.args.nodes.now c.args.first c.loop-at.before c.loop-at.at c.loop-at.invariant c.loop-at-test.true (omega arith))
@@ -28,20 +32,28 @@ loop-at-init c = passed_first c.args.floor c.args.n c.args.nodes.now c.args.firs
 pub overflow_add-place : goal.overflow_add-place
 overflow_add-place c =
     let read : c.index-nodes-from.result ≡ node_at c.args.nodes.now c.loop-at.at =
-    read_at c.args.nodes.now c.from.result c.loop-at.at c.index-nodes-from.result c.index-nodes-from.is c.from.ensures (omega (arith, c.requires.chained.size)) in
+    read_at c.args.nodes.now c.from.result c.loop-at.at c.index-nodes-from.result c.index-nodes-from.is c.from.ensures
+    (omega (arith, c.requires.chained.size)) in
     let count : c.index-nodes-from.result.count ≡ (node_at c.args.nodes.now c.loop-at.at).count = ap (λ (n : Node). n.count) read in
-    let laid = (place_laid c.args.floor c.args.nodes.now c.args.first c.loop-at.before c.loop-at.at c.loop-at.invariant.place c.requires.chained.size c.loop-at-test.true c.requires.laid).0 in
-    let bound = place_bound c.args.floor c.args.nodes.now c.args.first c.loop-at.before c.loop-at.at c.loop-at.invariant.place c.requires.chained.size c.requires.laid in
+    let laid = (place_laid c.args.floor c.args.nodes.now c.args.first c.loop-at.before c.loop-at.at c.loop-at.invariant.place c.requires.chained.size
+    c.loop-at-test.true c.requires.laid).0 in
+    let bound = place_bound c.args.floor c.args.nodes.now c.args.first c.loop-at.before c.loop-at.at c.loop-at.invariant.place c.requires.chained.size
+    c.requires.laid in
     omega (arith, laid.above, laid.below, c.requires.near)
 
 pub returns-after-loop-at : goal.returns-after-loop-at
 returns-after-loop-at c =
-    record { place = passed_end c.args.floor c.args.n c.args.nodes.now c.args.first c.loop-at.before c.loop-at.at c.loop-at.invariant (λ h. absurd (omega arith)) }
+    record {
+      place = passed_end c.args.floor c.args.n c.args.nodes.now c.args.first c.loop-at.before c.loop-at.at c.loop-at.invariant
+          (λ h. absurd (omega arith));
+    }
 
 pub returns-then-distance-place : goal.returns-then-distance-place
 returns-then-distance-place c =
     let read : c.index-nodes-from.result ≡ node_at c.args.nodes.now c.loop-at.at =
-    read_at c.args.nodes.now c.from.result c.loop-at.at c.index-nodes-from.result c.index-nodes-from.is c.from.ensures (omega (arith, c.requires.chained.size)) in
-    let hi : distance c.args.floor c.index-nodes-from.result.hi ≡ distance c.args.floor (node_at c.args.nodes.now c.loop-at.at).hi = ap (λ (n : Node). distance c.args.floor n.hi) read in
+    read_at c.args.nodes.now c.from.result c.loop-at.at c.index-nodes-from.result c.index-nodes-from.is c.from.ensures
+    (omega (arith, c.requires.chained.size)) in
+    let hi : distance c.args.floor c.index-nodes-from.result.hi ≡ distance c.args.floor (node_at c.args.nodes.now c.loop-at.at).hi =
+    ap (λ (n : Node). distance c.args.floor n.hi) read in
     let count : c.index-nodes-from.result.count ≡ (node_at c.args.nodes.now c.loop-at.at).count = ap (λ (n : Node). n.count) read in
     record { place = passed_end c.args.floor c.args.n c.args.nodes.now c.args.first c.loop-at.before c.loop-at.at c.loop-at.invariant (λ h. omega arith) }

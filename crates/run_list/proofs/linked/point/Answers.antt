@@ -13,4 +13,5 @@ returns-else-before-eq-NONE-clause-points c =
     let is : c.index_mut.result.now ≡ node_at c.args.runs.now.nodes.items c.args.before =
     read_at c.args.runs.now.nodes.items c.from.result c.args.before c.index_mut.result.now c.index_mut.ensures.value index (omega (arith, c.requires.size)) in
     rw index (points_behind c.args.runs.now.nodes.items c.args.runs.now.first c.args.before
-    (record { hi = c.index_mut.result.now.hi; count = c.index_mut.result.now.count; next = c.args.to }) c.requires.size (omega arith) (ap (λ (n : Node). run_of n) is))
+    (record { hi = c.index_mut.result.now.hi; count = c.index_mut.result.now.count; next = c.args.to }) c.requires.size (omega arith)
+    (ap (λ (n : Node). run_of n) is))

@@ -8,7 +8,8 @@ use Rattle.run_list.proofs.linked.put.Goals as goal
 
 pub link-requires-clause-below : goal.link-requires-clause-below
 link-requires-clause-below c =
-    below_end c.args.floor (distance c.args.floor c.args.n - 1) c.args.runs.now.nodes.items c.place_for-before.result.at c.requires.linked.size c.if-at-eq-NONE.true
+    below_end c.args.floor
+    (distance c.args.floor c.args.n - 1) c.args.runs.now.nodes.items c.place_for-before.result.at c.requires.linked.size c.if-at-eq-NONE.true
 
 pub index-node-requires : goal.index-node-requires
 index-node-requires c =
@@ -20,11 +21,16 @@ pub link-requires-then-hi-place-clause-below : goal.link-requires-then-hi-place-
 link-requires-then-hi-place-clause-below c =
     let nodes = c.args.runs.now.nodes.items in
     let at = c.place_for-before.result.at in
-    let place : IsPlaceFor c.args.floor c.args.n nodes c.args.runs.now.first c.place_for-before.result.before at = rw c.deref.ensures.value at c.place_for-before.ensures.place in
+    let place : IsPlaceFor c.args.floor c.args.n nodes c.args.runs.now.first c.place_for-before.result.before at =
+    rw c.deref.ensures.value at c.place_for-before.ensures.place in
     let fits : at ≤ 1024 = path-fits nodes at place.place.rest place.place.rest_path in
-    let read : c.index-node.result.now ≡ node_at nodes at = read_at nodes c.from.result at c.index-node.result.now c.index-node.ensures c.from.ensures (omega (arith, c.requires.linked.size)) in
-    let hi : distance c.args.floor c.index-node.result.now.hi ≡ distance c.args.floor (node_at nodes at).hi = ap (λ (n : Node). distance c.args.floor n.hi) read in
-    below_far c.args.floor (distance c.args.floor c.args.n - 1) nodes c.args.runs.now.first c.place_for-before.result.before at place.place c.requires.linked.size (omega arith) c.requires.laid (omega arith)
+    let read : c.index-node.result.now ≡ node_at nodes at =
+    read_at nodes c.from.result at c.index-node.result.now c.index-node.ensures c.from.ensures (omega (arith, c.requires.linked.size)) in
+    let hi : distance c.args.floor c.index-node.result.now.hi ≡ distance c.args.floor (node_at nodes at).hi =
+    ap (λ (n : Node). distance c.args.floor n.hi) read in
+    below_far c.args.floor
+    (distance c.args.floor c.args.n - 1) nodes c.args.runs.now.first c.place_for-before.result.before at place.place c.requires.linked.size
+    (omega arith) c.requires.laid (omega arith)
 
 pub extend_up-requires-clause-within : goal.extend_up-requires-clause-within
 extend_up-requires-clause-within c =
@@ -37,8 +43,10 @@ extend_up-requires-clause-right_below c =
     let nodes = c.args.runs.now.nodes.items in
     let at = c.place_for-before.result.at in
     let fits : at ≤ 1024 = path-fits c.deref.result.now at c.place_for-before.ensures.place.place.rest c.place_for-before.ensures.place.place.rest_path in
-    let read : c.index-node.result.now ≡ node_at nodes at = read_at nodes c.from.result at c.index-node.result.now c.index-node.ensures c.from.ensures (omega (arith, c.requires.linked.size)) in
-    let hi : distance c.args.floor c.index-node.result.now.hi ≡ distance c.args.floor (node_at nodes at).hi = ap (λ (n : Node). distance c.args.floor n.hi) read in
+    let read : c.index-node.result.now ≡ node_at nodes at =
+    read_at nodes c.from.result at c.index-node.result.now c.index-node.ensures c.from.ensures (omega (arith, c.requires.linked.size)) in
+    let hi : distance c.args.floor c.index-node.result.now.hi ≡ distance c.args.floor (node_at nodes at).hi =
+    ap (λ (n : Node). distance c.args.floor n.hi) read in
     omega arith
 
 pub overflow_add-place : goal.overflow_add-place
@@ -48,7 +56,8 @@ overflow_add-place c =
     let before = c.place_for-before.result.before in
     let place : IsPlaceFor c.args.floor c.args.n nodes c.args.runs.now.first before at = rw c.deref.ensures.value at c.place_for-before.ensures.place in
     let fits : at ≤ 1024 = path-fits nodes at place.place.rest place.place.rest_path in
-    let read : c.index-node.result.now ≡ node_at nodes at = read_at nodes c.from.result at c.index-node.result.now c.index-node.ensures c.from.ensures (omega (arith, c.requires.linked.size)) in
+    let read : c.index-node.result.now ≡ node_at nodes at =
+    read_at nodes c.from.result at c.index-node.result.now c.index-node.ensures c.from.ensures (omega (arith, c.requires.linked.size)) in
     let count : c.index-node.result.now.count ≡ (node_at nodes at).count = ap (λ (n : Node). n.count) read in
     let laid = (place_laid c.args.floor nodes c.args.runs.now.first before at place.place c.requires.linked.size (omega arith) c.requires.laid).0 in
     let bound = place_bound c.args.floor nodes c.args.runs.now.first before at place.place c.requires.linked.size c.requires.laid in
@@ -65,8 +74,10 @@ extend_down-requires-clause-right_above c =
     let nodes = c.args.runs.now.nodes.items in
     let at = c.place_for-before.result.at in
     let fits : at ≤ 1024 = path-fits c.deref.result.now at c.place_for-before.ensures.place.place.rest c.place_for-before.ensures.place.place.rest_path in
-    let read : c.index-node.result.now ≡ node_at nodes at = read_at nodes c.from.result at c.index-node.result.now c.index-node.ensures c.from.ensures (omega (arith, c.requires.linked.size)) in
-    let hi : distance c.args.floor c.index-node.result.now.hi ≡ distance c.args.floor (node_at nodes at).hi = ap (λ (n : Node). distance c.args.floor n.hi) read in
+    let read : c.index-node.result.now ≡ node_at nodes at =
+    read_at nodes c.from.result at c.index-node.result.now c.index-node.ensures c.from.ensures (omega (arith, c.requires.linked.size)) in
+    let hi : distance c.args.floor c.index-node.result.now.hi ≡ distance c.args.floor (node_at nodes at).hi =
+    ap (λ (n : Node). distance c.args.floor n.hi) read in
     let count : c.index-node.result.now.count ≡ (node_at nodes at).count = ap (λ (n : Node). n.count) read in
     omega arith
 
@@ -77,9 +88,12 @@ returns-else-hi-place-3-clause-there c =
     let before = c.place_for-before.result.before in
     let place : IsPlaceFor c.args.floor c.args.n nodes c.args.runs.now.first before at = rw c.deref.ensures.value at c.place_for-before.ensures.place in
     let fits : at ≤ 1024 = path-fits nodes at place.place.rest place.place.rest_path in
-    let read : c.index-node.result.now ≡ node_at nodes at = read_at nodes c.from.result at c.index-node.result.now c.index-node.ensures c.from.ensures (omega (arith, c.requires.linked.size)) in
-    let hi : distance c.args.floor c.index-node.result.now.hi ≡ distance c.args.floor (node_at nodes at).hi = ap (λ (n : Node). distance c.args.floor n.hi) read in
+    let read : c.index-node.result.now ≡ node_at nodes at =
+    read_at nodes c.from.result at c.index-node.result.now c.index-node.ensures c.from.ensures (omega (arith, c.requires.linked.size)) in
+    let hi : distance c.args.floor c.index-node.result.now.hi ≡ distance c.args.floor (node_at nodes at).hi =
+    ap (λ (n : Node). distance c.args.floor n.hi) read in
     let count : c.index-node.result.now.count ≡ (node_at nodes at).count = ap (λ (n : Node). n.count) read in
     let within : at < 1024 = omega arith in
     let touch : distance c.args.floor (node_at nodes at).hi ≤ distance c.args.floor c.args.n + (node_at nodes at).count = place.touches within in
-    present_in c.args.floor c.args.n nodes c.args.runs.now.first before at place.place c.requires.linked.size (search rules) (search rules) within c.requires.laid place.above (omega arith) (omega arith)
+    present_in c.args.floor c.args.n nodes c.args.runs.now.first before at place.place c.requires.linked.size (search rules)
+    (search rules) within c.requires.laid place.above (omega arith) (omega arith)

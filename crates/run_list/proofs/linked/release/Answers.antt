@@ -23,7 +23,8 @@ loop-at-preserved c =
     read_at nodes c.from.result c.loop-at.at c.index.result.now c.index.ensures (omega arith) (omega (arith, c.loop-at.invariant.parted.size)) in
     let next : c.index.result.now.next ≡ (node_at nodes c.loop-at.at).next = ap (λ (n : Node). n.next) read in
     let step = parted_step nodes c.loop-at.runs.first c.loop-at.runs.free c.loop-at.at
-    (record { hi = c.index_mut.result.now.hi; count = c.index_mut.result.now.count; next = c.loop-at.runs.free }) c.loop-at.invariant.parted (omega arith) refl in
+    (record { hi = c.index_mut.result.now.hi; count = c.index_mut.result.now.count; next = c.loop-at.runs.free }) c.loop-at.invariant.parted
+    (omega arith) refl in
     rw (index, next) record { parted = step.0; stays = step.1 ∙ c.loop-at.invariant.stays }
 
 pub returns-clause-linked : goal.returns-clause-linked

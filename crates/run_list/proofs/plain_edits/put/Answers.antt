@@ -6,11 +6,13 @@ use Rattle.run_list.proofs.plain_edits.put.Goals as goal
 
 pub begin_run-requires-then-hi-place-clause-below : goal.begin_run-requires-then-hi-place-clause-below
 begin_run-requires-then-hi-place-clause-below c =
-    far_at c.args.floor 2048 (distance c.args.floor c.args.n - 1) c.place_for-at.result c.args.runs.now.items c.index-run.result.now (omega arith) c.index-run.ensures c.requires.laid (omega arith)
+    far_at c.args.floor 2048 (distance c.args.floor c.args.n - 1) c.place_for-at.result c.args.runs.now.items c.index-run.result.now
+    (omega arith) c.index-run.ensures c.requires.laid (omega arith)
 
 pub overflow_add-place : goal.overflow_add-place
 overflow_add-place c =
-    let laid = count_at c.args.floor 2048 c.place_for-at.result c.args.runs.now.items c.index-run.result.now (omega arith) c.index-run.ensures c.requires.laid in
+    let laid = count_at c.args.floor 2048 c.place_for-at.result c.args.runs.now.items c.index-run.result.now
+    (omega arith) c.index-run.ensures c.requires.laid in
     omega (arith, laid.above, laid.below)
 
 pub returns-else-hi-place-3-clause-there : goal.returns-else-hi-place-3-clause-there

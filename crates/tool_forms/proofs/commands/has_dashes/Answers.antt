@@ -9,6 +9,7 @@ use Rattle.tool_forms.proofs.commands.has_dashes.Goals as goal
 
 pub returns : goal.returns
 returns c =
-    any_from_yields_List (λ (word : String Global). is_dashes (string_bytes word)) _ _ c.any.result c.any.ensures.ran (YieldsList-from_slice c.args.words.now cc)
+    any_from_yields_List (λ (word : String Global). is_dashes (string_bytes word)) _ _ c.any.result c.any.ensures.ran
+    (YieldsList-from_slice c.args.words.now cc)
     (λ x b q k. search (rules, tests))
     ∙ list_any-map is_dashes string_bytes c.args.words.now

@@ -9,7 +9,8 @@ use Rattle.tool_listen.proofs.exchanges.ask.Goals as goal
 
 pub returns-clause-after : goal.returns-clause-after
 returns-clause-after c =
-    left_as c.args.listener.now c.act.new.self (call_turn c.args.peer (call_of c.args.act) c.act.new.out c.act.result) c.act.new.out (Stepped (seen_if c.act.result))
+    left_as c.args.listener.now c.act.new.self (call_turn c.args.peer (call_of c.args.act) c.act.new.out c.act.result) c.act.new.out
+    (Stepped (seen_if c.act.result))
     c.act.ensures.turn c.act.ensures.computed
 
 pub returns-clause-sent : goal.returns-clause-sent
@@ -20,4 +21,5 @@ returns-clause-told c = ap (λ (x : Listened). x.told) c.act.ensures.computed
 
 pub returns-clause-tellable : goal.returns-clause-tellable
 returns-clause-tellable c =
-    told_as c.args.listener.now c.args.peer (Calls (call_of c.args.act)) c.act.new.self.flows c.act.new.out (Stepped (seen_if c.act.result)) c.act.ensures.computed
+    told_as c.args.listener.now c.args.peer (Calls (call_of c.args.act)) c.act.new.self.flows c.act.new.out
+    (Stepped (seen_if c.act.result)) c.act.ensures.computed

@@ -4,7 +4,8 @@ use Rattle.tool_listen.proofs.exchanges.hear.Goals as goal
 
 pub returns-clause-after : goal.returns-clause-after
 returns-clause-after c =
-    heard-after c.args.listener.now c.arrive.new.self c.args.peer c.args.iss c.args.bytes.now c.arrive.new.out c.arrive.result c.arrive.ensures.turn c.arrive.ensures.computed
+    heard-after c.args.listener.now c.arrive.new.self c.args.peer c.args.iss c.args.bytes.now c.arrive.new.out c.arrive.result c.arrive.ensures.turn
+    c.arrive.ensures.computed
 
 pub returns-clause-sent : goal.returns-clause-sent
 returns-clause-sent c =

@@ -5,5 +5,6 @@ use Rattle.tool_listen.proofs.flow_lines.put_each_flow.Goals as goal
 pub loop-place-preserved : goal.loop-place-preserved
 loop-place-preserved c = record {
   few = omega (arith, c.loop-place-test.true);
-  same = flow_put c.args.listener.now.flows c.loop-place.place c.loop-place.text.items c.put_flow_at.new.text.items _ c.in_ok-put_flow_at.ensures c.loop-place.invariant.same;
+  same = flow_put c.args.listener.now.flows c.loop-place.place c.loop-place.text.items c.put_flow_at.new.text.items _ c.in_ok-put_flow_at.ensures
+      c.loop-place.invariant.same;
 }

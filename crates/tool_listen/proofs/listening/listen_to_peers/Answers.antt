@@ -8,5 +8,6 @@ use Rattle.tool_listen.proofs.listening.listen_to_peers.Goals as goal
 
 pub returns-clause-past : goal.returns-clause-past
 returns-clause-past g c = λ bytes told.
-    subst (λ (first : Serving). StopsWithin 16384 (gone_through listen_job first bytes).accepted bytes c.run_lines.result (g.S.Source.left c.run_lines.new.input))
+    subst (λ (first : Serving). StopsWithin 16384 (gone_through listen_job first bytes).accepted bytes c.run_lines.result
+    (g.S.Source.left c.run_lines.new.input))
     c.new-serving.ensures (c.run_lines.ensures.through bytes told).past

@@ -8,5 +8,6 @@ use Rattle.tool_replay.proofs.replaying.replay_frames.Goals as goal
 
 pub returns-clause-past : goal.returns-clause-past
 returns-clause-past g c = λ bytes told.
-    subst (λ (first : Replay). StopsWithin 16384 (gone_through replay_job first bytes).accepted bytes c.run_lines.result (g.S.Source.left c.run_lines.new.input))
+    subst (λ (first : Replay). StopsWithin 16384 (gone_through replay_job first bytes).accepted bytes c.run_lines.result
+    (g.S.Source.left c.run_lines.new.input))
     c.in-Ok.ensures.value (c.run_lines.ensures.through bytes told).past

@@ -14,5 +14,6 @@ returns-in-Err-clause-closes g c =
     let put : c.put_last_line.new.text.items ≡ c.flush.new.text.items ++ last = search rules in
     let line : c.deref.result.now ≡ last = c.deref.ensures.value ∙ put ∙ ap (λ (front : List ℕ). front ++ last) empty in
     let front = c.in-Err.ensures.front in
-    closes-cut c.args.text.now.items last c.args.end (g.K.Sink.taken c.args.output.now) (g.K.Sink.taken c.flush.new.output) (g.K.Sink.taken c.write_all.new.sink) taken
+    closes-cut c.args.text.now.items last c.args.end (g.K.Sink.taken c.args.output.now) (g.K.Sink.taken c.flush.new.output)
+    (g.K.Sink.taken c.write_all.new.sink) taken
     (subst (HasBegun (g.K.Sink.taken c.flush.new.output) (g.K.Sink.taken c.write_all.new.sink)) line (front.0, front.2))

@@ -12,10 +12,12 @@ returns-in_default g c =
     ap (λ (front : List ℕ). front ++ last_line c.new-in_default.result (Some c.args.why)) c.new.ensures.items
     ∙ ap (λ (tally : Tally). fault_line tally c.args.why) c.new-in_default.ensures in
     record {
-      refuses = refused-as c.args.why c.finish.result (g.K.Sink.taken c.args.output.now) (g.K.Sink.taken c.finish.new.output) c.in_default.not-ReadFault c.in_default.not-NoMemory (
-        c.finish.ensures.words,
-        c.finish.ensures.read,
-        subst (λ (text : List ℕ). Closes text (Some c.args.why) c.finish.result (g.K.Sink.taken c.args.output.now) (g.K.Sink.taken c.finish.new.output)) line c.finish.ensures.closes,
-      );
+      refuses = refused-as c.args.why c.finish.result (g.K.Sink.taken c.args.output.now)
+          (g.K.Sink.taken c.finish.new.output) c.in_default.not-ReadFault c.in_default.not-NoMemory (
+            c.finish.ensures.words,
+            c.finish.ensures.read,
+            subst (λ (text : List ℕ). Closes text (Some c.args.why) c.finish.result (g.K.Sink.taken c.args.output.now)
+                (g.K.Sink.taken c.finish.new.output)) line c.finish.ensures.closes,
+          );
       write = c.finish.ensures.write;
     }

@@ -15,11 +15,13 @@ loop-done-preserved c =
     record {
       within = omega arith;
       sized = still-sized room c.halves_of.result.0 c.halves_of.result.1 (2 * done) (2 * done + 16) (2 * length c.args.bytes.now) c.loop-done.invariant.sized;
-      done = block-written c.args.bytes.now room c.halves_of.result.0 c.halves_of.result.1 done c.loop-done.invariant.sized (omega arith) c.halves_of.ensures.first
+      done = block-written c.args.bytes.now room c.halves_of.result.0 c.halves_of.result.1 done c.loop-done.invariant.sized
+          (omega arith) c.halves_of.ensures.first
           c.halves_of.ensures.second c.loop-done.invariant.done c.halves_of.ensures.value;
     }
 
 pub returns : goal.returns
 returns c =
-    rest-written c.args.bytes.now c.loop-done.room c.encode_singly.new.room c.loop-done.done c.loop-done.invariant.sized c.loop-done.invariant.within c.loop-done.invariant.done
+    rest-written c.args.bytes.now c.loop-done.room c.encode_singly.new.room c.loop-done.done c.loop-done.invariant.sized c.loop-done.invariant.within
+    c.loop-done.invariant.done
     c.encode_singly.ensures

@@ -17,7 +17,8 @@ loop-place-preserved c =
     let within : place < length bytes = c.loop-place-test.true in
     let sized = c.loop-place.invariant.sized in
     let first : length (slice_set room (2 * place) high) ≡ length room = grind (arith, common_steps) in
-    let second : length (slice_set (slice_set room (2 * place) high) (2 * place + 1) low) ≡ length (slice_set room (2 * place) high) = grind (arith, common_steps) in
+    let second : length (slice_set (slice_set room (2 * place) high) (2 * place + 1) low) ≡ length (slice_set room (2 * place) high) =
+    grind (arith, common_steps) in
     record {
       within = omega arith;
       sized = omega arith;

@@ -10,4 +10,5 @@ pub digits_of-lows-requires : goal.digits_of-lows-requires
 digits_of-lows-requires c = lows-small c.args.bytes 16
 
 pub returns-clause-value : goal.returns-clause-value
-returns-clause-value c = block-digits c.args.bytes c.digits_of-highs.result c.digits_of-lows.result c.fits-bytes.0 c.digits_of-highs.ensures c.digits_of-lows.ensures
+returns-clause-value c =
+    block-digits c.args.bytes c.digits_of-highs.result c.digits_of-lows.result c.fits-bytes.0 c.digits_of-highs.ensures c.digits_of-lows.ensures

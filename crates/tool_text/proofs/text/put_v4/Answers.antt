@@ -3,5 +3,6 @@ use Rattle.tool_text.proofs.text.put_v4.Goals as goal
 
 pub returns-clause-ok : goal.returns-clause-ok
 returns-clause-ok c =
-    four_dotted c.args.text.now.items c.put_byte.new.text.items c.put_dotted.new.text.items c.put_dotted-2.new.text.items c.put_dotted-3.new.text.items c.args.address
+    four_dotted c.args.text.now.items c.put_byte.new.text.items c.put_dotted.new.text.items c.put_dotted-2.new.text.items c.put_dotted-3.new.text.items
+    c.args.address
     c.in_ok-put_byte.ensures.ok c.in_ok-put_dotted.ensures.ok c.in_ok-put_dotted-2.ensures.ok c.in_ok-put_dotted-3.ensures.ok

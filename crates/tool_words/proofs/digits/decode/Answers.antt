@@ -30,5 +30,6 @@ loop-place-preserved c =
     record {
       within = omega arith;
       sized = omega arith;
-      done = one_decoded c.args.text.now room place c.byte_of.result c.requires.pairs (omega arith) within c.loop-place.invariant.done (c.byte_of.ensures ∙ pair.byte);
+      done = one_decoded c.args.text.now room place c.byte_of.result c.requires.pairs (omega arith) within c.loop-place.invariant.done
+          (c.byte_of.ensures ∙ pair.byte);
     }

@@ -7,7 +7,8 @@ returns-clause-received g c = λ w safe side frame ack n bytes sent fits small r
 
 pub returns-clause-all : goal.returns-clause-all
 returns-clause-all g c = λ w safe side frame ack n bytes sent whole spoken has_it.
-    all-told w.world safe.truthful side sent.index frame ack n bytes sent.is_there sent.carries whole spoken.floor_fits spoken.ack_fits spoken.fits spoken.in_order
+    all-told w.world safe.truthful side sent.index frame ack n bytes sent.is_there sent.carries whole spoken.floor_fits spoken.ack_fits spoken.fits
+    spoken.in_order
     spoken.within has_it
 
 pub returns-clause-none_after : goal.returns-clause-none_after

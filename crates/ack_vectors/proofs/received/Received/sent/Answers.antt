@@ -13,5 +13,6 @@ invariant_of-self c =
     record {
       holds = search rules;
       near = λ small. rw (items, c.with_step-self-inside.ensures small)
-          (near_recorded _ new old (c.step_from_newest-step.ensures.near c.self.inside.span (kept.near (omega (arith, small, c.with_step-self-inside.ensures small)))));
+          (near_recorded _ new old
+          (c.step_from_newest-step.ensures.near c.self.inside.span (kept.near (omega (arith, small, c.with_step-self-inside.ensures small)))));
     }

@@ -23,5 +23,6 @@ invariant_of-self c =
       within = grind (arith, common_steps);
       front = rw (items, counted.settled) (front_sent old entry c.self.inside.counts.settled c.push_back-driven_out.result driven few kept.within kept.front);
       near = λ small. rw (items, counted.span small)
-          (near_sent _ c.args.number old (c.step_from_newest-step.ensures.near c.self.inside.counts.span (kept.near (omega (arith, small, counted.span small)))));
+          (near_sent _ c.args.number old
+          (c.step_from_newest-step.ensures.near c.self.inside.counts.span (kept.near (omega (arith, small, counted.span small)))));
     }

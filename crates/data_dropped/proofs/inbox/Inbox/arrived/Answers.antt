@@ -4,4 +4,5 @@ use Rattle.data_dropped.proofs.inbox.Inbox.arrived.Goals as goal
 
 pub returns-else-takes_more-clause-full : goal.returns-else-takes_more-clause-full
 returns-else-takes_more-clause-full c =
-    full-where c.args.self.now c.note_drop.result (sym c.takes_more.ensures.value ∙ c.if-takes_more.false) c.takes_more.ensures.within c.note_drop.ensures.answer
+    full-where c.args.self.now c.note_drop.result
+    (sym c.takes_more.ensures.value ∙ c.if-takes_more.false) c.takes_more.ensures.within c.note_drop.ensures.answer

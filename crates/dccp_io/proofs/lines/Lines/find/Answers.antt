@@ -24,7 +24,8 @@ returns-in-Err-clause-finds g c =
     let got = c.stands_next.new.ahead in
     let block : length got.pending ≤ 8192 = search rules in
     subst
-    (λ (old : LinesState g.row.S.Denot). Finds g.S.Source.left g.S.Source.faults g.S.Source.lender old (state after got.pending 0 inside.given (Some stop.Failed)) (Err stop.Failed))
+    (λ (old : LinesState g.row.S.Denot). Finds g.S.Source.left g.S.Source.faults g.S.Source.lender old
+    (state after got.pending 0 inside.given (Some stop.Failed)) (Err stop.Failed))
     c.self.view_is
     (found-failed g.S.Source.left g.S.Source.faults g.S.Source.lender inside.source after inside.ahead c.pass.new.self got inside.used inside.given inside.stop
     c.pass.ensures c.in_default.is c.self.invariant.3 block c.in-Err.ensures.seeks c.in-Err.ensures.cause)
@@ -36,9 +37,11 @@ returns-in-Ok-TooLong-clause-finds g c =
     let got = c.stands_next.new.ahead in
     let block : length got.pending ≤ 8192 = search rules in
     let stood : c.in-Ok-TooLong.field-0 ≡ stands.TooLong = search rules in
-    let next = subst (λ (s : Stands). IfSome (ahead_of c.pass.new.self (g.S.Source.left inside.source)) (λ bytes. next_in_bytes inside.given bytes ≡ made_out got.pending s)) stood c.in-Ok-TooLong.ensures.next in
+    let next = subst (λ (s : Stands). IfSome (ahead_of c.pass.new.self (g.S.Source.left inside.source))
+    (λ bytes. next_in_bytes inside.given bytes ≡ made_out got.pending s)) stood c.in-Ok-TooLong.ensures.next in
     subst
-    (λ (old : LinesState g.row.S.Denot). Finds g.S.Source.left g.S.Source.faults g.S.Source.lender old (state after got.pending 0 inside.given (Some stop.TooLong)) (Err stop.TooLong))
+    (λ (old : LinesState g.row.S.Denot). Finds g.S.Source.left g.S.Source.faults g.S.Source.lender old
+    (state after got.pending 0 inside.given (Some stop.TooLong)) (Err stop.TooLong))
     c.self.view_is
     (found-long g.S.Source.left g.S.Source.faults g.S.Source.lender inside.source after inside.ahead c.pass.new.self got inside.used inside.given inside.stop
     c.pass.ensures c.in_default.is c.self.invariant.3 block c.in-Ok-TooLong.ensures.seeks next)
@@ -50,9 +53,11 @@ returns-in-Ok-TooMuch-clause-finds g c =
     let got = c.stands_next.new.ahead in
     let block : length got.pending ≤ 8192 = search rules in
     let stood : c.in-Ok-TooMuch.field-0 ≡ stands.TooMuch = search rules in
-    let next = subst (λ (s : Stands). IfSome (ahead_of c.pass.new.self (g.S.Source.left inside.source)) (λ bytes. next_in_bytes inside.given bytes ≡ made_out got.pending s)) stood c.in-Ok-TooMuch.ensures.next in
+    let next = subst (λ (s : Stands). IfSome (ahead_of c.pass.new.self (g.S.Source.left inside.source))
+    (λ bytes. next_in_bytes inside.given bytes ≡ made_out got.pending s)) stood c.in-Ok-TooMuch.ensures.next in
     subst
-    (λ (old : LinesState g.row.S.Denot). Finds g.S.Source.left g.S.Source.faults g.S.Source.lender old (state after got.pending 0 inside.given (Some stop.TooMuch)) (Err stop.TooMuch))
+    (λ (old : LinesState g.row.S.Denot). Finds g.S.Source.left g.S.Source.faults g.S.Source.lender old
+    (state after got.pending 0 inside.given (Some stop.TooMuch)) (Err stop.TooMuch))
     c.self.view_is
     (found-much g.S.Source.left g.S.Source.faults g.S.Source.lender inside.source after inside.ahead c.pass.new.self got inside.used inside.given inside.stop
     c.pass.ensures c.in_default.is c.self.invariant.3 block c.in-Ok-TooMuch.ensures.seeks next)
@@ -64,9 +69,11 @@ returns-in-Ok-End-clause-finds g c =
     let got = c.stands_next.new.ahead in
     let block : length got.pending ≤ 8192 = search rules in
     let stood : c.in-Ok-End.field-0 ≡ stands.End = search rules in
-    let next = subst (λ (s : Stands). IfSome (ahead_of c.pass.new.self (g.S.Source.left inside.source)) (λ bytes. next_in_bytes inside.given bytes ≡ made_out got.pending s)) stood c.in-Ok-End.ensures.next in
+    let next = subst (λ (s : Stands). IfSome (ahead_of c.pass.new.self (g.S.Source.left inside.source))
+    (λ bytes. next_in_bytes inside.given bytes ≡ made_out got.pending s)) stood c.in-Ok-End.ensures.next in
     subst
-    (λ (old : LinesState g.row.S.Denot). Finds g.S.Source.left g.S.Source.faults g.S.Source.lender old (state after got.pending 0 inside.given inside.stop) (Ok false))
+    (λ (old : LinesState g.row.S.Denot). Finds g.S.Source.left g.S.Source.faults g.S.Source.lender old (state after got.pending 0 inside.given inside.stop)
+    (Ok false))
     c.self.view_is
     (found-end g.S.Source.left g.S.Source.faults g.S.Source.lender inside.source after inside.ahead c.pass.new.self got inside.used inside.given inside.stop
     c.pass.ensures c.in_default.is c.self.invariant.3 block c.in-Ok-End.ensures.seeks next)
@@ -78,10 +85,13 @@ returns-in-Ok-Line-clause-finds g c =
     let got = c.stands_next.new.ahead in
     let block : length got.pending ≤ 8192 = search rules in
     let stood : c.in-Ok-Line.field-0 ≡ stands.Line c.in-Ok-Line.count = search rules in
-    let next = subst (λ (s : Stands). IfSome (ahead_of c.pass.new.self (g.S.Source.left inside.source)) (λ bytes. next_in_bytes inside.given bytes ≡ made_out got.pending s)) stood c.in-Ok-Line.ensures.next in
+    let next = subst (λ (s : Stands). IfSome (ahead_of c.pass.new.self (g.S.Source.left inside.source))
+    (λ bytes. next_in_bytes inside.given bytes ≡ made_out got.pending s)) stood c.in-Ok-Line.ensures.next in
     let fits = subst (λ (s : Stands). IsLineOf inside.given got.pending s) stood c.in-Ok-Line.ensures.fits in
     subst
-    (λ (old : LinesState g.row.S.Denot). Finds g.S.Source.left g.S.Source.faults g.S.Source.lender old (state after got.pending c.in-Ok-Line.count (inside.given + c.in-Ok-Line.count) inside.stop) (Ok true))
+    (λ (old : LinesState g.row.S.Denot). Finds g.S.Source.left g.S.Source.faults g.S.Source.lender old
+    (state after got.pending c.in-Ok-Line.count (inside.given + c.in-Ok-Line.count) inside.stop) (Ok true))
     c.self.view_is
-    (found-line g.S.Source.left g.S.Source.faults g.S.Source.lender inside.source after inside.ahead c.pass.new.self got inside.used inside.given c.in-Ok-Line.count inside.stop
+    (found-line g.S.Source.left g.S.Source.faults g.S.Source.lender inside.source after inside.ahead c.pass.new.self got inside.used inside.given
+    c.in-Ok-Line.count inside.stop
     c.pass.ensures c.in_default.is block c.in-Ok-Line.ensures.seeks next fits)

@@ -8,7 +8,8 @@ use Rattle.dccp_io.proofs.lines.Lines.text.Goals as goal
 pub slice_bounds-result-end : goal.slice_bounds-result-end
 slice_bounds-result-end g c =
     let inside = c.self.inside in
-    let line : c.line.result.now ≡ take inside.used inside.ahead.pending = c.line.ensures ∙ sym (ap (λ (l : LinesState g.row.S.Denot). l.line) c.self.view_is) in
+    let line : c.line.result.now ≡ take inside.used inside.ahead.pending = c.line.ensures
+    ∙ sym (ap (λ (l : LinesState g.row.S.Denot). l.line) c.self.view_is) in
     let size = ap length line in
     let fits = text_length_fits (take inside.used inside.ahead.pending) in
     let short : inside.text ≤ length c.line.result.now = omega (arith, size, fits, c.self.invariant.4) in

@@ -26,7 +26,8 @@ returns g c =
     ∙ pending-grows c.make_room-from.new.block.items block from to count c.make_room-from.ensures.order inside front
     ∙ ap (λ (xs : List ℕ). xs ++ got) same in
     record {
-      same_ahead = same-ahead c.args.self.now.pending (drop from (take (to + count) (with_items c.make_room-from.new.block block).items)) got (g.S.Source.left c.args.source.now) (g.S.Source.left c.read_behind.new.source) grown came;
+      same_ahead = same-ahead c.args.self.now.pending (drop from (take (to + count) (with_items c.make_room-from.new.block block).items)) got
+          (g.S.Source.left c.args.source.now) (g.S.Source.left c.read_behind.new.source) grown came;
       same_size = size;
       never_falls = search rules;
       same_lender = search rules;

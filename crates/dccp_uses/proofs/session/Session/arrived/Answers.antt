@@ -10,5 +10,6 @@ returns-clause-too_long g c = (
 
 pub returns-clause-inside : goal.returns-clause-inside
 returns-clause-inside g c = λ first past is.
-    news_within c.self.inside.end.state c.args.datagram.now c.receive-outcome.result c.phase-was.result c.phase.result first past c.receive-outcome.ensures.cause
+    news_within c.self.inside.end.state c.args.datagram.now c.receive-outcome.result c.phase-was.result c.phase.result first past
+    c.receive-outcome.ensures.cause
     (sym c.news_of.ensures ∙ is)

@@ -7,7 +7,8 @@ use Rattle.fault_campaign.proofs.run.Run.play.Goals as goal
 
 pub returns-in-Ok : goal.returns-in-Ok
 returns-in-Ok c =
-    plays c.self.inside.words c.self.inside.world c.step.new.self c.self.inside.report c.count.new.self c.args.event.now c.in-Ok.seen c.in-Ok.ensures.ok c.count.ensures
+    plays c.self.inside.words c.self.inside.world c.step.new.self c.self.inside.report c.count.new.self c.args.event.now c.in-Ok.seen c.in-Ok.ensures.ok
+    c.count.ensures
     ∙ ap (λ (run : Running). played run c.args.event.now) c.self.view_is
 
 pub returns-in-Err : goal.returns-in-Err

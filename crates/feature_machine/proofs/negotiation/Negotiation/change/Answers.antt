@@ -14,4 +14,5 @@ put-requires c =
 pub returns-clause-stays : goal.returns-clause-stays
 returns-clause-stays c =
     λ refused. c.put.ensures ∙ put_same c.args.self.now c.args.feature c.args.place c.row-row.result c.change-reply.new.self c.row-row.ensures.value
-    (c.change-reply.ensures.row ∙ step_stays c.row-row.result (Change c.args.body.now c.args.mandatory) (subst (λ a. IsRefusal a) c.change-reply.ensures.reply refused))
+    (c.change-reply.ensures.row
+    ∙ step_stays c.row-row.result (Change c.args.body.now c.args.mandatory) (subst (λ a. IsRefusal a) c.change-reply.ensures.reply refused))

@@ -14,4 +14,6 @@ put-requires c =
 pub returns-clause-stays : goal.returns-clause-stays
 returns-clause-stays c =
     λ refused. c.put.ensures ∙ put_same c.args.self.now c.args.feature c.args.place c.row-row.result c.confirm-settling.new.self c.row-row.ensures.value
-    (c.confirm-settling.ensures.row ∙ step_stays c.row-row.result (Confirm c.args.body.now c.args.ack.now) (confirm_refuses c.row-row.result c.args.body.now c.args.ack.now (λ same. refused (c.confirm-settling.ensures.settling ∙ same))))
+    (c.confirm-settling.ensures.row
+    ∙ step_stays c.row-row.result (Confirm c.args.body.now c.args.ack.now)
+    (confirm_refuses c.row-row.result c.args.body.now c.args.ack.now (λ same. refused (c.confirm-settling.ensures.settling ∙ same))))

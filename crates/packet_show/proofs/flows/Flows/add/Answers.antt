@@ -14,9 +14,11 @@ invariant_of-self-2 c =
     let after = c.insert.new.self.entries in
     let none : number_if_seen flow seen ≡ None = ap (λ (list : List Flow). number_if_seen flow list) c.self.view_is ∙ c.requires in
     let size : c.len.result ≡ length seen = search rules in
-    let updates : (q : FlowKey) → lookup (is_at (key_cmp q)) after ≡ cond (is_at (key_cmp (key_of flow)) q) (Some (length seen + 1)) (lookup (is_at (key_cmp q)) before) =
+    let updates : (q : FlowKey)
+    → lookup (is_at (key_cmp q)) after ≡ cond (is_at (key_cmp (key_of flow)) q) (Some (length seen + 1)) (lookup (is_at (key_cmp q)) before) =
     λ q. c.in-Ok.ensures.updates.0 q
     ∙ ap (λ (n : ℕ). cond (is_at (key_cmp c.key_of.result) q) (Some (n + 1)) (lookup (is_at (key_cmp q)) before)) size
     ∙ ap (λ (key : FlowKey). cond (is_at (key_cmp key) q) (Some (length seen + 1)) (lookup (is_at (key_cmp q)) before)) c.key_of.ensures in
-    let items : c.push.new.self.items ≡ seen ++ flow ∷ [] = c.in-Ok-push.ensures.items ∙ ap (λ (list : List Flow). list ++ flow ∷ []) c.in_ok-reserve.ensures.items in
+    let items : c.push.new.self.items ≡ seen ++ flow ∷ [] = c.in-Ok-push.ensures.items
+    ∙ ap (λ (list : List Flow). list ++ flow ∷ []) c.in_ok-reserve.ensures.items in
     subst (λ (list : List Flow). HasNumbers after list) (sym items) (numbers_now flow before after seen c.self.invariant none updates)

@@ -6,5 +6,6 @@ pub returns-clause-sound : goal.returns-clause-sound
 returns-clause-sound c =
     rw (← c.self.view_is) record {
       floor_fits = c.self.invariant.0;
-      falling = falling_numbers c.self.inside.floor 2048 (runs_from c.self.inside.runs.nodes.items c.self.inside.runs.first) c.self.invariant.0 c.self.invariant.1;
+      falling = falling_numbers c.self.inside.floor 2048
+          (runs_from c.self.inside.runs.nodes.items c.self.inside.runs.first) c.self.invariant.0 c.self.invariant.1;
     }

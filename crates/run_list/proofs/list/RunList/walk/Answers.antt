@@ -12,4 +12,5 @@ pub returns : goal.returns
 returns c =
     rw (← c.self.view_is)
     (c.over.ensures ∙ rw c.deref.ensures.value refl
-    ∙ sym (stretches-numbers_of c.self.inside.floor 2048 (runs_from c.self.inside.runs.nodes.items c.self.inside.runs.first) c.self.invariant.0 (omega arith) c.self.invariant.1))
+    ∙ sym (stretches-numbers_of c.self.inside.floor 2048 (runs_from c.self.inside.runs.nodes.items c.self.inside.runs.first) c.self.invariant.0
+    (omega arith) c.self.invariant.1))

@@ -17,11 +17,13 @@ returns-clause-set c =
     let floor : c.self.inside.floor ≡ c.args.self.now.floor = ap (λ (s : MarkedSet). s.floor) c.self.view_is in
     let ahead : distance c.args.self.now.floor c.args.n < 2 ^ 47 =
     rw floor at (ltb-true (distance c.self.inside.floor c.args.n) (2 ^ 47) (sym c.if-not-is_from.ensures.value)) in
-    let place : c.distance-place.result ≡ distance c.args.self.now.floor c.args.n = c.distance-place.ensures.value ∙ ap (λ (f : ℕ). distance f c.args.n) floor in
+    let place : c.distance-place.result ≡ distance c.args.self.now.floor c.args.n = c.distance-place.ensures.value
+    ∙ ap (λ (f : ℕ). distance f c.args.n) floor in
     elim c.if-place-gt-REACH.branch [
       | then-place-gt-REACH w ↦
           let far : 2047 < c.distance-place.result = w.if-place-gt-REACH.true in
-          let set_is : c.if-place-gt-REACH.self ≡ raised c.args.self.now (floor_under c.args.n) = w.self-is ∙ w.raise.ensures ∙ ap (λ (t : ℕ). raised c.args.self.now t) w.sub.ensures in
+          let set_is : c.if-place-gt-REACH.self ≡ raised c.args.self.now (floor_under c.args.n) = w.self-is ∙ w.raise.ensures
+          ∙ ap (λ (t : ℕ). raised c.args.self.now t) w.sub.ensures in
           let absent : has (raised c.args.self.now (floor_under c.args.n)).numbers c.args.n ≡ false =
           raised_absent c.args.self.now (floor_under c.args.n) c.args.n (far_absent c.args.self.now c.args.n sound (omega arith)) in
           c.join.ensures.set ∙ rw (set_is, absent) (sym (marked-far c.args.self.now c.args.n sound fits (omega arith) ahead))
@@ -39,11 +41,13 @@ returns-clause-answer c =
     let floor : c.self.inside.floor ≡ c.args.self.now.floor = ap (λ (s : MarkedSet). s.floor) c.self.view_is in
     let ahead : distance c.args.self.now.floor c.args.n < 2 ^ 47 =
     rw floor at (ltb-true (distance c.self.inside.floor c.args.n) (2 ^ 47) (sym c.if-not-is_from.ensures.value)) in
-    let place : c.distance-place.result ≡ distance c.args.self.now.floor c.args.n = c.distance-place.ensures.value ∙ ap (λ (f : ℕ). distance f c.args.n) floor in
+    let place : c.distance-place.result ≡ distance c.args.self.now.floor c.args.n = c.distance-place.ensures.value
+    ∙ ap (λ (f : ℕ). distance f c.args.n) floor in
     elim c.if-place-gt-REACH.branch [
       | then-place-gt-REACH w ↦
           let far : 2047 < c.distance-place.result = w.if-place-gt-REACH.true in
-          let set_is : c.if-place-gt-REACH.self ≡ raised c.args.self.now (floor_under c.args.n) = w.self-is ∙ w.raise.ensures ∙ ap (λ (t : ℕ). raised c.args.self.now t) w.sub.ensures in
+          let set_is : c.if-place-gt-REACH.self ≡ raised c.args.self.now (floor_under c.args.n) = w.self-is ∙ w.raise.ensures
+          ∙ ap (λ (t : ℕ). raised c.args.self.now t) w.sub.ensures in
           let absent : has (raised c.args.self.now (floor_under c.args.n)).numbers c.args.n ≡ false =
           raised_absent c.args.self.now (floor_under c.args.n) c.args.n (far_absent c.args.self.now c.args.n sound (omega arith)) in
           c.join.ensures.answer ∙ rw (set_is, absent) (sym (answer_to-far c.args.self.now c.args.n sound (omega arith) ahead))

@@ -19,7 +19,8 @@ pub invariant_of-self : goal.invariant_of-self
 invariant_of-self c =
     let fits : c.self.inside.at ≤ 1024 = chain_fits c.self.inside.nodes.now c.self.inside.at c.self.invariant in
     let read : c.index-self-from.result ≡ node_at c.self.inside.nodes.now c.self.inside.at =
-    read_at c.self.inside.nodes.now c.from.result c.self.inside.at c.index-self-from.result c.index-self-from.is c.from.ensures (omega (arith, c.self.invariant.size)) in
+    read_at c.self.inside.nodes.now c.from.result c.self.inside.at c.index-self-from.result c.index-self-from.is c.from.ensures
+    (omega (arith, c.self.invariant.size)) in
     let is = c.index-self-from.is in
     rw (← is, read) (chain_step c.self.inside.nodes.now c.self.inside.at c.self.invariant (omega arith)).0
 
@@ -27,7 +28,8 @@ pub returns-clause-steps : goal.returns-clause-steps
 returns-clause-steps c =
     let fits : c.self.inside.at ≤ 1024 = chain_fits c.self.inside.nodes.now c.self.inside.at c.self.invariant in
     let read : c.index-self-from.result ≡ node_at c.self.inside.nodes.now c.self.inside.at =
-    read_at c.self.inside.nodes.now c.from.result c.self.inside.at c.index-self-from.result c.index-self-from.is c.from.ensures (omega (arith, c.self.invariant.size)) in
+    read_at c.self.inside.nodes.now c.from.result c.self.inside.at c.index-self-from.result c.index-self-from.is c.from.ensures
+    (omega (arith, c.self.invariant.size)) in
     let is = c.index-self-from.is in
     rw (← is, read) (sym c.self.view_is ∙ (chain_step c.self.inside.nodes.now c.self.inside.at c.self.invariant (omega arith)).1)
 
