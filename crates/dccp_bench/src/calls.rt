@@ -432,7 +432,8 @@ impl Figures {
     fn tell(&self, rt: &HostRuntime, size: u32) -> io::Result<()> {
         self.sent.tell(rt, ("send", "copy-send"), size)?;
         self.data.tell(rt, ("data", "copy-data"), size)?;
-        self.data_acks.tell(rt, ("data-ack", "copy-data-ack"), size)?;
+        self.data_acks
+            .tell(rt, ("data-ack", "copy-data-ack"), size)?;
         self.acks.tell(rt, ("ack", "copy-ack"), size)
     }
 }
