@@ -1,9 +1,10 @@
 //! Captures over sources that give their bytes in any pieces.
-use crate::tables::{Table, holds};
+use crate::streams::source_of;
 use capture_reader::{CaptureFault, Captures, Record};
 use dccp_io::{MemorySource, Source, read_all};
 use std::alloc::Global;
 use std::test::Fail;
+use tests_tables::{Table, holds};
 
 // How many bytes a call of the source gives at most, and the number of the call that fails, or `-`; the bytes; and
 // calls. `next` gives a record: its number, the seconds and the fraction, whether that counts nanoseconds, the link
@@ -59,20 +60,6 @@ const STORIES: &str = "\
     1000 - d4c3b2a1020004000000000000000000ffff0000650000000100000020a1070028000000280000004500002800010000402166b20a0000010a0000029c401389050031ec01000000000003e80000002a holds next holds next holds next: true 1 1 500000 false 101 40 [69, 0, 0, 40, 0, 1, 0, 0, 64, 33, 102, 178, 10, 0, 0, 1, 10, 0, 0, 2, 156, 64, 19, 137, 5, 0, 49, 236, 1, 0, 0, 0, 0, 0, 3, 232, 0, 0, 0, 42] false end false end\n\
     1000 - d4c3b2a1020004000000000000000000ffff0000650000000100000020a1070028000000280000004500002800010000402166b20a0000010a0000029c401389050031ec01000000000003e8000000 holds next holds next holds next: false CutShort true CutShort true CutShort\n\
     24 - d4c3b2a1020004000000000000000000ffff0000650000000100000020a1070028000000280000004500002800010000402166b20a0000010a0000029c401389050031ec01000000000003e80000002a holds next holds next: false 1 1 500000 false 101 40 [69, 0, 0, 40, 0, 1, 0, 0, 64, 33, 102, 178, 10, 0, 0, 1, 10, 0, 0, 2, 156, 64, 19, 137, 5, 0, 49, 236, 1, 0, 0, 0, 0, 0, 3, 232, 0, 0, 0, 42] false end\n";
-
-// A source over these bytes that gives at most `most` a call, and whose call with this number fails.
-fn source_of(
-    alloc: Global,
-    bytes: &[u8],
-    failing: Option<u64>,
-    most: usize,
-) -> Result<MemorySource, Fail> {
-    let mut numbers = Vec::new(alloc);
-    if let Some(number) = failing {
-        numbers.push(number)?;
-    }
-    Ok(MemorySource::new(bytes.to_vec(alloc)?, numbers, most.max(1)))
-}
 
 fn tell_record(record: &Record<'_>, told: &mut String) -> Result<(), Fail> {
     let (number, seconds, fraction) = (record.number, record.seconds, record.fraction);
@@ -316,8 +303,8 @@ fn is_long(
 }
 
 fn are_long_records(alloc: Global, capture: &[u8]) -> Result<bool, Fail> {
-    for most in [4096, 100_000, 1_000_000] {
-        if !is_long(alloc, capture, most, (4, 524_298, None))? {
+    for most in &[4096, 100_000, 1_000_000] {
+        if !is_long(alloc, capture, *most, (4, 524_298, None))? {
             return Ok(false);
         }
     }
@@ -363,8 +350,8 @@ fn is_shown(alloc: Global, fault: CaptureFault, text: &str) -> Result<bool, Fail
 
 #[test]
 fn texts_of_faults(rt: HostRuntime) -> Result<(), Fail> {
-    for (fault, text) in TEXTS {
-        assert!(rt; is_shown(rt.alloc(), fault, text)?, "{text}");
+    for (fault, text) in &TEXTS {
+        assert!(rt; is_shown(rt.alloc(), *fault, text)?, "{text}");
     }
     Ok(())
 }

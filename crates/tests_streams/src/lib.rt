@@ -14,6 +14,4 @@ mod schedules;
 #[cfg(test)]
 mod streams;
 #[cfg(test)]
-mod tables;
-#[cfg(test)]
 mod texts;

@@ -1,9 +1,9 @@
 //! Lines over sources that give their bytes in any pieces.
-use crate::tables::{Table, holds};
 use crate::texts::{bytes_of, tell_bytes};
 use dccp_io::{LineRead, Lines, LinesFault, MemorySource, read_all};
 use std::alloc::Global;
 use std::test::Fail;
+use tests_tables::{Table, holds};
 
 // An input, and calls over it. `next` and `find` give a line: behind `=` a whole one, and behind `+` the front of one
 // that is too long. `holds` tells whether one is held.
@@ -101,8 +101,8 @@ fn hold(alloc: Global, most: usize, failing: &'static [u64], rows: &str) -> Resu
 
 #[test]
 fn lines_in_any_pieces(rt: HostRuntime) -> Result<(), Fail> {
-    for most in PIECES {
-        hold(rt.alloc(), most, &[], LINES)?;
+    for most in &PIECES {
+        hold(rt.alloc(), *most, &[], LINES)?;
     }
     Ok(())
 }

@@ -55,11 +55,15 @@ const EVENTS: [&[u8]; 7] = [
     b"deliver c2",
 ];
 
+fn is_printed_alone(line: &[u8], text: &mut Vec<u8>) -> bool {
+    text.clear();
+    is_printed(line, text) && text.as_slice() == line
+}
+
 // Whether each event is printed as its line.
 fn are_printed_alone(text: &mut Vec<u8>) -> bool {
-    for line in EVENTS {
-        text.clear();
-        if !is_printed(line, text) || text.as_slice() != line {
+    for line in &EVENTS {
+        if !is_printed_alone(*line, text) {
             return false;
         }
     }

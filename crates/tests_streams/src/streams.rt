@@ -1,7 +1,6 @@
 //! Sources and sinks, read and written one call at a time.
 ghost use Rattle.std.specs.Prelude.{◌≡◌};
 
-use crate::tables::{Table, holds};
 use crate::texts::tell_bytes;
 use dccp_io::{
     Failed, MemorySink, MemorySource, ReadAhead, Sink, Source, StdSink, StdSource, SureSink,
@@ -11,6 +10,7 @@ use std::alloc::Global;
 use std::io;
 use std::io::{Error, ErrorKind, Read, Write};
 use std::test::Fail;
+use tests_tables::{Table, holds};
 
 // A kind of source or sink; how many bytes a call gives or takes at most; the number of the call that fails, or `-`;
 // and what stands behind them.
@@ -27,6 +27,17 @@ fn numbers_of(alloc: Global, failing: Option<u64>) -> Result<Vec<u64>, Fail> {
         numbers.push(number)?;
     }
     Ok(numbers)
+}
+
+// A source over these bytes that gives at most `most` a call, and whose call with this number fails.
+pub(crate) fn source_of(
+    alloc: Global,
+    bytes: &[u8],
+    failing: Option<u64>,
+    most: usize,
+) -> Result<MemorySource, Fail> {
+    let failing = numbers_of(alloc, failing)?;
+    Ok(MemorySource::new(bytes.to_vec(alloc)?, failing, most.max(1)))
 }
 
 // An input, and calls: `read` reads a block of 4 bytes, and tells what that then has; a number reads all up to that
@@ -94,8 +105,7 @@ fn tell_memory(
     (input, calls): (&str, &str),
     told: &mut String,
 ) -> Result<(), Fail> {
-    let bytes = input.as_bytes().to_vec(alloc)?;
-    let mut source = MemorySource::new(bytes, numbers_of(alloc, failing)?, most.max(1));
+    let mut source = source_of(alloc, input.as_bytes(), failing, most)?;
     if is_lent {
         tell_reads(alloc, &mut &mut source, calls, told)
     } else {
@@ -216,13 +226,16 @@ fn tell_whole<K: Sink>(sink: &mut K, piece: &str, told: &mut String) -> Result<(
     })?)
 }
 
+fn tell_word<K: Sink>(sink: &mut K, word: &str, told: &mut String) -> Result<(), Fail> {
+    match word.strip_prefix("once=") {
+        Some(piece) => tell_write(sink, piece, told),
+        None => tell_whole(sink, word.strip_prefix("whole=").unwrap_or(word), told),
+    }
+}
+
 fn tell_writes<K: Sink>(sink: &mut K, pieces: &str, told: &mut String) -> Result<(), Fail> {
     for word in pieces.split_whitespace() {
-        match word.split_once("=") {
-            Some(("once", piece)) => tell_write(sink, piece, told)?,
-            Some((_, piece)) => tell_whole(sink, piece, told)?,
-            None => tell_whole(sink, word, told)?,
-        }
+        tell_word(sink, word, told)?;
     }
     Ok(())
 }
@@ -367,8 +380,7 @@ fn fault_ahead(ahead: &mut ReadAhead, source: &mut MemorySource) -> Option<&'sta
 }
 
 fn fault_ahead_of(alloc: Global) -> Result<Option<&'static str>, Fail> {
-    let bytes = b"hello there".to_vec(alloc)?;
-    let mut source = MemorySource::new(bytes, numbers_of(alloc, Some(4))?, 3);
+    let mut source = source_of(alloc, b"hello there", Some(4), 3)?;
     match ReadAhead::new(alloc, 4) {
         Ok(mut ahead) => Ok(fault_ahead(&mut ahead, &mut source)),
         Err(_) => Err(Fail::from("no memory")),
