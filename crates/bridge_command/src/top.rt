@@ -49,7 +49,7 @@ pub fn bridge<S: Source, K: Sink>(
 
     // What a seed owes, which reads nothing: the same as of an empty input. And why any form ended.
     ensures told { OnSeed words.now (λ run. Answers (seed_text run.seed run.events) false result (Some []) (K.taken output.old) (K.taken output.new)) }
-    ensures told_unread { OnSeed words.now (λ run. input.new ≡ input.old) }
+    ensures form_unread { (form : Form) → asked_form words.now ≡ Some form → has_input form ≡ false → input.new ≡ input.old }
     ensures cause { (form : Form) → asked_form words.now ≡ Some form
         → EndsForCause result (Rose (S.faults input.old) (S.faults input.new)) (SinkFails K.faults K.empty_takes output.old output.new) }
 {

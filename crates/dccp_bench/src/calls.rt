@@ -223,7 +223,7 @@ fn time_sending(
 ) -> io::Result<u64> {
     let start = Instant::now(rt)?;
     let count = send_all(end, data, turns);
-    spent.add(since(rt, start)?, count, count);
+    spent.add(since(rt, start)?, u64::from(BATCH), count);
     Ok(count)
 }
 

@@ -23,7 +23,7 @@ pub fn only_strangers_want_memory()
     ensures calls { CallsWantNoMemory }
 {}
 
-/// Whatever the calls before, a call that a peer's end refuses, or for which there is none, changes nothing: no flow and
+/// Whatever the calls before, a call that a peer's end refuses, or of a peer that has no end, changes nothing: no flow and
 /// no timer (own).
 pub fn refused_calls_change_nothing()
     ensures { RefusedCallsChangeNothing }

@@ -19,7 +19,8 @@ reads_input _ = true
 
 -- What a form writes of the bytes that it reads, when all is written: the transcript of a schedule, the text of a replay
 -- without a receive buffer or with one, the sums of a campaign, the lines of a capture's packets, what a listener
--- answers its peers, and what comes of events between an ECN-capable sender and receiver.
+-- answers its peers, and what comes of events between an ECN-capable sender and receiver. Of `campaign`, which reads
+-- none, it is the same for all bytes, and so below.
 abbrev pub form_text : Form → List ℕ → List ℕ
 form_text form.Run bytes = transcript bytes
 form_text (form.Replay side plain) bytes = replay_text side plain bytes

@@ -62,7 +62,7 @@ pub fn dccp<R: Threads + Sync, G: Gate + Sync, S: Source, K: Sink>(
 
     // What holds of both ends of `run`, what a campaign writes, and why any form ended.
     ensures safe { OnRun words.now (S.left input.old) (λ bytes. IsAnswered result → SafeThroughout bytes) }
-    ensures campaign_unread { (campaign : Campaign) → form_of words.now ≡ Some (Form.Campaign campaign) → input.new ≡ input.old }
+    ensures form_unread { (form : Form) → form_of words.now ≡ Some form → reads_input form ≡ false → input.new ≡ input.old }
     ensures totals { (campaign : Campaign) → form_of words.now ≡ Some (Form.Campaign campaign)
         → AnswersUnread (campaign_text campaign) result (K.taken output.old) (K.taken output.new) (SinkFails K.faults K.empty_takes output.old output.new) }
     ensures cause { (form : Form) → form_of words.now ≡ Some form

@@ -67,6 +67,7 @@ impl LineJob for Schedule {
         line: &[u8],
         text: &mut Vec<u8>,
     ) -> Result<Result<(), LineFault>, NoMemory> {
+        // Which of the two rooms a line is read into changes nothing that is said of it.
         match line {
             [b's', b'e', b'n', ..] => {
                 judge_into(&mut self.sending, &mut self.play, alloc, number, line, text)

@@ -223,7 +223,8 @@ refusals! {
 }
 
 refusals! {
-    /// Why a call of a peer's flow was refused; the first that holds.
+    /// Why a call of a peer's flow was refused; the first that holds. No such call takes memory
+    /// (a law of dccp_c), so none ends for want of it.
     FlowError {
         /// The peer has no flow.
         NoFlow = NO_FLOW, "no connection to this peer";

@@ -1,5 +1,5 @@
 -- The form that was found is the one that the words have.
-use Rattle.std.proofs.Common.{rules, ◌≡◌, ◌∙◌, subst, true, Some, drop}
+use Rattle.std.proofs.Common.{rules, ◌≡◌, ◌∙◌, ap, subst, true, Some, drop}
 use Rattle.std.proofs.lemmas.Option.{same_Some}
 use Rattle.dccp_io.specs.Fronts.{GivesAtMost}
 use Rattle.tool_output.specs.Ends.{Answers}
@@ -22,3 +22,8 @@ returns-in-Ok-Some-clause-past g c = λ form words reads bytes told input.
     subst
     (λ (f : Form). has_input f ≡ true → GivesAtMost (bridge_reads_past f) (Some (drop (bridge_accepted f bytes) bytes)) (g.S.Source.left c.perform.new.input))
     (same_Some c.in-Ok-Some.form form (found ∙ words)) (λ ok. c.perform.ensures.past ok bytes told input) reads
+
+pub returns-in-Ok-Some-clause-form_unread : goal.returns-in-Ok-Some-clause-form_unread
+returns-in-Ok-Some-clause-form_unread g c = λ form words unread.
+    let found : Some c.in-Ok-Some.form ≡ asked_form c.args.words.now = search rules in
+    c.perform.ensures.unread (ap has_input (same_Some c.in-Ok-Some.form form (found ∙ words)) ∙ unread)

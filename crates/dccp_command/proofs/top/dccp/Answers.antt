@@ -1,5 +1,5 @@
 -- The form that was found is the one that the words have.
-use Rattle.std.proofs.Common.{rules, ◌≡◌, ◌∙◌, subst, true, Some, drop}
+use Rattle.std.proofs.Common.{rules, ◌≡◌, ◌∙◌, ap, subst, true, Some, drop}
 use Rattle.std.proofs.lemmas.Option.{same_Some}
 use Rattle.dccp_io.specs.Fronts.{GivesAtMost}
 use Rattle.tool_forms.specs.Words.{form_of}
@@ -33,3 +33,8 @@ pub returns-in-Ok-Some-clause-totals : goal.returns-in-Ok-Some-clause-totals
 returns-in-Ok-Some-clause-totals g c = λ campaign words.
     let found : Some c.in-Ok-Some.form ≡ form_of c.args.words.now = search rules in
     c.perform.ensures.totals campaign (same_Some c.in-Ok-Some.form (form.Campaign campaign) (found ∙ words))
+
+pub returns-in-Ok-Some-clause-form_unread : goal.returns-in-Ok-Some-clause-form_unread
+returns-in-Ok-Some-clause-form_unread g c = λ asked words unread.
+    let found : Some c.in-Ok-Some.form ≡ form_of c.args.words.now = search rules in
+    c.perform.ensures.unread (ap reads_input (same_Some c.in-Ok-Some.form asked (found ∙ words)) ∙ unread)
