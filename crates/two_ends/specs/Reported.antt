@@ -78,6 +78,12 @@ pub record TellsTruth (half : Half) (frame : SentFrame) (ack : ℕ) (bytes : Lis
   pub is_vector : bytes ≡ vector_under (has (processed_by half frame)) frame.floor ack half.end.config.vectors
   pub none_after : (n : ℕ) → Contains (processed_by half frame) n → IsBefore ack n → ⊥
 
+-- No whole vector that the other side processed has told of this number, from the frame's floor up to the acknowledged
+-- number (RFC 4340, section 11.4).
+abbrev pub IsUntold : WorldState → Side → ℕ → Type 0
+IsUntold w side n = (frame : SentFrame) (ack : ℕ) (bytes : List ℕ) → HasSentVector (half_of w side) frame ack bytes
+    → IsUncut (half_of w side) frame ack → IsWithin n frame.floor ack → Contains (half_of w (other side)).processed frame.number → ⊥
+
 -- every Ack Vector that was ever sent
 abbrev pub Truthful : WorldState → Type 0
 Truthful w = (side : Side) (index : ℕ) (frame : SentFrame) (ack : ℕ) (bytes : List ℕ) → slice_get (half_of w side).frames index ≡ Some frame

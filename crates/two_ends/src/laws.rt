@@ -18,7 +18,7 @@ ghost use Rattle.feature_lists.specs.declared.features.Feature.{Feature};
 ghost use Rattle.feature_lists.specs.declared.features.Place.{Place};
 ghost use Rattle.feature_lists.specs.declared.features.Place.TheVariants as place;
 ghost use Rattle.feature_machine.specs.declared.stands.Stand.TheVariants.{Stable};
-ghost use Rattle.seq_circle.specs.Circle.{IsBefore, IsWithin};
+ghost use Rattle.seq_circle.specs.Circle.{IsBefore};
 ghost use Rattle.seq_circle.specs.Counts.{number_of};
 ghost use Rattle.world_events.specs.Actors.{other};
 ghost use Rattle.world_events.specs.declared.event.Event.{Event};
@@ -34,7 +34,7 @@ ghost use Rattle.two_ends.specs.Numbered.{Facts};
 ghost use Rattle.two_ends.specs.Pairs.{FeatureAt, held_at, said_by};
 ghost use Rattle.two_ends.specs.Preferred.{AsksNothing, IsLastAsked, WantsValues, row_of, values_configured};
 ghost use Rattle.two_ends.specs.Reached.{IsBeginning};
-ghost use Rattle.two_ends.specs.Reported.{HasSentVector, IsSpokenOf, IsUncut, LiesBelowFloor, processed_by};
+ghost use Rattle.two_ends.specs.Reported.{HasSentVector, IsSpokenOf, IsUncut, IsUntold, LiesBelowFloor, processed_by};
 ghost use Rattle.two_ends.specs.Safe.{Safe};
 ghost use Rattle.two_ends.specs.Shared.{ChangesByLists};
 ghost use Rattle.two_ends.specs.World.{WorldState, half_of};
@@ -102,10 +102,7 @@ pub fn vectors_tell_what_was_processed<C: Congestion>()
 pub fn what_none_told_is_far_behind<C: Congestion>()
     ensures { (w : Controlled C) → Safe C.control w → (side : Side) (iss count n : ℕ) → iss < 2 ^ 48 → 1 ≤ count
         → count + 2047 ≤ 2 ^ 47
-        → n ≡ number_of iss count → LiesBelowFloor (half_of w.world side) n
-        → ((frame : SentFrame) (ack : ℕ) (bytes : List ℕ) → HasSentVector (half_of w.world side) frame ack bytes
-        → IsUncut (half_of w.world side) frame ack → IsWithin n frame.floor ack
-        → Contains (half_of w.world (other side)).processed frame.number → ⊥)
+        → n ≡ number_of iss count → LiesBelowFloor (half_of w.world side) n → IsUntold w.world side n
         → AreAmongFirst iss (count + 2047) (half_of w.world side).processed → ⊥ }
 {}
 
