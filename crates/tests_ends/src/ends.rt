@@ -142,6 +142,17 @@ pub(crate) fn meets(alloc: Global, end: &mut Endpoint, role: Role) -> Result<(),
     Ok(())
 }
 
+// Tells the frame in the box behind a space, in hexadecimal, or `-` where it holds none.
+pub(crate) fn tell_frame(alloc: Global, out: &Outbox, told: &mut String) -> Result<(), Fail> {
+    match out.frame() {
+        Some(frame) => {
+            let text = hex::encode(alloc, frame.bytes())?;
+            Ok(write!(told, " {text}")?)
+        }
+        None => Ok(told.push_str(" -")?),
+    }
+}
+
 fn tell_delivered(first: usize, past: usize, told: &mut String) -> Result<(), Fail> {
     Ok(write!(told, " took {first}-{past}")?)
 }
@@ -156,7 +167,18 @@ fn tell_synced(acknowledged: Seq48, told: &mut String) -> Result<(), Fail> {
     Ok(write!(told, " synced {number}")?)
 }
 
-fn tell_outcome(outcome: &Outcome, told: &mut String) -> Result<(), Fail> {
+fn dropped(why: Why) -> &'static str {
+    match why {
+        Why::Malformed(_) => " dropped Malformed",
+        Why::Sum(_) => " dropped Sum",
+        Why::OtherFlow => " dropped OtherFlow",
+        Why::StrayReset => " dropped StrayReset",
+        Why::ShortOff => " dropped ShortOff",
+        Why::BadSync => " dropped BadSync",
+    }
+}
+
+pub(crate) fn tell_outcome(outcome: &Outcome, told: &mut String) -> Result<(), Fail> {
     match *outcome {
         Outcome::Took { delivered: None } => Ok(told.push_str(" took")?),
         Outcome::Took {
@@ -165,8 +187,7 @@ fn tell_outcome(outcome: &Outcome, told: &mut String) -> Result<(), Fail> {
         Outcome::SentReset { code, detail } => tell_reset(code, detail, told),
         Outcome::Synced(acknowledged) => tell_synced(acknowledged, told),
         Outcome::WasReset(code) => Ok(write!(told, " was reset {code}")?),
-        Outcome::Dropped(Why::StrayReset) => Ok(told.push_str(" dropped StrayReset")?),
-        _ => Err(Fail::from("another outcome")),
+        Outcome::Dropped(why) => Ok(told.push_str(dropped(why))?),
     }
 }
 

@@ -2,12 +2,14 @@
 //! the colon stand the answer and the frame that goes to the peer, or `-`. A line costs no proof.
 ghost use Rattle.std.specs.Prelude.{◌≤◌};
 
+use crate::ends::{tell_frame, tell_outcome};
+use crate::lines::{Hears, lines_hold};
 use arrayvec::ArrayVec;
-use dccp_endpoint::{Lists, Outbox, Outcome, Phase, Seq48, Timer, Why};
+use dccp_endpoint::{Lists, Outbox, Phase, Seq48, Timer};
 use dccp_listener::{Act, Heard, ListenConfig, Listener, Peer, Refusal, Seen};
 use std::alloc::Global;
 use std::test::Fail;
-use tests_tables::{are_same, named, tell_frame};
+use tests_tables::{are_same, named};
 
 // At 10.0.0.2, port 5001, for the services 42 and 43.
 fn listening(alloc: Global, most: u16) -> Listener
@@ -73,38 +75,6 @@ fn seen(seen: Seen) -> &'static str {
     }
 }
 
-fn dropped(why: Why) -> &'static str {
-    match why {
-        Why::Malformed(_) => "dropped Malformed",
-        Why::Sum(_) => "dropped Sum",
-        Why::OtherFlow => "dropped OtherFlow",
-        Why::StrayReset => "dropped StrayReset",
-        Why::ShortOff => "dropped ShortOff",
-        Why::BadSync => "dropped BadSync",
-    }
-}
-
-fn tell_reset(code: u8, detail: [u8; 3], told: &mut String) -> Result<(), Fail> {
-    let [first, second, third] = detail;
-    Ok(write!(told, "sent reset {code} {first} {second} {third}")?)
-}
-
-fn tell_synced(acknowledged: Seq48, told: &mut String) -> Result<(), Fail> {
-    let number = acknowledged.get();
-    Ok(write!(told, "synced {number}")?)
-}
-
-fn tell_outcome(outcome: &Outcome, told: &mut String) -> Result<(), Fail> {
-    match *outcome {
-        Outcome::Took { delivered: None } => Ok(told.push_str("took")?),
-        Outcome::Took { delivered: Some(_) } => Ok(told.push_str("took data")?),
-        Outcome::SentReset { code, detail } => tell_reset(code, detail, told),
-        Outcome::Synced(acknowledged) => tell_synced(acknowledged, told),
-        Outcome::WasReset(code) => Ok(write!(told, "was reset {code}")?),
-        Outcome::Dropped(why) => Ok(told.push_str(dropped(why))?),
-    }
-}
-
 fn tell_arrival(
     alloc: Global,
     listener: &mut Listener,
@@ -138,54 +108,29 @@ fn tell_act(
     Ok(())
 }
 
-// What comes of the words behind the peer.
-fn tell(
-    alloc: Global,
-    listener: &mut Listener,
-    peer: Peer,
-    words: &str,
-    out: &mut Outbox,
-    told: &mut String,
-) -> Result<(), Fail> {
-    match named(words, &ACTS) {
-        Some(act) => tell_act(listener, peer, act, out, told),
-        None => tell_arrival(alloc, listener, peer, words, out, told),
+// A listener, and the box for its frames.
+#[derive(Drop)]
+struct Hearing {
+    listener: Listener,
+    out: Outbox,
+}
+
+// The peer of a line, and the words behind it.
+fn asked(line: &str) -> Option<(Peer, &str)> {
+    let (whose, words) = line.split_once(" ")?;
+    Some((peer(whose)?, words))
+}
+
+impl Hears for Hearing {
+    fn tell(&mut self, alloc: Global, words: &str, told: &mut String) -> Result<(), Fail> {
+        let (peer, words) = asked(words).ok_or("a peer and words")?;
+        match named(words, &ACTS) {
+            Some(act) => tell_act(&mut self.listener, peer, act, &mut self.out, told)?,
+            None => tell_arrival(alloc, &mut self.listener, peer, words, &mut self.out, told)?,
+        }
+        told.push_str(",")?;
+        tell_frame(alloc, &self.out, told)
     }
-}
-
-// The peer of a line, the words behind it, all that is given, and what is wanted.
-fn parts_of(line: &str) -> Option<(Peer, &str, &str, &str)> {
-    let (given, wanted) = line.split_once(": ")?;
-    let (whose, words) = given.split_once(" ")?;
-    Some((peer(whose)?, words, given, wanted))
-}
-
-fn line_holds(
-    alloc: Global,
-    listener: &mut Listener,
-    line: &str,
-    out: &mut Outbox,
-    told: &mut String,
-) -> Result<(), Fail> {
-    let (peer, words, given, wanted) = parts_of(line).ok_or("a peer, words and a colon")?;
-    told.clear();
-    tell(alloc, listener, peer, words, out, told)?;
-    told.push_str(",")?;
-    tell_frame(alloc, out, told)?;
-    are_same(given, told.as_str(), wanted)
-}
-
-fn lines_hold(
-    alloc: Global,
-    listener: &mut Listener,
-    lines: &str,
-    out: &mut Outbox,
-    told: &mut String,
-) -> Result<(), Fail> {
-    for line in lines.lines() {
-        line_holds(alloc, listener, line, out, told)?;
-    }
-    Ok(())
 }
 
 fn phase(phase: Phase) -> &'static str {
@@ -218,7 +163,6 @@ fn tell_place(listener: &Listener, place: u16, told: &mut String) -> Result<(), 
 
 fn ends_so(listener: &Listener, wanted: &str, told: &mut String) -> Result<(), Fail> {
     let count = listener.flows();
-    told.clear();
     write!(told, "{count}")?;
     for place in 0..count {
         tell_place(listener, place, told)?;
@@ -235,9 +179,11 @@ pub(crate) fn holds(alloc: Global, most: u16, lines: &str, flows: &str) -> Resul
     if most == 0 || 1024 < most {
         return Err(Fail::from("how many flows may stand"));
     }
-    let mut listener = listening(alloc, most);
-    let mut out = Outbox::new();
+    let mut hearing = Hearing {
+        listener: listening(alloc, most),
+        out: Outbox::new(),
+    };
+    lines_hold(alloc, &mut hearing, lines)?;
     let mut told = String::new(alloc);
-    lines_hold(alloc, &mut listener, lines, &mut out, &mut told)?;
-    ends_so(&listener, flows, &mut told)
+    ends_so(&hearing.listener, flows, &mut told)
 }

@@ -2,12 +2,13 @@
 //! `stop`; behind the colon stand the answer and the frame that goes out, or `-`.
 ghost use Rattle.std.specs.Prelude.{◌≤◌};
 
+use crate::ends::tell_frame;
+use crate::lines::{Hears, lines_hold};
 use ccid_two::Kinds;
 use data_dropped::{Arrival, BufferedEnd, Got};
 use dccp_endpoint::{Config, Frame, Outbox, Outcome, Role, seal_frame};
 use std::alloc::Global;
 use std::test::Fail;
-use tests_tables::{are_same, tell_frame};
 
 type Server = BufferedEnd<Kinds>;
 
@@ -78,31 +79,17 @@ fn tell_item(alloc: Global, server: &mut Server, told: &mut String) -> Result<()
     }
 }
 
-fn tell(alloc: Global, server: &mut Server, word: &str, told: &mut String) -> Result<(), Fail> {
-    match word {
-        "read" => tell_item(alloc, server, told),
-        "stop" => {
-            server.stop();
-            Ok(told.push_str("ok")?)
+impl Hears for Server {
+    fn tell(&mut self, alloc: Global, word: &str, told: &mut String) -> Result<(), Fail> {
+        match word {
+            "read" => tell_item(alloc, self, told),
+            "stop" => {
+                self.stop();
+                Ok(told.push_str("ok")?)
+            }
+            _ => tell_packet(alloc, self, word, told),
         }
-        _ => tell_packet(alloc, server, word, told),
     }
-}
-
-// Plays a line, and compares what comes of it.
-fn holds_line(alloc: Global, server: &mut Server, line: &str) -> Result<(), Fail> {
-    let (word, wanted) = line.split_once(": ").ok_or("no colon")?;
-    let mut told = String::new(alloc);
-    tell(alloc, server, word, &mut told)?;
-    are_same(word, told.as_str(), wanted)
-}
-
-// Plays these lines, one after another.
-fn hold_lines(alloc: Global, server: &mut Server, lines: &str) -> Result<(), Fail> {
-    for line in lines.lines() {
-        holds_line(alloc, server, line)?;
-    }
-    Ok(())
 }
 
 // Plays the lines of a new server.
@@ -111,7 +98,7 @@ fn holds(alloc: Global, capacity: u16, lines: &str) -> Result<(), Fail>
     requires most { capacity ≤ 1024 }
 {
     let mut server = server(alloc, capacity).ok_or("no memory")?;
-    hold_lines(alloc, &mut server, lines)
+    lines_hold(alloc, &mut server, lines)
 }
 
 // The handshake, and then data of one byte each.

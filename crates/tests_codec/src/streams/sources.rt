@@ -1,7 +1,7 @@
 //! Sources and sinks, read and written one call at a time.
 ghost use Rattle.std.specs.Prelude.{◌≡◌};
 
-use crate::texts::tell_bytes;
+use crate::streams::texts::tell_bytes;
 use dccp_io::{
     Failed, MemorySink, MemorySource, ReadAhead, Sink, Source, StdSink, StdSource, SureSink,
     SureSource, read_all, write_all,
