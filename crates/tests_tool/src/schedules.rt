@@ -9,10 +9,15 @@ use std::test::Fail;
 use std::thread::Threads;
 
 // Whether each schedule of a text is refused, and its answer ends with the line behind `=> `: the first that does not.
-fn are_refused<R: Threads + Sync>(rt: &R, alloc: Global, rows: &str) -> Result<(), Fail> {
+fn are_refused<R: Threads + Sync>(
+    rt: &R,
+    alloc: Global,
+    name: &str,
+    rows: &str,
+) -> Result<(), Fail> {
     for row in rows.split("~ ") {
         if !row.is_empty() && !is_refused(rt, alloc, row)? {
-            return Err(Fail::new(format_args!("{row}")));
+            return Err(Fail::new(format_args!("{name}: {row}")));
         }
     }
     Ok(())
@@ -67,10 +72,14 @@ const PLACES: &str = "\
     ~ deliver c140737488355327\n=> line 1 column 9: NoSuchFrame\n\
     ~ close client\ndeliver s0\n=> line 2 column 9: NoSuchFrame\n";
 
+const FAULTS: [(&str, &str); 2] = [("faults_of_a_line", LINES), ("faults_of_a_place", PLACES)];
+
 #[test]
-fn faults_of_lines_and_places(rt: HostRuntime) -> Result<(), Fail> {
-    are_refused(&rt, rt.alloc(), LINES)?;
-    are_refused(&rt, rt.alloc(), PLACES)
+fn faults_of_schedules(rt: HostRuntime) -> Result<(), Fail> {
+    for (name, rows) in &FAULTS {
+        are_refused(&rt, rt.alloc(), name, rows)?;
+    }
+    Ok(())
 }
 
 // Streams that fail, with the status and the text of the handshake over them.

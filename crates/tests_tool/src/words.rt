@@ -245,7 +245,7 @@ const ROWS: [Row; 12] = [
         "flows 0\n",
     ),
     (
-        "words_of_servers",
+        "words_of_replays",
         SEVEN,
         OF_A_SERVER,
         "",

@@ -255,7 +255,7 @@ fn keep(name: &str, first: u64, entries: &[Entry]) -> Result<(), Fail> {
 // Lists by their names, each of a ledger that begins with this number.
 const LEDGERS: [(&str, u64, &[Entry]); 3] = [
     (
-        "checks",
+        "checks_of_vectors",
         1,
         &[
             Entry::Check(1, 38, &[0x00], Check::Unknown),

@@ -192,7 +192,7 @@ const CASES: [(u16, &str, &str); 11] = [
 ];
 
 #[test]
-fn cases_of_listeners(rt: HostRuntime) -> Result<(), Fail> {
+fn drawn_cases(rt: HostRuntime) -> Result<(), Fail> {
     for (most, lines, flows) in &CASES {
         holds(rt.alloc(), *most, lines, flows)?;
     }

@@ -88,7 +88,7 @@ const LISTS: [(&str, &[Row]); 3] = [
     ),
     // Two are received, and the window is 3. A marked one halves it, down to 1.
     (
-        "a_window_of_three",
+        "halves_round_down",
         &[
             (Call::Send(1), 1, 1),
             (Call::Report(1, 0x00), 2, 0),
