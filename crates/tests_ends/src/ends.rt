@@ -167,18 +167,7 @@ fn tell_synced(acknowledged: Seq48, told: &mut String) -> Result<(), Fail> {
     Ok(write!(told, " synced {number}")?)
 }
 
-fn dropped(why: Why) -> &'static str {
-    match why {
-        Why::Malformed(_) => " dropped Malformed",
-        Why::Sum(_) => " dropped Sum",
-        Why::OtherFlow => " dropped OtherFlow",
-        Why::StrayReset => " dropped StrayReset",
-        Why::ShortOff => " dropped ShortOff",
-        Why::BadSync => " dropped BadSync",
-    }
-}
-
-pub(crate) fn tell_outcome(outcome: &Outcome, told: &mut String) -> Result<(), Fail> {
+fn tell_outcome(outcome: &Outcome, told: &mut String) -> Result<(), Fail> {
     match *outcome {
         Outcome::Took { delivered: None } => Ok(told.push_str(" took")?),
         Outcome::Took {
@@ -187,7 +176,8 @@ pub(crate) fn tell_outcome(outcome: &Outcome, told: &mut String) -> Result<(), F
         Outcome::SentReset { code, detail } => tell_reset(code, detail, told),
         Outcome::Synced(acknowledged) => tell_synced(acknowledged, told),
         Outcome::WasReset(code) => Ok(write!(told, " was reset {code}")?),
-        Outcome::Dropped(why) => Ok(told.push_str(dropped(why))?),
+        Outcome::Dropped(Why::StrayReset) => Ok(told.push_str(" dropped StrayReset")?),
+        _ => Err(Fail::from("another outcome")),
     }
 }
 

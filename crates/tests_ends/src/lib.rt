@@ -1,9 +1,8 @@
 //! The tests of what has an end, on their public calls: feature_lists, feature_machine, dccp_endpoint and two_ends, with
 //! worked examples that no schedule or replay of examples/ can say; and what the owner of an end has, in `buffer`
-//! data_dropped, in `listener` dccp_listener and in `uses` dccp_uses. They stand in a crate of their own since a crate
-//! with tests is proved twice, with them and without; and in one, since each crate over an end loads its statements
-//! anew. Their values come from the standard, were worked out by hand or by a second implementation, and never by this
-//! program.
+//! data_dropped and in `uses` dccp_uses. They stand in a crate of their own since a crate with tests is proved twice,
+//! with them and without; and in one, since each crate over an end loads its statements anew. Their values come from the
+//! standard, were worked out by hand or by a second implementation, and never by this program.
 #![tactic(auto)]
 
 #[cfg(test)]
@@ -20,10 +19,6 @@ mod ends;
 mod features;
 #[cfg(test)]
 mod feeds;
-#[cfg(test)]
-mod lines;
-#[cfg(test)]
-mod listener;
 #[cfg(test)]
 mod negotiations;
 #[cfg(test)]
