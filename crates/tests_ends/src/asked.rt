@@ -2,14 +2,16 @@
 //! wish, at both roles (RFC 4340, section 6, and the table of this profile); each packet type at a client before
 //! `open`, and what a server that has asked for a Close answers to types that its peer may not send (RFC 4340, section
 //! 8.5).
-use crate::ends::{AtAnEnd, Endpoint, NewEnd, closes, fires, meets, prefers, tell_packet};
+use crate::ends::{
+    AtAnEnd, Endpoint, NewEnd, closes, fires, meets, prefers, tell_frame, tell_packet,
+};
 use crate::words::{pieces, tell_held, values};
 use dccp_endpoint::{Role, Timer};
 use dccp_packets::Outbox;
 use feature_lists::{Feature, Place};
 use std::alloc::Global;
 use std::test::Fail;
-use tests_tables::{holds, tell_frame};
+use tests_tables::holds;
 
 // A row is what an end in OPEN has asked for, each wish as `here/8/1,2`, and `again` where its Change goes out again;
 // then a packet that arrives. Behind the colon stands the answer, what the end then holds for what it asked last (`*`

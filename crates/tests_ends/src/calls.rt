@@ -6,7 +6,7 @@
 //! SWH, AWL and AWH; `floor` the floor and how many numbers were taken; `window` the window and what is in flight.
 use crate::ends::{
     AtAnEnd, Endpoint, NewEnd, aborts, closes, fires, opens, plain, prefers, sends, sends_early,
-    sends_soon, tell_packet,
+    sends_soon, tell_frame, tell_packet,
 };
 use crate::words::{pieces, tell_held, values};
 use dccp_endpoint::{Config, Ports, Pseudo, Role, Timer};
@@ -16,7 +16,7 @@ use seq_circle::Seq48;
 use std::alloc::Global;
 use std::fmt::Debug;
 use std::test::Fail;
-use tests_tables::{holds, named, tell_frame};
+use tests_tables::{holds, named};
 
 const AT_A_CLIENT: &str = "\
     phase/ open/ open/ phase/: Closed ok 9c401389050031ec01000000000003e80000002a NotFresh - Request\n\

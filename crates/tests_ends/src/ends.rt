@@ -142,6 +142,17 @@ pub(crate) fn meets(alloc: Global, end: &mut Endpoint, role: Role) -> Result<(),
     Ok(())
 }
 
+// Tells the frame in the box behind a space, in hexadecimal, or `-` where it holds none.
+pub(crate) fn tell_frame(alloc: Global, out: &Outbox, told: &mut String) -> Result<(), Fail> {
+    match out.frame() {
+        Some(frame) => {
+            let text = hex::encode(alloc, frame.bytes())?;
+            Ok(write!(told, " {text}")?)
+        }
+        None => Ok(told.push_str(" -")?),
+    }
+}
+
 fn tell_delivered(first: usize, past: usize, told: &mut String) -> Result<(), Fail> {
     Ok(write!(told, " took {first}-{past}")?)
 }

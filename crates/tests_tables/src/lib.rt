@@ -4,8 +4,6 @@
 //! text to drop.
 #![tactic(auto)]
 
-mod frames;
 mod tables;
 
-pub use crate::frames::tell_frame;
 pub use crate::tables::{Table, are_same, holds, named};

@@ -4,5 +4,6 @@ mod calls;
 mod captures;
 mod frames;
 mod objects;
-mod seeds;
+mod pieces;
 mod unwraps;
+mod words;

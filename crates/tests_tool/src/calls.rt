@@ -148,12 +148,12 @@ pub(crate) fn comes<R: Threads + Sync>(
     Ok(answer.is(status, text))
 }
 
-/// Fails at the first line of words that does not end so, over this input, with this text.
+/// Fails at the first line of words that does not end so, over this input, with this text, with the name of the lines.
 pub(crate) fn lines_come<R: Threads + Sync>(
     rt: &R,
     alloc: Global,
     streams: &Streams,
-    (lines, input): (&str, &str),
+    (name, lines, input): (&str, &str, &str),
     (status, text): (Status, &str),
 ) -> Result<(), Fail> {
     for words in lines.lines() {
@@ -164,7 +164,7 @@ pub(crate) fn lines_come<R: Threads + Sync>(
             (words, input.as_bytes()),
             (status, text),
         )? {
-            return Err(Fail::new(format_args!("{words}")));
+            return Err(Fail::new(format_args!("{name}: {words}")));
         }
     }
     Ok(())

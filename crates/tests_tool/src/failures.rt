@@ -181,12 +181,8 @@ fn all_hold_in_turn<R: Threads + Sync>(rt: &R, alloc: Global, of_reads: bool) ->
 }
 
 #[test]
-fn each_read_fails_in_turn(rt: HostRuntime) -> Result<(), Fail> {
-    all_hold_in_turn(&rt, rt.alloc(), true)
-}
-
-#[test]
-fn each_write_fails_in_turn(rt: HostRuntime) -> Result<(), Fail> {
+fn each_read_and_write_fails_in_turn(rt: HostRuntime) -> Result<(), Fail> {
+    all_hold_in_turn(&rt, rt.alloc(), true)?;
     all_hold_in_turn(&rt, rt.alloc(), false)
 }
 

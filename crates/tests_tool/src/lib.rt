@@ -15,12 +15,12 @@ mod failures;
 #[cfg(test)]
 mod gates;
 #[cfg(test)]
-mod listening;
-#[cfg(test)]
-mod replays;
+mod pieces;
 #[cfg(test)]
 mod schedules;
 #[cfg(test)]
 mod seeds;
+#[cfg(test)]
+mod words;
 #[cfg(test)]
 mod worked;

@@ -1,58 +1,23 @@
 //! Whole calls of the forms `run` and `show`: pieces of any length, lines that are refused, and streams that fail. What
 //! a text can say by itself is played from `examples/`.
-use crate::calls::{Answer, Streams, answer_to, cases_come_in_pieces, comes, lines_come};
+use crate::calls::{Answer, Streams, answer_to, comes};
+use crate::words::{HANDSHAKE, SEVEN};
 use dccp_command::Status;
 use fault_campaign::OpenGate;
 use std::alloc::Global;
 use std::test::Fail;
 use std::thread::Threads;
 
-/// The line that answers words which are none of the forms.
-pub(crate) const USAGE: &str =
-    "usage: dccp run | replay --side server|client [--plain] [--buffer C] | campaign --first F --seeds N --events E --workers W | show | listen --most M | ecn\n";
-
-pub(crate) const HANDSHAKE: &str = "plain\nopen\ndeliver c0\ndeliver s0\ndeliver c1\n";
-
-// With a newline at the end, and without.
-const HANDSHAKES: &str = "\
-~ run\n\
-plain\nopen\ndeliver c0\ndeliver s0\ndeliver c1\n\
-=> Done\n\
-2 open: ok\n\
-sent c0 9c401389050031ec01000000000003e80000002a\n\
-3 deliver c0: took\n\
-sent s0 13899c400700261403000000000007d000000000000003e80000002a\n\
-4 deliver s0: took\n\
-sent c1 9c4013890600234107000000000003e900000000000007d0\n\
-5 deliver c1: took\n\
-sent s1 13899c400600234007000000000007d100000000000003e9\n\
-end client PARTOPEN window 4 flight 0 1=2/2 2=0/0 3=100/100 4=0/0 5=2/2 6=0/0 7=0/0 8=0/0 9=0/0\n\
-end server OPEN window 4 flight 0 1=2/2 2=0/0 3=100/100 4=0/0 5=2/2 6=0/0 7=0/0 8=0/0 9=0/0\n\
-~ run\n\
-plain\nopen\ndeliver c0\ndeliver s0\ndeliver c1\ndeliver s1\
-=> Done\n\
-2 open: ok\n\
-sent c0 9c401389050031ec01000000000003e80000002a\n\
-3 deliver c0: took\n\
-sent s0 13899c400700261403000000000007d000000000000003e80000002a\n\
-4 deliver s0: took\n\
-sent c1 9c4013890600234107000000000003e900000000000007d0\n\
-5 deliver c1: took\n\
-sent s1 13899c400600234007000000000007d100000000000003e9\n\
-6 deliver s1: took\n\
-end client OPEN window 4 flight 0 1=2/2 2=0/0 3=100/100 4=0/0 5=2/2 6=0/0 7=0/0 8=0/0 9=0/0\n\
-end server OPEN window 4 flight 0 1=2/2 2=0/0 3=100/100 4=0/0 5=2/2 6=0/0 7=0/0 8=0/0 9=0/0\n";
-
-#[test]
-fn plain_handshake(rt: HostRuntime) -> Result<(), Fail> {
-    cases_come_in_pieces(&rt, rt.alloc(), HANDSHAKES)
-}
-
 // Whether each schedule of a text is refused, and its answer ends with the line behind `=> `: the first that does not.
-fn are_refused<R: Threads + Sync>(rt: &R, alloc: Global, rows: &str) -> Result<(), Fail> {
+fn are_refused<R: Threads + Sync>(
+    rt: &R,
+    alloc: Global,
+    name: &str,
+    rows: &str,
+) -> Result<(), Fail> {
     for row in rows.split("~ ") {
         if !row.is_empty() && !is_refused(rt, alloc, row)? {
-            return Err(Fail::new(format_args!("{row}")));
+            return Err(Fail::new(format_args!("{name}: {row}")));
         }
     }
     Ok(())
@@ -86,11 +51,6 @@ const LINES: &str = "\
     ~ iss server 281474976710656=> line 1 column 12: BadNumber\n\
     ~ plain\nopen \n=> line 2 column 6: Trailing\n";
 
-#[test]
-fn faults_of_a_line(rt: HostRuntime) -> Result<(), Fail> {
-    are_refused(&rt, rt.alloc(), LINES)
-}
-
 // The faults that need the lines before, and which of two comes first.
 const PLACES: &str = "\
     ~ plain\nversion 2\n=> line 2 column 1: HeaderLate\n\
@@ -112,31 +72,18 @@ const PLACES: &str = "\
     ~ deliver c140737488355327\n=> line 1 column 9: NoSuchFrame\n\
     ~ close client\ndeliver s0\n=> line 2 column 9: NoSuchFrame\n";
 
-#[test]
-fn faults_of_a_place(rt: HostRuntime) -> Result<(), Fail> {
-    are_refused(&rt, rt.alloc(), PLACES)
-}
-
-/// Fails at the first line of words that does not come to the usage line over the handshake.
-pub(crate) fn show_usage<R: Threads + Sync>(
-    rt: &R,
-    alloc: Global,
-    lines: &str,
-) -> Result<(), Fail> {
-    let answer = (Status::Words, USAGE);
-    lines_come(rt, alloc, &Streams::of(7), (lines, HANDSHAKE), answer)
-}
-
-// None, and what comes close to a form without options.
-const OTHER_WORDS: &str = "\nwalk\nrun,x\nRun\nshow,x\n";
+const FAULTS: [(&str, &str); 2] = [("faults_of_a_line", LINES), ("faults_of_a_place", PLACES)];
 
 #[test]
-fn refused_words(rt: HostRuntime) -> Result<(), Fail> {
-    show_usage(&rt, rt.alloc(), OTHER_WORDS)
+fn faults_of_schedules(rt: HostRuntime) -> Result<(), Fail> {
+    for (name, rows) in &FAULTS {
+        are_refused(&rt, rt.alloc(), name, rows)?;
+    }
+    Ok(())
 }
 
 // Streams that fail, with the status and the text of the handshake over them.
-const FAILING: [(&str, Streams, Status, &str); 4] = [
+const FAILING: [(&str, Streams, Status, &str); 5] = [
     (
         "the first read",
         Streams {
@@ -181,6 +128,13 @@ const FAILING: [(&str, Streams, Status, &str); 4] = [
         },
         Status::Write,
         "",
+    ),
+    // The text of a line goes out before more of a schedule is read.
+    (
+        "lines_are_answered_before_more_is_read",
+        SECOND_PIECE,
+        Status::Write,
+        "2 open: ok\nsent c0 9c401389050031ec01000000000003e80000002a\n",
     ),
 ];
 
@@ -263,24 +217,6 @@ fn writes_openings<R: Threads + Sync>(rt: &R, alloc: Global) -> Result<bool, Fai
     )
 }
 
-// The text of a schedule that does not wait goes out in blocks of at least 4,096 bytes: neither line by line nor when
-// it is whole. Each further line is `N open: refused NotFresh`.
-#[test]
-fn blocks_of_a_schedule(rt: HostRuntime) -> Result<(), Fail> {
-    assert!(rt; writes_openings(&rt, rt.alloc())?);
-    Ok(())
-}
-
-// The lines of the one event of the handshake's first two lines.
-const OPENED: &str = "2 open: ok\nsent c0 9c401389050031ec01000000000003e80000002a\n";
-
-// The text of a line goes out before more of a schedule is read.
-#[test]
-fn lines_are_answered_before_more_is_read(rt: HostRuntime) -> Result<(), Fail> {
-    assert!(rt; ends(&rt, rt.alloc(), &SECOND_PIECE, Status::Write, OPENED)?);
-    Ok(())
-}
-
 // A capture's file header, a record of the client's Request in IPv4, and its line.
 const FILE_HEADER: &str = "d4c3b2a1020004000000000000000000ffff000065000000";
 
@@ -316,16 +252,6 @@ fn is_shown<R: Threads + Sync>(
     comes(rt, alloc, streams, ("show", &capture), (status, text))
 }
 
-#[test]
-fn capture_of_one_packet(rt: HostRuntime) -> Result<(), Fail> {
-    for most in &[1, 7, 4096] {
-        let whole = (Status::Done, ONE_RECORD);
-        let shown = is_shown(&rt, rt.alloc(), &Streams::of(*most), 1, whole)?;
-        assert!(rt; shown, "{most} bytes a call");
-    }
-    Ok(())
-}
-
 // The 13th read of seven bytes fails.
 const THIRTEENTH_PIECE: Streams = Streams {
     failing_read: Some(13),
@@ -333,14 +259,6 @@ const THIRTEENTH_PIECE: Streams = Streams {
     given: 7,
     taken: 4096,
 };
-
-// The lines of whole records are written where the source fails inside the second.
-#[test]
-fn failing_source_of_a_capture(rt: HostRuntime) -> Result<(), Fail> {
-    let cut = (Status::Read, RECORD_LINE);
-    assert!(rt; is_shown(&rt, rt.alloc(), &THIRTEENTH_PIECE, 1000, cut)?);
-    Ok(())
-}
 
 fn writes_records<R: Threads + Sync>(rt: &R, alloc: Global) -> Result<bool, Fail> {
     let capture = capture_of(alloc, 1000)?;
@@ -354,17 +272,59 @@ fn writes_records<R: Threads + Sync>(rt: &R, alloc: Global) -> Result<bool, Fail
     )
 }
 
-// The text of a capture that does not wait goes out in blocks: neither line by line nor when it is whole.
+// The text of what does not wait goes out in blocks of at least 4,096 bytes: neither line by line nor when it is whole.
+// Each further line of the schedule is `N open: refused NotFresh`.
 #[test]
-fn blocks_of_a_capture(rt: HostRuntime) -> Result<(), Fail> {
-    assert!(rt; writes_records(&rt, rt.alloc())?);
+fn blocks_of_text(rt: HostRuntime) -> Result<(), Fail> {
+    assert!(rt; writes_openings(&rt, rt.alloc())?, "of a schedule");
+    assert!(rt; writes_records(&rt, rt.alloc())?, "of a capture");
     Ok(())
 }
 
-// The line of a record goes out before more of a capture is read.
+// Of one byte a call.
+const ONE: Streams = Streams {
+    failing_read: None,
+    failing_write: None,
+    given: 1,
+    taken: 1,
+};
+
+// Of more bytes than there are.
+const MANY: Streams = Streams {
+    failing_read: None,
+    failing_write: None,
+    given: 4096,
+    taken: 4096,
+};
+
+// Over which streams a capture of so many records ends how.
+const CAPTURES: [(&str, Streams, usize, Status, &str); 5] = [
+    ("a byte a call", ONE, 1, Status::Done, ONE_RECORD),
+    ("seven bytes a call", SEVEN, 1, Status::Done, ONE_RECORD),
+    ("capture_of_one_packet", MANY, 1, Status::Done, ONE_RECORD),
+    // The lines of whole records are written where the source fails inside the second.
+    (
+        "failing_source_of_a_capture",
+        THIRTEENTH_PIECE,
+        1000,
+        Status::Read,
+        RECORD_LINE,
+    ),
+    // The line of a record goes out before more of a capture is read.
+    (
+        "records_are_answered_before_more_is_read",
+        SECOND_PIECE,
+        3,
+        Status::Write,
+        RECORD_LINE,
+    ),
+];
+
 #[test]
-fn records_are_answered_before_more_is_read(rt: HostRuntime) -> Result<(), Fail> {
-    let cut = (Status::Write, RECORD_LINE);
-    assert!(rt; is_shown(&rt, rt.alloc(), &SECOND_PIECE, 3, cut)?);
+fn captures_over_streams(rt: HostRuntime) -> Result<(), Fail> {
+    for (name, streams, count, status, text) in &CAPTURES {
+        let shown = is_shown(&rt, rt.alloc(), streams, *count, (*status, *text))?;
+        assert!(rt; shown, "{name}");
+    }
     Ok(())
 }

@@ -1,5 +1,5 @@
 //! A pcapng file of two sections, unwrapped in pieces of any length, and what is refused in one.
-use crate::bridge::calls::{Wanted, comes, comes_in_pieces};
+use crate::bridge::calls::{Wanted, comes};
 use crate::calls::Streams;
 use bridge_command::Status;
 use std::alloc::Global;
@@ -8,7 +8,7 @@ use std::test::Fail;
 // The most significant byte first: a section, an interface of Ethernet that counts milliseconds, a block that nobody
 // knows, an interface of raw IP that counts parts of 512 from a second before 1970, a packet of each, and one without a
 // time. Then a section with the least significant byte first, an interface that says nothing of time, and a packet.
-const BLOCKS: &[u8] =
+pub(crate) const BLOCKS: &[u8] =
     b"\x0a\x0d\x0d\x0a\x00\x00\x00\x20\x1a\x2b\x3c\x4d\x00\x01\x00\x00\xff\xff\xff\xff\xff\xff\xff\xff\x00\x00\x00\x00\x00\x00\x00\x20\
 \x00\x00\x00\x01\x00\x00\x00\x28\x00\x01\x00\x00\x00\x04\x00\x00\
 \x00\x02\x00\x01\x61\x00\x00\x00\x00\x09\x00\x01\x03\x00\x00\x00\x00\x00\x00\x00\x00\x00\x00\x28\
@@ -26,7 +26,7 @@ const BLOCKS: &[u8] =
 \x45\x00\x00\x00\x24\x00\x00\x00";
 
 // 1.5 seconds; three seconds and a part of 512, less one second; none; and 2^32 microseconds.
-const RECORDS: &[u8] =
+pub(crate) const RECORDS: &[u8] =
     b"\xa1\xb2\xc3\xd4\x00\x02\x00\x04\x00\x00\x00\x00\x00\x00\x00\x00\x00\x04\x00\x00\x00\x00\x00\x65\
 \x00\x00\x00\x01\x00\x07\xa1\x20\x00\x00\x00\x04\x00\x00\x00\x32\x45\x00\x00\x28\
 \x00\x00\x00\x02\x00\x00\x07\xa1\x00\x00\x00\x01\x00\x00\x00\x28\x60\
@@ -34,16 +34,9 @@ const RECORDS: &[u8] =
 \x00\x00\x10\xc6\x00\x0e\xc2\x80\x00\x00\x00\x01\x00\x00\x00\x28\x45";
 
 // The bytes of the first section's first block, and of the file header that is written.
-const SECTION: usize = 32;
+pub(crate) const SECTION: usize = 32;
 
-const FILE_HEADER: usize = 24;
-
-#[test]
-fn blocks_of_two_sections(rt: HostRuntime) -> Result<(), Fail> {
-    comes_in_pieces(rt.alloc(), ("unwrap", BLOCKS), RECORDS)?;
-    let no_interface = ("unwrap", &BLOCKS[..SECTION]);
-    comes_in_pieces(rt.alloc(), no_interface, &RECORDS[..FILE_HEADER])
-}
+pub(crate) const FILE_HEADER: usize = 24;
 
 // A place in the blocks, the byte that stands there instead, how much is written before it is refused, and the line
 // behind that.

@@ -54,31 +54,17 @@ pub(crate) fn comes(
     Ok(is_met(wanted, status, sink.taken()))
 }
 
-/// Fails unless the call writes this over streams of 1, 7 and 4,096 bytes a call.
+/// Fails with this name unless the call writes this over streams of 1, 7 and 4,096 bytes a call.
 pub(crate) fn comes_in_pieces(
     alloc: Global,
+    name: &str,
     call: (&str, &[u8]),
     output: &'static [u8],
 ) -> Result<(), Fail> {
     let wanted = Wanted::Whole(Status::Done, output);
     for most in &[1, 7, 4096] {
         if !comes(alloc, &Streams::of(*most), call, &wanted)? {
-            return Err(Fail::new(format_args!("{most} bytes a call")));
-        }
-    }
-    Ok(())
-}
-
-/// Fails at the first of these lists of words that comes to something else over this input.
-pub(crate) fn all_come(
-    alloc: Global,
-    streams: &Streams,
-    (lists, input): (&[&str], &[u8]),
-    wanted: &Wanted,
-) -> Result<(), Fail> {
-    for words in lists {
-        if !comes(alloc, streams, (*words, input), wanted)? {
-            return Err(Fail::new(format_args!("{words}")));
+            return Err(Fail::new(format_args!("{name}: {most} bytes a call")));
         }
     }
     Ok(())
@@ -98,7 +84,7 @@ pub(crate) fn cuts_are_refused(
         let front = input.get(..*size).ok_or("no cut is longer")?;
         let wanted = Wanted::Refusal(output, *written, *line);
         if !comes(alloc, &Streams::of(7), (words, front), &wanted)? {
-            return Err(Fail::new(format_args!("{size} bytes")));
+            return Err(Fail::new(format_args!("{words}: {size} bytes")));
         }
     }
     Ok(())

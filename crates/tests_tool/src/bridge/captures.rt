@@ -1,12 +1,11 @@
-//! Transcripts as captures: worked bytes, streams in pieces and streams that fail, and what is refused.
-use crate::bridge::calls::{USAGE, Wanted, all_come, comes, comes_in_pieces, failures_are_told};
+//! Transcripts as captures: worked bytes, and what is refused.
+use crate::bridge::calls::{Wanted, comes};
 use crate::calls::Streams;
-use bridge_command::Status;
 use std::alloc::Global;
 use std::test::Fail;
 
 // What a client and a server of a schedule answer, and a replay's first lines.
-const TRANSCRIPT: &[u8] = b"2 open: ok\n\
+pub(crate) const TRANSCRIPT: &[u8] = b"2 open: ok\n\
 sent c0 9c401389050031ec01000000000003e80000002a\n\
 3 deliver c0: took\n\
 sent s0 13899c400700261403000000000007d000000000000003e80000002a\n\
@@ -19,7 +18,7 @@ sent c1 9c4013890700163b0f000000000003e900000000000007d004020000\n\
 line 4 column 1: BadHex\n";
 
 // The file header; of each record its header, then that of IPv4, whose checksum was worked out apart, and the frame.
-const CAPTURE: &[u8] =
+pub(crate) const CAPTURE: &[u8] =
     b"\xa1\xb2\xc3\xd4\x00\x02\x00\x04\x00\x00\x00\x00\x00\x00\x00\x00\x00\x04\x00\x00\x00\x00\x00\x65\
 \x00\x00\x00\x02\x00\x00\x00\x00\x00\x00\x00\x28\x00\x00\x00\x28\
 \x45\x00\x00\x28\x00\x00\x40\x00\x40\x21\x26\xb3\x0a\x00\x00\x01\x0a\x00\x00\x02\
@@ -33,11 +32,6 @@ const CAPTURE: &[u8] =
 
 // The bytes of the file header.
 const FILE_HEADER: usize = 24;
-
-#[test]
-fn frames_of_a_transcript(rt: HostRuntime) -> Result<(), Fail> {
-    comes_in_pieces(rt.alloc(), ("capture", TRANSCRIPT), CAPTURE)
-}
 
 // Lines, and the refusal of each behind the file header.
 const REFUSED: [(&str, &str); 13] = [
@@ -68,23 +62,4 @@ fn refused_lines_of_transcripts(rt: HostRuntime) -> Result<(), Fail> {
         assert!(rt; refuses(rt.alloc(), line, *refusal)?, "{line}");
     }
     Ok(())
-}
-
-const OTHER_WORDS: [&str; 5] = ["", "walk", "Capture", "capture,capture", "show"];
-
-#[test]
-fn other_words_of_the_bridge(rt: HostRuntime) -> Result<(), Fail> {
-    let usage = Wanted::Whole(Status::Words, USAGE);
-    all_come(
-        rt.alloc(),
-        &Streams::of(7),
-        (&OTHER_WORDS, TRANSCRIPT),
-        &usage,
-    )
-}
-
-#[test]
-fn failing_streams_of_the_bridge(rt: HostRuntime) -> Result<(), Fail> {
-    let call = ("capture", TRANSCRIPT);
-    failures_are_told(rt.alloc(), call, CAPTURE, (&[1, 2, 30], &[1, 2, 30]))
 }

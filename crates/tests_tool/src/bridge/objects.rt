@@ -1,11 +1,9 @@
-//! The records of a capture as objects, in pieces of any length and over a source that fails; and a capture that is
-//! cut.
-use crate::bridge::calls::{Cut, comes_in_pieces, cuts_are_refused, failures_are_told};
-use std::test::Fail;
+//! The records of a capture as objects.
+use crate::bridge::calls::Cut;
 
 // Ethernet: a DataAck of short numbers with an option, over IPv4; a Reset over IPv6 behind a VLAN tag, whose checksum
 // is wrong; a packet of a reserved type; ARP; and Data whose last four bytes were not captured.
-const RECORDS: &[u8] =
+pub(crate) const RECORDS: &[u8] =
     b"\xa1\xb2\xc3\xd4\x00\x02\x00\x04\x00\x00\x00\x00\x00\x00\x00\x00\x00\x04\x00\x00\x00\x00\x00\x01\
 \x00\x00\x00\x01\x00\x07\xa1\x20\x00\x00\x00\x3b\x00\x00\x00\x3b\x02\x00\x00\x00\x00\x02\x02\x00\x00\x00\x00\x01\
 \x08\x00\x45\x00\x00\x2d\x00\x00\x00\x00\x40\x21\x00\x00\x0a\x00\x00\x01\x0a\x00\x00\x02\x9c\x40\x13\x89\x05\x52\
@@ -24,7 +22,7 @@ const RECORDS: &[u8] =
 \x00\x00\x04\x00\x03\xe9\x61\x62\x63\x64";
 
 // Made by a model apart, which tells the captures of examples/ as their stored lines do.
-const OBJECTS: &[u8] =
+pub(crate) const OBJECTS: &[u8] =
     b"{\"acknowledgement\":2000,\"ccval\":5,\"checksum\":8730,\"cscov\":2,\"data\":5,\"destination\":\"10.0.0.2\",\
 \"destination_port\":5001,\"length\":59,\"link\":1,\"nanoseconds\":500000000,\"options\":[\"ndp-count 07\"],\
 \"record\":1,\"seconds\":1,\"sequence\":1000,\"short\":true,\"source\":\"10.0.0.1\",\"source_port\":40000,\
@@ -39,23 +37,8 @@ const OBJECTS: &[u8] =
 \"length\":54,\"link\":1,\"nanoseconds\":0,\"options\":[],\"record\":5,\"seconds\":5,\"sequence\":1001,\
 \"short\":true,\"source\":\"10.0.0.1\",\"source_port\":40000,\"type\":\"Data\",\"verdict\":\"unknown\"}\n";
 
-#[test]
-fn objects_of_records(rt: HostRuntime) -> Result<(), Fail> {
-    comes_in_pieces(rt.alloc(), ("json", RECORDS), OBJECTS)
-}
-
-const CUT: [Cut; 3] = [
+pub(crate) const CUT: [Cut; 3] = [
     (0, 0, "{\"fault\":\"CutShort\",\"records\":0}\n"),
     (98, 0, "{\"fault\":\"CutShort\",\"records\":0}\n"),
     (360, 849, "{\"fault\":\"CutShort\",\"records\":4}\n"),
 ];
-
-#[test]
-fn captures_that_are_cut_as_objects(rt: HostRuntime) -> Result<(), Fail> {
-    cuts_are_refused(rt.alloc(), ("json", RECORDS), OBJECTS, &CUT)
-}
-
-#[test]
-fn failing_streams_of_json(rt: HostRuntime) -> Result<(), Fail> {
-    failures_are_told(rt.alloc(), ("json", RECORDS), OBJECTS, (&[20], &[2]))
-}

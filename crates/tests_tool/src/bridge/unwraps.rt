@@ -1,11 +1,9 @@
-//! A capture of the "any" device of Linux, unwrapped in pieces of any length and over streams that fail; and what is
-//! refused.
-use crate::bridge::calls::{Cut, comes_in_pieces, cuts_are_refused, failures_are_told};
-use std::test::Fail;
+//! A capture of the "any" device of Linux.
+use crate::bridge::calls::Cut;
 
 // Link type 276, the least significant byte first: IPv4 behind the header of the device, ARP, IPv6 behind a VLAN tag,
 // and a record of no bytes.
-const ANY: &[u8] =
+pub(crate) const ANY: &[u8] =
     b"\xd4\xc3\xb2\xa1\x02\x00\x04\x00\x00\x00\x00\x00\x00\x00\x00\x00\xff\xff\x00\x00\x14\x01\x00\x00\
 \x01\x00\x00\x00\x20\xa1\x07\x00\x18\x00\x00\x00\x3c\x00\x00\x00\
 \x08\x00\x00\x00\x00\x00\x00\x03\x00\x01\x00\x06\x02\x02\x02\x02\x02\x02\x00\x00\x45\x00\x00\x28\
@@ -16,32 +14,17 @@ const ANY: &[u8] =
 \x04\x00\x00\x00\x09\x00\x00\x00\x00\x00\x00\x00\x05\x00\x00\x00";
 
 // The same records of raw IP, the most significant byte first.
-const RAW: &[u8] =
+pub(crate) const RAW: &[u8] =
     b"\xa1\xb2\xc3\xd4\x00\x02\x00\x04\x00\x00\x00\x00\x00\x00\x00\x00\x00\x04\x00\x00\x00\x00\x00\x65\
 \x00\x00\x00\x01\x00\x07\xa1\x20\x00\x00\x00\x04\x00\x00\x00\x28\x45\x00\x00\x28\
 \x00\x00\x00\x02\x00\x00\x00\x00\x00\x00\x00\x00\x00\x00\x00\x00\
 \x00\x00\x00\x03\x00\x00\x00\x00\x00\x00\x00\x01\x00\x00\x00\x01\x60\
 \x00\x00\x00\x04\x00\x00\x00\x09\x00\x00\x00\x00\x00\x00\x00\x00";
 
-#[test]
-fn records_of_the_any_device(rt: HostRuntime) -> Result<(), Fail> {
-    comes_in_pieces(rt.alloc(), ("unwrap", ANY), RAW)
-}
-
-const CUT: [Cut; 5] = [
+pub(crate) const CUT: [Cut; 5] = [
     (0, 0, "capture CutShort after record 0\n"),
     (23, 0, "capture CutShort after record 0\n"),
     (39, 24, "capture CutShort after record 0\n"),
     (63, 24, "capture CutShort after record 0\n"),
     (65, 44, "capture CutShort after record 1\n"),
 ];
-
-#[test]
-fn captures_that_are_cut(rt: HostRuntime) -> Result<(), Fail> {
-    cuts_are_refused(rt.alloc(), ("unwrap", ANY), RAW, &CUT)
-}
-
-#[test]
-fn failing_streams_of_unwrap(rt: HostRuntime) -> Result<(), Fail> {
-    failures_are_told(rt.alloc(), ("unwrap", ANY), RAW, (&[12], &[2]))
-}

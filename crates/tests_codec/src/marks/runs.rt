@@ -1,7 +1,6 @@
-//! Sets of numbers as runs, linked and plain: marks and floors, as lists of calls, each with its
-//! answer. One helper makes all calls: a proof follows each value that a function holds through each of its steps.
-use crate::lists::all_come;
-use run_list::{Marked, PlainRuns, RunCall, RunList, Runs, Stretch, replay_runs};
+//! Sets of numbers as runs, linked and plain: marks and floors.
+use crate::marks::calls::{Called, all_come};
+use run_list::{Marked, PlainRuns, RunList, Runs, Stretch};
 use seq_circle::Seq48;
 use std::alloc::Global;
 use std::test::Fail;
@@ -10,13 +9,14 @@ use std::test::Fail;
 const LAST: u64 = 281_474_976_710_655;
 
 // A call of a set, and what has to come of it.
-#[derive(Clone, Copy)]
 enum Call {
     Start(u64),
     Mark(u64, Marked),
     // Each of these is new.
     MarkAll(&'static [u64]),
     Raise(u64),
+    // So many times two runs become one, and all start anew.
+    Join(u32),
     // The floor is this one.
     Floor(u64),
 }
@@ -44,25 +44,36 @@ fn raise<R: Runs>(set: &mut R, floor: u64) -> Option<bool> {
     Some(true)
 }
 
+fn join<R: Runs>(set: &mut R, times: u32) -> Option<bool> {
+    for _ in 0..times {
+        start(set, 0)?;
+        mark_all(set, &[1, 3, 2])?;
+    }
+    Some(true)
+}
+
 // Whether a call comes to what it has to. None where a number is too large, which no list has.
-fn holds<R: Runs>(set: &mut R, call: Call) -> Option<bool> {
-    match call {
+fn holds<R: Runs>(set: &mut R, call: &Call) -> Option<bool> {
+    match *call {
         Call::Start(first) => start(set, first),
         Call::Mark(number, answer) => mark(set, number, answer),
         Call::MarkAll(numbers) => mark_all(set, numbers),
         Call::Raise(floor) => raise(set, floor),
+        Call::Join(times) => join(set, times),
         Call::Floor(number) => Some(set.floor().get() == number),
     }
 }
 
-// The place of the first of these calls that comes to something else.
-fn first_other<R: Runs>(set: &mut R, calls: &[Call]) -> Option<usize> {
-    for (place, call) in calls.iter().enumerate() {
-        if holds(set, *call) != Some(true) {
-            return Some(place);
-        }
+impl Called<Call> for RunList {
+    fn holds(&mut self, call: &Call) -> Option<bool> {
+        holds(self, call)
     }
-    None
+}
+
+impl Called<Call> for PlainRuns {
+    fn holds(&mut self, call: &Call) -> Option<bool> {
+        holds(self, call)
+    }
 }
 
 // Whether this is the next of the runs that are wanted, by its greatest number and how many it has.
@@ -85,7 +96,6 @@ fn has_runs(set: &RunList, runs: &[(u64, u16)]) -> bool {
 }
 
 // Calls, and the runs that are there after them.
-#[derive(Clone, Copy)]
 struct Case<'a> {
     name: &'a str,
     calls: &'a [Call],
@@ -93,13 +103,12 @@ struct Case<'a> {
 }
 
 fn play(set: &mut RunList, case: &Case<'_>) -> Result<(), Fail> {
-    if let Some(place) = first_other(set, case.calls) {
-        return Err(Fail::new(format_args!("{}: call {place}", case.name)));
+    all_come(set, case.name, case.calls)?;
+    if has_runs(set, case.runs) {
+        Ok(())
+    } else {
+        Err(Fail::new(format_args!("{}: the runs", case.name)))
     }
-    if !has_runs(set, case.runs) {
-        return Err(Fail::new(format_args!("{}: the runs", case.name)));
-    }
-    Ok(())
 }
 
 // Plays the cases on one set, one after another.
@@ -112,7 +121,7 @@ fn play_all(alloc: Global, cases: &[Case<'_>]) -> Result<(), Fail> {
 }
 
 // A mark by what happens to the runs.
-const MARKS: [Case<'static>; 11] = [
+const MARKS: [Case<'static>; 12] = [
     Case {
         name: "begins the first run",
         calls: &[
@@ -222,6 +231,11 @@ const MARKS: [Case<'static>; 11] = [
         ],
         runs: &[(1, 4)],
     },
+    Case {
+        name: "more often than a set has nodes: 1,024",
+        calls: &[Call::Join(1_025), Call::Floor(0)],
+        runs: &[(3, 3)],
+    },
 ];
 
 #[test]
@@ -276,72 +290,8 @@ const ROW: [Call; 9] = [
     Call::Mark(11, Marked::BelowFloor),
 ];
 
-fn play_of_a_row(alloc: Global, calls: &[Call]) -> Result<(), Fail> {
-    let mut set = PlainRuns::new(alloc).ok().ok_or("no memory")?;
-    all_come(first_other(&mut set, calls))
-}
-
 #[test]
 fn a_plain_row(rt: HostRuntime) -> Result<(), Fail> {
-    play_of_a_row(rt.alloc(), &ROW)
-}
-
-// A start at 10, marks of 10, 12, 12 and 9, a floor raised to 11, and marks of 10 and 11.
-fn calls() -> Option<[RunCall; 8]> {
-    let ten = Seq48::new(10)?;
-    Some([
-        RunCall::Start(ten),
-        RunCall::Mark(ten),
-        RunCall::Mark(ten.add(2)),
-        RunCall::Mark(ten.add(2)),
-        RunCall::Mark(ten.sub(1)),
-        RunCall::Raise(ten.add(1)),
-        RunCall::Mark(ten),
-        RunCall::Mark(ten.add(1)),
-    ])
-}
-
-// Whether three of these marks are New, and the floor is then 11.
-fn replays<R: Runs>(runs: &mut R) -> bool {
-    match calls() {
-        Some(calls) => replay_runs(runs, &calls) == 3 && runs.floor().get() == 11,
-        None => false,
-    }
-}
-
-fn linked_runs_replay(alloc: Global) -> Option<bool> {
-    Some(replays(&mut RunList::new(alloc).ok()?))
-}
-
-fn plain_runs_replay(alloc: Global) -> Option<bool> {
-    Some(replays(&mut PlainRuns::new(alloc).ok()?))
-}
-
-#[test]
-fn a_list_of_calls(rt: HostRuntime) {
-    assert!(rt; linked_runs_replay(rt.alloc()) == Some(true), "linked");
-    assert!(rt; plain_runs_replay(rt.alloc()) == Some(true), "plain");
-}
-
-// Two runs become one, and all start anew.
-const JOINED: [Call; 2] = [Call::Start(0), Call::MarkAll(&[1, 3, 2])];
-
-// Whether these calls come to what they have to, each of so many times.
-fn holds_each_time<R: Runs>(set: &mut R, times: u32, calls: &[Call]) -> bool {
-    for _ in 0..times {
-        if first_other(set, calls).is_some() {
-            return false;
-        }
-    }
-    true
-}
-
-fn joins_each_time(alloc: Global, times: u32) -> Option<bool> {
-    Some(holds_each_time(&mut RunList::new(alloc).ok()?, times, &JOINED))
-}
-
-// More often than a set has nodes: 1,024.
-#[test]
-fn nodes_are_used_again(rt: HostRuntime) {
-    assert!(rt; joins_each_time(rt.alloc(), 1025) == Some(true));
+    let mut set = PlainRuns::new(rt.alloc()).ok().ok_or("no memory")?;
+    all_come(&mut set, "a row", &ROW)
 }

@@ -1,7 +1,7 @@
 //! Sources and sinks, read and written one call at a time.
 ghost use Rattle.std.specs.Prelude.{◌≡◌};
 
-use crate::texts::tell_bytes;
+use crate::streams::texts::tell_bytes;
 use dccp_io::{
     Failed, MemorySink, MemorySource, ReadAhead, Sink, Source, StdSink, StdSource, SureSink,
     SureSource, read_all, write_all,
@@ -113,10 +113,11 @@ fn tell_memory(
     }
 }
 
-// A reader that is interrupted once, and then gives a byte a call.
+// A reader that is interrupted once; then it is broken, or gives a byte a call.
 #[derive(Drop)]
 struct Interrupted {
     interrupted: bool,
+    broken: bool,
     left: u8,
 }
 
@@ -125,6 +126,9 @@ impl Read for Interrupted {
         if !self.interrupted {
             self.interrupted = true;
             return Err(Error::from(ErrorKind::Interrupted));
+        }
+        if self.broken {
+            return Err(Error::from(ErrorKind::BrokenPipe));
         }
         if self.left == 0 || buf.is_empty() {
             return Ok(0);
@@ -135,32 +139,17 @@ impl Read for Interrupted {
     }
 }
 
-// A reader that is interrupted once, and then broken.
-#[derive(Drop)]
-struct Broken {
-    interrupted: bool,
-}
-
-impl Read for Broken {
-    fn read(&mut self, _buf: &mut [u8]) -> io::Result<usize> {
-        if self.interrupted {
-            return Err(Error::from(ErrorKind::BrokenPipe));
-        }
-        self.interrupted = true;
-        Err(Error::from(ErrorKind::Interrupted))
-    }
-}
-
-fn tell_interrupted(alloc: Global, calls: &str, told: &mut String) -> Result<(), Fail> {
+fn tell_interrupted(
+    alloc: Global,
+    broken: bool,
+    calls: &str,
+    told: &mut String,
+) -> Result<(), Fail> {
     let reader = Interrupted {
         interrupted: false,
+        broken,
         left: 3,
     };
-    tell_reads(alloc, &mut StdSource::new(reader), calls, told)
-}
-
-fn tell_broken(alloc: Global, calls: &str, told: &mut String) -> Result<(), Fail> {
-    let reader = Broken { interrupted: false };
     tell_reads(alloc, &mut StdSource::new(reader), calls, told)
 }
 
@@ -182,8 +171,8 @@ impl Table for Sources {
         match kind {
             "sure" => tell_sure(alloc, input, calls, told),
             "standard" => tell_standard(alloc, input, calls, told),
-            "interrupted" => tell_interrupted(alloc, calls, told),
-            "broken" => tell_broken(alloc, calls, told),
+            "interrupted" => tell_interrupted(alloc, false, calls, told),
+            "broken" => tell_interrupted(alloc, true, calls, told),
             _ => {
                 let is_lent = kind == "lent";
                 tell_memory(alloc, (most, failing), is_lent, (input, calls), told)

@@ -4,7 +4,6 @@ use dccp_options::{AckReport, options};
 use dccp_uses::AdditiveWindow;
 use std::alloc::Global;
 
-#[derive(Clone, Copy)]
 enum Call {
     Send(u64),
     // A report at a number, of the runs of one byte.
@@ -38,8 +37,8 @@ fn takes_report(kind: &mut AdditiveWindow, ack: u64, byte: u8) -> bool {
     }
 }
 
-fn takes(kind: &mut AdditiveWindow, call: Call) -> bool {
-    match call {
+fn takes(kind: &mut AdditiveWindow, call: &Call) -> bool {
+    match *call {
         Call::Send(number) => sends(kind, number),
         Call::Report(ack, byte) => takes_report(kind, ack, byte),
         Call::Timeout => {
@@ -56,44 +55,80 @@ fn takes(kind: &mut AdditiveWindow, call: Call) -> bool {
 // A call, and the window and what is in flight behind it.
 type Row = (Call, u32, u32);
 
-// The place of the first row behind which something else is so.
-fn first_other(kind: &mut AdditiveWindow, rows: &[Row]) -> Option<usize> {
-    for (place, (call, window, in_flight)) in rows.iter().enumerate() {
-        if !takes(kind, *call) || kind.window() != *window || kind.in_flight() != *in_flight {
-            return Some(place);
+fn are_so(kind: &mut AdditiveWindow, rows: &[Row]) -> bool {
+    for (call, window, in_flight) in rows {
+        if !takes(kind, call) || kind.window() != *window || kind.in_flight() != *in_flight {
+            return false;
         }
     }
-    None
+    true
 }
 
-fn are_so(alloc: Global, rows: &[Row]) -> bool {
+fn are_so_from_the_start(alloc: Global, rows: &[Row]) -> bool {
     match AdditiveWindow::new(alloc) {
-        Ok(mut kind) => first_other(&mut kind, rows).is_none(),
+        Ok(mut kind) => are_so(&mut kind, rows),
         Err(_) => false,
     }
 }
 
-// 1 is received: the window is 2, and a report that says no more leaves it. Then 2 is marked: it is 1 again.
-const HALVED: [Row; 7] = [
-    (Call::Send(1), 1, 1),
-    (Call::Report(1, 0x00), 2, 0),
-    (Call::Report(1, 0x00), 2, 0),
-    (Call::Send(2), 2, 1),
-    (Call::Report(2, 0x40), 1, 0),
-    (Call::Timeout, 1, 0),
-    (Call::Start, 1, 0),
+// Lists by their names.
+const LISTS: [(&str, &[Row]); 3] = [
+    // 1 is received: the window is 2, and a report that says no more leaves it. Then 2 is marked: it is 1 again.
+    (
+        "grows_and_is_halved",
+        &[
+            (Call::Send(1), 1, 1),
+            (Call::Report(1, 0x00), 2, 0),
+            (Call::Report(1, 0x00), 2, 0),
+            (Call::Send(2), 2, 1),
+            (Call::Report(2, 0x40), 1, 0),
+            (Call::Timeout, 1, 0),
+            (Call::Start, 1, 0),
+        ],
+    ),
+    // Two are received, and the window is 3. A marked one halves it, down to 1.
+    (
+        "halves_round_down",
+        &[
+            (Call::Send(1), 1, 1),
+            (Call::Report(1, 0x00), 2, 0),
+            (Call::Send(2), 2, 1),
+            (Call::Report(2, 0x00), 3, 0),
+            (Call::Send(3), 3, 1),
+            (Call::Report(3, 0x40), 1, 0),
+        ],
+    ),
+    // Behind three reports the window is 4. Of 4 to 7 the later three are received: 4 is lost, and halves it.
+    (
+        "a_loss_halves",
+        &[
+            (Call::Send(1), 1, 1),
+            (Call::Report(1, 0x00), 2, 0),
+            (Call::Send(2), 2, 1),
+            (Call::Report(2, 0x00), 3, 0),
+            (Call::Send(3), 3, 1),
+            (Call::Report(3, 0x00), 4, 0),
+            (Call::Send(4), 4, 1),
+            (Call::Send(5), 4, 2),
+            (Call::Send(6), 4, 3),
+            (Call::Send(7), 4, 4),
+            (Call::Report(7, 0x02), 2, 0),
+        ],
+    ),
 ];
+
+#[test]
+fn lists_of_an_own_window(rt: HostRuntime) {
+    for (name, rows) in &LISTS {
+        assert!(rt; are_so_from_the_start(rt.alloc(), *rows), "{name}");
+    }
+}
 
 fn knows_its_number(alloc: Global) -> bool {
     match AdditiveWindow::new(alloc) {
         Ok(kind) => kind.knows(249) && !kind.knows(2),
         Err(_) => false,
     }
-}
-
-#[test]
-fn grows_and_is_halved(rt: HostRuntime) {
-    assert!(rt; knows_its_number(rt.alloc()) && are_so(rt.alloc(), &HALVED));
 }
 
 fn grows_with(kind: &mut AdditiveWindow, number: u64) -> bool {
@@ -122,40 +157,5 @@ fn grows(alloc: Global) -> bool {
 // A packet for each report, up to 1,024.
 #[test]
 fn grows_up_to_the_cap(rt: HostRuntime) {
-    assert!(rt; grows(rt.alloc()));
-}
-
-// Two are received, and the window is 3. A marked one halves it, down to 1.
-const ROUNDED_DOWN: [Row; 6] = [
-    (Call::Send(1), 1, 1),
-    (Call::Report(1, 0x00), 2, 0),
-    (Call::Send(2), 2, 1),
-    (Call::Report(2, 0x00), 3, 0),
-    (Call::Send(3), 3, 1),
-    (Call::Report(3, 0x40), 1, 0),
-];
-
-#[test]
-fn halves_round_down(rt: HostRuntime) {
-    assert!(rt; are_so(rt.alloc(), &ROUNDED_DOWN));
-}
-
-// Behind three reports the window is 4. Of 4 to 7 the later three are received: 4 is lost, and halves it.
-const LOST: [Row; 11] = [
-    (Call::Send(1), 1, 1),
-    (Call::Report(1, 0x00), 2, 0),
-    (Call::Send(2), 2, 1),
-    (Call::Report(2, 0x00), 3, 0),
-    (Call::Send(3), 3, 1),
-    (Call::Report(3, 0x00), 4, 0),
-    (Call::Send(4), 4, 1),
-    (Call::Send(5), 4, 2),
-    (Call::Send(6), 4, 3),
-    (Call::Send(7), 4, 4),
-    (Call::Report(7, 0x02), 2, 0),
-];
-
-#[test]
-fn a_loss_halves(rt: HostRuntime) {
-    assert!(rt; are_so(rt.alloc(), &LOST));
+    assert!(rt; knows_its_number(rt.alloc()) && grows(rt.alloc()));
 }

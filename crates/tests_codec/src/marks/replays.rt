@@ -18,6 +18,7 @@ const ROWS: &str = "\
     start=10 mark=10 mark=12 mark=11: 3 10\n\
     start=10 mark=10 mark=20 mark=15 mark=15: 3 10\n\
     start=10 mark=9 mark=10: 1 10\n\
+    start=10 mark=10 mark=12 mark=12 mark=9 raise=11 mark=10 mark=11: 3 11\n\
     start=10 mark=140737488355338: 0 10\n\
     start=10 mark=140737488355337: 1 140737488353290\n\
     start=10 mark=2057 mark=2058 mark=10 mark=11: 3 11\n\

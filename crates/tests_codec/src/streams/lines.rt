@@ -1,5 +1,5 @@
 //! Lines over sources that give their bytes in any pieces.
-use crate::texts::{bytes_of, tell_bytes};
+use crate::streams::texts::{bytes_of, tell_bytes};
 use dccp_io::{LineRead, Lines, LinesFault, MemorySource, read_all};
 use std::alloc::Global;
 use std::test::Fail;

@@ -151,38 +151,28 @@ fn payloads_and_values_have_their_room(rt: HostRuntime) {
     assert!(rt; kept(10) == 9, "ten values");
 }
 
-fn is_delivery(event: &Event, sender: Side, number: u64) -> bool {
-    match event {
-        Event::Deliver { from, index } => *from == sender && *index == number,
-        _ => false,
-    }
-}
-
-fn is_timer(event: &Event, owner: Side, fired: Timer) -> bool {
-    match event {
-        Event::Timer { side, timer } => *side == owner && *timer == fired,
-        _ => false,
-    }
+fn is_said(event: &Event, line: &[u8], text: &mut Vec<u8>) -> bool {
+    text.clear();
+    print_event(event, text).is_ok() && text.as_slice() == line
 }
 
 // From another event, and from one of the same kind.
-fn becomes_deliveries(event: &mut Event) -> bool {
+fn becomes_others(event: &mut Event, text: &mut Vec<u8>) -> bool {
     event.become_delivery(Side::Client, 3);
-    let first = is_delivery(event, Side::Client, 3);
+    let first = is_said(event, b"deliver c3", text);
     event.become_delivery(Side::Server, 4);
-    first && is_delivery(event, Side::Server, 4)
+    let second = is_said(event, b"deliver s4", text);
+    event.become_timer(Side::Client, Timer::Ack);
+    let third = is_said(event, b"timer client ack", text);
+    event.become_timer(Side::Server, Timer::Rto);
+    first && second && third && is_said(event, b"timer server rto", text)
 }
 
-fn becomes_timers(event: &mut Event) -> bool {
-    event.become_timer(Side::Client, Timer::Ack);
-    let first = is_timer(event, Side::Client, Timer::Ack);
-    event.become_timer(Side::Server, Timer::Rto);
-    first && is_timer(event, Side::Server, Timer::Rto)
+fn become_others(alloc: Global) -> bool {
+    becomes_others(&mut Event::Open, &mut Vec::new(alloc))
 }
 
 #[test]
 fn events_become_others(rt: HostRuntime) {
-    let mut event = Event::Open;
-    assert!(rt; becomes_deliveries(&mut event), "deliveries");
-    assert!(rt; becomes_timers(&mut event), "timers");
+    assert!(rt; become_others(rt.alloc()));
 }

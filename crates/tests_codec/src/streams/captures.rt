@@ -1,5 +1,5 @@
 //! Captures over sources that give their bytes in any pieces.
-use crate::streams::source_of;
+use crate::streams::sources::source_of;
 use capture_reader::{CaptureFault, Captures, Record};
 use dccp_io::{MemorySource, Source, read_all};
 use std::alloc::Global;

@@ -1,4 +1,0 @@
-//! What many peers are answered, over lines that say of each in turn what comes.
-mod cases;
-mod replies;
-mod worked;
