@@ -59,28 +59,32 @@ fn exchange(rounds: u32) -> u64 {
 /// The client sends, and every tenth time its packet is lost.
 fn client_sends(pair: &mut Pair, round: u32) {
     if pair.client.send(&DATA, pair.now, &mut pair.frame) && round % 10 != 9 {
-        pair.to_server();
+        pair.reach_server();
     }
 }
 
 /// Now and then the server sends too, or the client asks for the other CCID.
 fn others(pair: &mut Pair, round: u32) {
     if round % 4 == 3 && pair.server.send(&DATA, pair.now, &mut pair.frame) {
-        pair.to_client();
+        pair.reach_client();
     }
     if round % SWITCH == SWITCH - 1 {
-        let ccid = if round / SWITCH % 2 == 0 { 248 } else { 2 };
+        let ccid = if (round / SWITCH).is_multiple_of(2) {
+            248
+        } else {
+            2
+        };
         pair.client.prefer(CCID, ccid, pair.now, &mut pair.frame);
-        pair.to_server();
+        pair.reach_server();
     }
 }
 
 /// The timers of both that have run out.
 fn tick(pair: &mut Pair) {
     while pair.client.tick(pair.now, &mut pair.frame) {
-        pair.to_server();
+        pair.reach_server();
     }
     while pair.server.tick(pair.now, &mut pair.frame) {
-        pair.to_client();
+        pair.reach_client();
     }
 }

@@ -78,7 +78,7 @@ impl Pair {
             delivered: 0,
         };
         pair.client.open(pair.now, &mut pair.frame);
-        pair.to_server();
+        pair.reach_server();
         for end in [&mut pair.client, &mut pair.server] {
             assert_eq!(end.look().phase, OPEN, "the ends are not in OPEN");
         }
@@ -86,12 +86,12 @@ impl Pair {
     }
 
     /// The client's frame arrives, if there is one; then the server's answer, and so on, until neither has anything to say.
-    pub fn to_server(&mut self) {
+    pub fn reach_server(&mut self) {
         self.deliver(true);
     }
 
     /// The same of the server's frame.
-    pub fn to_client(&mut self) {
+    pub fn reach_client(&mut self) {
         self.deliver(false);
     }
 
