@@ -64,9 +64,7 @@ impl Client {
         let Some(datagram) = self.to_client.take() else {
             return;
         };
-        let news = self
-            .connection
-            .arrived(&datagram, now, &mut self.to_server);
+        let news = self.connection.arrived(&datagram, now, &mut self.to_server);
         if let News::Ended { code } = news {
             self.ended = Some(code);
         }

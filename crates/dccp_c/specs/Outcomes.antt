@@ -6,7 +6,7 @@ use Rattle.end_answers.specs.declared.outcome.Outcome.{Outcome}
 use Rattle.end_answers.specs.declared.outcome.Outcome.TheVariants.{Took, Dropped, Synced, WasReset, SentReset}
 use Rattle.end_answers.specs.declared.outcome.Why.{Why}
 use Rattle.end_answers.specs.declared.outcome.Why.TheVariants as why
-use Rattle.dccp_c_end.specs.declared.told.Told.{Told}
+use Rattle.dccp_c.specs.declared.told.Told.{Told}
 
 -- the number of the cause for which a packet was dropped
 abbrev pub cause_code : Why → ℕ

@@ -1,6 +1,6 @@
 //! A box that C holds, or none, as a pointer that says nothing of what it points to.
 ghost use Rattle.std.specs.Prelude.{◌≡◌, ◌≢◌, Some, None, Option};
-ghost use Rattle.dccp_c_end.specs.Keeping.{Inner, inner_coded, kept_owns};
+ghost use Rattle.dccp_c.specs.Keeping.{Inner, inner_coded, kept_owns};
 
 mod parts;
 

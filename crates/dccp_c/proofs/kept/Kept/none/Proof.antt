@@ -31,12 +31,12 @@ use Rattle.std.specs.Prelude.{None}
 use Rattle.core.proofs.alloc.Calls.{handle_tells}
 use Rattle.std_alloc.proofs.ResultValues.{and_tt}
 use Rattle.std_heap.specs.contracts.Global as Heap
-use Rattle.dccp_c_end.proofs.AsBox.{E}
-use Rattle.dccp_c_end.specs.contracts.kept.Kept as Kept
-use Rattle.dccp_c_end.specs.contracts.kept.Kept.none as F
-use Rattle.dccp_c_end.specs.contracts.kept.Kept.none.Key.{name as #self}
-use Rattle.dccp_c_end.proofs.kept.Kept.none.Statement as stated
-use Rattle.dccp_c_end.proofs.kept.Kept.none.Code as code
+use Rattle.dccp_c.proofs.AsBox.{E}
+use Rattle.dccp_c.specs.contracts.kept.Kept as Kept
+use Rattle.dccp_c.specs.contracts.kept.Kept.none as F
+use Rattle.dccp_c.specs.contracts.kept.Kept.none.Key.{name as #self}
+use Rattle.dccp_c.proofs.kept.Kept.none.Statement as stated
+use Rattle.dccp_c.proofs.kept.Kept.none.Code as code
 
 abbrev stayed : Stays (F.ended).signature.params (F.ended).kept
 stayed = (stay_dropped (plain (λ _. Heap.the_row)) yes, tt)

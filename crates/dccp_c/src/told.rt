@@ -1,6 +1,6 @@
 //! What C is told of a datagram.
 ghost use Rattle.std.specs.Prelude.{◌≡◌, None};
-ghost use Rattle.dccp_c_end.specs.Telling.{cause_code, told_outcome};
+ghost use Rattle.dccp_c.specs.Outcomes.{cause_code, told_outcome};
 ghost use Rattle.end_answers.specs.declared.outcome.Outcome.TheVariants.{Took};
 
 use dccp_endpoint::{Malformed, Outcome, SumFault, Why};

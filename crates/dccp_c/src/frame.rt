@@ -1,6 +1,6 @@
 //! The frame that a call hands to C.
 ghost use Rattle.std.specs.Prelude.{◌≡◌, []};
-ghost use Rattle.dccp_c_end.specs.Framing.{bytes_in, bytes_of};
+ghost use Rattle.dccp_c.specs.Framing.{bytes_in, bytes_of};
 
 use dccp_endpoint::{MOST_FRAME_BYTES, Outbox};
 

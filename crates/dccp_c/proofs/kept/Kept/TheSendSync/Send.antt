@@ -11,10 +11,10 @@ use Rattle.std.specs.Global.{Global}
 use Rattle.std.proofs.Crossing as heap
 use Rattle.std_alloc.proofs.SendSync.{quiet, lies}
 use Rattle.std_heap.proofs.Global.TheSendSync as handle
-use Rattle.dccp_c_end.specs.Keeping.{Inner, kept_owns}
-use Rattle.dccp_c_end.specs.contracts.held.Held as Held
-use Rattle.dccp_c_end.proofs.held.Held.TheSendSync.{the_send as held_send}
-use Rattle.dccp_c_end.specs.contracts.kept.Kept.{the_row, the_type}
+use Rattle.dccp_c.specs.Keeping.{Inner, kept_owns}
+use Rattle.dccp_c.specs.contracts.held.Held as Held
+use Rattle.dccp_c.proofs.held.Held.TheSendSync.{the_send as held_send}
+use Rattle.dccp_c.specs.contracts.kept.Kept.{the_row, the_type}
 
 owned : (alloc : Global) (p : Ptr) (held : Option Inner) → Keyless (kept_owns alloc p held)
 owned alloc p None = tt

@@ -6,10 +6,10 @@ use Rattle.std_alloc.proofs.BoxSteps.Form.{Bx}
 use Rattle.std_heap.specs.contracts.Global as Heap
 use Rattle.std_heap.specs.contracts.GlobalAllocator.TheImpl.{ghosts, dict}
 use Rattle.std_heap.proofs.Global.TheLaws as heap
-use Rattle.dccp_c_end.specs.contracts.held.Held as Held
-use Rattle.dccp_c_end.proofs.held.Held.TheLaws as held
-use Rattle.dccp_c_end.specs.contracts.kept.parts.Parts as Parts
-use Rattle.dccp_c_end.specs.contracts.kept.Kept as Kept
+use Rattle.dccp_c.specs.contracts.held.Held as Held
+use Rattle.dccp_c.proofs.held.Held.TheLaws as held
+use Rattle.dccp_c.specs.contracts.kept.parts.Parts as Parts
+use Rattle.dccp_c.specs.contracts.kept.Kept as Kept
 
 abbrev pub E : Bx
 E = record {

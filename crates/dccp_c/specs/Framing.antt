@@ -1,6 +1,6 @@
 -- The bytes of a frame as C finds them (own).
 use Rattle.std.specs.Prelude.{ℕ, List, [], take, Option, Some, None}
-use Rattle.dccp_c_end.specs.declared.frame.Frame.{Frame}
+use Rattle.dccp_c.specs.declared.frame.Frame.{Frame}
 
 -- the bytes of a frame, none where there is no frame
 abbrev pub bytes_of : Option (List ℕ) → List ℕ
