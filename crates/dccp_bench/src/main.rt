@@ -48,21 +48,36 @@ fn form_of(word: &str) -> Option<Form> {
     None
 }
 
-// The form that the first word names, and the number that the last one is, or 1.
-fn asked(rt: &HostRuntime) -> io::Result<(Form, u32)> {
-    let mut form = Form::Packets;
-    let mut rounds = 1;
-    for word in env::args(rt)?.skip(1) {
-        match form_of(&word) {
-            Some(named) => form = named,
-            None => rounds = word.parse::<u32>().unwrap_or(1),
+// What is asked for: a form, and how often.
+#[derive(Clone, Copy)]
+struct Asked {
+    form: Form,
+    rounds: u32,
+}
+
+impl Asked {
+    // A word names a form, or says how often; once where it is neither.
+    fn hear(&mut self, word: &str) {
+        match form_of(word) {
+            Some(form) => self.form = form,
+            None => self.rounds = word.parse::<u32>().unwrap_or(1),
         }
     }
-    Ok((form, rounds))
+}
+
+fn asked(rt: &HostRuntime) -> io::Result<Asked> {
+    let mut asked = Asked {
+        form: Form::Packets,
+        rounds: 1,
+    };
+    for word in env::args(rt)?.skip(1) {
+        asked.hear(&word);
+    }
+    Ok(asked)
 }
 
 fn main(rt: HostRuntime) -> io::Result<()> {
-    let (form, rounds) = asked(&rt)?;
+    let Asked { form, rounds } = asked(&rt)?;
     match form {
         Form::Packets => passes::all(&rt, rounds),
         Form::Marks => marks::all(&rt, rounds),

@@ -152,9 +152,14 @@ fn exchange(server: &mut ServerOfMany, first: &mut Client, second: &mut Client) 
     None
 }
 
+// A second client comes.
+fn talk_beside(alloc: Global, server: &mut ServerOfMany, first: &mut Client) -> Option<u8> {
+    let mut second = Client::new(alloc, 3)?;
+    exchange(server, first, &mut second)
+}
+
 /// Two clients come. The code of the Reset that the second was told; None where memory ran out or a call was refused.
 pub(crate) fn talk(alloc: Global, server: &mut ServerOfMany) -> Option<u8> {
     let mut first = Client::new(alloc, 1)?;
-    let mut second = Client::new(alloc, 3)?;
-    exchange(server, &mut first, &mut second)
+    talk_beside(alloc, server, &mut first)
 }

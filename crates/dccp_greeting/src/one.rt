@@ -16,6 +16,21 @@ pub(crate) struct ServerOfOne {
     pub(crate) got: Vec<u8>,
 }
 
+// What the end for a peer is made from. A real server draws the number.
+fn config_for(peer: Peer) -> Option<Config> {
+    let address = peer.address;
+    let addresses = Pseudo::V4 {
+        from: SERVER_ADDRESS,
+        to: address,
+    };
+    let ports = Ports {
+        own: SERVER_PORT,
+        peer: peer.port,
+    };
+    let first = Seq48::new(2_000)?;
+    Some(Config::server(addresses, ports, SERVICE, first))
+}
+
 impl ServerOfOne {
     pub(crate) fn new(alloc: Global) -> ServerOfOne {
         ServerOfOne {
@@ -25,18 +40,9 @@ impl ServerOfOne {
         }
     }
 
-    // A datagram of a stranger, whose address and port a socket tells. A real server draws the number.
+    // A datagram of a stranger, whose address and port a socket tells.
     fn meet(&mut self, peer: Peer, datagram: &[u8], now: u64, network: &mut Wire) -> Option<()> {
-        let address = peer.address;
-        let addresses = Pseudo::V4 {
-            from: SERVER_ADDRESS,
-            to: address,
-        };
-        let ports = Ports {
-            own: SERVER_PORT,
-            peer: peer.port,
-        };
-        let config = Config::server(addresses, ports, SERVICE, Seq48::new(2_000)?);
+        let config = config_for(peer)?;
         let congestion = Kinds::new(self.alloc).ok()?;
         self.connection = accept(self.alloc, config, congestion, datagram, now, network).ok()?;
         Some(())
