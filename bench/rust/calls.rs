@@ -1,5 +1,6 @@
 //! One call of an end by itself: `dccp_send`, and a received Data, DataAck and Ack, beside copying the same bytes once and taking their
-//! checksum.
+//! checksum. A received Data or DataAck has half an Ack in it, which the end sends for every second one; the same `alone` at an end whose
+//! peer has asked for an Ack for every 64. And a byte that is no packet, which is what the border of the library takes by itself.
 
 use crate::frames::{ACK, DATA, DATA_ACK, copy, has_options, kind};
 use crate::library::{End, NO_FRAME, TIMER_ACK, bytes};
@@ -10,6 +11,9 @@ use std::time::{Duration, Instant};
 /// A datagram that was taken and had no data (`DCCP_TOOK` of `include/dccp.h`).
 const TOOK: u32 = 0;
 
+/// One that was dropped (`DCCP_DROPPED`).
+const DROPPED: u32 = 2;
+
 /// How many calls stand between two looks at the clock. Their frames lie in the nearest cache.
 const BATCH: usize = 16;
 
@@ -19,6 +23,11 @@ const WARM: u32 = 64;
 const SIZES: [usize; 2] = [64, 1_024];
 
 const BYTES: [u8; 1_024] = [85; 1_024];
+
+/// The number of the feature Ack Ratio (RFC 4340, section 6.4).
+const ACK_RATIO: u32 = 5;
+
+const RARE: u64 = 64;
 
 /// What calls of one kind took, and how many of them did what was asked.
 #[derive(Clone, Copy, Default)]
@@ -82,8 +91,7 @@ struct Bench {
 }
 
 impl Bench {
-    fn new() -> Bench {
-        let Pair { client, server, .. } = Pair::open();
+    fn new(Pair { client, server, .. }: Pair) -> Bench {
         let turn = || Turn {
             sent: NO_FRAME,
             back: NO_FRAME,
@@ -177,6 +185,17 @@ impl Bench {
             .count()
     }
 
+    /// A batch of datagrams of one byte, which the end drops.
+    fn drop_all(&mut self, drops: &mut Spent) {
+        let Bench { end, turns, .. } = self;
+        drops.time(BATCH, || {
+            turns
+                .iter_mut()
+                .map(|it| usize::from(end.receive(&[0], 0, &mut it.sent).kind == DROPPED))
+                .sum()
+        });
+    }
+
     /// A batch that is sent, and the Acks that come back.
     fn acks(&mut self, data: &[u8], sent: &mut Both, acks: &mut Both) {
         self.send(data, sent);
@@ -208,9 +227,19 @@ impl Bench {
     }
 }
 
+/// A pair whose client asks for few Acks.
+fn rarely_acknowledging() -> Pair {
+    let mut pair = Pair::open();
+    let Pair { client, frame, .. } = &mut pair;
+    client.prefer(ACK_RATIO, RARE, 0, frame);
+    pair.reach_server();
+    pair
+}
+
 /// What is measured.
 #[derive(Default)]
 struct Figures {
+    drops: Spent,
     sent: Both,
     acks: Both,
     data: Both,
@@ -222,6 +251,7 @@ impl Figures {
     fn of(bench: &mut Bench, data: &[u8], batches: u32) -> Figures {
         let mut figures = Figures::default();
         for _ in 0..batches {
+            bench.drop_all(&mut figures.drops);
             bench.acks(data, &mut figures.sent, &mut figures.acks);
             bench.data(data, &mut figures.data);
             bench.data_acks(data, &mut figures.data_acks);
@@ -230,6 +260,7 @@ impl Figures {
     }
 
     fn tell(&self, size: usize) {
+        self.drops.tell("border", size);
         self.sent.tell("send", size);
         self.data.tell("data", size);
         self.data_acks.tell("data-ack", size);
@@ -237,12 +268,21 @@ impl Figures {
     }
 }
 
+/// So many batches of each, once the window has grown.
+fn figures(pair: Pair, data: &[u8], batches: u32) -> Figures {
+    let mut bench = Bench::new(pair);
+    Figures::of(&mut bench, data, WARM);
+    Figures::of(&mut bench, data, batches)
+}
+
 /// Prints the nanoseconds of each call at 64 and at 1,024 bytes of data, over so many batches of 16 frames, and those of copying the same
 /// bytes once and taking their checksum: lines of what it is, the size, the nanoseconds, the calls, and how many did what was asked.
 pub fn measure(batches: u32) {
     for size in SIZES {
-        let mut bench = Bench::new();
-        Figures::of(&mut bench, &BYTES[..size], WARM);
-        Figures::of(&mut bench, &BYTES[..size], batches).tell(size);
+        let data = &BYTES[..size];
+        figures(Pair::open(), data, batches).tell(size);
+        let alone = figures(rarely_acknowledging(), data, batches);
+        alone.data.tell("data-alone", size);
+        alone.data_acks.tell("data-ack-alone", size);
     }
 }

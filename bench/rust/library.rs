@@ -1,10 +1,10 @@
-//! An end and a listener of the library, whose calls leave their frame where the caller says. They queue nothing and take no memory of their
-//! own, other than those of the crate for Rust. All unsafe code of this program is here.
+//! An end of the library, whose calls leave their frame where the caller says. It queues nothing and takes no memory of its own, other than
+//! that of the crate for Rust. All unsafe code of this program is here.
 //!
 //! What the library asks of its caller holds of each call as in `rust/dccp/src/end.rs`: pointers are those of references, a slice gives its
 //! own pointer and length, and `&mut self` gives the handle to one call at a time.
 
-use crate::sys::{self, Frame, ListenerHandle, PeerAddress, Settings, Told, View};
+use crate::sys::{self, Frame, Settings, Told, View};
 use std::ptr;
 
 unsafe extern "C" {
@@ -93,47 +93,5 @@ impl End {
         // SAFETY: as the head of this module says.
         unsafe { sys::dccp_look(&mut self.0, &mut view) };
         view
-    }
-}
-
-/// A listener, which is freed where it is dropped.
-pub struct Listener(ListenerHandle);
-
-impl Drop for Listener {
-    fn drop(&mut self) {
-        // SAFETY: the handle is this listener's alone, and nothing uses it afterwards.
-        unsafe { sys::dccp_listener_free(&mut self.0) }
-    }
-}
-
-impl Listener {
-    /// Makes a listener with the usual wishes, at which so many flows may stand.
-    pub fn new(settings: &Settings, most: u16) -> Listener {
-        let mut listener = Listener(ListenerHandle {
-            opaque: ptr::null_mut(),
-            is_made: false,
-        });
-        let wishes: &[sys::Wish] = &[];
-        let (at, handle) = (wishes.as_ptr(), &mut listener.0);
-        // SAFETY: as the head of this module says.
-        let status = unsafe { sys::dccp_listener_make(handle, settings, at, 0, most) };
-        assert_eq!(status, sys::DONE, "no listener is made");
-        listener
-    }
-
-    /// A datagram of a peer arrives; answers the status. A flow that it opens begins with this number.
-    pub fn arrive(
-        &mut self,
-        peer: &PeerAddress,
-        first_number: u64,
-        datagram: &[u8],
-        frame: &mut Frame,
-    ) -> u32 {
-        let (at, count, mut told) = (datagram.as_ptr(), datagram.len(), Told::default());
-        let handle = &mut self.0;
-        // SAFETY: as the head of this module says.
-        unsafe {
-            sys::dccp_listener_arrive(handle, peer, first_number, at, count, 0, frame, &mut told)
-        }
     }
 }

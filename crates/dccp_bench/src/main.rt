@@ -6,9 +6,14 @@
 //! reports, `nonces` those of ECN-capable ends. `runs` and a number of rounds times marks in several orders, over both
 //! ways to keep runs, and `inboxes` the calls of a bounded inbox.
 //!
-//! Nothing is claimed of what it prints. What an end and a listener cost is measured over the library for C.
+//! `requests`, `options`, `faults` and `acks` and a number of datagrams has them come at a listener, `end`,
+//! `end-options` and `end-acks` the same at one end, `end-refusals` Acks at one that refuses them, and `frames` makes
+//! datagrams alone.
+//!
+//! Nothing is claimed of what it prints. What a call of an end costs is measured over the library for C.
 #![tactic(auto)]
 
+mod arrivals;
 mod figures;
 mod frames;
 mod inboxes;
@@ -18,6 +23,7 @@ mod passes;
 mod ratios;
 mod runs;
 
+use crate::arrivals::Load;
 use std::{env, io};
 
 // What is to be done.
@@ -29,14 +35,24 @@ enum Form {
     Nonces,
     Runs,
     Inboxes,
+    Arrivals(Load),
 }
 
-const FORMS: [(&str, Form); 5] = [
+const FORMS: [(&str, Form); 14] = [
     ("marks", Form::Marks),
     ("ratios", Form::Ratios),
     ("nonces", Form::Nonces),
     ("runs", Form::Runs),
     ("inboxes", Form::Inboxes),
+    ("requests", Form::Arrivals(Load::Requests)),
+    ("options", Form::Arrivals(Load::Options)),
+    ("faults", Form::Arrivals(Load::Faults)),
+    ("acks", Form::Arrivals(Load::Acks)),
+    ("end", Form::Arrivals(Load::End)),
+    ("end-options", Form::Arrivals(Load::EndOptions)),
+    ("end-acks", Form::Arrivals(Load::EndAcks)),
+    ("end-refusals", Form::Arrivals(Load::EndRefusals)),
+    ("frames", Form::Arrivals(Load::Frames)),
 ];
 
 fn form_of(word: &str) -> Option<Form> {
@@ -50,12 +66,12 @@ fn form_of(word: &str) -> Option<Form> {
 
 // What is asked for: a form, and how often.
 #[derive(Clone, Copy)]
-struct Asked {
+struct Task {
     form: Form,
     rounds: u32,
 }
 
-impl Asked {
+impl Task {
     // A word names a form, or says how often; once where it is neither.
     fn hear(&mut self, word: &str) {
         match form_of(word) {
@@ -65,19 +81,19 @@ impl Asked {
     }
 }
 
-fn asked(rt: &HostRuntime) -> io::Result<Asked> {
-    let mut asked = Asked {
+fn asked(rt: &HostRuntime) -> io::Result<Task> {
+    let mut task = Task {
         form: Form::Packets,
         rounds: 1,
     };
     for word in env::args(rt)?.skip(1) {
-        asked.hear(&word);
+        task.hear(&word);
     }
-    Ok(asked)
+    Ok(task)
 }
 
 fn main(rt: HostRuntime) -> io::Result<()> {
-    let Asked { form, rounds } = asked(&rt)?;
+    let Task { form, rounds } = asked(&rt)?;
     match form {
         Form::Packets => passes::all(&rt, rounds),
         Form::Marks => marks::all(&rt, rounds),
@@ -85,5 +101,6 @@ fn main(rt: HostRuntime) -> io::Result<()> {
         Form::Nonces => nonces::all(&rt, rounds),
         Form::Runs => runs::all(&rt, rounds),
         Form::Inboxes => inboxes::all(&rt, rounds),
+        Form::Arrivals(load) => arrivals::all(&rt, load, rounds),
     }
 }
