@@ -25,25 +25,16 @@ const WORKED: [&str; 7] = [
 
 /// The worked frames. None where no memory was left.
 pub(crate) fn worked(alloc: Global) -> Option<Vec<Vec<u8>>> {
-    decoded(alloc, &WORKED)
-}
-
-/// Those of them that take a server to OPEN: the client's Request and its Ack.
-pub(crate) fn opening(alloc: Global) -> Option<Vec<Vec<u8>>> {
-    decoded(alloc, &[WORKED[0], WORKED[2]])
-}
-
-fn decoded(alloc: Global, texts: &[&str]) -> Option<Vec<Vec<u8>>> {
     let mut frames = Vec::new(alloc);
-    if add_all(alloc, texts, &mut frames) {
+    if add_worked(alloc, &mut frames) {
         Some(frames)
     } else {
         None
     }
 }
 
-fn add_all(alloc: Global, texts: &[&str], frames: &mut Vec<Vec<u8>>) -> bool {
-    for text in texts {
+fn add_worked(alloc: Global, frames: &mut Vec<Vec<u8>>) -> bool {
+    for text in &WORKED {
         if !add_decoded(alloc, text, frames) {
             return false;
         }
@@ -58,8 +49,8 @@ fn add_decoded(alloc: Global, text: &str, frames: &mut Vec<Vec<u8>>) -> bool {
     }
 }
 
-/// Puts a frame behind the others. False where no memory was left.
-pub(crate) fn add(alloc: Global, frame: &Frame, frames: &mut Vec<Vec<u8>>) -> bool {
+// Puts a frame behind the others. False where no memory was left.
+fn add(alloc: Global, frame: &Frame, frames: &mut Vec<Vec<u8>>) -> bool {
     let mut bytes = Vec::new(alloc);
     bytes.extend_from_slice(frame.bytes()).is_ok() && frames.push(bytes).is_ok()
 }

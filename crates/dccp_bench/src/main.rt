@@ -1,24 +1,19 @@
 //! How long it takes to read a packet (own): decoding, listing its options and checking its sum, over frames of worked
 //! runs and over a full frame. One word says how many rounds; the figures go to standard error.
 //!
-//! `marks` and a number of rounds makes the calls of received numbers and of congestion control, hands packets to an
-//! end, and lets two ends send each other data, so that what they allocate can be counted. `ratios` and a number of
-//! rounds times marks, the writing of Ack Vectors and the taking of reports, `nonces` those of ECN-capable ends. `runs`
-//! and a number of rounds times marks in several orders, over both ways to keep runs. `ends` and a number of rounds
-//! times an end in OPEN to which packets of data come, `calls` one `send` and one packet of each kind at an end beside
-//! copying its bytes, `inboxes` the calls of a bounded inbox.
+//! `marks` and a number of rounds makes the calls of received numbers and of congestion control, so that what they
+//! allocate can be counted. `ratios` and a number of rounds times marks, the writing of Ack Vectors and the taking of
+//! reports, `nonces` those of ECN-capable ends. `runs` and a number of rounds times marks in several orders, over both
+//! ways to keep runs, and `inboxes` the calls of a bounded inbox.
 //!
 //! `requests`, `options`, `faults` and `acks` and a number of datagrams has them come at a listener, `end`,
 //! `end-options` and `end-acks` the same at one end, `end-refusals` Acks at one that refuses them, and `frames` makes
 //! datagrams alone.
 //!
-//! Nothing is claimed of what it prints.
+//! Nothing is claimed of what it prints. What a call of an end costs is measured over the library for C.
 #![tactic(auto)]
 
 mod arrivals;
-mod calls;
-mod data;
-mod ends;
 mod figures;
 mod frames;
 mod inboxes;
@@ -39,19 +34,15 @@ enum Form {
     Ratios,
     Nonces,
     Runs,
-    Ends,
-    Calls,
     Inboxes,
     Arrivals(Load),
 }
 
-const FORMS: [(&str, Form); 16] = [
+const FORMS: [(&str, Form); 14] = [
     ("marks", Form::Marks),
     ("ratios", Form::Ratios),
     ("nonces", Form::Nonces),
     ("runs", Form::Runs),
-    ("ends", Form::Ends),
-    ("calls", Form::Calls),
     ("inboxes", Form::Inboxes),
     ("requests", Form::Arrivals(Load::Requests)),
     ("options", Form::Arrivals(Load::Options)),
@@ -73,29 +64,42 @@ fn form_of(word: &str) -> Option<Form> {
     None
 }
 
-// The form that the first word names, and the number that the last one is, or 1.
-fn asked(rt: &HostRuntime) -> io::Result<(Form, u32)> {
-    let mut form = Form::Packets;
-    let mut rounds = 1;
-    for word in env::args(rt)?.skip(1) {
-        match form_of(&word) {
-            Some(named) => form = named,
-            None => rounds = word.parse::<u32>().unwrap_or(1),
+// What is asked for: a form, and how often.
+#[derive(Clone, Copy)]
+struct Task {
+    form: Form,
+    rounds: u32,
+}
+
+impl Task {
+    // A word names a form, or says how often; once where it is neither.
+    fn hear(&mut self, word: &str) {
+        match form_of(word) {
+            Some(form) => self.form = form,
+            None => self.rounds = word.parse::<u32>().unwrap_or(1),
         }
     }
-    Ok((form, rounds))
+}
+
+fn asked(rt: &HostRuntime) -> io::Result<Task> {
+    let mut task = Task {
+        form: Form::Packets,
+        rounds: 1,
+    };
+    for word in env::args(rt)?.skip(1) {
+        task.hear(&word);
+    }
+    Ok(task)
 }
 
 fn main(rt: HostRuntime) -> io::Result<()> {
-    let (form, rounds) = asked(&rt)?;
+    let Task { form, rounds } = asked(&rt)?;
     match form {
         Form::Packets => passes::all(&rt, rounds),
         Form::Marks => marks::all(&rt, rounds),
         Form::Ratios => ratios::all(&rt, rounds),
         Form::Nonces => nonces::all(&rt, rounds),
         Form::Runs => runs::all(&rt, rounds),
-        Form::Ends => ends::all(&rt, rounds),
-        Form::Calls => calls::all(&rt, rounds),
         Form::Inboxes => inboxes::all(&rt, rounds),
         Form::Arrivals(load) => arrivals::all(&rt, load, rounds),
     }

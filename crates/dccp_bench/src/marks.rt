@@ -1,8 +1,5 @@
-//! Calls of the set of received numbers, of congestion control and of ends, over and over, for a count of what they
-//! allocate.
+//! Calls of the set of received numbers and of congestion control, over and over, for a count of what they allocate.
 
-use crate::data::exchange;
-use crate::ends::take;
 use crate::figures::no_memory;
 use crate::ratios::zero;
 use ack_vectors::{Received, VectorBytes, Vectors};
@@ -97,7 +94,7 @@ fn sent_by_fixed(alloc: Global, rounds: u32) -> Result<u64, NoMemory> {
     Ok(sends(&mut control, 248, rounds))
 }
 
-// So many rounds of each call but those of ends.
+// So many rounds of each call.
 fn rounds_of_each(alloc: Global, rounds: u32) -> Result<u64, NoMemory> {
     let marked = marked(alloc, rounds)?;
     let two = sent_by_two(alloc, rounds)?;
@@ -107,12 +104,8 @@ fn rounds_of_each(alloc: Global, rounds: u32) -> Result<u64, NoMemory> {
 
 /// Prints the sum of what every call answered, over so many rounds of each.
 pub(crate) fn all(rt: &HostRuntime, rounds: u32) -> io::Result<()> {
-    let Some(taken) = take(rt.alloc(), rounds) else {
-        return Err(no_memory());
-    };
-    let sent = exchange(rt.alloc(), rounds)?;
-    let Ok(others) = rounds_of_each(rt.alloc(), rounds) else {
-        return Err(no_memory());
-    };
-    println!(rt; "marks {}", taken.wrapping_add(sent).wrapping_add(others))
+    match rounds_of_each(rt.alloc(), rounds) {
+        Ok(sum) => println!(rt; "marks {}", sum),
+        Err(_) => Err(no_memory()),
+    }
 }

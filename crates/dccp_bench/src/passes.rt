@@ -8,9 +8,9 @@ use dccp_sum::check;
 use std::io;
 use std::time::Instant;
 
-/// One of the things that are measured.
+// One of the things that are measured.
 #[derive(Clone, Copy)]
-pub(crate) enum Pass {
+enum Pass {
     /// The bytes are summed in a plain loop: the yardstick.
     Plain,
     /// The packet is decoded.
@@ -95,8 +95,8 @@ fn one(pass: Pass, frame: &[u8]) -> u64 {
     }
 }
 
-/// Does it with each frame; the sum goes from round to round, so that no round can be left out.
-pub(crate) fn over(pass: Pass, frames: &[Vec<u8>], sum: u64) -> u64 {
+// Does it with each frame; the sum goes from round to round, so that no round can be left out.
+fn over(pass: Pass, frames: &[Vec<u8>], sum: u64) -> u64 {
     let mut sum = sum;
     for frame in frames {
         sum = sum.wrapping_add(one(pass, frame));

@@ -88,80 +88,41 @@ module _ (now : ℕ) where
       at-most (has_run_out (alarm_of (told s timer) another) now) (has_run_out (alarm_of s.alarms another) now)
       (other_stays_quiet kinds_control now s timer another same)
 
+  -- the call of a timer leaves the alarm of another as it was
+  abbrev Stays : CEnd → Timer → Timer → Type 0
+  Stays s timer another = alarm_of (rung s.alarms timer now) another ≡ alarm_of s.alarms another
+
+  -- so of six timers of which one that has run out is told, and whose others stay, fewer have run out
+  fewer-of : (s : CEnd) (timer a b c d e : Timer) → has_run_out (alarm_of s.alarms timer) now ≡ true
+      → Stays s timer a → Stays s timer b → Stays s timer c → Stays s timer d → Stays s timer e
+      → due (told s timer) timer + due (told s timer) a + due (told s timer) b + due (told s timer) c + due (told s timer) d + due (told s timer) e + 1
+      ≤ due s.alarms timer + due s.alarms a + due s.alarms b + due s.alarms c + due s.alarms d + due s.alarms e
+  fewer-of s timer a b c d e is of-a of-b of-c of-d of-e =
+      omega (
+        arith,
+        own s timer,
+        was s.alarms timer is,
+        other s timer a of-a,
+        other s timer b of-b,
+        other s timer c of-c,
+        other s timer d of-d,
+        other s timer e of-e,
+      )
+
   less : (s : CEnd) (timer : Timer) → has_run_out (alarm_of s.alarms timer) now ≡ true → due-count (told s timer) + 1 ≤ due-count s.alarms
   unfolding due-count
   less s timers.Request is =
-      let t = timers.Request in
-      omega (
-        arith,
-        own s t,
-        was s.alarms t is,
-        other s t timers.Ack refl,
-        other s t timers.Negotiate refl,
-        other s t timers.Rto refl,
-        other s t timers.Close refl,
-        other s t timers.TimeWait refl,
-      )
+      omega (arith, fewer-of s timers.Request timers.Ack timers.Negotiate timers.Rto timers.Close timers.TimeWait is refl refl refl refl refl)
   less s timers.Ack is =
-      let t = timers.Ack in
-      omega (
-        arith,
-        own s t,
-        was s.alarms t is,
-        other s t timers.Request refl,
-        other s t timers.Negotiate refl,
-        other s t timers.Rto refl,
-        other s t timers.Close refl,
-        other s t timers.TimeWait refl,
-      )
+      omega (arith, fewer-of s timers.Ack timers.Request timers.Negotiate timers.Rto timers.Close timers.TimeWait is refl refl refl refl refl)
   less s timers.Negotiate is =
-      let t = timers.Negotiate in
-      omega (
-        arith,
-        own s t,
-        was s.alarms t is,
-        other s t timers.Request refl,
-        other s t timers.Ack refl,
-        other s t timers.Rto refl,
-        other s t timers.Close refl,
-        other s t timers.TimeWait refl,
-      )
+      omega (arith, fewer-of s timers.Negotiate timers.Request timers.Ack timers.Rto timers.Close timers.TimeWait is refl refl refl refl refl)
   less s timers.Rto is =
-      let t = timers.Rto in
-      omega (
-        arith,
-        own s t,
-        was s.alarms t is,
-        other s t timers.Request refl,
-        other s t timers.Ack refl,
-        other s t timers.Negotiate refl,
-        other s t timers.Close refl,
-        other s t timers.TimeWait refl,
-      )
+      omega (arith, fewer-of s timers.Rto timers.Request timers.Ack timers.Negotiate timers.Close timers.TimeWait is refl refl refl refl refl)
   less s timers.Close is =
-      let t = timers.Close in
-      omega (
-        arith,
-        own s t,
-        was s.alarms t is,
-        other s t timers.Request refl,
-        other s t timers.Ack refl,
-        other s t timers.Negotiate refl,
-        other s t timers.Rto refl,
-        other s t timers.TimeWait refl,
-      )
+      omega (arith, fewer-of s timers.Close timers.Request timers.Ack timers.Negotiate timers.Rto timers.TimeWait is refl refl refl refl refl)
   less s timers.TimeWait is =
-      let t = timers.TimeWait in
-      omega (
-        arith,
-        own s t,
-        was s.alarms t is,
-        other s t timers.Request refl,
-        other s t timers.Ack refl,
-        other s t timers.Negotiate refl,
-        other s t timers.Rto refl,
-        other s t timers.Close refl,
-      )
+      omega (arith, fewer-of s timers.TimeWait timers.Request timers.Ack timers.Negotiate timers.Rto timers.Close is refl refl refl refl refl)
 
   -- of one that has run out what a session tells is what its end is told
   told-so : (s : CEnd) (timer : Timer) → has_run_out (alarm_of s.alarms timer) now ≡ true

@@ -1,3 +1,4 @@
+pub mod AsBox
 pub mod Doings
 pub mod Ending
 pub mod Going

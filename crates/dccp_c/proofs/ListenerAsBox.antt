@@ -8,7 +8,7 @@ use Rattle.std_heap.specs.contracts.GlobalAllocator.TheImpl.{ghosts, dict}
 use Rattle.std_heap.proofs.Global.TheLaws as heap
 use Rattle.dccp_c.specs.contracts.serving.Serving as Held
 use Rattle.dccp_c.proofs.serving.Serving.TheLaws as held
-use Rattle.dccp_c_end.specs.contracts.kept.parts.Parts as Parts
+use Rattle.dccp_c.specs.contracts.kept.parts.Parts as Parts
 use Rattle.dccp_c.specs.contracts.kept_listener.KeptListener as Kept
 
 abbrev pub E : Bx

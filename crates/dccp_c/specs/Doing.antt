@@ -5,8 +5,8 @@ use Rattle.dccp_uses.specs.Alarms.{alarm_of, has_run_out, until_first}
 use Rattle.dccp_uses.specs.Session.{SessionStep, every_timer}
 use Rattle.dccp_uses.specs.declared.alarms.Alarms.{Alarms}
 use Rattle.end_answers.specs.declared.calls.Timer.{Timer}
-use Rattle.dccp_c_end.specs.Framing.{bytes_of}
-use Rattle.dccp_c_end.specs.Keeping.{Inner}
+use Rattle.dccp_c.specs.Framing.{bytes_of}
+use Rattle.dccp_c.specs.Keeping.{Inner}
 use Rattle.dccp_c.specs.Stepping.{CDoing, CEnd, c_fires, with_alarms}
 
 -- of several timers the first that has run out

@@ -3,9 +3,12 @@ pub mod Codes
 pub mod Doing
 pub mod Ending
 pub mod Founding
+pub mod Framing
+pub mod Keeping
 pub mod KeepingListener
 pub mod Listening
 pub mod Making
+pub mod Outcomes
 pub mod Seeing
 pub mod Serving
 pub mod Stepping

@@ -12,9 +12,9 @@ use Rattle.world_events.specs.declared.event.Refusal.{Refusal}
 use Rattle.world_events.specs.declared.event.Refusal.TheVariants as refusal
 use Rattle.world_events.specs.declared.event.Seen.{Seen}
 use Rattle.world_events.specs.declared.event.Seen.TheVariants as seen
-use Rattle.dccp_c_end.specs.Framing.{bytes_of}
-use Rattle.dccp_c_end.specs.Telling.{told_outcome}
-use Rattle.dccp_c_end.specs.declared.told.Told.{Told}
+use Rattle.dccp_c.specs.Framing.{bytes_of}
+use Rattle.dccp_c.specs.Outcomes.{told_outcome}
+use Rattle.dccp_c.specs.declared.told.Told.{Told}
 use Rattle.dccp_c.specs.Codes.{timer_code}
 use Rattle.dccp_c.specs.Doing.{never}
 use Rattle.dccp_c.specs.KeepingListener.{InnerListener}

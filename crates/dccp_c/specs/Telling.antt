@@ -1,7 +1,7 @@
 -- What C is told of a datagram that it hands to an end (own).
 use Rattle.std.specs.Prelude.{ℕ, nat_le, Bool, List, [], length, Option, Some, None, if◌then◌else◌}
-use Rattle.dccp_c_end.specs.Telling.{told_outcome}
-use Rattle.dccp_c_end.specs.declared.told.Told.{Told}
+use Rattle.dccp_c.specs.Outcomes.{told_outcome}
+use Rattle.dccp_c.specs.declared.told.Told.{Told}
 use Rattle.dccp_c.specs.Doing.{kept_after, code_after, frame_after}
 use Rattle.dccp_c.specs.Stepping.{CEnd, c_receives}
 

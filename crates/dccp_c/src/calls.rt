@@ -1,7 +1,7 @@
 //! The functions that C calls: each does one step of the end that its handle holds, and of its timers.
 ghost use Rattle.std.specs.Prelude.{◌≡◌, None, Ok};
 ghost use Rattle.feature_lists.specs.Features.{feature_numbered};
-ghost use Rattle.dccp_c_end.specs.Framing.{bytes_in};
+ghost use Rattle.dccp_c.specs.Framing.{bytes_in};
 ghost use Rattle.dccp_c.specs.Codes.{abort_code, close_code, open_code, place_by, send_code, timer_code, timer_coded, wish_code};
 ghost use Rattle.dccp_c.specs.Accepting.{AcceptsCode, accepted_end, as_server, accept_step, step_bytes, step_told};
 ghost use Rattle.dccp_c.specs.Doing.{c_ticks, c_waits, code_after, code_if_known, end_if_known, end_in, frame_after, frame_if_known, kept_after};
@@ -15,11 +15,13 @@ use crate::codes::{
     close_code, feature_of, open_code, place_of, send_code, timer_code, timer_of, wish_code,
 };
 use crate::due::first_due;
+use crate::end::End;
+use crate::frame::Frame;
 use crate::making::{as_server, configured_by};
 use crate::readers::{seen, seen_feature};
 use crate::steps::{abort, close, fire, is_listening, new_end, open, prefer, receive, send};
+use crate::told::{Told, tell};
 use crate::{FeatureState, Settings, View, Wish};
-use dccp_c_end::{End, Frame, Told, tell};
 use dccp_endpoint::{Config, MOST_FRAME_BYTES};
 use std::alloc::Global;
 

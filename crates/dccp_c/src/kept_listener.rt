@@ -2,8 +2,8 @@
 ghost use Rattle.std.specs.Prelude.{◌≡◌, ◌≢◌, Some, None, Option};
 ghost use Rattle.dccp_c.specs.KeepingListener.{InnerListener, inner_listener_coded, listener_owns};
 
+use crate::kept::{Opaque, Parts};
 use crate::serving::Serving;
-use dccp_c_end::{Opaque, Parts};
 use std::alloc::Global;
 use std::marker::Model;
 

@@ -1,7 +1,7 @@
 //! DCCP for programs in C (own; the ends are RFC 4340's): a static library, whose functions `include/dccp.h` declares,
 //! over `Endpoint<Kinds>` with the timers of a session, and over `Listener` with those of its flows.
 //!
-//! C holds an `End` of dccp_c_end or a [`ListenerHandle`], which points to an end or a listener with its timers and the
+//! C holds an [`End`] or a [`ListenerHandle`], which points to an end or a listener with its timers and the
 //! place where it leaves its frame. Each function does one step and answers by a code of [`codes`](crate::codes); its
 //! contract is that step: of an end the step of `Session`, and of a listener what `listens` of dccp_listener computes,
 //! with the timers of the peer's flow. None requires anything of its caller but what the types say: pointers to what
@@ -11,14 +11,18 @@
 //! A static library of one's own is made in the same way: a line with `staticlib` in `crates.txt`, `rt lib` in its
 //! folder, which leaves an archive in `out/`, and exports as those of `calls`. Numbers, `bool`s, slices (in C a pointer
 //! and a length) and structs with `#[repr(C)]` cross. An end or a listener does not, nor does a `Box` of one: a struct
-//! owns the box by ghost data (`Kept` of dccp_c_end, `KeptListener`), and its proof is in part written by hand. For a
+//! owns the box by ghost data (`Kept`, `KeptListener`), and its proof is in part written by hand. For a
 //! parameter `alloc: Global` C passes nothing.
 #![tactic(auto)]
 
 mod calls;
 mod codes;
 mod due;
+mod end;
 mod founding;
+mod frame;
+mod held;
+mod kept;
 mod kept_listener;
 mod laws;
 mod listener;
@@ -28,7 +32,10 @@ mod peer;
 mod readers;
 mod serving;
 mod steps;
+mod told;
 
+pub use crate::end::End;
+pub use crate::frame::Frame;
 pub use crate::laws::{
     calls_are_a_run, only_strangers_want_memory, refused_calls_change_nothing, ticks_are_a_tick,
     ticks_of_a_listener_end,
@@ -37,3 +44,4 @@ pub use crate::listener::ListenerHandle;
 pub use crate::making::{Settings, Wish};
 pub use crate::peer::PeerAddress;
 pub use crate::readers::{FeatureState, View};
+pub use crate::told::Told;

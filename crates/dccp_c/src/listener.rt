@@ -2,9 +2,9 @@
 ghost use Rattle.std.specs.Prelude.{◌≡◌, ◌≢◌, ◌↔◌, IsTrue, Some, None};
 ghost use Rattle.std.specs.Option.{option_map};
 
+use crate::kept::Parts;
 use crate::kept_listener::KeptListener;
 use crate::serving::Serving;
-use dccp_c_end::Parts;
 use std::alloc::Global;
 use std::mem;
 

@@ -3,7 +3,7 @@ ghost use Rattle.std.specs.Prelude.{◌≡◌, ◌≢◌, None, Ok, unwrap_or};
 ghost use Rattle.dccp_listener.specs.Calls.{seen_if};
 ghost use Rattle.dccp_listener.specs.Chain.{Calls, Sends, Closes, Aborts, call_of};
 ghost use Rattle.dccp_listener.specs.Runs.{Stepped, told_of};
-ghost use Rattle.dccp_c_end.specs.Framing.{bytes_in};
+ghost use Rattle.dccp_c.specs.Framing.{bytes_in};
 ghost use Rattle.dccp_c.specs.Founding.{FoundsCode, founded_of, listening_by};
 ghost use Rattle.dccp_c.specs.Listening.{Serves, TellsC, Ticks, deed_of_datagram, due_in, flow_code, flow_in, listen_code, listen_told, listener_waits, peer_in, peer_named, refusal_code, seen_code, served_in};
 
@@ -12,10 +12,11 @@ use crate::codes::{
     NOT_OPEN, NOT_OURS, NOTHING_DUE, TOO_LONG, UNKNOWN, WINDOW_FULL, timer_code,
 };
 use crate::founding::listening_by;
+use crate::frame::Frame;
 use crate::peer::{address_of, peer_named};
 use crate::serving::{Serving, due_flow, least_wait};
+use crate::told::{Told, tell};
 use crate::{ListenerHandle, PeerAddress, Settings, View, Wish};
-use dccp_c_end::{Frame, Told, tell};
 use dccp_endpoint::{MOST_FRAME_BYTES, NoMemory, Seq48};
 use dccp_listener::{Act, Heard, NoFlow, Peer, Refusal, Seen};
 use std::alloc::Global;

@@ -6,8 +6,8 @@ ghost use Rattle.dccp_uses.specs.Alarms.{arranged, no_alarms};
 ghost use Rattle.dccp_uses.specs.Session.{condition_of, is_listening, session_begins};
 ghost use Rattle.dccp_c.specs.Stepping.{c_aborts, c_closes, c_fires, c_opens, c_prefers, c_receives, c_sends, done, with_alarms};
 
+use crate::held::Held;
 use ccid_two::Kinds;
-use dccp_c_end::Held;
 use dccp_endpoint::{
     AbortFault, CloseFault, Config, Endpoint, Feature, NoMemory, OpenFault, Outbox, Outcome, Phase,
     Place, PreferFault, SendFault, Timer,

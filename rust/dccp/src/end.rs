@@ -16,7 +16,7 @@ pub struct End {
 }
 
 // SAFETY: the library has no thread, and no state beside what a handle owns, which may be used from another thread: the
-// crate dccp_c_end proves `Send` of it. It has no `Sync`, since its readers take the end out of the handle and put it
+// crate dccp_c proves `Send` of it. It has no `Sync`, since its readers take the end out of the handle and put it
 // back.
 unsafe impl Send for End {}
 

@@ -1,0 +1,65 @@
+//! A box that C holds, or none, as a pointer that says nothing of what it points to.
+ghost use Rattle.std.specs.Prelude.{◌≡◌, ◌≢◌, Some, None, Option};
+ghost use Rattle.dccp_c.specs.Keeping.{Inner, inner_coded, kept_owns};
+
+mod parts;
+
+pub use self::parts::Parts;
+use crate::held::Held;
+use std::alloc::Global;
+use std::marker::Model;
+
+/// What C sees of an end: nothing.
+#[repr(C)]
+#[derive(Drop)]
+pub struct Opaque {
+    nothing: u8,
+}
+
+/// A box with an end, or none, which only contracts tell apart.
+#[repr(C)]
+#[derive(Drop)]
+pub struct Kept {
+    ptr: *mut Opaque,
+    alloc: Global,
+    /// The end, if there is one.
+    pub ghost value: { Option Inner } by { inner_coded },
+}
+
+impl Model for Kept {
+    ghost also_owns = { λ k. kept_owns k.alloc k.ptr k.value };
+}
+
+impl Kept {
+    pub(crate) fn of_parts(parts: Parts<Held, Global>) -> Kept
+        ensures { result.value ≡ Some parts.value }
+    {
+        let Parts { ptr, alloc } = parts;
+        Kept {
+            ptr: ptr.cast::<Opaque>(),
+            alloc,
+        }
+    }
+
+    pub(crate) fn into_parts(self) -> Parts<Held, Global>
+        requires { self.value ≢ None }
+        ensures { Some result.value ≡ self.value }
+    {
+        let Kept { ptr, alloc } = self;
+        Parts {
+            ptr: ptr.cast::<Held>(),
+            alloc,
+        }
+    }
+
+    pub(crate) fn none(alloc: Global) -> Kept
+        ensures { result.value ≡ None }
+    {
+        Kept {
+            ptr: std::ptr::null_mut(),
+            alloc,
+        }
+    }
+}
+
+unsafe impl Send for Kept {}

@@ -1,0 +1,103 @@
+//! What C is told of a datagram.
+ghost use Rattle.std.specs.Prelude.{◌≡◌, None};
+ghost use Rattle.dccp_c.specs.Outcomes.{cause_code, told_outcome};
+ghost use Rattle.end_answers.specs.declared.outcome.Outcome.TheVariants.{Took};
+
+use dccp_endpoint::{Malformed, Outcome, SumFault, Why};
+
+/// What became of a datagram; what does not belong to its kind is 0.
+#[repr(C)]
+#[derive(Clone, Copy)]
+pub struct Told {
+    /// 0 taken, 1 taken with data, 2 dropped, 3 answered with a Sync, 4 a Reset, 5 answered with a Reset.
+    pub kind: u32,
+    /// Why it was dropped, from 1 on.
+    pub cause: u32,
+    /// The place of the first byte of its data in the datagram.
+    pub first: usize,
+    /// The place past the last byte of its data.
+    pub past: usize,
+    /// The number that the Sync acknowledges.
+    pub number: u64,
+    /// The code of the Reset.
+    pub code: u8,
+    /// The bytes Data 1 to 3 of the Reset that answers it.
+    pub detail: [u8; 3],
+}
+
+fn cause_code(why: &Why) -> u32
+    ensures { result ≡ cause_code why.now }
+{
+    match *why {
+        Why::Malformed(Malformed::Short) => 1,
+        Why::Malformed(Malformed::ReservedType) => 2,
+        Why::Malformed(Malformed::OffsetSmall) => 3,
+        Why::Malformed(Malformed::OffsetLarge) => 4,
+        Why::Malformed(Malformed::ShortNumbers) => 5,
+        Why::Sum(SumFault::CoverageTooLarge) => 6,
+        Why::Sum(SumFault::Wrong) => 7,
+        Why::OtherFlow => 8,
+        Why::StrayReset => 9,
+        Why::ShortOff => 10,
+        Why::BadSync => 11,
+    }
+}
+
+// Taken, without data.
+fn quiet() -> Told
+    ensures { result ≡ told_outcome (Took None) }
+{
+    Told {
+        kind: 0,
+        cause: 0,
+        first: 0,
+        past: 0,
+        number: 0,
+        code: 0,
+        detail: [0, 0, 0],
+    }
+}
+
+fn told_of(outcome: &Outcome) -> Told
+    ensures { result ≡ told_outcome outcome.now }
+{
+    match *outcome {
+        Outcome::Took { delivered: None } => quiet(),
+        Outcome::Took {
+            delivered: Some((first, past)),
+        } => Told {
+            kind: 1,
+            first,
+            past,
+            ..quiet()
+        },
+        Outcome::Dropped(why) => Told {
+            kind: 2,
+            cause: cause_code(&why),
+            ..quiet()
+        },
+        Outcome::Synced(number) => Told {
+            kind: 3,
+            number: number.get(),
+            ..quiet()
+        },
+        Outcome::WasReset(code) => Told {
+            kind: 4,
+            code,
+            ..quiet()
+        },
+        Outcome::SentReset { code, detail } => Told {
+            kind: 5,
+            code,
+            detail,
+            ..quiet()
+        },
+    }
+}
+
+/// Tells C of an outcome.
+pub fn tell(outcome: &Outcome, told: &mut Told)
+    ensures { told.new ≡ told_outcome outcome.now }
+{
+    *told = told_of(outcome);
+}

@@ -1,3 +1,0 @@
-pub mod Framing
-pub mod Keeping
-pub mod Telling
