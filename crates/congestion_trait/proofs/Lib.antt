@@ -2,6 +2,7 @@ pub mod Runs
 pub mod Settled
 pub mod Settling
 pub mod Near
+pub mod Unheard
 pub mod Standings
 pub mod Calls
 pub mod Numbers

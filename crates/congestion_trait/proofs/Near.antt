@@ -34,7 +34,7 @@ near_more span step (x ∷ xs) near = (
   near_more span step xs near.2,
 )
 
-near_drop : (span n : ℕ) (xs : List ℕ) → AreNear span xs → AreNear span (drop n xs)
+pub near_drop : (span n : ℕ) (xs : List ℕ) → AreNear span xs → AreNear span (drop n xs)
 near_drop span zero xs near = near
 near_drop span (suc n) [] near = tt
 near_drop span (suc n) (x ∷ xs) near = near_drop span n xs near.2
@@ -55,7 +55,7 @@ some_is x y is = cc
 cons_not_nil : (x : Entry) (xs : List Entry) → x ∷ xs ≡ [] → ⊥
 cons_not_nil x xs is = cc
 
-all_low : (span : ℕ) (xs : List ℕ) → AreNear span xs → AllByRecursion (λ x. x < 2 ^ 48) xs
+pub all_low : (span : ℕ) (xs : List ℕ) → AreNear span xs → AllByRecursion (λ x. x < 2 ^ 48) xs
 all_low span [] near = tt
 all_low span (x ∷ xs) near = (near.0, all_low span xs near.2)
 

@@ -1,6 +1,5 @@
 -- The runs of a report and its list of states say the same.
-use Rattle.std.proofs.Common.{◌≡◌, ℕ, zero, suc, ◌-◌, List, [], ◌∷◌, ◌++◌, Some, cond, ltb, replicate, slice_get, refl, sym, ◌∙◌, ap, arith}
-use Rattle.std.proofs.Math.Nat.{sub-zero}
+use Rattle.std.proofs.Common.{◌≡◌, ℕ, zero, suc, ◌-◌, ◌<◌, ◌≤◌, List, [], ◌∷◌, ◌++◌, Some, cond, ltb, replicate, slice_get, refl, sym, ◌∙◌, ap, arith}
 use Rattle.std.proofs.lemmas.Bool.Decides.{nat_tests}
 use Rattle.seq_circle.specs.Circle.{down}
 use Rattle.dccp_options.specs.declared.report.Run.{Run}
@@ -21,11 +20,27 @@ run_state-runs_of (byte ∷ rest) hi place =
     ap (λ other. cond (ltb place (run_length byte)) (Some (state_of byte)) other) (run_state-runs_of rest next (place - run_length byte))
     ∙ sym (slice_get-replicate (run_length byte) (state_of byte) (states rest) place)
 
--- before the first run
-pub at_the_top : (bytes : List ℕ) (hi state : ℕ) → IsAt (states bytes) 0 0 state (runs_of hi bytes)
-at_the_top bytes hi state = record {
+first_state : (run : Run) (left : List Run) (place : ℕ) → place < run.count → run_state (run ∷ left) place ≡ Some run.state
+first_state run left place to = grind (arith, nat_tests)
+
+later_state : (run : Run) (left : List Run) (place : ℕ) → run.count ≤ place → run_state (run ∷ left) place ≡ run_state left (place - run.count)
+later_state run left place from = grind (arith, nat_tests)
+
+-- at the first run
+pub at_the_first : (bytes : List ℕ) (hi : ℕ) (run : Run) (left : List Run) → runs_of hi bytes ≡ run ∷ left
+    → IsAt (states bytes) 0 run.count run.state left
+at_the_first bytes hi run left is =
+    let told = λ (place : ℕ). sym (run_state-runs_of bytes hi place) ∙ ap (λ runs. run_state runs place) is in
+    record {
+      inside = λ place from to. told place ∙ first_state run left place to;
+      behind = λ place from. told place ∙ later_state run left place from;
+    }
+
+-- of a report without a run
+pub at_no_run : (bytes : List ℕ) (hi state : ℕ) → runs_of hi bytes ≡ [] → IsAt (states bytes) 0 0 state []
+at_no_run bytes hi state is = record {
   inside = λ place from to. grind arith;
-  behind = λ place from. rw sub-zero (sym (run_state-runs_of bytes hi place));
+  behind = λ place from. sym (run_state-runs_of bytes hi place) ∙ ap (λ runs. run_state runs place) is;
 }
 
 -- the first run stands at the top

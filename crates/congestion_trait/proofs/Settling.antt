@@ -1,7 +1,7 @@
 -- What a report makes of a list, entry by entry.
 use Rattle.std.proofs.Common.{◌≡◌, ℕ, suc, ◌+◌, ◌<◌, ◌≤◌, Bool, true, false, not, ◌&&◌, ◌||◌, leb, cond, List, [], ◌∷◌, ◌++◌, map, Option, Some, length, take, drop, get_or, slice_get, slice_set, refl, sym, ap, ◌∙◌, append_assoc, length-drop, subst, arith}
 use Rattle.std.proofs.lemmas.List.Sums.{sum_by-cons, count_by-le-length}
-use Rattle.std.proofs.lemmas.List.{take_more, drop_more, get_or_append_left, get_or-take, length-take-le, set_at, length-map, take_all, drop_all, append-nil}
+use Rattle.std.proofs.lemmas.List.{take_more, drop_more, get_or_append_left, get_or-take, length-take-le, set_at, length-map}
 use Rattle.std.proofs.lemmas.Option.{get_or_from_slice_get}
 use Rattle.congestion_trait.specs.declared.flight.Entry.{Entry}
 use Rattle.congestion_trait.specs.declared.flight.Standing.{Standing}
@@ -177,18 +177,3 @@ few_yet told mark old now n walk some within few along =
       omega (arith, rest, out, same, along.out),
       omega (arith, rest, seen, along.seen),
     )
-
--- before the newest entry
-pub begins : (told : States) (mark : Option ℕ) (old : List Entry)
-    → IsAlong told mark old (length old) old record { acked = 0; congested = false; reported = 0; out = 0; seen = 0 }
-begins told mark old =
-    let whole : take (length old) old ≡ old = take_all (length old) old (omega arith) in
-    let none : drop (length old) old ≡ [] = drop_all (length old) old (omega arith) in
-    record {
-      entries = sym (rw (none, whole) (append-nil old));
-      acked = rw none refl;
-      congested = rw none refl;
-      reported = rw none refl;
-      out = rw none refl;
-      seen = rw none refl;
-    }

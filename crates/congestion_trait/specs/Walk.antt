@@ -61,6 +61,18 @@ is_untouched told entry = is_reported entry.standing || not (is_out entry.standi
 abbrev pub AllUntouched : States → List Entry → Type 0
 AllUntouched told entries = IsTrue (list_all (λ entry. is_untouched told entry) entries)
 
+-- every entry is Out
+abbrev pub AllOut : List Entry → Type 0
+AllOut entries = IsTrue (list_all (λ entry. is_out entry.standing) entries)
+
+-- the entry is Out, and the report does not say that it was received
+abbrev pub is_unheard : States → Entry → Bool
+is_unheard told entry = is_out entry.standing && not (is_received (told entry.number))
+
+-- the report says of none of the entries, which are all Out, that it was received
+abbrev pub AllUnheard : States → List Entry → Type 0
+AllUnheard told entries = IsTrue (list_all (λ entry. is_unheard told entry) entries)
+
 -- the numbers of entries
 abbrev pub numbers : List Entry → List ℕ
 numbers entries = map (λ entry. entry.number) entries
@@ -77,4 +89,6 @@ pub record FlightInvariant (entries : List Entry) (capacity : ℕ) (counts : Cou
   pub counted : counts.out ≡ pipe_of entries
   pub within : counts.settled ≤ length entries
   pub front : AllReported (take counts.settled entries)
+  pub reached : counts.heard ≤ length entries
+  pub unheard : AllOut (drop counts.heard entries)
   pub near : counts.span < 2 ^ 48 → AreNear counts.span (numbers entries)

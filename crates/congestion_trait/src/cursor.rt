@@ -1,5 +1,5 @@
 //! Reads a report at falling numbers, without beginning anew at each.
-ghost use Rattle.std.specs.Prelude.{◌≡◌, ℕ, ◌+◌, ◌^◌, ◌<◌, ◌≤◌, ◌⊎◌, [], None, IfNone, IsNone, IsTrue, slice_get};
+ghost use Rattle.std.specs.Prelude.{◌≡◌, ℕ, ◌+◌, ◌^◌, ◌<◌, ◌≤◌, ◌⊎◌, [], None, IfNone, IsNone, IsTrue, length, slice_get};
 ghost use Rattle.seq_circle.specs.Circle.{distance};
 ghost use Rattle.dccp_options.specs.Vectors.{state_at, states};
 ghost use Rattle.congestion_trait.specs.Walk.{IsAt, IsTop};
@@ -10,15 +10,8 @@ use seq_circle::Seq48;
 // How many numbers there are.
 const CIRCLE: u64 = 1 << 48;
 
-// The highest number that a report gives a state.
-fn top_of(report: &AckReport<'_>) -> Option<Seq48>
-    ensures { IsTop report.now result }
-{
-    match report.runs().next() {
-        Some(run) => Some(run.hi),
-        None => None,
-    }
-}
+// How many numbers a report reaches at most: 1,008 bytes of options with 64 each.
+const MOST_REACHED: u64 = 64_512;
 
 // One run of a report, and those behind it. Places count from the report's highest number down, which is absent where
 // the report has no run.
@@ -32,18 +25,29 @@ pub struct Cursor<'a> {
 }
 
 impl<'a> Cursor<'a> {
-    // Stands before a report's first run.
+    // Stands at a report's first run, or at none.
     pub fn new(report: &AckReport<'a>) -> Cursor<'a>
         ensures begins { result.start ≡ 0 }
         ensures top { IsTop report.now result.top }
         ensures stands { IsAt (states report.now.bytes) result.start result.end result.state result.left }
+        ensures few { length report.now.bytes ≤ 1008 }
     {
-        Cursor {
-            top: top_of(report),
-            start: 0,
-            end: 0,
-            state: 0,
-            left: report.runs(),
+        let mut left = report.runs();
+        match left.next() {
+            Some(run) => Cursor {
+                top: Some(run.hi),
+                start: 0,
+                end: u64::from(run.count),
+                state: run.state,
+                left,
+            },
+            None => Cursor {
+                top: None,
+                start: 0,
+                end: 0,
+                state: 0,
+                left,
+            },
         }
     }
 
@@ -86,6 +90,18 @@ impl<'a> Cursor<'a> {
         }
         Some(self.state)
     }
+
+    // Tells whether a report gives no state to this number and to none that lies at most so many steps behind it.
+    pub fn is_past(&self, report: &AckReport<'a>, number: Seq48, span: u64) -> bool
+        requires top { IsTop report.now self.now.top }
+        ensures { IsTrue result → (report.now.bytes ≡ []) ⊎ (span + 64512 ≤ distance number report.now.ack) }
+    {
+        match self.top {
+            Some(top) => span.saturating_add(MOST_REACHED) <= number.distance(top),
+            None => true,
+        }
+    }
+
     // Tells whether a report that gives this number no state gives none to any number that lies at most so many steps
     // before it.
     pub fn ends_before(

@@ -18,6 +18,7 @@ const CAPACITY: usize = 2048;
 const NOTHING: Counts = Counts {
     out: 0,
     settled: 0,
+    heard: 0,
     span: 0,
 };
 
@@ -124,7 +125,8 @@ impl Flight {
     /// Settles every entry by a report: those that it gives state 0 or 1 are Reported, and those that are still Out
     /// before three Reported ones are Lost (RFC 4341, section 5). `mark` is the recovery mark: what it covers shows no
     /// new congestion. With None every loss and every marked packet does. While numbers are sent in their order, the
-    /// cost is that of the report's runs and of the entries down to the oldest that is Out or that they reach.
+    /// cost is that of the report's runs and of the entries from the newest that one reached down to the oldest that is
+    /// Out or that these reach.
     pub fn report(&mut self, report: &AckReport<'_>, mark: Option<Seq48>) -> FlightNews
         ensures entries { self.new ≡ after_report (state_at report.now.ack report.now.bytes) self.old }
         ensures acked { result.acked ≡ acked_count (state_at report.now.ack report.now.bytes) self.old }
@@ -135,6 +137,7 @@ impl Flight {
         let _len = self.entries.len();
         let walk = settle(&mut self.entries, &self.counts, report, &mark);
         self.counts.out = walk.out;
+        self.counts.heard = walk.heard;
         self.counts.settled = settled_from(&self.entries, self.counts.settled);
         FlightNews {
             acked: walk.acked,
@@ -149,6 +152,7 @@ impl Counts {
         requires few { self.now.out ≤ 2048 }
         ensures out { result.out ≡ (if was_out driven_out.now then self.now.out else self.now.out + 1) }
         ensures settled { result.settled ≡ self.now.settled - length (option_to_list driven_out.now) }
+        ensures heard { result.heard ≡ self.now.heard - length (option_to_list driven_out.now) }
         ensures span { result.span < 2 ^ 48 → result.span ≡ self.now.span + step }
     {
         Counts {
@@ -158,6 +162,7 @@ impl Counts {
                 self.out + 1
             },
             settled: self.settled.saturating_sub(count_of(driven_out)),
+            heard: self.heard.saturating_sub(count_of(driven_out)),
             span: self.span.saturating_add(step),
         }
     }

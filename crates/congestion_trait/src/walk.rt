@@ -1,19 +1,22 @@
 //! What a report makes of the entries, from the newest to the oldest.
 //!
 //! Losses count the Reported entries after the report made its entries Reported, so one pass from the newest down does
-//! both. It ends at the place before which every entry is Reported, which is kept beside the list, or earlier at an
-//! entry to which the report gives no state, where no entry before it is Out: nothing older can change then. So a
-//! packet that was lost long ago costs later reports nothing. Its entry stays Lost until 2,048 later ones drive it out.
+//! both. It begins behind the newest entry that the report may reach: no entry behind the place from which on all are
+//! Out, which is kept beside the list, changes while the report does not reach it. It ends at the place before which
+//! every entry is Reported, which is kept too, or earlier at an entry to which the report gives no state, where no entry
+//! before it is Out: nothing older can change then. So a packet that was lost long ago costs later reports nothing, nor
+//! does one that was sent after what they speak of. A Lost entry stays until 2,048 later ones drive it out.
 //!
 //! Numbers need not rise: the contracts hold for every list. The steps from each number to the next since the list was
-//! empty are summed (`span`), and the pass ends early only while that sum and the way from the acknowledgement number
-//! down to the entry make less than one round of the circle. Where numbers fall, the sum is past that, and the pass
-//! goes on to the place that is kept.
-ghost use Rattle.std.specs.Prelude.{◌≡◌, ℕ, ◌+◌, ◌<◌, ◌≤◌, ◌&&◌, ◌||◌, not, nat_le, length, take, slice_get, slice_set, Some, Option};
+//! empty are summed (`span`). The pass begins before the newest entry only where that sum and the most that a report
+//! reaches are less than the way from an entry up to the acknowledgement number, as where it lies behind that; and it
+//! ends early only while the sum and the way from the acknowledgement number down to the entry make less than one round
+//! of the circle. Where numbers fall, the sum is past that, and the pass goes over the list to the place that is kept.
+ghost use Rattle.std.specs.Prelude.{◌≡◌, ℕ, ◌+◌, ◌<◌, ◌≤◌, ◌&&◌, ◌||◌, not, nat_le, length, take, drop, slice_get, slice_set, Some, Option};
 ghost use Rattle.circular_buffer.specs.Buffer.{buffer};
 ghost use Rattle.dccp_options.specs.Vectors.{state_at, is_received, is_unmarked, is_marked};
 ghost use Rattle.congestion_trait.specs.Flight.{pipe_of, reported_count, after_report, acked_count, is_congested, is_out, is_reported, is_past};
-ghost use Rattle.congestion_trait.specs.Walk.{standing_after, one_if, AllReported, FlightInvariant};
+ghost use Rattle.congestion_trait.specs.Walk.{standing_after, one_if, IsTop, AllReported, AllUnheard, FlightInvariant};
 
 use crate::cursor::Cursor;
 use crate::flight::{Entry, Standing};
@@ -35,11 +38,13 @@ pub struct Counts {
     pub out: u32,
     // The entries before this place are Reported.
     pub settled: usize,
+    // The entries from this place on are Out.
+    pub heard: usize,
     // Below 2^48, no number is more steps up from an earlier one.
     pub span: u64,
 }
 
-// What the entries so far came to; `seen` of them were Out before.
+// What the entries so far came to; `seen` of them were Out before, and those from `heard` on are still.
 #[derive(Clone, Copy)]
 pub struct Walk {
     pub acked: u32,
@@ -47,6 +52,7 @@ pub struct Walk {
     pub reported: u32,
     pub out: u32,
     pub seen: u32,
+    pub heard: usize,
 }
 
 fn is_past(mark: &Option<Seq48>, number: Seq48) -> bool
@@ -108,6 +114,7 @@ impl Walk {
         ensures reported { self.new.reported ≡ self.old.reported + one_if (is_reported result) }
         ensures out { self.new.out ≡ self.old.out + one_if (is_out result) }
         ensures seen { self.new.seen ≡ self.old.seen + one_if (is_out entry.now.standing) }
+        ensures heard { self.new.heard ≡ self.old.heard }
     {
         let passed = self.reported >= PASSING;
         let after = standing_after(state, passed, entry.standing);
@@ -131,7 +138,33 @@ impl Walk {
     }
 }
 
-// Settles the entries by a report, from the newest down to where no older one is Out or is reached by it.
+// The place from which on all entries are Out and the report reaches none.
+fn unheard_from<'a>(
+    entries: &HeapCircularBuffer<Entry>,
+    counts: &Counts,
+    report: &AckReport<'a>,
+    cursor: &Cursor<'a>,
+) -> usize
+    requires few { length report.now.bytes ≤ 1008 }
+    requires kept { FlightInvariant entries.now.items entries.now.capacity counts.now }
+    requires top { IsTop report.now cursor.now.top }
+    ensures within { result ≤ length entries.now.items }
+    ensures settled { counts.now.settled ≤ result }
+    ensures unheard { AllUnheard (state_at report.now.ack report.now.bytes) (drop result entries.now.items) }
+{
+    let mut place = counts.heard.max(counts.settled);
+    while place < entries.len() {
+        let entry = entry_at(entries, place);
+        if cursor.is_past(report, entry.number, counts.span) {
+            return place;
+        }
+        place += 1;
+    }
+    place
+}
+
+// Settles the entries by a report, from the newest that it may reach down to where no older one is Out or is reached by
+// it.
 pub fn settle(
     entries: &mut HeapCircularBuffer<Entry>,
     counts: &Counts,
@@ -144,16 +177,21 @@ pub fn settle(
     ensures acked { result.acked ≡ acked_count (state_at report.now.ack report.now.bytes) entries.old.items }
     ensures congested { result.congested ≡ is_congested (state_at report.now.ack report.now.bytes) mark.now entries.old.items }
     ensures out { result.out ≡ pipe_of (after_report (state_at report.now.ack report.now.bytes) entries.old.items) }
+    ensures within { result.heard ≤ length entries.old.items }
+    ensures unheard { AllUnheard (state_at report.now.ack report.now.bytes) (drop result.heard entries.old.items) }
 {
     let mut cursor = Cursor::new(report);
+    let heard = unheard_from(entries, counts, report, &cursor);
+    let unheard = (entries.len() - heard) as u32;
     let mut walk = Walk {
         acked: 0,
         congested: false,
         reported: 0,
-        out: 0,
-        seen: 0,
+        out: unheard,
+        seen: unheard,
+        heard,
     };
-    let mut index = entries.len();
+    let mut index = heard;
     // No entry before this place is changed.
     let mut untouched = counts.settled;
     while index > untouched {

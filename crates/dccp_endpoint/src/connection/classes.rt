@@ -1,5 +1,5 @@
-//! Which phases and packet types go together in the steps of an end (RFC 4340, sections 8.1 and 8.5), and a Reset code
-//! alone.
+//! Classes of phases and of packet types that the steps of an end ask for (RFC 4340, sections 8.1 and 8.5), and a Reset
+//! code without details.
 ghost use Rattle.std.specs.Prelude.{◌≡◌};
 ghost use Rattle.dccp_endpoint.specs.End.{is_connected, is_live, is_open};
 ghost use Rattle.dccp_endpoint.specs.Reporting.{carries_data, is_acking};

@@ -292,7 +292,8 @@ impl Connection {
         ensures sent { out.new ≡ Some (next_frame self.old (carrying kind.Data payload.now)) }
     {
         let short = self.allows_short();
-        self.send_with(Kind::Data, short, &OptWriter::new(), payload, out);
+        let number = self.take_number();
+        self.put_frame(number, short, Kind::Data, &[], payload, out);
     }
 
     /// Sends data, and tells under which number: on a DataAck where an acknowledgement is owed, else on a Data.

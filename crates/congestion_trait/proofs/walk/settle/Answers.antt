@@ -4,7 +4,8 @@ use Rattle.congestion_trait.proofs.Settled.{report_from, acked_from, congested_f
 use Rattle.circular_buffer.specs.Buffer.{buffer}
 use Rattle.dccp_options.specs.Vectors.{state_at}
 use Rattle.congestion_trait.specs.Walk.{IsAlong}
-use Rattle.congestion_trait.proofs.Settling.{turn, cut, few_yet, begins, IsStep}
+use Rattle.congestion_trait.proofs.Settling.{turn, cut, few_yet, IsStep}
+use Rattle.congestion_trait.proofs.Unheard.{begins_from}
 use Rattle.congestion_trait.proofs.Near.{untouched_below, if_none}
 use Rattle.congestion_trait.proofs.walk.settle.Goals as goal
 
@@ -12,13 +13,14 @@ pub loop-untouched-init : goal.loop-untouched-init
 loop-untouched-init c =
     let told = state_at c.args.report.now.ack c.args.report.now.bytes in
     let old = c.args.entries.now.items in (
-      subst (λ n. IsAlong told c.args.mark.now old n old _) (sym c.len-index.ensures.len) (begins told c.args.mark.now old),
+      begins_from told c.args.mark.now old c.unheard_from-heard.result _ c.unheard_from-heard.ensures.unheard (omega (arith, c.len.ensures.len)),
       c.new-cursor.ensures.stands,
       c.new-cursor.ensures.top,
       refl,
-      omega (arith, c.requires.kept.within, c.len-index.ensures.len),
-      omega (arith, c.len-index.ensures.len),
+      c.unheard_from-heard.ensures.settled,
+      c.unheard_from-heard.ensures.within,
       untouched_from_reported told (take c.args.counts.now.settled old) c.requires.kept.front,
+      refl,
     )
 
 pub step-standing-requires : goal.step-standing-requires
@@ -57,6 +59,7 @@ loop-untouched-preserved-then-ends_before c =
       omega arith,
       omega arith,
       below,
+      c.step-standing.ensures.heard ∙ c.loop-untouched.invariant.7,
     )
 
 pub loop-untouched-preserved : goal.loop-untouched-preserved
@@ -84,6 +87,7 @@ loop-untouched-preserved c =
       omega arith,
       omega arith,
       c.loop-untouched.invariant.6,
+      c.step-standing.ensures.heard ∙ c.loop-untouched.invariant.7,
     )
 
 pub returns : goal.returns
@@ -101,4 +105,6 @@ returns c =
       acked = along.acked ∙ acked_from told mark old from front;
       congested = along.congested ∙ congested_from told mark old from front;
       out = along.out ∙ pipe_from told mark old from front;
+      within = rw c.loop-untouched.invariant.7 c.unheard_from-heard.ensures.within;
+      unheard = rw c.loop-untouched.invariant.7 c.unheard_from-heard.ensures.unheard;
     }

@@ -12,6 +12,7 @@ invariant-loop-untouched l =
     × (l.untouched ≤ l.index)
     × (l.index ≤ length l.fn.entries.items)
     × AllUntouched (state_at l.report.ack l.report.bytes) (take l.untouched l.fn.entries.items)
+    × (l.walk.heard ≡ l.heard)
 
 abbrev pub decreases-loop-untouched : goal.decreases-loop-untouched
 decreases-loop-untouched l = l.index
