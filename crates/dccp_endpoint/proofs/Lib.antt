@@ -38,3 +38,4 @@ pub mod RowsEarly
 pub mod RowsReports
 pub mod RowsShort
 pub mod RowsShortSent
+pub mod Quiet

@@ -4,6 +4,7 @@ pub mod DueRows
 pub mod Listing
 pub mod Openings
 pub mod Places
+pub mod Quiet
 pub mod Soundness
 pub mod Steps
 pub mod Turning

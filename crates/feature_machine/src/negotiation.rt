@@ -1,5 +1,5 @@
 //! The eighteen rows of an end.
-ghost use Rattle.std.specs.Prelude.{◌≡◌, ◌≢◌, ◌↔◌, ◌⊎◌, ◌<◌, ℕ, true, false, IsNone, IfSome, length};
+ghost use Rattle.std.specs.Prelude.{◌≡◌, ◌≢◌, ◌↔◌, ◌⊎◌, ◌<◌, ℕ, Bool, true, false, [], All, IsNone, IfSome, length};
 ghost use Rattle.feature_lists.specs.Features.{described, feature_number};
 ghost use Rattle.feature_lists.specs.Wishes.{is_ours, is_wish};
 ghost use Rattle.feature_lists.specs.declared.features.Feature.{Feature};
@@ -9,6 +9,7 @@ ghost use Rattle.feature_machine.specs.Lists.{index_of};
 ghost use Rattle.feature_machine.specs.Negotiating.{first_rows, row_at, put, OthersStay, stepped, place_of, changes, confirmed, is_due, due_keys, is_next_mandatory, held_by, IsNegotiation, AreRowsOf};
 ghost use Rattle.feature_machine.specs.Rows.{Change, Confirm, Prefers, Offers, Sends};
 ghost use Rattle.feature_machine.specs.Sound.{IsRowOf, IsRefusal};
+ghost use Rattle.feature_machine.specs.declared.offers.Offer.TheVariants.{Nothing};
 ghost use Rattle.feature_machine.specs.declared.stands.Stand.TheVariants.{Stable};
 
 use crate::due::Due;
@@ -79,6 +80,19 @@ fn fill(rows: &mut [Row], role: Role2, listed: &[Listed])
     for (index, one) in listed.iter().enumerate() {
         rows[index] = Row::first(role, one);
     }
+}
+
+// Tells that no row has anything to say by itself.
+fn are_quiet(rows: &[Row]) -> bool
+    ensures offers { result ≡ true → All (λ row. row.offer ≡ Nothing) rows.now }
+    ensures due { result ≡ true → All (λ row. is_due row ≡ false) rows.now }
+{
+    for row in rows {
+        if !row.is_quiet() {
+            return false;
+        }
+    }
+    true
 }
 
 impl Negotiation {
@@ -173,6 +187,16 @@ impl Negotiation {
         ensures { result ≡ due_keys self.now }
     {
         Due::of(&self.rows)
+    }
+
+    /// Tells that the rows have nothing to say by themselves, as nearly always once the connection has started: an offer
+    /// that comes up now changes nothing, and no Change is due.
+    pub fn is_quiet(&self) -> bool
+        ensures offers { result ≡ true → (feature : Feature) (place : Place) (confirmed : Bool)
+            → (stepped self.now feature place (Offers confirmed)).rows ≡ self.now }
+        ensures due { result ≡ true → due_keys self.now ≡ [] }
+    {
+        are_quiet(&self.rows)
     }
 
     /// A Change L (`left`) or Change R of a newest packet comes, with its data behind the feature number.

@@ -19,6 +19,7 @@ ghost use Rattle.feature_machine.specs.Rows.{row_step, Change, Confirm, Prefers,
 ghost use Rattle.feature_machine.specs.Answers.{reply_of, settling_of, opening_of, is_opening};
 ghost use Rattle.feature_machine.specs.Negotiating.{first_row, is_due};
 ghost use Rattle.feature_machine.specs.Sound.{IsSoundRow, is_lawful};
+ghost use Rattle.feature_machine.specs.declared.offers.Offer.TheVariants.{Nothing};
 ghost use Rattle.feature_machine.specs.declared.stands.Stand.TheVariants.{Stable};
 
 use crate::judging::{Confirmation, Proposal};
@@ -110,6 +111,14 @@ impl Row {
             Stand::Stable => false,
             Stand::Changing | Stand::Unstable => true,
         }
+    }
+
+    // Tells that the row has nothing to say by itself: its offer was made or there is none, and no Change is due.
+    pub(crate) fn is_quiet(&self) -> bool
+        ensures offer { result ≡ true → self.now.offer ≡ Nothing }
+        ensures due { result ≡ true → is_due self.now ≡ false }
+    {
+        self.offer == Offer::Nothing && !self.is_due()
     }
 
     // A Confirm's data: the row's value, and for a server-priority feature its active list.

@@ -1,11 +1,11 @@
 -- Bytes in hexadecimal, sixteen side by side.
-use Rattle.std.proofs.Common.{◌≡◌, refl, sym, ap, subst, ◌∙◌, ℕ, zero, suc, ◌+◌, ◌-◌, ◌*◌, ◌/◌, ◌%◌, ◌^◌, ◌<◌, ◌≤◌, List, [], ◌∷◌, ◌++◌, cond, ltb, map, length, take, drop, replicate, append_assoc, arith}
+use Rattle.std.proofs.Common.{◌≡◌, refl, sym, ap, subst, ◌∙◌, ℕ, zero, suc, ◌+◌, ◌*◌, ◌/◌, ◌%◌, ◌^◌, ◌<◌, ◌≤◌, List, [], ◌∷◌, ◌++◌, cond, ltb, map, length, take, drop, replicate, append_assoc, arith}
 use Rattle.std.specs.Prelude.{bit_and, slice_index}
-use Rattle.std.proofs.Math.Seq.{take-add}
-use Rattle.std.proofs.lemmas.List.{append-nil, drop_all, length-drop, take_all, take-append-drop}
+use Rattle.std.proofs.Math.Seq.{take-add, take-append_seam}
+use Rattle.std.proofs.lemmas.Grind.{common_steps}
+use Rattle.std.proofs.lemmas.List.{length-take-le, take-append-drop}
 use Rattle.std.proofs.lemmas.Nat.{and_mask}
 use Rattle.std.proofs.lemmas.Simd.{Each1-all, Each1-weaker, Each1-zip2, Each2-splat, length-put_chunk, pick_l_whole, take_more_put_chunk, zip2_splat}
-use borrow.Rule.Slice.PartMut.{post_of, put_mid}
 use lib.Lanes.{Each1, chunk, pick_l, put_chunk, sel_l, top, zip2}
 use Rattle.hex.specs.Hex.{encode_with, encode_lower, lower_digits}
 use Rattle.tool_text.proofs.HexText.{encode-append}
@@ -119,17 +119,22 @@ block-written bytes room first second done sized within few some before is =
 pub still-sized : (room first second : List ℕ) (here behind size : ℕ) → length room ≡ size → length (put_chunk behind (put_chunk here room first) second) ≡ size
 still-sized room first second here behind size sized = length-put_chunk behind (put_chunk here room first) second ∙ length-put_chunk here room first ∙ sized
 
--- the rest is written
-pub rest-written : (bytes room rest : List ℕ) (done : ℕ) → length room ≡ 2 * length bytes → done ≤ length bytes
-    → take (2 * done) room ≡ encode_lower (take done bytes)
-    → rest ≡ encode_lower (take (length bytes - done) (drop done bytes)) → put_mid (2 * done) (length room - 2 * done) room rest ≡ encode_lower bytes
-rest-written bytes room rest done sized within before is =
-    let held = length-drop (2 * done) room in
-    let left = length-drop done bytes in
-    let over : post_of (2 * done) (length room - 2 * done) room ≡ [] = drop_all (length room - 2 * done) (drop (2 * done) room) (omega (arith, held)) in
-    ap (λ (front : List ℕ). front ++ (rest ++ post_of (2 * done) (length room - 2 * done) room)) before
-    ∙ ap (λ (more : List ℕ). encode_lower (take done bytes) ++ (rest ++ more)) over
-    ∙ ap (λ (more : List ℕ). encode_lower (take done bytes) ++ more)
-    (append-nil rest ∙ is ∙ ap encode_lower (take_all (length bytes - done) (drop done bytes) (omega (arith, left))))
-    ∙ sym (encode-append (take done bytes) (drop done bytes))
-    ∙ ap encode_lower (take-append-drop done bytes)
+-- what is written further on is written up to an earlier place
+encode-length : (bytes : List ℕ) → length (encode_lower bytes) ≡ 2 * length bytes
+unfolding encode_with
+encode-length [] = refl
+encode-length (byte ∷ rest) = let more = encode-length rest in omega arith
+
+pub written-earlier : (bytes room : List ℕ) (place done : ℕ) → place ≤ done → done ≤ length bytes
+    → take (2 * done) room ≡ encode_lower (take done bytes) → take (2 * place) room ≡ encode_lower (take place bytes)
+written-earlier bytes room place done before within is =
+    let more : List ℕ = drop place (take done bytes) in
+    let front : take place (take done bytes) ≡ take place bytes = grind (arith, common_steps) in
+    let parts : take done bytes ≡ take place bytes ++ more = sym (take-append-drop place (take done bytes)) ∙ ap (λ (some : List ℕ). some ++ more) front in
+    let long : length (take place bytes) ≡ place = length-take-le place bytes (omega arith) in
+    let digits : length (encode_lower (take place bytes)) ≡ 2 * place = encode-length (take place bytes) ∙ ap (λ (n : ℕ). 2 * n) long in
+    let shorter : take (2 * place) (take (2 * done) room) ≡ take (2 * place) room = grind (arith, common_steps) in
+    sym shorter
+    ∙ ap (λ (text : List ℕ). take (2 * place) text) (is ∙ ap encode_lower parts ∙ encode-append (take place bytes) more)
+    ∙ ap (λ (n : ℕ). take n (encode_lower (take place bytes) ++ encode_lower more)) (sym digits)
+    ∙ take-append_seam (encode_lower (take place bytes)) (encode_lower more)

@@ -1,7 +1,7 @@
 //! Bytes as digits in hexadecimal.
 #![tactic(auto)]
 
-ghost use Rattle.std.specs.Prelude.{◌≡◌, ◌*◌, ◌<◌, ◌++◌, nat_lt, if◌then◌else◌, length, map, slice_index};
+ghost use Rattle.std.specs.Prelude.{◌≡◌, ◌*◌, ◌+◌, ◌<◌, ◌≤◌, ◌++◌, nat_lt, if◌then◌else◌, length, map, slice_index, take};
 ghost use Rattle.std.specs.Simd.Lanes.{Each1};
 ghost use Rattle.hex.specs.Hex.{encode_lower, lower_digits};
 
@@ -63,17 +63,43 @@ fn halves_of(bytes: u8x16) -> (u8x16, u8x16)
     highs.interleave(lows)
 }
 
+// Writes the digits of the block that stands at a place, where those of all bytes before it are written.
+fn encode_block(bytes: &[u8], room: &mut [u8], place: usize)
+    requires fits { place + 16 ≤ length bytes.now }
+    requires sized { length room.old ≡ 2 * length bytes.now }
+    requires before { take (2 * place) room.old ≡ encode_lower (take place bytes.now) }
+    ensures sized { length room.new ≡ 2 * length bytes.now }
+    ensures written { take (2 * (place + 16)) room.new ≡ encode_lower (take (place + 16) bytes.now) }
+{
+    let (first, second) = halves_of(u8x16::from_slice(&bytes[place..]));
+    first.copy_to_slice(&mut room[2 * place..]);
+    second.copy_to_slice(&mut room[2 * place + BLOCK..]);
+}
+
+// Writes the digits of a block's bytes or more. The last block ends where the bytes do: it may begin within the one
+// before, whose digits are then written again.
+fn encode_blocks(bytes: &[u8], room: &mut [u8])
+    requires some { 16 ≤ length bytes.now }
+    requires sized { length room.old ≡ 2 * length bytes.now }
+    ensures { room.new ≡ encode_lower bytes.now }
+{
+    let last = bytes.len() - BLOCK;
+    let mut done = 0;
+    while done < last {
+        encode_block(bytes, room, done);
+        done += BLOCK;
+    }
+    encode_block(bytes, room, last);
+}
+
 /// Writes bytes as digits in lower case into the room for them (own).
 pub(crate) fn encode(bytes: &[u8], room: &mut [u8])
     requires { length room.old ≡ 2 * length bytes.now }
     ensures { room.new ≡ encode_lower bytes.now }
 {
-    let mut done = 0;
-    while BLOCK <= bytes.len() - done {
-        let (first, second) = halves_of(u8x16::from_slice(&bytes[done..]));
-        first.copy_to_slice(&mut room[2 * done..]);
-        second.copy_to_slice(&mut room[2 * done + BLOCK..]);
-        done += BLOCK;
+    if bytes.len() < BLOCK {
+        encode_singly(bytes, room);
+    } else {
+        encode_blocks(bytes, room);
     }
-    encode_singly(&bytes[done..], &mut room[2 * done..]);
 }

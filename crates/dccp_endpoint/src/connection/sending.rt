@@ -80,7 +80,7 @@ fn put_options(area: &mut OptWriter, bytes: &[u8])
 }
 
 impl Connection {
-    ghost use Rattle.std.specs.Prelude.{◌+◌, ◌++◌, [], Ok, true, false, None, Some, if◌then◌else◌};
+    ghost use Rattle.std.specs.Prelude.{◌+◌, ◌++◌, [], List, Ok, true, false, None, Some, if◌then◌else◌};
     ghost use Rattle.ack_vectors.specs.Vector.{is_whole_under};
     ghost use Rattle.dccp_options.specs.Written.{written};
     ghost use Rattle.run_list.specs.MarkedSet.{has};
@@ -92,7 +92,8 @@ impl Connection {
     ghost use Rattle.dccp_endpoint.specs.Calling.{sends_data};
     ghost use Rattle.dccp_packets.specs.declared.header.Kind.TheVariants as kind;
     ghost use Rattle.dccp_packets.specs.declared.header.Number.TheVariants.{Long};
-    ghost use Rattle.dccp_endpoint.specs.Heeding.{due_of};
+    ghost use Rattle.dccp_endpoint.specs.Heeding.{Due, due_of};
+    ghost use Rattle.dccp_packets.specs.declared.header.Kind.{Kind};
     ghost use Rattle.dccp_endpoint.specs.Speaking.{HaveRoom, AreChanging, AreDue, asking, asking_frame, asks, confirming, offers, saying};
     ghost use Rattle.dccp_endpoint.specs.Steps.{next_frame, next_number, with_next_number};
 
@@ -347,6 +348,17 @@ impl Connection {
         fit(&mut self.marks, &self.rows);
     }
 
+    // No offer is left to come up and no row asks, as mostly: then a packet says no more than its Confirms.
+    fn asks_nothing(&self) -> bool
+        ensures stays { result ≡ true → (confirms : List Due)
+            → asks (offers self.now confirms) (asking (offers self.now confirms).rows confirms) ≡ self.now }
+        ensures said { result ≡ true → (kind : Kind) (confirms : List Due)
+            → asking_frame (offers self.now confirms) kind confirms (asking (offers self.now confirms).rows confirms)
+            ≡ next_frame self.now (confirming kind confirms) }
+    {
+        self.rows().is_quiet()
+    }
+
     // Sends a packet with these Confirms, once all offers have come up: it carries the Changes of all rows that ask and
     // have no Confirm in it.
     pub(crate) fn send_offering(&mut self, kind: Kind, confirms: &[ConfirmOut], out: &mut Outbox)
@@ -356,6 +368,9 @@ impl Connection {
         ensures sent { out.new ≡ Some (asking_frame (offers self.old (map due_of confirms.now)) kind (map due_of confirms.now)
             (asking (offers self.old (map due_of confirms.now)).rows (map due_of confirms.now))) }
     {
+        if self.asks_nothing() {
+            return self.send_confirming(kind, confirms, out);
+        }
         self.offer(confirms);
         let keys = asking(self.rows(), confirms);
         self.send_asking(kind, confirms, keys.as_slice(), out);

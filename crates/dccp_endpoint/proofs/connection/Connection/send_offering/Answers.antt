@@ -1,12 +1,25 @@
-use Rattle.std.proofs.Common.{◌≡◌, ◌∙◌, ℕ, List, Option, Some, ap, map}
+use Rattle.std.proofs.Common.{◌≡◌, ◌∙◌, ℕ, List, Option, Some, ap, map, sym}
 use Rattle.feature_machine.specs.declared.row.Row.{Row}
 use Rattle.dccp_endpoint.specs.End.{EndState}
 use Rattle.dccp_endpoint.specs.Heeding.{Due, due_of}
 use Rattle.dccp_endpoint.specs.Speaking.{asking, asks, offers, saying}
-use Rattle.dccp_endpoint.specs.Steps.{next_frame}
+use Rattle.dccp_endpoint.specs.Steps.{next_frame, with_next_number}
 use Rattle.dccp_endpoint.specs.Turns.{Key}
 use Rattle.dccp_endpoint.proofs.connection.Connection.send_offering.Goals as goal
 
+-- nothing asks
+pub returns-then-asks_nothing-clause-counted : goal.returns-then-asks_nothing-clause-counted
+returns-then-asks_nothing-clause-counted c =
+    c.send_confirming.ensures.counted
+    ∙ ap (λ (x : EndState). with_next_number x) (sym (c.asks_nothing.ensures.stays c.if-asks_nothing.true (map due_of c.args.confirms.now)))
+
+pub returns-then-asks_nothing-clause-sent : goal.returns-then-asks_nothing-clause-sent
+returns-then-asks_nothing-clause-sent c =
+    c.send_confirming.ensures.sent
+    ∙ ap (λ (frame : List ℕ). Some frame)
+    (sym (c.asks_nothing.ensures.said c.if-asks_nothing.true c.args.kind (map due_of c.args.confirms.now)))
+
+-- something may
 pub returns-clause-sent : goal.returns-clause-sent
 returns-clause-sent c =
     let e : EndState = c.args.self.now in

@@ -1,6 +1,6 @@
 use Rattle.std.proofs.Common.{◌≡◌, ◌-◌, ◌*◌, ◌≤◌, length, take}
 use Rattle.hex.specs.Hex.{encode_lower}
-use Rattle.tool_text.proofs.hexadecimal.encode.Given as goal
+use Rattle.tool_text.proofs.hexadecimal.encode_blocks.Given as goal
 
 abbrev pub invariant-loop-done : goal.invariant-loop-done
 invariant-loop-done l = record {
