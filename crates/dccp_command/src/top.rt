@@ -12,12 +12,9 @@ use dccp_io::{Sink, Source, write_all};
 use fault_campaign::Gate;
 use std::alloc::Global;
 use std::thread::Threads;
-use tool_jobs::play_nonces;
 use tool_forms::{Campaign, Form, USAGE, form_of};
-use tool_jobs::listen_to_peers;
+use tool_jobs::{listen_to_peers, play_nonces, replay_at_buffer, replay_frames, run_schedule};
 use tool_output::Status;
-use tool_jobs::{replay_at_buffer, replay_frames};
-use tool_jobs::run_schedule;
 use tool_show::show_capture;
 
 /// Does what the words ask for (own), those after the program's name. `run` plays a schedule: it reads `input`, and

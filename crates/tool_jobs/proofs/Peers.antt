@@ -1,6 +1,6 @@
 -- The configurations of a schedule are those of a client and a server whose fields fit, before each of its lines: each line that changes
 -- one keeps its role, and read lines have numbers that fit and wishes and offers that an end may have.
-use Rattle.std.proofs.Common.{◌≡◌, refl, sym, ◌∙◌, subst, ℕ, ◌+◌, ◌^◌, ◌<◌, ◌==◌, Bool, true, false, if◌then◌else◌, List, [], ◌∷◌, length, length-set, eqb-true, Option, Some, None, Result, Ok, Err}
+use Rattle.std.proofs.Common.{◌≡◌, refl, sym, ◌∙◌, subst, ℕ, ◌+◌, ◌^◌, ◌<◌, ◌==◌, Bool, true, false, if◌then◌else◌, List, [], ◌∷◌, length, length-set, eqb-true, Some, None, Result, Ok, Err}
 use Rattle.std.proofs.lemmas.Bool.{eqb-false}
 use Rattle.std.specs.Prelude.{⊤, is_some, nat_lt}
 use Rattle.ack_vectors.specs.declared.room.Vectors.{Vectors}

@@ -22,7 +22,8 @@ use Rattle.tool_text.specs.Text.{hex_or_dash}
 use Rattle.tool_words.specs.declared.faults.LineFault.{LineFault}
 use Rattle.tool_jobs.specs.declared.replay.buffered.BufferedReplay.{BufferedReplay}
 use Rattle.tool_jobs.specs.EndLines.{end_line}
-use Rattle.tool_jobs.specs.Replay.{arriving, count, opened_line, replay_config, reply_line, role_of}
+use Rattle.tool_jobs.specs.Ends.{arriving, role_of}
+use Rattle.tool_jobs.specs.Replay.{count, opened_line, replay_config, reply_line}
 use Rattle.tool_lines.specs.Jobs.{Accepted, Gone, Job, Refused, Verdict, gone_through, text_of_job}
 
 -- Before all: the end is new, its inbox is empty, and it has sent nothing.

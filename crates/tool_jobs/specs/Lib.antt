@@ -1,5 +1,6 @@
 pub mod Text
 pub mod EndLines
+pub mod Ends
 pub mod Replay
 pub mod Buffered
 pub mod WorldLines

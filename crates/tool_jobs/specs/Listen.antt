@@ -11,7 +11,7 @@ use Rattle.dccp_sum.specs.declared.pseudo_header.Pseudo.{Pseudo}
 use Rattle.dccp_sum.specs.declared.pseudo_header.Pseudo.TheVariants.{V4}
 use Rattle.feature_machine.specs.Lists.{usual_lists}
 use Rattle.tool_lines.specs.Jobs.{Accepted, Gone, Job, Refused, Verdict, gone_through, text_of_job, most_events}
-use Rattle.tool_jobs.specs.Replay.{arriving}
+use Rattle.tool_jobs.specs.Ends.{arriving}
 use Rattle.tool_words.specs.Refusals.{whole_line}
 use Rattle.tool_words.specs.declared.faults.LineFault.{LineFault}
 use Rattle.tool_words.specs.declared.faults.LineWhy.TheVariants as why

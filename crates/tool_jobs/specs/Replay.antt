@@ -10,11 +10,6 @@ use Rattle.dccp_endpoint.specs.Usual.{usual}
 use Rattle.end_answers.specs.declared.calls.OpenFault.{OpenFault}
 use Rattle.dccp_endpoint.specs.declared.config.Config.{Config}
 use Rattle.end_answers.specs.declared.outcome.Outcome.{Outcome}
-use Rattle.dccp_states.specs.declared.phase.Role.{Role}
-use Rattle.dccp_states.specs.declared.phase.Role.TheVariants as role
-use Rattle.feature_machine.specs.Lists as listed
-use Rattle.dccp_sum.specs.Checksum.{sealed}
-use Rattle.dccp_sum.specs.declared.pseudo_header.Pseudo.{Pseudo}
 use Rattle.world_events.specs.declared.event.Seen.TheVariants as seen
 use Rattle.world_events.specs.declared.event.Side.{Side}
 use Rattle.world_events.specs.declared.event.Side.TheVariants.{Client, Server}
@@ -24,16 +19,8 @@ use Rattle.schedule_text.specs.declared.line.FrameLine.{FrameLine}
 use Rattle.tool_words.specs.declared.faults.LineFault.{LineFault}
 use Rattle.tool_jobs.specs.declared.replay.replay.Replay.{Replay}
 use Rattle.tool_jobs.specs.EndLines.{bytes_line, end_line}
+use Rattle.tool_jobs.specs.Ends.{arriving, config_without_offers, role_of}
 use Rattle.tool_lines.specs.Jobs.{Accepted, Gone, Job, Refused, Verdict, gone_through, text_of_job}
-
--- the role that the end of a side is configured with
-abbrev pub role_of : Side → Role
-role_of Client = role.Client
-role_of Server = role.Server
-
--- a configuration that offers nothing
-abbrev pub config_without_offers : Config → Config
-config_without_offers config = record config { lists = listed.without_offers config.lists }
 
 -- The usual end of a side, with its offers or without.
 abbrev pub replay_config : Side → Bool → Config
@@ -84,11 +71,6 @@ begun_from replay Server = record { text = []; replay = replay }
 -- what stands before the first line of a replay of this side, whose end is new
 abbrev pub begun_replay : Side → Bool → Begun
 begun_replay side plain = begun_from (first_replay side plain) side
-
--- The frame that a line makes arrive: with `seal` the checksum is set for these addresses, unless the coverage passes
--- the frame's end.
-abbrev pub arriving : Pseudo → FrameLine → List ℕ
-arriving addresses frame = if frame.seal then sealed addresses frame.bytes else frame.bytes
 
 -- The line of what the end does with the frame that this line made arrive, and that of the frame that it sends.
 abbrev pub replay_line : Replay → ℕ → List ℕ → EndStep Both Outcome → List ℕ

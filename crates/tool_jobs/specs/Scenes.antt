@@ -1,5 +1,5 @@
 -- What takes place in a schedule, event by event (own).
-use Rattle.std.specs.Prelude.{◌≡◌, ℕ, ◌++◌, List, [], ◌∷◌, length, map, flat_map, Ok}
+use Rattle.std.specs.Prelude.{◌≡◌, ℕ, ◌++◌, List, [], ◌∷◌, length, map, Ok}
 use Rattle.ccid_two.specs.Kinds.{Both, kinds_control}
 use Rattle.schedule_text.specs.Results.{seen_line}
 use Rattle.tool_jobs.specs.WorldLines.{arrived, sent_line}

@@ -30,7 +30,7 @@ use Rattle.tool_words.specs.declared.faults.LineFault.{LineFault}
 use Rattle.tool_words.specs.declared.faults.LineWhy.{LineWhy}
 use Rattle.tool_words.specs.declared.faults.LineWhy.TheVariants as why
 use Rattle.tool_jobs.specs.declared.run.play.Play.{Play}
-use Rattle.tool_jobs.specs.Replay.{config_without_offers}
+use Rattle.tool_jobs.specs.Ends.{config_without_offers}
 use Rattle.tool_lines.specs.Jobs.{Gone, Job, Verdict, Accepted, Refused, gone_through, text_of_job, most_events}
 use Rattle.tool_jobs.specs.Scenes.{Scene, scene_text}
 use Rattle.tool_jobs.specs.WorldLines.{end_lines}

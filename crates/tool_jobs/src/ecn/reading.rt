@@ -1,6 +1,5 @@
 //! Lines, read.
-ghost use Rattle.std.specs.Prelude.{◌≡◌, ◌≤◌, length, IfOk, IfSome};
-ghost use Rattle.tool_words.specs.Left.{left_of};
+ghost use Rattle.std.specs.Prelude.{◌≡◌, ◌≤◌, length, IfOk};
 ghost use Rattle.tool_jobs.specs.Forms as spec;
 
 use crate::ecn::names::Form;

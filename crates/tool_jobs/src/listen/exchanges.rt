@@ -8,6 +8,7 @@ ghost use Rattle.tool_jobs.specs.Calls.{SealsInFull};
 ghost use Rattle.tool_jobs.specs.Listen.{deed_of, exchange_at, first_number, peer_addresses};
 ghost use Rattle.tool_jobs.specs.Telling.{CanBeTold, exchange_text};
 
+use crate::ends::arriving;
 use crate::listen::calls::PeerCall;
 use crate::listen::telling::{put_answer, put_frame, put_heard, put_whom};
 use dccp_listener::{Act, Heard, Listener, NoFlow, Peer, Seen};
@@ -15,7 +16,6 @@ use dccp_packets::{Frame, Outbox};
 use dccp_sum::Pseudo;
 use schedule_text::payload_of;
 use seq_circle::{NoMemory, Seq48};
-use crate::replay::arriving;
 
 /// The address that all datagrams are sent to.
 pub(crate) const OWN_ADDRESS: [u8; 4] = [10, 0, 0, 2];

@@ -2,11 +2,11 @@
 ghost use Rattle.std.specs.Prelude.{◌≡◌, ◌++◌, OnOk, flat_map, slice_get};
 ghost use Rattle.tool_jobs.specs.Telling.{flow_line, flow_line_if, flow_lines, peer_in_phase};
 
+use crate::ends::phase_name;
 use crate::listen::peers::put_peer;
 use dccp_endpoint::Phase;
 use dccp_listener::{Listener, Peer};
 use seq_circle::NoMemory;
-use crate::replay::phase_name;
 use tool_text::{put, put_counted, put_named};
 
 fn put_flow(text: &mut Vec<u8>, peer: Peer, phase: Phase) -> Result<(), NoMemory>

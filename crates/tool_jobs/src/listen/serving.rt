@@ -1,5 +1,5 @@
 //! Where `listen` stands: one listener, and how much has happened.
-ghost use Rattle.std.specs.Prelude.{◌≡◌, ℕ, ◌≤◌, [], ◌∷◌, IfOk, Ok};
+ghost use Rattle.std.specs.Prelude.{◌≡◌, ◌≤◌, [], ◌∷◌, IfOk, Ok};
 ghost use Rattle.tool_lines.specs.Jobs.{Judges, most_events};
 ghost use Rattle.tool_jobs.specs.Calls.{SealsInFull};
 ghost use Rattle.tool_jobs.specs.Listen.{by_call, first_serving, listen_config, listen_job};

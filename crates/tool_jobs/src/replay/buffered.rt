@@ -8,8 +8,8 @@ ghost use Rattle.tool_lines.specs.Jobs.{Judges};
 ghost use Rattle.tool_jobs.specs.Replay.{count, reply_line};
 ghost use Rattle.tool_jobs.specs.Buffered.{arrival_line, begun_buffered, buffered_frame_taken, buffered_from, buffered_job, dropped_text, first_buffered, item_line, item_read, read_item_line, moved_on, reading_stopped};
 
-use crate::replay::end_lines::put_end_line;
-use crate::replay::replay::{addresses, arriving, put_open_line, put_reply, replay_config};
+use crate::ends::{arriving, put_end_line};
+use crate::replay::replay::{addresses, put_open_line, put_reply, replay_config};
 use ccid_two::Kinds;
 use data_dropped::{Arrival, BufferedEnd, Got};
 use dccp_packets::{Frame, Outbox};

@@ -5,15 +5,15 @@ ghost use Rattle.dccp_endpoint.specs.Controlled.{with_control};
 ghost use Rattle.dccp_endpoint.specs.Receiving.{receives};
 ghost use Rattle.dccp_endpoint.specs.Usual.{usual};
 ghost use Rattle.schedule_text.specs.Results.{HasItsData};
-ghost use Rattle.tool_jobs.specs.EndLines.{end_line};
 ghost use Rattle.tool_lines.specs.Jobs.{Judges};
-ghost use Rattle.tool_jobs.specs.Replay.{role_of, replay_config, first_replay, opened_line, reply_line, count, begun_replay, begun_from, arriving, by_frame, replay_job};
+ghost use Rattle.tool_jobs.specs.Ends.{arriving, role_of};
+ghost use Rattle.tool_jobs.specs.Replay.{replay_config, first_replay, opened_line, reply_line, count, begun_replay, begun_from, by_frame, replay_job};
 
-use crate::replay::end_lines::{put_end_line, put_frame_line};
+use crate::ends::{put_arriving, put_end_line, put_frame_line, role_of};
 use ccid_two::Kinds;
-use dccp_endpoint::{Config, Endpoint, OpenFault, Outcome, Role, seal_frame};
-use dccp_packets::{Frame, MOST_FRAME_BYTES, Outbox};
-use dccp_sum::{Pseudo, seal};
+use dccp_endpoint::{Config, Endpoint, OpenFault, Outcome};
+use dccp_packets::{MOST_FRAME_BYTES, Outbox};
+use dccp_sum::Pseudo;
 use schedule_text::{FrameLine, print_result, read_frame};
 use seq_circle::NoMemory;
 use std::alloc::Global;
@@ -204,15 +204,6 @@ pub(crate) fn put_open_line(
     }
 }
 
-fn role_of(side: Side) -> Role
-    ensures { result ≡ role_of side }
-{
-    match side {
-        Side::Client => Role::Client,
-        Side::Server => Role::Server,
-    }
-}
-
 /// The usual end of a side, with its offers or without.
 pub(crate) fn replay_config(side: Side, plain: bool) -> Config
     ensures { result ≡ replay_config side plain }
@@ -241,18 +232,6 @@ pub(crate) fn addresses(side: Side) -> Pseudo
     }
 }
 
-/// The frame that arrives (own): its checksum is set for these addresses where the line says so.
-pub fn arriving(addresses: &Pseudo, said: &FrameLine<'_>) -> Frame
-    requires { said.now.seal ≡ true → 8 ≤ length said.now.bytes }
-    ensures { result ≡ arriving addresses.now said.now }
-{
-    let mut frame = said.bytes.frame();
-    if said.seal {
-        seal_frame(addresses, &mut frame);
-    }
-    frame
-}
-
 // The frame arrives that the line of this number says, and the lines of that are put.
 fn take_said(
     replay: &mut Replay,
@@ -272,20 +251,6 @@ fn take_said(
     let bytes = &mut room[..said.bytes.len()];
     put_arriving(bytes, &addresses, said);
     replay.take(number, bytes, out, text)
-}
-
-// Puts the bytes of the frame that arrives into the room for them: its checksum is set for these addresses where the
-// line says so.
-fn put_arriving(room: &mut [u8], addresses: &Pseudo, said: &FrameLine<'_>)
-    requires room { length room.old ≡ length said.now.bytes }
-    requires short { length room.old ≤ 2044 }
-    requires seals { said.now.seal ≡ true → 8 ≤ length said.now.bytes }
-    ensures { room.new ≡ arriving addresses.now said.now }
-{
-    said.bytes.put(room);
-    if said.seal {
-        let _ = seal(addresses, room);
-    }
 }
 
 // The step of the end alone. Data that it delivers stand within the bytes.

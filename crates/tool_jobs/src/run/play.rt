@@ -3,7 +3,7 @@ ghost use Rattle.std.specs.Prelude.{◌≡◌, ◌++◌, ℕ, List, is_some, if�
 ghost use Rattle.tool_jobs.specs.WorldLines.{end_lines};
 ghost use Rattle.tool_lines.specs.Jobs.{Judges, most_events};
 ghost use Rattle.tool_words.specs.Refusals.{whole_line};
-ghost use Rattle.tool_jobs.specs.Replay.{config_without_offers};
+ghost use Rattle.tool_jobs.specs.Ends.{config_without_offers};
 ghost use Rattle.tool_jobs.specs.Transcript.{first_play, starts, world_of, ArePeers, IsPlayable, SentFew, ShowsEvent, event_shown, by_line, run_job};
 ghost use Rattle.tool_jobs.specs.Transcript.{with_header, configures, says_plain, says_version, vectors_of, with_iss, with_set, with_offered, wishing, offering, in_place, says_event, no_such_frame};
 ghost use Rattle.dccp_endpoint.specs.Drafts.{Fits};

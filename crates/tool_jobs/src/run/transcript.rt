@@ -50,7 +50,7 @@ impl Schedule {
 }
 
 impl LineJob for Schedule {
-    ghost use Rattle.std.specs.Prelude.{◌≡◌, ℕ, IfOk, OnOk, Ok};
+    ghost use Rattle.std.specs.Prelude.{◌≡◌, ℕ, IfOk, Ok};
     ghost use Rattle.tool_jobs.specs.Scenes.{Scene};
     ghost use Rattle.tool_jobs.specs.Transcript.{IsPlayable, run_job};
 

@@ -2,9 +2,9 @@
 ghost use Rattle.std.specs.Prelude.{◌≡◌, ◌++◌, OnOk};
 ghost use Rattle.tool_jobs.specs.WorldLines.{arrived, sent_line, end_lines};
 
+use crate::ends::{put_end_line, put_frame_line};
 use ccid_two::Kinds;
 use seq_circle::NoMemory;
-use crate::replay::{put_end_line, put_frame_line};
 use two_ends::{Event, Side, World};
 
 /// The bytes of the frame that an event brought to an end; none for a call.

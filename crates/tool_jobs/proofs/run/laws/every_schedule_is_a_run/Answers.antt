@@ -1,5 +1,3 @@
-use Rattle.std.proofs.Common.{ℕ, List}
-use Rattle.tool_jobs.specs.Scenes.{Scene}
 use Rattle.tool_jobs.proofs.SchedulesRunning.{every-run, run-last, run-nth, run-text}
 use Rattle.tool_jobs.proofs.run.laws.every_schedule_is_a_run.Goals as goal
 

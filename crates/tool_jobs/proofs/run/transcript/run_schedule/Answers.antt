@@ -1,5 +1,5 @@
 -- The lines were gone through from where a schedule begins, and each world of its events was safe.
-use Rattle.std.proofs.Common.{ℕ, List, Some, subst}
+use Rattle.std.proofs.Common.{subst}
 use Rattle.tool_jobs.specs.Transcript.{run_job}
 use Rattle.tool_jobs.specs.declared.run.play.Play.{Play}
 use Rattle.tool_lines.specs.Jobs.{gone_through}

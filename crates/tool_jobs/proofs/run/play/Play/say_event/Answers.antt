@@ -1,5 +1,5 @@
 -- Behind an event each side has sent one frame more at most, and its line was judged as it was shown.
-use Rattle.std.proofs.Common.{rules, ◌≡◌, ◌<◌, subst, sym, true, false, Some}
+use Rattle.std.proofs.Common.{rules, ◌≡◌, ◌<◌, subst, true, false, Some}
 use Rattle.std.specs.Prelude.{is_ok}
 use Rattle.tool_jobs.specs.Transcript.{SentFew, ShowsEvent, event_shown, world_of}
 use Rattle.tool_jobs.proofs.Judging.{judged-else, judged-then}

@@ -23,7 +23,7 @@ fn sent_by(side: Side) -> &'static [u8]
 }
 
 /// The word for a phase (own).
-pub fn phase_name(phase: Phase) -> &'static [u8]
+pub(crate) fn phase_name(phase: Phase) -> &'static [u8]
     ensures { result.now ≡ phase_name phase }
 {
     match phase {
@@ -51,7 +51,7 @@ fn stand_mark(stand: Stand) -> &'static [u8]
 
 /// Puts the line of a frame that was sent (own): whose it is, its index among those of its side, and its bytes.
 /// NoMemory comes where the text could not grow.
-pub fn put_frame_line(
+pub(crate) fn put_frame_line(
     text: &mut Vec<u8>,
     side: Side,
     index: u64,
@@ -109,7 +109,11 @@ fn put_end_counts(text: &mut Vec<u8>, end: &Endpoint<Kinds>) -> Result<(), NoMem
 
 /// Puts the line of an end when the input is over (own): its phase, the counts of its congestion control, and the
 /// values of its features. NoMemory comes where the text could not grow.
-pub fn put_end_line(text: &mut Vec<u8>, side: Side, end: &Endpoint<Kinds>) -> Result<(), NoMemory>
+pub(crate) fn put_end_line(
+    text: &mut Vec<u8>,
+    side: Side,
+    end: &Endpoint<Kinds>,
+) -> Result<(), NoMemory>
     ensures { OnOk result (text.new.items ≡ text.old.items ++ end_line side end.now) }
 {
     put_end_name(text, side, end)?;
