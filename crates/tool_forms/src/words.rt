@@ -1,5 +1,5 @@
 //! What the words after the program's name ask for.
-ghost use Rattle.std.specs.Prelude.{◌≡◌, IfOk, IfSome, IsOk, false};
+ghost use Rattle.std.specs.Prelude.{◌≡◌, ◌∷◌, IfOk, IfSome, IsOk, false};
 ghost use Rattle.clap.specs.Words.{found_of, rows_of};
 ghost use Rattle.tool_forms.specs.Commands.{listen_in, replay_in};
 ghost use Rattle.tool_forms.specs.Words.{IsFormWithinBounds, campaigns, form_of, has_settings, is_word, listen_of, replay_of, takes_no_word};
@@ -128,6 +128,34 @@ fn listen_of(alloc: Global, words: &[String]) -> Result<Option<Form>, NoMemory>
     }
 }
 
+// The job that this word and those behind it ask for.
+#[tactic(auto, unfolding(crate::specs::Words::form_of))]
+fn form_behind(alloc: Global, first: &String, words: &[String]) -> Result<Option<Form>, NoMemory>
+    ensures value { IfOk result (λ form. form ≡ form_of (first.now ∷ words.now)) }
+    ensures within { IfOk result (λ form. IfSome form IsFormWithinBounds) }
+    ensures memory { has_settings (first.now ∷ words.now) ≡ false → IsOk result }
+{
+    if is_word(first, b"run") {
+        return Ok(takes_no_word(Form::Run, words));
+    }
+    if is_word(first, b"replay") {
+        return replay_of(alloc, words);
+    }
+    if is_word(first, b"campaign") {
+        return campaigns(alloc, words);
+    }
+    if is_word(first, b"show") {
+        return Ok(takes_no_word(Form::Show, words));
+    }
+    if is_word(first, b"listen") {
+        return listen_of(alloc, words);
+    }
+    if is_word(first, b"ecn") {
+        return Ok(takes_no_word(Form::Ecn, words));
+    }
+    Ok(None)
+}
+
 /// The job that these words ask for, those after the program's name, or None where they are none of the forms (own).
 /// NoMemory comes only for words behind `replay`, `campaign` and `listen`, whose settings are read by a command of
 /// `clap`, and then says nothing of them.
@@ -138,12 +166,7 @@ pub fn form_of(alloc: Global, words: &[String]) -> Result<Option<Form>, NoMemory
     ensures memory { has_settings words.now ≡ false → IsOk result }
 {
     match words {
-        [first, words @ ..] if is_word(first, b"run") => Ok(takes_no_word(Form::Run, words)),
-        [first, words @ ..] if is_word(first, b"replay") => replay_of(alloc, words),
-        [first, words @ ..] if is_word(first, b"campaign") => campaigns(alloc, words),
-        [first, words @ ..] if is_word(first, b"show") => Ok(takes_no_word(Form::Show, words)),
-        [first, words @ ..] if is_word(first, b"listen") => listen_of(alloc, words),
-        [first, words @ ..] if is_word(first, b"ecn") => Ok(takes_no_word(Form::Ecn, words)),
-        _ => Ok(None),
+        [first, words @ ..] => form_behind(alloc, first, words),
+        [] => Ok(None),
     }
 }
