@@ -1,14 +1,12 @@
 //! What the words after the program's name ask for.
-ghost use Rattle.std.specs.Prelude.{◌≡◌, IfOk, IfSome, IsOk, false};
+ghost use Rattle.std.specs.Prelude.{◌≡◌, ◌∷◌, IfOk, IfSome, IsOk, false};
 ghost use Rattle.clap.specs.Words.{found_of, rows_of};
 ghost use Rattle.tool_forms.specs.Commands.{listen_in, replay_in};
 ghost use Rattle.tool_forms.specs.Words.{IsFormWithinBounds, campaigns, form_of, has_settings, is_word, listen_of, replay_of, takes_no_word};
 
 use crate::campaign_words::{Campaign, campaign_of};
-use crate::commands::{
-    chosen_in, figure_in, is_given, listen_command, read, replay_command, text_in,
-};
-use crate::settings::{Setting, side_in};
+use crate::commands::{chosen_in, figure_in, is_given, read, text_in};
+use crate::settings::{Setting, Table, side_in};
 use clap::ArgMatches;
 use seq_circle::NoMemory;
 use std::alloc::Global;
@@ -53,7 +51,8 @@ pub enum Form {
 pub const USAGE: &[u8] =
     b"usage: dccp run | replay --side server|client [--plain] [--buffer C] | campaign --first F --seeds N --events E --workers W | show | listen --most M | ecn\n";
 
-fn is_word(word: &String, text: &[u8]) -> bool
+/// Tells whether a word is this text (own).
+pub fn is_word(word: &String, text: &[u8]) -> bool
     ensures { result ≡ is_word word.now text.now }
 {
     is_text(word.as_bytes(), text)
@@ -83,8 +82,7 @@ fn replay_of(alloc: Global, words: &[String]) -> Result<Option<Form>, NoMemory>
     ensures value { IfOk result (λ form. form ≡ replay_of words.now) }
     ensures within { IfOk result (λ form. IfSome form IsFormWithinBounds) }
 {
-    let command = replay_command(alloc)?;
-    match read(command, words)? {
+    match read(alloc, Table::Replay, words)? {
         Some(matches) => Ok(replay_in(&matches)),
         None => Ok(None),
     }
@@ -124,11 +122,38 @@ fn listen_of(alloc: Global, words: &[String]) -> Result<Option<Form>, NoMemory>
     ensures value { IfOk result (λ form. form ≡ listen_of words.now) }
     ensures within { IfOk result (λ form. IfSome form IsFormWithinBounds) }
 {
-    let command = listen_command(alloc)?;
-    match read(command, words)? {
+    match read(alloc, Table::Listen, words)? {
         Some(matches) => Ok(listen_in(&matches)),
         None => Ok(None),
     }
+}
+
+// The job that this word and those behind it ask for.
+#[tactic(auto, unfolding(crate::specs::Words::form_of))]
+fn form_behind(alloc: Global, first: &String, words: &[String]) -> Result<Option<Form>, NoMemory>
+    ensures value { IfOk result (λ form. form ≡ form_of (first.now ∷ words.now)) }
+    ensures within { IfOk result (λ form. IfSome form IsFormWithinBounds) }
+    ensures memory { has_settings (first.now ∷ words.now) ≡ false → IsOk result }
+{
+    if is_word(first, b"run") {
+        return Ok(takes_no_word(Form::Run, words));
+    }
+    if is_word(first, b"replay") {
+        return replay_of(alloc, words);
+    }
+    if is_word(first, b"campaign") {
+        return campaigns(alloc, words);
+    }
+    if is_word(first, b"show") {
+        return Ok(takes_no_word(Form::Show, words));
+    }
+    if is_word(first, b"listen") {
+        return listen_of(alloc, words);
+    }
+    if is_word(first, b"ecn") {
+        return Ok(takes_no_word(Form::Ecn, words));
+    }
+    Ok(None)
 }
 
 /// The job that these words ask for, those after the program's name, or None where they are none of the forms (own).
@@ -141,12 +166,7 @@ pub fn form_of(alloc: Global, words: &[String]) -> Result<Option<Form>, NoMemory
     ensures memory { has_settings words.now ≡ false → IsOk result }
 {
     match words {
-        [first, words @ ..] if is_word(first, b"run") => Ok(takes_no_word(Form::Run, words)),
-        [first, words @ ..] if is_word(first, b"replay") => replay_of(alloc, words),
-        [first, words @ ..] if is_word(first, b"campaign") => campaigns(alloc, words),
-        [first, words @ ..] if is_word(first, b"show") => Ok(takes_no_word(Form::Show, words)),
-        [first, words @ ..] if is_word(first, b"listen") => listen_of(alloc, words),
-        [first, words @ ..] if is_word(first, b"ecn") => Ok(takes_no_word(Form::Ecn, words)),
-        _ => Ok(None),
+        [first, words @ ..] => form_behind(alloc, first, words),
+        [] => Ok(None),
     }
 }
