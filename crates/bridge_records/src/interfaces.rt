@@ -5,7 +5,7 @@ ghost use Rattle.bridge_records.specs.Interfaces.{link_in, needs_nanos, units_of
 
 use crate::classic::is_known_link;
 use crate::numbers::{read_u16, read_u32, read_u64};
-use bridge_pieces::PieceFault;
+use crate::pieces::PieceFault;
 use capture_reader::{Order, behind};
 
 /// An interface of a section.
